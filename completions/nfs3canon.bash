@@ -3,7 +3,7 @@ _nfs3canon() {
   local word=${COMP_WORDS[COMP_CWORD]} last
   COMPREPLY=()
   if [ "$COMP_CWORD" = 1 ]; then
-    mapfile -t COMPREPLY < <(compgen -W 'check show canon same pack help --help' -- "$word")
+    mapfile -t COMPREPLY < <(compgen -W 'check show canon same pack help --help --version' -- "$word")
     return
   fi
   case ${COMP_WORDS[1]} in

@@ -11,6 +11,7 @@ complete -c nfs3canon -n '__fish_use_subcommand' -a same -d 'Compare two capture
 complete -c nfs3canon -n '__fish_use_subcommand' -a pack -d 'Make a capture from the byte streams of TCP connections'
 complete -c nfs3canon -n '__fish_use_subcommand' -a help -d 'Print help'
 complete -c nfs3canon -n '__fish_use_subcommand' -l help -d 'Print help'
+complete -c nfs3canon -n '__fish_use_subcommand' -l version -d 'Print the version'
 complete -c nfs3canon -n '__fish_seen_subcommand_from help' -a 'check show canon same pack'
 complete -c nfs3canon -n '__fish_seen_subcommand_from check show; and test (__nfs3canon_words) -lt 3' -F
 complete -c nfs3canon -n '__fish_seen_subcommand_from canon same; and test (__nfs3canon_words) -lt 4' -F

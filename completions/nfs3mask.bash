@@ -5,7 +5,7 @@ _nfs3mask() {
   COMPREPLY=()
   if [ "$COMP_CWORD" -le 2 ]; then
     compopt -o filenames
-    mapfile -t COMPREPLY < <(compgen -f -W '--help' -- "$word")
+    mapfile -t COMPREPLY < <(compgen -f -W '--help --version' -- "$word")
   elif [ "$word" = = ]; then
     mapfile -t COMPREPLY < <(compgen -W 'keep zero number')
   elif [ "${COMP_WORDS[COMP_CWORD - 1]}" = = ]; then

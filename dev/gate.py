@@ -32,13 +32,19 @@ import edits  # noqa: E402
 import kit  # noqa: E402
 
 TOP = Path(__file__).resolve().parent.parent
-# Crates of tests, whose proofs say only that a test is safe and ends. memory_tests is proved, since tests/memory.py runs what is built.
+# Crates of tests, whose proofs say only that a test is safe and ends. memory_tests is proved, since
+# tests/faults/memory.py runs what is built of it.
 TRIED = ('message_tests', 'capture_tests', 'command_tests', 'mask_tests', 'program_tests')
 # What the tests of tests/ run, by crates.
 BUILT = {'nfs3canon': 'nfs3canon', 'nfs3mask': 'nfs3mask', 'memory_tests': 'memory_tests_tests'}
-TESTS = ('shipped', 'must_fail', 'run', 'captures', 'fuzz', 'failures', 'memory', 'hostile', 'large', 'tools', 'from_pcap', 'lossy',
-         'verdicts', 'following', 'procedures', 'compare', 'orders', 'marks', 'findings', 'page', 'ci', 'explain', 'cut', 'installing',
-         'harm', 'instructions')
+# The scripts of tests/ by their rooms, in the order in which they are run.
+TESTS = {
+    'program': ('shipped', 'run', 'captures', 'fuzz', 'large', 'instructions'),
+    'faults': ('failures', 'memory', 'hostile'),
+    'sources': ('must_fail', 'agreement'),
+    'tools': ('from_pcap', 'lossy', 'verdicts', 'following', 'followed', 'procedures', 'compare', 'orders', 'marks',
+              'findings', 'page', 'ci', 'reasons', 'explain', 'cut', 'installing', 'harm'),
+}
 PROVED = re.compile(r'^rt: (\w+) (?:proved$|is kept: )')
 COUNTS = re.compile(r'^(?:rt: )?(\d+) passed, (\d+) failed')
 TRIED_COUNTS = re.compile(r'^test result: .*?(\d+) passed; (\d+) failed', re.MULTILINE)
@@ -198,7 +204,7 @@ def taken_back(top: Path) -> None:
 
 def tested(count: Count) -> bool:
     """Runs all tests of the built programs."""
-    return all([counted([sys.executable, f'tests/{name}.py'], TOP, count) for name in TESTS])
+    return all([counted([sys.executable, f'tests/{room}/{name}.py'], TOP, count) for room, names in TESTS.items() for name in names])
 
 
 def together(is_anew: bool, count: Count) -> bool:

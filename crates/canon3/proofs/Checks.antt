@@ -1,16 +1,6 @@
 -- Small captures are checked by computing.
 use Rattle.std.proofs.Common.{◌≡◌, ◌≢◌, ℕ, ◌+◌, Bool, true, false, ◌&&◌, List, [], ◌∷◌, ◌++◌, length, take, refl, arith, nat_lt, ltb-true}
-use Rattle.std.specs.Prelude.{nat_eq, slice_get}
-use Rattle.std.specs.List.{list_any}
-use Rattle.std.proofs.lemmas.Bool.Decides.{Decides-eqb}
-use Rattle.xdr3.specs.Item.{Word}
-use Rattle.capture3.specs.Entry.{Entry, Begin, Call, Turn, Reply, Close, End}
-use Rattle.capture3.specs.declared.fault.Place.{Place}
-use Rattle.canon3.specs.Values.{handles, verifiers}
-use Rattle.canon3.specs.Pairing.{Member, here, there, IsHandle, IsVerifier}
-use Rattle.canon3.specs.Canonical.{canonical}
-use Rattle.canon3.specs.Renaming.{Same}
-use Rattle.canon3.specs.Parting.{Parting, IsPlaceOf}
+use Rattle.canon3.proofs.Common.{nat_eq, slice_get, list_any, Decides-eqb, Word, Entry, Begin, Call, Turn, Reply, Close, End, Place, handles, verifiers, Member, here, there, IsHandle, IsVerifier, canonical, Same, Parting, IsPlaceOf}
 use Rattle.canon3.proofs.Lemmas.Order.Order.{Stage, Between, InCalls, InReplies, Over, begin, call, turn, reply, close, end, Runs, stays, steps, IsWellFormed}
 use Rattle.canon3.proofs.Lemmas.Numbers.RankLemmas.{member_of_test}
 use Rattle.canon3.proofs.Lemmas.Renaming.Equality.{same_from_canonical}
@@ -31,7 +21,8 @@ ordered Between (Begin ∷ es) = ordered (InCalls []) es
 ordered Between (End ∷ es) = ordered Over es
 ordered (InCalls xs) (Call (Word name x ∷ items) ∷ es) = ordered (InCalls (xs ++ x ∷ [])) es
 ordered (InCalls xs) (Turn ∷ es) = ordered (InReplies xs) es
-ordered (InReplies xs) (Reply id (Word name x ∷ items) ∷ es) = list_any (nat_eq x) xs && ordered (InReplies xs) es
+ordered (InReplies xs) (Reply id (Word name x ∷ items) ∷ es) =
+    list_any (nat_eq x) xs && ordered (InReplies xs) es
 ordered (InReplies xs) (Close ∷ es) = ordered Between es
 ordered _ _ = false
 
@@ -41,13 +32,21 @@ runs_by Between (Begin ∷ es) e = let r = runs_by (InCalls []) es e in (r.0, st
 runs_by Between (End ∷ es) e = let r = runs_by Over es e in (r.0, steps end r.1)
 runs_by Between _ e = absurd cc
 runs_by (InCalls xs) [] e = (InCalls xs, stays)
-runs_by (InCalls xs) (Call (Word name x ∷ items) ∷ es) e = let r = runs_by (InCalls (xs ++ x ∷ [])) es e in (r.0, steps (call (Word name x ∷ items) tt) r.1)
+runs_by (InCalls xs) (Call (Word name x ∷ items) ∷ es) e =
+    let r = runs_by (InCalls (xs ++ x ∷ [])) es e in
+    (r.0, steps (call (Word name x ∷ items) tt) r.1)
 runs_by (InCalls xs) (Turn ∷ es) e = let r = runs_by (InReplies xs) es e in (r.0, steps turn r.1)
 runs_by (InCalls xs) _ e = absurd cc
 runs_by (InReplies xs) [] e = (InReplies xs, stays)
 runs_by (InReplies xs) (Reply id (Word name x ∷ items) ∷ es) e =
-    let r = runs_by (InReplies xs) es (and_right (list_any (nat_eq x) xs) (ordered (InReplies xs) es) e) in
-    (r.0, steps (reply (Word name x ∷ items) (member_of_test nat_eq Decides-eqb x xs (and_left (list_any (nat_eq x) xs) (ordered (InReplies xs) es) e))) r.1)
+    let r =
+    runs_by (InReplies xs) es
+    (and_right (list_any (nat_eq x) xs) (ordered (InReplies xs) es) e) in (
+      r.0,
+      steps
+          (reply (Word name x ∷ items) (member_of_test nat_eq Decides-eqb x xs
+          (and_left (list_any (nat_eq x) xs) (ordered (InReplies xs) es) e))) r.1,
+    )
 runs_by (InReplies xs) (Close ∷ es) e = let r = runs_by Between es e in (r.0, steps close r.1)
 runs_by (InReplies xs) _ e = absurd cc
 runs_by Over [] e = (Over, stays)
@@ -60,21 +59,38 @@ handles_fit (h ∷ hs) = (nat_lt 0 (length h) && nat_lt (length h) 65) && handle
 fit_by : (hs : List (List ℕ)) → handles_fit hs ≡ true → (h : List ℕ) → Member h hs → IsHandle h
 fit_by [] e h m = elim m [ ]
 fit_by (k ∷ hs) e h here =
-    let own = and_left (nat_lt 0 (length k) && nat_lt (length k) 65) (handles_fit hs) e in
-    (omega (arith, ltb-true 0 (length k) (and_left (nat_lt 0 (length k)) (nat_lt (length k) 65) own)), omega (arith, ltb-true (length k) 65 (and_right (nat_lt 0 (length k)) (nat_lt (length k) 65) own)))
-fit_by (k ∷ hs) e h (there m) = fit_by hs (and_right (nat_lt 0 (length k) && nat_lt (length k) 65) (handles_fit hs) e) h m
+    let own = and_left (nat_lt 0 (length k) && nat_lt (length k) 65) (handles_fit hs) e in (
+      omega (
+        arith,
+        ltb-true 0 (length k) (and_left (nat_lt 0 (length k)) (nat_lt (length k) 65) own),
+      ),
+      omega (
+        arith,
+        ltb-true (length k) 65
+            (and_right (nat_lt 0 (length k)) (nat_lt (length k) 65) own),
+      ),
+    )
+fit_by (k ∷ hs) e h (there m) =
+    fit_by hs (and_right (nat_lt 0 (length k) && nat_lt (length k) 65) (handles_fit hs) e) h m
 
 abbrev verifiers_fit : List (List ℕ) → Bool
 verifiers_fit [] = true
 verifiers_fit (v ∷ vs) = nat_eq (length v) 8 && verifiers_fit vs
 
-verifiers_by : (vs : List (List ℕ)) → verifiers_fit vs ≡ true → (v : List ℕ) → Member v vs → IsVerifier v
+verifiers_by : (vs : List (List ℕ)) → verifiers_fit vs ≡ true → (v : List ℕ) → Member v vs
+    → IsVerifier v
 verifiers_by [] e v m = elim m [ ]
-verifiers_by (w ∷ vs) e v here = (Decides-eqb (length w) 8).0 (and_left (nat_eq (length w) 8) (verifiers_fit vs) e)
-verifiers_by (w ∷ vs) e v (there m) = verifiers_by vs (and_right (nat_eq (length w) 8) (verifiers_fit vs) e) v m
+verifiers_by (w ∷ vs) e v here =
+    (Decides-eqb (length w) 8).0 (and_left (nat_eq (length w) 8) (verifiers_fit vs) e)
+verifiers_by (w ∷ vs) e v (there m) =
+    verifiers_by vs (and_right (nat_eq (length w) 8) (verifiers_fit vs) e) v m
 
 abbrev pub checks : List Entry → Bool
-checks es = ordered Between es && (handles_fit (handles es) && (verifiers_fit (verifiers es) && (nat_lt (length (handles es)) 100 && nat_lt (length (verifiers es)) 100)))
+checks es =
+    ordered Between es
+    && (handles_fit (handles es)
+    && (verifiers_fit (verifiers es)
+    && (nat_lt (length (handles es)) 100 && nat_lt (length (verifiers es)) 100)))
 
 pub in_order_by : (es : List Entry) → checks es ≡ true → IsWellFormed es
 in_order_by es e =
@@ -95,11 +111,16 @@ in_order_by es e =
       few_verifiers = omega (arith, ltb-true (length (verifiers es)) 100 (and_right c d counts));
     }
 
-pub same_by : (a b : List Entry) → checks a ≡ true → checks b ≡ true → canonical a ≡ canonical b → Same a b
+pub same_by : (a b : List Entry) → checks a ≡ true → checks b ≡ true → canonical a ≡ canonical b
+    → Same a b
 same_by a b p q e = same_from_canonical a b (in_order_by a p) (in_order_by b q) e
 
-pub parted_by : (a b : List Entry) (i : ℕ) (place : Place) → checks a ≡ true → checks b ≡ true → take i (canonical a) ≡ take i (canonical b) → take (i + 1) (canonical a) ≢ take (i + 1) (canonical b) → IsPlaceOf (take i a) (slice_get a i) (slice_get b i) place → Parting a b place
-parted_by a b i place p q e d is = (i, parts_from_first_difference a b (in_order_by a p) (in_order_by b q) i e d, is)
+pub parted_by : (a b : List Entry) (i : ℕ) (place : Place) → checks a ≡ true → checks b ≡ true
+    → take i (canonical a) ≡ take i (canonical b)
+    → take (i + 1) (canonical a) ≢ take (i + 1) (canonical b)
+    → IsPlaceOf (take i a) (slice_get a i) (slice_get b i) place → Parting a b place
+parted_by a b i place p q e d is =
+    (i, parts_from_first_difference a b (in_order_by a p) (in_order_by b q) i e d, is)
 
 pub not_same_by : (a b : List Entry) → canonical a ≢ canonical b → Same a b → ⊥
 not_same_by a b d s = d (canonical-same s)

@@ -1,4 +1,5 @@
 -- Lemmas of canonical captures.
+pub mod Common
 pub mod Lemmas
 pub mod Checks
 pub mod Vectors

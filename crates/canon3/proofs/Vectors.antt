@@ -1,34 +1,32 @@
 -- Small captures are read by computing.
-use Rattle.std.proofs.Common.{◌≡◌, ℕ, true, List, refl, Ok, Err}
+use Rattle.canon3.proofs.Common.{◌≡◌, ℕ, true, List, refl, Ok, Err, Entry, bytes_of, canonical, call_layout, call_start, reply_layout, reply_start, arguments_of, results_of, checked, p, q}
+use Rattle.capture3.proofs.Lemmas.Container.BytesOf.{all_bytes}
 use Rattle.xdr3.specs.Layout.{reading_layout}
 use Rattle.xdr3.specs.Reading.{reading}
 use Rattle.xdr3.specs.Shape.{optional}
 use Rattle.record_mark.specs.RecordMark.{is_last, length_of}
 use Rattle.record_mark.specs.Word.{number}
 use Rattle.rpc_head.specs.Names.{head_names as rpc_names}
-use Rattle.rpc_head.specs.Messages.{call_layout, call_start, reply_layout, reply_start}
 use Rattle.rpc_head.specs.Shapes.{accept, auth_sys, call_head, credential, deny, gids, message_start, parameters, reply_head, verifier}
 use Rattle.nfs3_types.specs.Names.{names}
 use Rattle.nfs3_types.specs.Shapes.{attributes, file_kind, flavor, handle, mount_ok, post_op_attr, post_op_fh, results, status, time, times, wcc, wcc_attr, dir_op}
 use Rattle.procs3.specs.Shapes.{commit_ok, dirpath, entry_plus, file_range, lookup_ok, mount_results, readdirplus_args, readdirplus_ok}
-use Rattle.procs3.specs.Table.{arguments_of, results_of}
 use Rattle.capture3.specs.declared.fault.Fault.{Fault}
-use Rattle.capture3.specs.Entry.{Entry}
 use Rattle.capture3.specs.FirstFault.{FirstFault}
 use Rattle.capture3.specs.BodyProgram.{judge_call, judge_reply}
 use Rattle.capture3.specs.FileMachine.{verdict}
-use Rattle.capture3.proofs.Lemmas.Container.BytesOf.{all_bytes, checked}
 use Rattle.capture3.proofs.Lemmas.Files.Verdicts.{fault_from_verdict, typed_from_verdict}
-use Rattle.canon3.specs.Bytes.{bytes_of}
-use Rattle.canon3.specs.Canonical.{canonical}
-use Rattle.canon3.specs.Examples.{p, q}
 use Rattle.canon3.specs.Vectors.{IsWorked, RefusedCalls, RefusedCredentials, RefusedReplies, by_system, by_system_entries, by_system_form, committing, committing_entries, committing_form, directory, directory_entries, directory_form, exchange, exchange_entries, exchange_form, mounting, mounting_entries, mounting_form, p_file, q_file, raw_entries, raw_of, two_calls_form}
 
-worked_by : (file : List ℕ) (entries : List Entry) (form : List ℕ) → all_bytes file ≡ true → verdict file ≡ Ok entries → bytes_of (canonical entries) ≡ form → IsWorked file entries form
-worked_by file entries form bytes read written = record { typed = typed_from_verdict file entries (checked file bytes) read; form_is = written }
+worked_by : (file : List ℕ) (entries : List Entry) (form : List ℕ) → all_bytes file ≡ true
+    → verdict file ≡ Ok entries → bytes_of (canonical entries) ≡ form → IsWorked file entries form
+worked_by file entries form bytes read written =
+    record { typed = typed_from_verdict file entries (checked file bytes) read; form_is = written }
 
-refused_by : {file : List ℕ} {fault : Fault} → all_bytes file ≡ true → verdict file ≡ Err fault → FirstFault file fault
-refused_by {file = file} {fault = fault} bytes read = fault_from_verdict file fault (checked file bytes) read
+refused_by : {file : List ℕ} {fault : Fault} → all_bytes file ≡ true → verdict file ≡ Err fault
+    → FirstFault file fault
+refused_by {file = file} {fault = fault} bytes read =
+    fault_from_verdict file fault (checked file bytes) read
 
 pub record AreWorked : Type 0 where
   pub exchange_is : IsWorked exchange exchange_entries exchange_form
@@ -41,7 +39,12 @@ pub record AreWorked : Type 0 where
   pub raw_is : IsWorked (raw_of 5) raw_entries (raw_of 1)
 
 pub worked : AreWorked
-unfolding all_bytes number is_last length_of judge_call judge_reply reading reading_layout message_start call_layout call_start call_head reply_layout reply_start reply_head credential auth_sys parameters gids verifier accept deny arguments_of results_of rpc_names names file_kind handle time times attributes post_op_attr wcc wcc_attr post_op_fh dir_op status results mount_ok flavor entry_plus file_range readdirplus_args readdirplus_ok commit_ok lookup_ok mount_results dirpath optional
+unfolding all_bytes number is_last length_of judge_call judge_reply reading reading_layout
+    message_start call_layout call_start call_head reply_layout reply_start reply_head credential
+    auth_sys parameters gids verifier accept deny arguments_of results_of rpc_names names file_kind
+    handle time times attributes post_op_attr wcc wcc_attr post_op_fh dir_op status results mount_ok
+    flavor entry_plus file_range readdirplus_args readdirplus_ok commit_ok lookup_ok mount_results
+    dirpath optional
 worked = record {
   exchange_is = worked_by exchange exchange_entries exchange_form refl refl refl;
   p_is = worked_by p_file p two_calls_form refl refl refl;
@@ -54,7 +57,12 @@ worked = record {
 }
 
 pub refused_calls : RefusedCalls
-unfolding all_bytes number is_last length_of judge_call judge_reply reading reading_layout message_start call_layout call_start call_head reply_layout reply_start reply_head credential auth_sys parameters gids verifier accept deny arguments_of results_of rpc_names names file_kind handle time times attributes post_op_attr wcc wcc_attr post_op_fh dir_op status results mount_ok flavor entry_plus file_range readdirplus_args readdirplus_ok commit_ok lookup_ok mount_results dirpath optional
+unfolding all_bytes number is_last length_of judge_call judge_reply reading reading_layout
+    message_start call_layout call_start call_head reply_layout reply_start reply_head credential
+    auth_sys parameters gids verifier accept deny arguments_of results_of rpc_names names file_kind
+    handle time times attributes post_op_attr wcc wcc_attr post_op_fh dir_op status results mount_ok
+    flavor entry_plus file_range readdirplus_args readdirplus_ok commit_ok lookup_ok mount_results
+    dirpath optional
 refused_calls = record {
   version = refused_by refl refl;
   credential = refused_by refl refl;
@@ -66,7 +74,12 @@ refused_calls = record {
 }
 
 pub refused_credentials : RefusedCredentials
-unfolding all_bytes number is_last length_of judge_call judge_reply reading reading_layout message_start call_layout call_start call_head reply_layout reply_start reply_head credential auth_sys parameters gids verifier accept deny arguments_of results_of rpc_names names file_kind handle time times attributes post_op_attr wcc wcc_attr post_op_fh dir_op status results mount_ok flavor entry_plus file_range readdirplus_args readdirplus_ok commit_ok lookup_ok mount_results dirpath optional
+unfolding all_bytes number is_last length_of judge_call judge_reply reading reading_layout
+    message_start call_layout call_start call_head reply_layout reply_start reply_head credential
+    auth_sys parameters gids verifier accept deny arguments_of results_of rpc_names names file_kind
+    handle time times attributes post_op_attr wcc wcc_attr post_op_fh dir_op status results mount_ok
+    flavor entry_plus file_range readdirplus_args readdirplus_ok commit_ok lookup_ok mount_results
+    dirpath optional
 refused_credentials = record {
   too_many_groups = refused_by refl refl;
   one_word_more = refused_by refl refl;
@@ -75,7 +88,12 @@ refused_credentials = record {
 }
 
 pub refused_replies : RefusedReplies
-unfolding all_bytes number is_last length_of judge_call judge_reply reading reading_layout message_start call_layout call_start call_head reply_layout reply_start reply_head credential auth_sys parameters gids verifier accept deny arguments_of results_of rpc_names names file_kind handle time times attributes post_op_attr wcc wcc_attr post_op_fh dir_op status results mount_ok flavor entry_plus file_range readdirplus_args readdirplus_ok commit_ok lookup_ok mount_results dirpath optional
+unfolding all_bytes number is_last length_of judge_call judge_reply reading reading_layout
+    message_start call_layout call_start call_head reply_layout reply_start reply_head credential
+    auth_sys parameters gids verifier accept deny arguments_of results_of rpc_names names file_kind
+    handle time times attributes post_op_attr wcc wcc_attr post_op_fh dir_op status results mount_ok
+    flavor entry_plus file_range readdirplus_args readdirplus_ok commit_ok lookup_ok mount_results
+    dirpath optional
 refused_replies = record {
   no_call = refused_by refl refl;
   a_call = refused_by refl refl;

@@ -1,6 +1,6 @@
 -- The bytes of a list of entries: one chunk for each record, one fragment for each record, and
 -- residual bytes of zero.
-use Rattle.std.specs.Prelude.{ℕ, ◌+◌, ◌^◌, List, [], ◌∷◌, ◌++◌, length}
+use Rattle.std.specs.Prelude.{ℕ, ◌+◌, ◌==◌, ◌^◌, List, [], ◌∷◌, ◌++◌, if◌then◌else◌, length}
 use Rattle.std.specs.List.{flat_map}
 use Rattle.xdr3.specs.Item.{Item, zero_spelling, word_bytes}
 use Rattle.capture3.specs.Capture.{One, magic}
@@ -26,6 +26,10 @@ entry_bytes Turn = word_bytes 0
 entry_bytes (Reply id items) = message_bytes items
 entry_bytes Close = word_bytes 0
 entry_bytes End = word_bytes 0
+
+-- the magic stands before the first connection, and before the end where there is none
+abbrev pub magic_before : (connections : ℕ) → List ℕ
+magic_before connections = if connections == 0 then magic One else []
 
 -- the magic, and each entry's bytes; no entries have no bytes
 abbrev pub bytes_of : List Entry → List ℕ

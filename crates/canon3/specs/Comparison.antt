@@ -8,11 +8,11 @@ use Rattle.capture3.specs.Entries.{IsShownBy}
 use Rattle.capture3.specs.Entry.{Entry}
 use Rattle.capture3.specs.FirstFault.{FirstFault}
 use Rattle.capture3.specs.Typed.{IsWellFormed, Typed}
-use Rattle.canon3.specs.declared.verdict.SameError.{SameError}
-use Rattle.canon3.specs.declared.verdict.Verdict.{Verdict}
-use Rattle.canon3.specs.declared.verdict.Verdict.TheVariants as verdicts
-use Rattle.canon3.specs.declared.verdict.Which.{Which}
-use Rattle.canon3.specs.declared.verdict.Which.TheVariants.{First, Second}
+use Rattle.canon3.specs.declared.comparison.verdict.SameError.{SameError}
+use Rattle.canon3.specs.declared.comparison.verdict.Verdict.{Verdict}
+use Rattle.canon3.specs.declared.comparison.verdict.Verdict.TheVariants as verdicts
+use Rattle.canon3.specs.declared.comparison.verdict.Which.{Which}
+use Rattle.canon3.specs.declared.comparison.verdict.Which.TheVariants.{First, Second}
 use Rattle.canon3.specs.Parting.{Parting}
 use Rattle.canon3.specs.Renaming.{Same}
 

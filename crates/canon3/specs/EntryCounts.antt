@@ -1,7 +1,7 @@
 -- What came of a capture so far.
 use Rattle.std.specs.Prelude.{◌≡◌, ℕ, ◌+◌, List, count_by, max}
 use Rattle.capture3.specs.Entry.{Entry}
-use Rattle.canon3.specs.declared.entry_counts.EntryCounts.{EntryCounts}
+use Rattle.canon3.specs.declared.entries.entry_counts.EntryCounts.{EntryCounts}
 use Rattle.canon3.specs.Progress.{HasPassed, steps_of}
 use Rattle.canon3.specs.Summary.{is_call, is_reply}
 

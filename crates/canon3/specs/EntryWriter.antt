@@ -11,7 +11,7 @@ use Rattle.capture3.specs.Entry.{Entry, items_of}
 use Rattle.capture3.specs.FirstFault.{FirstFault}
 use Rattle.capture3.specs.Reached.{Reached}
 use Rattle.capture3.specs.Typed.{Typed}
-use Rattle.canon3.specs.declared.entry_counts.EntryCounts.{EntryCounts}
+use Rattle.canon3.specs.declared.entries.entry_counts.EntryCounts.{EntryCounts}
 use Rattle.canon3.specs.declared.summary.Summary.{Summary}
 use Rattle.capture3.specs.declared.reader.entry.EntryRef.{EntryRef}
 use Rattle.canon3.specs.Laws.{AreFirst}

@@ -1,7 +1,7 @@
 -- How far the entries of a capture have come, and where the next ones differ.
 use Rattle.std.specs.Prelude.{◌≡◌, ℕ, ◌+◌, List}
 use Rattle.capture3.specs.Entry.{Entry}
-use Rattle.canon3.specs.declared.progress.Progress.{Progress}
+use Rattle.canon3.specs.declared.entries.progress.Progress.{Progress}
 use Rattle.canon3.specs.Parting.{connections, records_after}
 
 -- after these entries

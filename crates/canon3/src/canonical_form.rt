@@ -1,7 +1,10 @@
 //! The canonical form of a capture, from a source to a sink.
 
-ghost use Rattle.std.specs.Prelude.{◌≡◌, ◌<◌, ◌^◌, ◌++◌, ◌∷◌, ℕ, List, [], length, IfErr, OnErr, OnOk};
-ghost use Rattle.std.specs.Io.KnownBytes.{Appends};
+pub(crate) mod container_writer;
+pub(crate) mod message_writer;
+pub(crate) mod spelling;
+
+ghost use Rattle.std.specs.Prelude.{◌≡◌, ◌<◌, ◌^◌, ◌++◌, ◌∷◌, ℕ, List, [], length, IfErr, OnOk};
 ghost use Rattle.capture3.specs.Entries.{CountsReading};
 ghost use Rattle.capture3.specs.Entry as spec;
 ghost use Rattle.canon3.specs.Laws.{AreFirst};
@@ -9,22 +12,20 @@ ghost use Rattle.canon3.specs.machinery.MessageWriter.{WriterStands, told_after,
 ghost use Rattle.capture3.specs.Told.{GavePrefix};
 ghost use Rattle.canon3.specs.CanonicalForm.{canonical_bytes, RewritesGiven, WritesNoMore};
 ghost use Rattle.canon3.specs.EntryWriter.{WritesAll};
-ghost use Rattle.canon3.specs.machinery.FormSteps.{Follows, magic_before};
-ghost use Rattle.canon3.specs.EntryCounts.{connections_in};
+ghost use Rattle.canon3.specs.machinery.FormSteps.{Follows};
 ghost use Rattle.capture3.specs.Kept.{IsLent};
 ghost use Rattle.capture3.specs.Entry.{items_of};
 ghost use Rattle.canon3.specs.WriteErrors.{CountsWriting, IsOfWriting};
-ghost use Rattle.canon3.specs.SinkWrites.{AppendsFront, IsFlushed};
+ghost use Rattle.canon3.specs.SinkWrites.{IsFlushed};
 
-use crate::container_writer::write_spelling;
-use crate::entry_counts::EntryCounts;
-use crate::entry_writer::{CountingWriter, EntryWriter, write_entries};
-use crate::message_writer::MessageWriter;
+use crate::canonical_form::container_writer::{write_magic, write_spelling};
+use crate::canonical_form::message_writer::MessageWriter;
+use crate::canonical_form::spelling::spelling_of_entry;
+use crate::entries::entry_counts::EntryCounts;
+use crate::entries::entry_writer::{CountingWriter, EntryWriter, write_entries};
 use crate::sink::Sink;
-use crate::spelling::spelling_of_entry;
 use crate::summary::Summary;
-use crate::whole_writes::write_all;
-use capture3::{EntryRef, Error, Hashers, Source, pack_header};
+use capture3::{EntryRef, Error, Hashers, Source};
 use std::alloc::Global;
 use std::hash::BuildHasher;
 
@@ -69,23 +70,6 @@ pub fn canon<R: Source, W: Sink, S: BuildHasher + Drop>(
     write_entries(alloc, hashers.calls, source, sink, &mut message_writer)
 }
 
-/// Writes the magic, if no connection began.
-fn open<W: Sink>(counts: &EntryCounts, sink: &mut W) -> Result<(), Error>
-    ensures ok { OnOk result
-        (Appends (W.written sink.old) (W.written sink.new)
-        (magic_before (connections_in counts.now))) }
-    ensures err { OnErr result
-        (AppendsFront (W.written sink.old) (W.written sink.new)
-        (magic_before (connections_in counts.now))) }
-    ensures count { CountsWriting (W.failures sink.old) (W.failures sink.new) result }
-    ensures error { IfErr result (λ error. error ≡ Error.Write) }
-{
-    if counts.connections() > 0 {
-        return Ok(());
-    }
-    write_all(sink, &pack_header())
-}
-
 /// Writes the entry after the magic, and begins the next message.
 fn write_after_magic<S: BuildHasher + Drop, W: Sink>(
     message_writer: &mut MessageWriter<S>,
@@ -126,7 +110,7 @@ impl<S: BuildHasher + Drop> EntryWriter for MessageWriter<S> {
         sink: &mut W,
         entry: EntryRef<'_>,
     ) -> Result<(), Error> {
-        open(counts, sink)?;
+        write_magic(counts, sink)?;
         write_after_magic(self, sink, entry)
     }
 }

@@ -1,5 +1,7 @@
 //! Whether two captures are the same up to renaming.
 
+pub(crate) mod verdict;
+
 ghost use Rattle.std.specs.Prelude.{◌≡◌, ◌≢◌, ◌<◌, ◌≤◌, ◌+◌, ◌^◌, ◌++◌, ◌∷◌, ℕ, List, [], length, None, Some, IfErr, IfOk, IsTrue, OnOk};
 ghost use Rattle.capture3.specs.Told.{GavePrefix, Told};
 ghost use Rattle.capture3.specs.Entries.{failure_of, source_of};
@@ -14,11 +16,11 @@ ghost use Rattle.canon3.specs.Progress.{steps_of};
 ghost use Rattle.capture3.specs.Kept.{IsLent};
 ghost use Rattle.capture3.specs.Entry.{items_of};
 
-use crate::entry_kind::kind_of;
-use crate::message_writer::MessageWriter;
-use crate::progress::Progress;
-use crate::spelling::{are_alike, spelling_of_entry};
-use crate::verdict::{SameError, Verdict, Which, out_of_memory_in};
+use crate::canonical_form::message_writer::MessageWriter;
+use crate::canonical_form::spelling::{are_alike, spelling_of_entry};
+use crate::comparison::verdict::{SameError, Verdict, Which, out_of_memory_in};
+use crate::entries::entry_kind::kind_of;
+use crate::entries::progress::Progress;
 use capture3::{Entries, EntryRef, Error, Fault, Hashers, Place, Silent, Source, new_block};
 use std::alloc::Global;
 use std::hash::BuildHasher;

@@ -1,5 +1,9 @@
 //! Sinks of bytes whose calls may fail.
 
+pub(crate) mod mem_sink;
+pub(crate) mod traced;
+pub(crate) mod whole_writes;
+
 ghost use Rattle.std.specs.Prelude.{◌≡◌, ◌≤◌, ◌<◌, ℕ, List, length, Option, None, IfOk, OnOk};
 ghost use Rattle.std.specs.Io.KnownBytes.{WriteAppends, Keeps};
 ghost use Rattle.capture3.specs.Device.{Counts};

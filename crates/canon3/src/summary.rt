@@ -13,8 +13,8 @@ ghost use Rattle.canon3.specs.machinery.Reading.{ReadsOne};
 ghost use Rattle.canon3.specs.machinery.Sums.{Sums};
 ghost use Rattle.canon3.specs.machinery.Tally.{TalliesOn, TalliesToTheEnd, IsTallying, Tallies};
 
-use crate::entry_counts::EntryCounts;
-use crate::handles::HandleTable;
+use crate::entries::entry_counts::EntryCounts;
+use crate::numbers::handles::HandleTable;
 use capture3::{Entries, Error, Hashers, Source, new_block};
 use std::alloc::Global;
 use std::hash::BuildHasher;

@@ -1,3 +1,4 @@
 -- Lemmas of captures.
+pub mod Common
 pub mod Lemmas
 pub mod Examples

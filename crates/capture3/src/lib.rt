@@ -13,7 +13,7 @@ pub use container::position::{MAX_BYTES, MAX_CONNECTIONS};
 pub use device::DeviceFailed;
 pub use device::mem_source::MemSource;
 pub use device::plan::FaultPlan;
-pub use device::source::{FromRead, Source};
+pub use device::source::{FromRead, Given, Source};
 pub use device::trail::Trail;
 pub use fault::{Error, Fault, Place, Side};
 pub use message::silent::Silent;

@@ -20,7 +20,8 @@ pub record IsOther (command : List ℕ) (names : List (List ℕ)) : Type 0 where
   pub same : command ≡ codes "same" → length names ≢ 2
   pub pack : command ≡ codes "pack" → length names < 2
 
-pub no_form : (program command : List ℕ) (names : List (List ℕ)) → IsOther command names → (form : Form) → IsLine (program ∷ command ∷ names) (words_of form) → ⊥
+pub no_form : (program command : List ℕ) (names : List (List ℕ)) → IsOther command names
+    → (form : Form) → IsLine (program ∷ command ∷ names) (words_of form) → ⊥
 no_form program command names is (Check file) line =
     let e : program ∷ command ∷ names ≡ line.program ∷ codes "check" ∷ file ∷ [] = line.all in
     is.check (cc) (ap (λ l. length (tail_of (tail_of l))) e)
@@ -41,23 +42,32 @@ no_form program command names is (Pack a b more) line =
     absurd (omega (arith, n, short))
 
 -- a usage is the answer to a line of none of the forms
-pub told : (words : List (List ℕ)) (fault : LineFault) → IsUsage fault → ((form : Form) → IsLine words (words_of form) → ⊥) → AreRefused words fault
+pub told : (words : List (List ℕ)) (fault : LineFault) → IsUsage fault
+    → ((form : Form) → IsLine words (words_of form) → ⊥) → AreRefused words fault
 told words (Usage text) is none = λ form line names. none form line
 told words Odd is none = absurd is
 told words SameName is none = absurd is
 told words NotText is none = absurd is
 told words Memory is none = tt
 
-pub told_other : (program command : List ℕ) (names : List (List ℕ)) (fault : LineFault) → IsUsage fault → IsOther command names → AreRefused (program ∷ command ∷ names) fault
-told_other program command names fault is other = told (program ∷ command ∷ names) fault is (no_form program command names other)
+pub told_other : (program command : List ℕ) (names : List (List ℕ)) (fault : LineFault)
+    → IsUsage fault → IsOther command names → AreRefused (program ∷ command ∷ names) fault
+told_other program command names fault is other =
+    told (program ∷ command ∷ names) fault is (no_form program command names other)
 
 -- so few words have no form
-pub no_form_so_short : (words : List (List ℕ)) → length words < 3 → (form : Form) → IsLine words (words_of form) → ⊥
-no_form_so_short words short (Check file) line = let n = ap length line.all in absurd (omega (arith, n, short))
-no_form_so_short words short (Show file) line = let n = ap length line.all in absurd (omega (arith, n, short))
-no_form_so_short words short (Canon a b) line = let n = ap length line.all in absurd (omega (arith, n, short))
-no_form_so_short words short (Same a b) line = let n = ap length line.all in absurd (omega (arith, n, short))
-no_form_so_short words short (Pack a b more) line = let n = ap length line.all in absurd (omega (arith, n, short))
+pub no_form_so_short : (words : List (List ℕ)) → length words < 3 → (form : Form)
+    → IsLine words (words_of form) → ⊥
+no_form_so_short words short (Check file) line =
+    let n = ap length line.all in absurd (omega (arith, n, short))
+no_form_so_short words short (Show file) line =
+    let n = ap length line.all in absurd (omega (arith, n, short))
+no_form_so_short words short (Canon a b) line =
+    let n = ap length line.all in absurd (omega (arith, n, short))
+no_form_so_short words short (Same a b) line =
+    let n = ap length line.all in absurd (omega (arith, n, short))
+no_form_so_short words short (Pack a b more) line =
+    let n = ap length line.all in absurd (omega (arith, n, short))
 
 -- ---- what is among texts
 
@@ -76,44 +86,72 @@ there : (xs : List (List ℕ)) (x t : List ℕ) → Contains xs t → Contains (
 there xs x t (k, low, is) = (suc k, omega (arith, low), is)
 
 -- what the test finds is among the texts
-pub among : (texts : List (String Global)) (t : String Global) → list_any (λ y. string_eq y t) texts ≡ true → Contains (map string_bytes texts) (string_bytes t)
+pub among : (texts : List (String Global)) (t : String Global)
+    → list_any (λ y. string_eq y t) texts ≡ true
+    → Contains (map string_bytes texts) (string_bytes t)
 among [] t found = absurd (cc)
 among (x ∷ xs) t found = elim (or_true (string_eq x t) (list_any (λ y. string_eq y t) xs) found) [
-  | inl e ↦ here (map string_bytes xs) (string_bytes x) (string_bytes t) ((bytes_eq-Decides (string_bytes x) (string_bytes t)).0 e)
+  | inl e ↦ here (map string_bytes xs) (string_bytes x) (string_bytes t)
+      ((bytes_eq-Decides (string_bytes x) (string_bytes t)).0 e)
   | inr e ↦ there (map string_bytes xs) (string_bytes x) (string_bytes t) (among xs t e)
 ]
 
 -- what the test does not find is none of them
-pub not_among : (texts : List (String Global)) (t : String Global) → list_any (λ y. string_eq y t) texts ≡ false → Contains (map string_bytes texts) (string_bytes t) → ⊥
+pub not_among : (texts : List (String Global)) (t : String Global)
+    → list_any (λ y. string_eq y t) texts ≡ false
+    → Contains (map string_bytes texts) (string_bytes t) → ⊥
 not_among [] t none (k, low, is) = omega (arith, low)
 not_among (x ∷ xs) t none (zero, low, is) =
-    let no : string_eq x t ≡ false = (or_false (string_eq x t) (list_any (λ y. string_eq y t) xs) none).0 in
+    let no : string_eq x t ≡ false =
+    (or_false (string_eq x t) (list_any (λ y. string_eq y t) xs) none).0 in
     let yes : string_eq x t ≡ true = (bytes_eq-Decides (string_bytes x) (string_bytes t)).1 is in
     absurd (cc)
-not_among (x ∷ xs) t none (suc k, low, is) = not_among xs t (or_false (string_eq x t) (list_any (λ y. string_eq y t) xs) none).1 (k, omega (arith, low), is)
+not_among (x ∷ xs) t none (suc k, low, is) =
+    not_among xs t (or_false (string_eq x t) (list_any (λ y. string_eq y t) xs) none).1
+    (k, omega (arith, low), is)
 
 -- ---- words by their number
 
-pub three_words : (words : List (String Global)) (a b : String Global) (command name : List ℕ) → 3 ≤ length words → length words < 4 → a ≡ slice_index_or words 1 a → b ≡ slice_index_or words 2 b → string_bytes a ≡ command → string_bytes b ≡ name → IsLine (map string_bytes words) (command ∷ name ∷ [])
+pub three_words : (words : List (String Global)) (a b : String Global) (command name : List ℕ)
+    → 3 ≤ length words → length words < 4 → a ≡ slice_index_or words 1 a
+    → b ≡ slice_index_or words 2 b → string_bytes a ≡ command → string_bytes b ≡ name
+    → IsLine (map string_bytes words) (command ∷ name ∷ [])
 three_words [] a b command name low high is_a is_b of_a of_b = absurd (omega (arith, low))
 three_words (x ∷ []) a b command name low high is_a is_b of_a of_b = absurd (omega (arith, low))
 three_words (x ∷ y ∷ []) a b command name low high is_a is_b of_a of_b = absurd (omega (arith, low))
-three_words (x ∷ y ∷ z ∷ []) a b command name low high is_a is_b of_a of_b = record { program = string_bytes x; all = cc }
-three_words (x ∷ y ∷ z ∷ w ∷ more) a b command name low high is_a is_b of_a of_b = absurd (omega (arith, high))
+three_words (x ∷ y ∷ z ∷ []) a b command name low high is_a is_b of_a of_b =
+    record { program = string_bytes x; all = cc }
+three_words (x ∷ y ∷ z ∷ w ∷ more) a b command name low high is_a is_b of_a of_b =
+    absurd (omega (arith, high))
 
-pub four_words : (words : List (String Global)) (a b c : String Global) (command first second : List ℕ) → 4 ≤ length words → length words < 5 → a ≡ slice_index_or words 1 a → b ≡ slice_index_or words 2 b → c ≡ slice_index_or words 3 c → string_bytes a ≡ command → string_bytes b ≡ first → string_bytes c ≡ second → IsLine (map string_bytes words) (command ∷ first ∷ second ∷ [])
-four_words [] a b c command first second low high is_a is_b is_c of_a of_b of_c = absurd (omega (arith, low))
-four_words (x ∷ []) a b c command first second low high is_a is_b is_c of_a of_b of_c = absurd (omega (arith, low))
-four_words (x ∷ y ∷ []) a b c command first second low high is_a is_b is_c of_a of_b of_c = absurd (omega (arith, low))
-four_words (x ∷ y ∷ z ∷ []) a b c command first second low high is_a is_b is_c of_a of_b of_c = absurd (omega (arith, low))
-four_words (x ∷ y ∷ z ∷ w ∷ []) a b c command first second low high is_a is_b is_c of_a of_b of_c = record { program = string_bytes x; all = cc }
-four_words (x ∷ y ∷ z ∷ w ∷ v ∷ more) a b c command first second low high is_a is_b is_c of_a of_b of_c = absurd (omega (arith, high))
+pub four_words : (words : List (String Global)) (a b c : String Global)
+    (command first second : List ℕ) → 4 ≤ length words → length words < 5
+    → a ≡ slice_index_or words 1 a → b ≡ slice_index_or words 2 b → c ≡ slice_index_or words 3 c
+    → string_bytes a ≡ command → string_bytes b ≡ first → string_bytes c ≡ second
+    → IsLine (map string_bytes words) (command ∷ first ∷ second ∷ [])
+four_words [] a b c command first second low high is_a is_b is_c of_a of_b of_c =
+    absurd (omega (arith, low))
+four_words (x ∷ []) a b c command first second low high is_a is_b is_c of_a of_b of_c =
+    absurd (omega (arith, low))
+four_words (x ∷ y ∷ []) a b c command first second low high is_a is_b is_c of_a of_b of_c =
+    absurd (omega (arith, low))
+four_words (x ∷ y ∷ z ∷ []) a b c command first second low high is_a is_b is_c of_a of_b of_c =
+    absurd (omega (arith, low))
+four_words (x ∷ y ∷ z ∷ w ∷ []) a b c command first second low high is_a is_b is_c of_a of_b of_c =
+    record { program = string_bytes x; all = cc }
+four_words (x ∷ y ∷ z ∷ w ∷ v ∷ more) a b c command first second low high is_a is_b is_c of_a of_b
+    of_c = absurd (omega (arith, high))
 
-pub many_words : (words : List (String Global)) (a b : String Global) (command output : List ℕ) → 5 ≤ length words → a ≡ slice_index_or words 1 a → b ≡ slice_index_or words 2 b → string_bytes a ≡ command → string_bytes b ≡ output → IsLine (map string_bytes words) (command ∷ output ∷ map string_bytes (take (length words - 3) (drop 3 words)))
+pub many_words : (words : List (String Global)) (a b : String Global) (command output : List ℕ)
+    → 5 ≤ length words → a ≡ slice_index_or words 1 a → b ≡ slice_index_or words 2 b
+    → string_bytes a ≡ command → string_bytes b ≡ output
+    → IsLine (map string_bytes words)
+    (command ∷ output ∷ map string_bytes (take (length words - 3) (drop 3 words)))
 many_words [] a b command output low is_a is_b of_a of_b = absurd (omega (arith, low))
 many_words (x ∷ []) a b command output low is_a is_b of_a of_b = absurd (omega (arith, low))
 many_words (x ∷ y ∷ []) a b command output low is_a is_b of_a of_b = absurd (omega (arith, low))
 many_words (x ∷ y ∷ z ∷ more) a b command output low is_a is_b of_a of_b =
     let n : length (x ∷ y ∷ z ∷ more) - 3 ≡ length more = omega arith in
-    let rest : take (length (x ∷ y ∷ z ∷ more) - 3) more ≡ more = ap (λ k. take k more) n ∙ take-length more in
+    let rest : take (length (x ∷ y ∷ z ∷ more) - 3) more ≡ more =
+    ap (λ k. take k more) n ∙ take-length more in
     record { program = string_bytes x; all = cc }

@@ -1,9 +1,6 @@
 -- Hexadecimal digits, from halves of bytes.
-use Rattle.std.proofs.Common.{◌≡◌, ℕ, zero, suc, ◌+◌, ◌<◌, ◌/◌, ◌%◌, ◌++◌, List, [], ◌∷◌, slice_index, take, drop, map, length, set, refl, ap, ap₂, sym, ◌∙◌, arith, ◌*◌, append_assoc}
+use Rattle.listing3.proofs.Common.{◌≡◌, ℕ, zero, suc, ◌+◌, ◌<◌, ◌/◌, ◌%◌, ◌++◌, List, [], ◌∷◌, slice_index, take, drop, map, length, set, refl, ap, ap₂, sym, ◌∙◌, arith, ◌*◌, append_assoc, encode_with, encode_lower, lower_digits, AreBytes, halves_in_order, AreHalves}
 use Rattle.std.proofs.lemmas.List.{append-nil, drop_more, drop-set-lt, length-append, map-append, take_more, take_more_set}
-use Rattle.hex.specs.Hex.{encode_with, encode_lower, lower_digits}
-use Rattle.xdr3.specs.Item.{AreBytes}
-use Rattle.listing3.specs.machinery.Halves.{halves_in_order, AreHalves}
 
 -- a number below 16 stands in its own place
 pub half_at : (n : ℕ) → n < 16 → slice_index halves_in_order n ≡ n
@@ -21,27 +18,41 @@ half_at (suc (suc (suc (suc (suc (suc (suc (suc (suc (suc zero)))))))))) l = ref
 half_at (suc (suc (suc (suc (suc (suc (suc (suc (suc (suc (suc zero))))))))))) l = refl
 half_at (suc (suc (suc (suc (suc (suc (suc (suc (suc (suc (suc (suc zero)))))))))))) l = refl
 half_at (suc (suc (suc (suc (suc (suc (suc (suc (suc (suc (suc (suc (suc zero))))))))))))) l = refl
-half_at (suc (suc (suc (suc (suc (suc (suc (suc (suc (suc (suc (suc (suc (suc zero)))))))))))))) l = refl
-half_at (suc (suc (suc (suc (suc (suc (suc (suc (suc (suc (suc (suc (suc (suc (suc zero))))))))))))))) l = refl
-half_at (suc (suc (suc (suc (suc (suc (suc (suc (suc (suc (suc (suc (suc (suc (suc (suc n)))))))))))))))) l = absurd (omega (arith, l))
+half_at (suc (suc (suc (suc (suc (suc (suc (suc (suc (suc (suc (suc (suc (suc zero)))))))))))))) l =
+    refl
+half_at
+    (suc (suc
+    (suc (suc (suc (suc (suc (suc (suc (suc (suc (suc (suc (suc (suc zero)))))))))))))))
+    l = refl
+half_at
+    (suc (suc (suc (suc (suc
+    (suc (suc (suc (suc (suc (suc (suc (suc (suc (suc (suc n))))))))))))))))
+    l = absurd (omega (arith, l))
 
 -- equal rests begin with the same number
-pub same_at : (now start : List ℕ) (i : ℕ) → drop i now ≡ drop i start → i < length now → length now ≡ length start → slice_index now i ≡ slice_index start i
+pub same_at : (now start : List ℕ) (i : ℕ) → drop i now ≡ drop i start → i < length now
+    → length now ≡ length start → slice_index now i ≡ slice_index start i
 same_at now start i ahead l same =
     let a = drop_more now i 0 l in
     let b = drop_more start i 0 (omega (arith, same)) in
     ap (λ (ns : List ℕ). slice_index ns 0) (sym a ∙ ahead ∙ b)
 
 -- one number more is replaced
-pub replaced : (f : ℕ → ℕ) (now start : List ℕ) (i x : ℕ) → i < length now → length now ≡ length start → drop i now ≡ drop i start
-    → x ≡ f (slice_index now i) → take i now ≡ map f (take i start) → take (i + 1) (set now i x) ≡ map f (take (i + 1) start)
+pub replaced : (f : ℕ → ℕ) (now start : List ℕ) (i x : ℕ) → i < length now
+    → length now ≡ length start → drop i now ≡ drop i start
+    → x ≡ f (slice_index now i) → take i now ≡ map f (take i start)
+    → take (i + 1) (set now i x) ≡ map f (take (i + 1) start)
 replaced f now start i x l same ahead is done =
-    let more : take (i + 1) start ≡ take i start ++ slice_index start i ∷ [] = take_more start i 0 (omega (arith, same)) in
-    take_more_set now i x l ∙ ap₂ (λ (a : List ℕ) (n : ℕ). a ++ n ∷ []) done (is ∙ ap f (same_at now start i ahead l same))
+    let more : take (i + 1) start ≡ take i start ++ slice_index start i ∷ [] =
+    take_more start i 0 (omega (arith, same)) in
+    take_more_set now i x l
+    ∙ ap₂ (λ (a : List ℕ) (n : ℕ). a ++ n ∷ []) done
+    (is ∙ ap f (same_at now start i ahead l same))
     ∙ sym (map-append f (take i start) (slice_index start i ∷ [])) ∙ ap (map f) (sym more)
 
 -- the rest stays
-pub rest_kept : (now start : List ℕ) (i x : ℕ) → i < length now → length now ≡ length start → drop i now ≡ drop i start → drop (i + 1) (set now i x) ≡ drop (i + 1) start
+pub rest_kept : (now start : List ℕ) (i x : ℕ) → i < length now → length now ≡ length start
+    → drop i now ≡ drop i start → drop (i + 1) (set now i x) ≡ drop (i + 1) start
 rest_kept now start i x l same ahead =
     let a = drop_more now i 0 l in
     let b = drop_more start i 0 (omega (arith, same)) in
@@ -51,38 +62,55 @@ rest_kept now start i x l same ahead =
 pub halves_below : (bytes : List ℕ) → AreBytes bytes → AreHalves (encode_with halves_in_order bytes)
 unfolding encode_with
 halves_below [] h i = omega arith
-halves_below (b ∷ bytes) h zero = let small : b < 256 = h 0 in let is = half_at (b / 16) (omega (arith, small)) in omega (arith, is, small)
+halves_below (b ∷ bytes) h zero =
+    let small : b < 256 = h 0 in
+    let is = half_at (b / 16) (omega (arith, small)) in omega (arith, is, small)
 halves_below (b ∷ bytes) h (suc zero) = let is = half_at (b % 16) (omega arith) in omega (arith, is)
 halves_below (b ∷ bytes) h (suc (suc i)) = halves_below bytes (λ k. h (suc k)) i
 
 -- the digits of halves
-pub digits_of_halves : (bytes : List ℕ) → AreBytes bytes → map (slice_index lower_digits) (encode_with halves_in_order bytes) ≡ encode_lower bytes
+pub digits_of_halves : (bytes : List ℕ) → AreBytes bytes
+    → map (slice_index lower_digits) (encode_with halves_in_order bytes) ≡ encode_lower bytes
 unfolding encode_with
 digits_of_halves [] h = refl
 digits_of_halves (b ∷ bytes) h =
     let small : b < 256 = h 0 in
-    rw (half_at (b / 16) (omega arith), half_at (b % 16) (omega arith), digits_of_halves bytes (λ i. h (suc i))) refl
+    rw (
+      half_at (b / 16) (omega arith),
+      half_at (b % 16) (omega arith),
+      digits_of_halves bytes (λ i. h (suc i)),
+    ) refl
 
 -- hexadecimal text of two parts
-hex_parts : (a b : List ℕ) → encode_lower (a ++ b) ≡ encode_lower a ++ encode_lower b
+pub hex_parts : (a b : List ℕ) → encode_lower (a ++ b) ≡ encode_lower a ++ encode_lower b
 unfolding encode_with
 hex_parts [] b = refl
-hex_parts (x ∷ a) b = ap (λ (l : List ℕ). slice_index lower_digits (x / 16) ∷ slice_index lower_digits (x % 16) ∷ l) (hex_parts a b)
+hex_parts (x ∷ a) b =
+    ap (λ (l : List ℕ). slice_index lower_digits (x / 16) ∷ slice_index lower_digits (x % 16) ∷ l)
+    (hex_parts a b)
 
 -- a piece was spelled, and the rest is left
-pub piece_spelled : (now new whole all piece rest : List ℕ) → all ≡ piece ++ rest → new ≡ now ++ encode_lower piece → now ++ encode_lower all ≡ whole → new ++ encode_lower rest ≡ whole
+pub piece_spelled : (now new whole all piece rest : List ℕ) → all ≡ piece ++ rest
+    → new ≡ now ++ encode_lower piece → now ++ encode_lower all ≡ whole
+    → new ++ encode_lower rest ≡ whole
 piece_spelled now new whole all piece rest parts wrote e =
-    ap (λ (l : List ℕ). l ++ encode_lower rest) wrote ∙ append_assoc now (encode_lower piece) (encode_lower rest)
-    ∙ ap (λ (l : List ℕ). now ++ l) (sym (hex_parts piece rest)) ∙ ap (λ (l : List ℕ). now ++ encode_lower l) (sym parts) ∙ e
+    ap (λ (l : List ℕ). l ++ encode_lower rest) wrote
+    ∙ append_assoc now (encode_lower piece) (encode_lower rest)
+    ∙ ap (λ (l : List ℕ). now ++ l) (sym (hex_parts piece rest))
+    ∙ ap (λ (l : List ℕ). now ++ encode_lower l) (sym parts) ∙ e
 
 -- the room that is left for the rest
-pub left_over : (end after : ℕ) (all piece rest : List ℕ) (whole : ℕ) → all ≡ piece ++ rest → after ≡ end + 2 * length piece → end + 2 * length all ≡ whole → after + 2 * length rest ≡ whole
+pub left_over : (end after : ℕ) (all piece rest : List ℕ) (whole : ℕ) → all ≡ piece ++ rest
+    → after ≡ end + 2 * length piece → end + 2 * length all ≡ whole
+    → after + 2 * length rest ≡ whole
 left_over end after all piece rest whole parts is e =
-    let both : length all ≡ length piece + length rest = ap length parts ∙ length-append piece rest in
+    let both : length all ≡ length piece + length rest =
+    ap length parts ∙ length-append piece rest in
     omega (arith, both, is, e)
 
 -- nothing is left to be spelled
-pub all_spelled : (now whole rest : List ℕ) → length rest ≡ 0 → now ++ encode_lower rest ≡ whole → now ≡ whole
+pub all_spelled : (now whole rest : List ℕ) → length rest ≡ 0 → now ++ encode_lower rest ≡ whole
+    → now ≡ whole
 unfolding encode_with
 all_spelled now whole [] none e = sym (append-nil now) ∙ e
 all_spelled now whole (x ∷ rest) none e = absurd (omega (arith, none))

@@ -1,12 +1,12 @@
 -- Lemmas of listings.
+pub mod Common
 pub mod ListingLemmas
-pub mod LineLemmas
+pub mod Lines
 pub mod NamedItems
 pub mod Rooms
 pub mod Plain
 pub mod Digits
 pub mod Texts
-pub mod LineTexts
 pub mod Telling
 pub mod Halves
 pub mod Runs

@@ -1,36 +1,46 @@
 -- Runs of fields, in parts.
-use Rattle.std.proofs.Common.{◌≡◌, ℕ, ◌+◌, ◌-◌, List, [], ◌∷◌, ◌++◌, length, take, drop, refl, ap, ap₂, sym, ◌∙◌, arith, append_assoc}
-use Rattle.std.proofs.lemmas.Grind.{flat_map-append}
+use Rattle.listing3.proofs.Common.{◌≡◌, ℕ, ◌+◌, ◌-◌, List, [], ◌∷◌, ◌++◌, length, take, drop, refl, ap, ap₂, sym, ◌∙◌, arith, append_assoc, flat_map-append, PlainField, Item, shown_item, shown_items}
 use Rattle.std.proofs.lemmas.List.{drop-drop, take-append-drop, take_rest}
-use Rattle.xdr3.specs.declared.plain.PlainField.{PlainField}
-use Rattle.xdr3.specs.Item.{Item}
 use Rattle.xdr3.specs.Plain.{plain_item, run_items, run_size, width}
-use Rattle.listing3.specs.Listing.{shown_item, shown_items}
 
 -- the fields up to a place, and those from it on, as they are cut out
-pub cut_at : (place : ℕ) (fields : List PlainField) → fields ≡ take place fields ++ take (length fields - place) (drop place fields)
-cut_at place fields = sym (ap (λ (l : List PlainField). take place fields ++ l) (take_rest fields place) ∙ take-append-drop place fields)
+pub cut_at : (place : ℕ) (fields : List PlainField)
+    → fields ≡ take place fields ++ take (length fields - place) (drop place fields)
+cut_at place fields =
+    sym (ap (λ (l : List PlainField). take place fields ++ l) (take_rest fields place)
+    ∙ take-append-drop place fields)
 
-run_parts : (front back : List PlainField) (bytes : List ℕ) → run_items (front ++ back) bytes ≡ run_items front bytes ++ run_items back (drop (run_size front) bytes)
+run_parts : (front back : List PlainField) (bytes : List ℕ)
+    → run_items (front ++ back) bytes
+    ≡ run_items front bytes ++ run_items back (drop (run_size front) bytes)
 run_parts [] back bytes = refl
 run_parts (field ∷ front) back bytes =
     ap (λ (l : List Item). plain_item field bytes ∷ l)
     (run_parts front back (drop (width field) bytes)
-    ∙ ap (λ (l : List ℕ). run_items front (drop (width field) bytes) ++ run_items back l) (drop-drop (run_size front) (width field) bytes))
+    ∙ ap (λ (l : List ℕ). run_items front (drop (width field) bytes) ++ run_items back l)
+    (drop-drop (run_size front) (width field) bytes))
 
 -- a part was written after another
-pub part_after : (now between start : List ℕ) (fields front back : List PlainField) (bytes rest : List ℕ) (size : ℕ) → fields ≡ front ++ back → size ≡ run_size front → rest ≡ drop size bytes
-    → between ≡ start ++ shown_items (run_items front bytes) → now ≡ between ++ shown_items (run_items back rest) → now ≡ start ++ shown_items (run_items fields bytes)
+pub part_after : (now between start : List ℕ) (fields front back : List PlainField)
+    (bytes rest : List ℕ) (size : ℕ) → fields ≡ front ++ back → size ≡ run_size front
+    → rest ≡ drop size bytes
+    → between ≡ start ++ shown_items (run_items front bytes)
+    → now ≡ between ++ shown_items (run_items back rest)
+    → now ≡ start ++ shown_items (run_items fields bytes)
 part_after now between start fields front back bytes rest size parts is others first second =
     let left : rest ≡ drop (run_size front) bytes = others ∙ ap (λ (n : ℕ). drop n bytes) is in
     second ∙ ap₂ (λ (a : List ℕ) (l : List ℕ). a ++ shown_items (run_items back l)) first left
-    ∙ append_assoc start (shown_items (run_items front bytes)) (shown_items (run_items back (drop (run_size front) bytes)))
+    ∙ append_assoc start (shown_items (run_items front bytes))
+    (shown_items (run_items back (drop (run_size front) bytes)))
     ∙ ap (λ (l : List ℕ). start ++ l)
-    (sym (flat_map-append shown_item (run_items front bytes) (run_items back (drop (run_size front) bytes)))
-    ∙ ap shown_items (sym (run_parts front back bytes)) ∙ ap (λ (l : List PlainField). shown_items (run_items l bytes)) (sym parts))
+    (sym (flat_map-append shown_item (run_items front bytes)
+    (run_items back (drop (run_size front) bytes)))
+    ∙ ap shown_items (sym (run_parts front back bytes))
+    ∙ ap (λ (l : List PlainField). shown_items (run_items l bytes)) (sym parts))
 
 -- how many bytes both parts have
-pub both_sizes : (fields front back : List PlainField) → fields ≡ front ++ back → run_size front + run_size back ≡ run_size fields
+pub both_sizes : (fields front back : List PlainField) → fields ≡ front ++ back
+    → run_size front + run_size back ≡ run_size fields
 both_sizes fields front back parts = sym (sizes front back) ∙ ap run_size (sym parts)
   where
     sizes : (a b : List PlainField) → run_size (a ++ b) ≡ run_size a + run_size b

@@ -3,3 +3,4 @@ pub mod LineWriter
 pub mod Digits
 pub mod Halves
 pub mod Fields
+pub mod ItemsText

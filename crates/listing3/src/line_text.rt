@@ -113,6 +113,16 @@ impl LineText {
         Ok(())
     }
 
+    /// Appends bytes in hexadecimal, without a name.
+    pub(crate) fn append_bytes(&mut self, bytes: &[u8]) -> Result<(), AllocError>
+        ensures ok { OnOk result (self.new ≡ self.old ++ encode_lower bytes.now) }
+        ensures err { OnErr result (self.new ≡ self.old) }
+    {
+        make_room(&mut self.room, self.end, 2 * bytes.len())?;
+        self.end = put_hex(&mut self.room, self.end, bytes);
+        Ok(())
+    }
+
     fn append_decimal(&mut self, name: &'static str, n: u64) -> Result<(), AllocError>
         ensures ok { OnOk result (self.new ≡ self.old ++ (opening name.now ++ decimal n)) }
         ensures err { OnErr result (self.new ≡ self.old) }
@@ -139,7 +149,7 @@ impl LineText {
 
     /// Appends ` name=`.
     #[inline(always)]
-    fn append_name(&mut self, name: &'static str) -> Result<(), AllocError>
+    pub(crate) fn append_name(&mut self, name: &'static str) -> Result<(), AllocError>
         ensures ok { OnOk result (self.new ≡ self.old ++ opening name.now) }
         ensures err { OnErr result (self.new ≡ self.old) }
     {

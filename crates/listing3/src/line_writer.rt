@@ -1,23 +1,26 @@
 //! The lines of messages, one after another.
 
-ghost use Rattle.std.specs.Prelude.{◌≡◌, ◌≤◌, ◌<◌, ◌+◌, ◌*◌, ◌^◌, ◌++◌, ◌∷◌, ℕ, List, [], codes, decimal, length, take, None, IfErr, OnErr, OnOk};
+ghost use Rattle.std.specs.Prelude.{◌≡◌, ◌≤◌, ◌<◌, ◌+◌, ◌*◌, ◌^◌, ◌++◌, ◌∷◌, ℕ, List, [], codes, decimal, drop, length, take, None, IfErr, OnErr, OnOk};
 ghost use Rattle.std.specs.Io.KnownBytes.{Appends};
-ghost use Rattle.xdr3.specs.Item.{Handle as HandleKind, Item, Opaque, Word};
+ghost use Rattle.xdr3.specs.Item.{Handle as HandleKind, Item, Opaque, Spells, Word};
 ghost use Rattle.xdr3.specs.Plain.{run_items, run_size};
 ghost use Rattle.xdr3.specs.Visit.{Adds, Keeps};
 ghost use Rattle.rpc_head.specs.Names.{head_names};
 ghost use Rattle.capture3.specs.Entry as spec;
 ghost use Rattle.capture3.specs.Entry.{items_of};
-ghost use Rattle.capture3.specs.Kept.{IsOfKind};
+ghost use Rattle.capture3.specs.Kept.{IsLent, IsOfKind};
 ghost use Rattle.canon3.specs.Laws.{AreFirst};
 ghost use Rattle.canon3.specs.EntryCounts.{connections_in, counted_steps, records_in};
 ghost use Rattle.canon3.specs.machinery.Sums.{all_items};
 ghost use Rattle.canon3.specs.WriteErrors.{CountsWriting, IsOfWriting};
 ghost use Rattle.canon3.specs.SinkWrites.{AppendsFront};
+ghost use Rattle.listing3.specs.machinery.ItemsText.{filled};
 ghost use Rattle.listing3.specs.machinery.LineWriter.{after_front, LineStands};
 ghost use Rattle.listing3.specs.Listing.{entry_line, line, opening, prefix, procedure_name};
 
+use crate::filling::write_filled;
 use crate::gathering::Gathering;
+use crate::items_text::{ItemsText, encoded_size};
 use crate::line_text::LineText;
 use byteorder::{BigEndian, ByteOrder};
 use canon3::{CountingWriter, EntryCounts, EntryWriter, HandleTable, Sink, kind_of, write_both};
@@ -35,7 +38,7 @@ pub(crate) struct LineWriter<H: Gathering + Drop> {
     handles: H,
     // The xid, once it was told, and the text of the items after it.
     xid: Option<u32>,
-    items: LineText,
+    items: ItemsText,
     // The text before the items.
     head: LineText,
 }
@@ -50,6 +53,25 @@ fn name_of_procedure(id: ProcId) -> &'static str
     }
 }
 
+/// Returns the body of a message, which spells its items. Any other entry has neither.
+#[inline(always)]
+fn body_of(entry: EntryRef<'_>) -> &[u8]
+    ensures { (one : spec.Entry) → IsLent entry.entry one → Spells (items_of one) result.now }
+{
+    match entry {
+        EntryRef::Call(call) => call.body,
+        EntryRef::Reply(reply) => reply.body,
+        EntryRef::Begin | EntryRef::Turn | EntryRef::Close | EntryRef::End => &[],
+    }
+}
+
+/// Returns what follows the xid in a message's body.
+fn after_xid(body: &[u8]) -> &[u8]
+    ensures { result.now ≡ drop 4 body.now }
+{
+    &body[body.len().min(4)..]
+}
+
 impl<H: Gathering + Drop> LineWriter<H> {
     /// Returns a writer before a capture.
     pub(crate) fn new(alloc: Global, handles: H) -> LineWriter<H>
@@ -59,7 +81,7 @@ impl<H: Gathering + Drop> LineWriter<H> {
         LineWriter {
             handles,
             xid: None,
-            items: LineText::new(alloc),
+            items: ItemsText::new(alloc),
             head: LineText::new(alloc),
         }
     }
@@ -81,10 +103,12 @@ impl<H: Gathering + Drop> LineWriter<H> {
             (Opaque HandleKind name.now bytes.now ∷ [])) }
         ensures err { OnErr result (Keeps (LineStands H.stands) self.old self.new) }
     {
-        let before = self.items.bytes().len();
-        self.items.append_hex(name, bytes)?;
+        let before = self.items.text.bytes().len();
+        self.items.text.append_hex(name, bytes)?;
         let gathered = self.handles.handle(name, bytes);
-        self.items.truncate_on_error(before, gathered)
+        self.items.text.truncate_on_error(before, gathered)?;
+        self.items.seen = self.items.seen.wrapping_add(encoded_size(bytes.len()));
+        Ok(())
     }
 
     /// Takes the first field, which is the xid, and then the others at once.
@@ -122,31 +146,41 @@ impl<H: Gathering + Drop> LineWriter<H> {
             (self.new.head ≡
             prefix (connections_in counts.now) side.now (records_in counts.now + 1)
             ++ ((opening (codes "xid") ++ decimal xid) ++ (32 ∷ procedure_name id))) }
-        ensures items { OnOk result (self.new.items ≡ self.old.items ++ 10 ∷ []) }
+        ensures items { OnOk result (self.new.items.text ≡ self.old.items.text ++ 10 ∷ []) }
+        ensures gap { self.new.items.gap ≡ self.old.items.gap }
     {
         self.head.forget();
         self.head
             .append_prefix(counts.connections(), side, counts.records() + 1)?;
         self.head.append_xid_and_name(xid, name_of_procedure(id))?;
-        self.items.end_line()
+        self.items.text.end_line()
     }
 
-    /// Writes the composed line to a sink.
+    /// Writes the composed line to a sink. What follows the xid in the message's body spells the
+    /// items.
     #[inline(always)]
-    fn hand_over<W: Sink>(&self, sink: &mut W) -> Result<(), Error>
+    fn hand_over<W: Sink>(&mut self, sink: &mut W, body: &[u8]) -> Result<(), Error>
+        ensures handles { self.new.handles ≡ self.old.handles }
         ensures ok { OnOk result
             (Appends (W.written sink.old) (W.written sink.new)
-            (self.now.head ++ self.now.items)) }
+            (self.old.head ++ filled self.old.items.gap self.old.items.text (drop 4 body.now))) }
         ensures err { OnErr result
             (AppendsFront (W.written sink.old) (W.written sink.new)
-            (self.now.head ++ self.now.items)) }
+            (self.old.head ++ filled self.old.items.gap self.old.items.text (drop 4 body.now))) }
         ensures count { CountsWriting (W.failures sink.old) (W.failures sink.new) result }
-        ensures error { IfErr result (λ error. error ≡ Error.Write) }
+        ensures error { IfErr result IsOfWriting }
     {
-        write_both(sink, self.head.bytes(), self.items.bytes())
+        match self.items.gap {
+            None => write_both(sink, self.head.bytes(), self.items.text.bytes()),
+            Some(gap) => {
+                let items = self.items.text.bytes();
+                write_filled(sink, &mut self.head, items, gap, after_xid(body))
+            }
+        }
     }
 
-    /// Writes the line of the message whose items were visited. Each message has an xid.
+    /// Writes the line of the message with this body, whose items were visited. Each message has an
+    /// xid.
     #[inline(always)]
     fn write_line<W: Sink>(
         &mut self,
@@ -154,16 +188,19 @@ impl<H: Gathering + Drop> LineWriter<H> {
         sink: &mut W,
         side: &'static str,
         id: ProcId,
+        body: &[u8],
     ) -> Result<(), Error>
         requires { counted_steps counts.now + 1 < 2 ^ 32 }
         ensures handles { self.new.handles ≡ self.old.handles }
         ensures ok { (front rest : List Item) (n : ℕ)
+            → Spells (Word head_names.xid n ∷ rest) body.now
             → LineStands H.stands self.old (after_front front (Word head_names.xid n ∷ rest))
             → OnOk result
             (Appends (W.written sink.old) (W.written sink.new)
             (line (connections_in counts.now) side.now (records_in counts.now + 1) id
             (Word head_names.xid n ∷ rest))) }
         ensures err { (front rest : List Item) (n : ℕ)
+            → Spells (Word head_names.xid n ∷ rest) body.now
             → LineStands H.stands self.old (after_front front (Word head_names.xid n ∷ rest))
             → OnErr result
             (AppendsFront (W.written sink.old) (W.written sink.new)
@@ -176,28 +213,29 @@ impl<H: Gathering + Drop> LineWriter<H> {
             return Ok(());
         };
         match self.compose(counts, side, xid, id) {
-            Ok(()) => self.hand_over(sink),
+            Ok(()) => self.hand_over(sink, body),
             Err(_) => Err(Error::Memory),
         }
     }
 
-    /// Writes the line of an entry that is a message, and whose items were visited.
+    /// Writes the line of an entry that is a message with this body, and whose items were visited.
     fn write_entry<W: Sink>(
         &mut self,
         counts: &EntryCounts,
         sink: &mut W,
         kind: Kind,
+        body: &[u8],
     ) -> Result<(), Error>
         requires { counted_steps counts.now + 1 < 2 ^ 32 }
         ensures handles { self.new.handles ≡ self.old.handles }
         ensures ok { (entries : List spec.Entry) (one : spec.Entry) → IsOfKind kind one
-            → AreFirst (entries ++ one ∷ [])
+            → Spells (items_of one) body.now → AreFirst (entries ++ one ∷ [])
             → LineStands H.stands self.old (after_front (all_items entries) (items_of one))
             → OnOk result
             (Appends (W.written sink.old) (W.written sink.new)
             (entry_line (connections_in counts.now) (records_in counts.now) one)) }
         ensures err { (entries : List spec.Entry) (one : spec.Entry) → IsOfKind kind one
-            → AreFirst (entries ++ one ∷ [])
+            → Spells (items_of one) body.now → AreFirst (entries ++ one ∷ [])
             → LineStands H.stands self.old (after_front (all_items entries) (items_of one))
             → OnErr result
             (AppendsFront (W.written sink.old) (W.written sink.new)
@@ -206,8 +244,8 @@ impl<H: Gathering + Drop> LineWriter<H> {
         ensures error { IfErr result IsOfWriting }
     {
         match kind {
-            Kind::Call(id) => self.write_line(counts, sink, "client", id),
-            Kind::Reply(id) => self.write_line(counts, sink, "server", id),
+            Kind::Call(id) => self.write_line(counts, sink, "client", id, body),
+            Kind::Reply(id) => self.write_line(counts, sink, "server", id, body),
             Kind::Begin | Kind::Turn | Kind::Close | Kind::End => Ok(()),
         }
     }
@@ -283,7 +321,7 @@ impl<H: Gathering + Drop> EntryWriter for LineWriter<H> {
         sink: &mut W,
         entry: EntryRef<'_>,
     ) -> Result<(), Error> {
-        let written = self.write_entry(counts, sink, kind_of(entry));
+        let written = self.write_entry(counts, sink, kind_of(entry), body_of(entry));
         self.begin_message();
         written
     }

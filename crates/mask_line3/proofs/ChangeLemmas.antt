@@ -13,41 +13,59 @@ use Rattle.mask_line3.specs.Changes.{change_told, change_word, with_change}
 use Rattle.mask_line3.specs.machinery.ChangeWords.{AreChanges}
 
 -- each of the words is that of a change
-pub says_each : (words : List (String Global)) (k : ℕ) (w : String Global) → k < length words → w ≡ slice_index_or words k w → (changes : List Change) → map string_bytes words ≡ map change_word changes → (c : Change) × (string_bytes w ≡ change_word c)
+pub says_each : (words : List (String Global)) (k : ℕ) (w : String Global) → k < length words
+    → w ≡ slice_index_or words k w → (changes : List Change)
+    → map string_bytes words ≡ map change_word changes
+    → (c : Change) × (string_bytes w ≡ change_word c)
 says_each [] k w low is changes e = absurd (omega (arith, low))
 says_each (x ∷ words) k w low is [] e = absurd (cc)
 says_each (x ∷ words) zero w low is (c ∷ changes) e = (c, cc)
-says_each (x ∷ words) (suc k) w low is (c ∷ changes) e = says_each words k w (omega (arith, low)) is changes cc
+says_each (x ∷ words) (suc k) w low is (c ∷ changes) e =
+    says_each words k w (omega (arith, low)) is changes cc
 
 -- and so are those before it, and it
-pub one_more : (words : List (String Global)) (k : ℕ) (w : String Global) (ways : Ways) (c : Change) → k < length words → w ≡ slice_index_or words k w → string_bytes w ≡ change_word c → AreChanges (map string_bytes (take k words)) ways → AreChanges (map string_bytes (take (k + 1) words)) (with_change ways c)
+pub one_more : (words : List (String Global)) (k : ℕ) (w : String Global) (ways : Ways) (c : Change)
+    → k < length words → w ≡ slice_index_or words k w → string_bytes w ≡ change_word c
+    → AreChanges (map string_bytes (take k words)) ways
+    → AreChanges (map string_bytes (take (k + 1) words)) (with_change ways c)
 one_more words k w ways c low is of_c before =
     let next : k + 1 ≡ suc k = omega arith in
     let all : take (k + 1) words ≡ take k words ++ w ∷ [] =
-    ap (λ n. take n words) next ∙ take-suc words k w low ∙ ap (λ v. take k words ++ v ∷ []) (sym is) in
+    ap (λ n. take n words) next ∙ take-suc words k w low
+    ∙ ap (λ v. take k words ++ v ∷ []) (sym is) in
     record {
       changes = before.changes ++ c ∷ [];
       said = ap (map string_bytes) all ∙ map-append string_bytes (take k words) (w ∷ [])
-          ∙ ap₂ (λ xs x. xs ++ x ∷ []) before.said of_c ∙ sym (map-append change_word before.changes (c ∷ []));
-      after = ap (λ v. with_change v c) before.after ∙ sym (fold-append with_change usual before.changes (c ∷ []));
+          ∙ ap₂ (λ xs x. xs ++ x ∷ []) before.said of_c
+          ∙ sym (map-append change_word before.changes (c ∷ []));
+      after =
+          ap (λ v. with_change v c) before.after
+          ∙ sym (fold-append with_change usual before.changes (c ∷ []));
     }
 
 -- ---- words by their number
 
 -- a program's name, two names, and the words after them
-pub names_first : (words : List (String Global)) (a b : String Global) (input output : List ℕ) → 3 ≤ length words → a ≡ slice_index_or words 1 a → b ≡ slice_index_or words 2 b → string_bytes a ≡ input → string_bytes b ≡ output → IsLine (map string_bytes words) (input ∷ output ∷ map string_bytes (take (length words - 3) (drop 3 words)))
+pub names_first : (words : List (String Global)) (a b : String Global) (input output : List ℕ)
+    → 3 ≤ length words → a ≡ slice_index_or words 1 a → b ≡ slice_index_or words 2 b
+    → string_bytes a ≡ input → string_bytes b ≡ output
+    → IsLine (map string_bytes words)
+    (input ∷ output ∷ map string_bytes (take (length words - 3) (drop 3 words)))
 names_first [] a b input output low is_a is_b of_a of_b = absurd (omega (arith, low))
 names_first (x ∷ []) a b input output low is_a is_b of_a of_b = absurd (omega (arith, low))
 names_first (x ∷ y ∷ []) a b input output low is_a is_b of_a of_b = absurd (omega (arith, low))
 names_first (x ∷ y ∷ z ∷ more) a b input output low is_a is_b of_a of_b =
     let n : length (x ∷ y ∷ z ∷ more) - 3 ≡ length more = omega arith in
-    let rest : take (length (x ∷ y ∷ z ∷ more) - 3) more ≡ more = ap (λ k. take k more) n ∙ take-length more in
+    let rest : take (length (x ∷ y ∷ z ∷ more) - 3) more ≡ more =
+    ap (λ k. take k more) n ∙ take-length more in
     record { program = string_bytes x; all = cc }
 
 -- ---- words that tell a mask
 
 -- a text of the words for some changes, and the word for one more
-pub told_more : (changes : List Change) (c : Change) (before after : List ℕ) → before ≡ flat_map change_told changes → after ≡ before ++ change_told c → after ≡ flat_map change_told (changes ++ c ∷ [])
+pub told_more : (changes : List Change) (c : Change) (before after : List ℕ)
+    → before ≡ flat_map change_told changes → after ≡ before ++ change_told c
+    → after ≡ flat_map change_told (changes ++ c ∷ [])
 told_more changes c before after is e =
     e ∙ ap (λ t. t ++ change_told c) is
     ∙ ap (λ t. flat_map change_told changes ++ t) (sym (append-nil (change_told c)))

@@ -1,2 +1,3 @@
 -- Lemmas of masked captures.
+pub mod Common
 pub mod Lemmas

@@ -1,23 +1,20 @@
 //! The masked form of a capture, from a source to a sink.
 
-ghost use Rattle.std.specs.Prelude.{◌≡◌, ℕ, List, IfErr, OnErr, OnOk};
-ghost use Rattle.std.specs.Io.KnownBytes.{Appends};
+ghost use Rattle.std.specs.Prelude.{◌≡◌, ℕ, List, OnOk};
 ghost use Rattle.capture3.specs.Entries.{CountsReading};
 ghost use Rattle.capture3.specs.Told.{GavePrefix};
 ghost use Rattle.canon3.specs.EntryWriter.{WritesAll, WritesGiven};
-ghost use Rattle.canon3.specs.machinery.FormSteps.{magic_before};
-ghost use Rattle.canon3.specs.EntryCounts.{connections_in};
 ghost use Rattle.canon3.specs.WriteErrors.{CountsWriting};
-ghost use Rattle.canon3.specs.SinkWrites.{AppendsFront, IsFlushed};
+ghost use Rattle.canon3.specs.SinkWrites.{IsFlushed};
 ghost use Rattle.masking3.specs.Masked.{masked_bytes};
 
 use crate::hashers::MaskHashers;
 use crate::masking_writer::{MaskingWriter, Plan};
 use crate::ways::Ways;
 use canon3::{
-    CountingWriter, EntryCounts, EntryWriter, Sink, Summary, kind_of, write_all, write_entries,
+    CountingWriter, EntryCounts, EntryWriter, Sink, Summary, kind_of, write_entries, write_magic,
 };
-use capture3::{EntryRef, Error, Source, pack_header};
+use capture3::{EntryRef, Error, Source};
 use std::alloc::Global;
 use std::hash::BuildHasher;
 use std::marker::Brand;
@@ -82,23 +79,6 @@ fn mask_by_plan<P: Plan, R: Source, W: Sink, S: BuildHasher + Drop>(
     write_entries(alloc, hashers.calls, source, sink, &mut writer)
 }
 
-/// Writes the magic, if no connection began.
-fn open<W: Sink>(counts: &EntryCounts, sink: &mut W) -> Result<(), Error>
-    ensures ok { OnOk result
-        (Appends (W.written sink.old) (W.written sink.new)
-        (magic_before (connections_in counts.now))) }
-    ensures err { OnErr result
-        (AppendsFront (W.written sink.old) (W.written sink.new)
-        (magic_before (connections_in counts.now))) }
-    ensures count { CountsWriting (W.failures sink.old) (W.failures sink.new) result }
-    ensures error { IfErr result (λ error. error ≡ Error.Write) }
-{
-    if counts.connections() > 0 {
-        return Ok(());
-    }
-    write_all(sink, &pack_header())
-}
-
 impl<P: Plan, S: BuildHasher + Drop> EntryWriter for MaskingWriter<P, S> {
     ghost use Rattle.masking3.specs.Masked.{masked_bytes};
     ghost use Rattle.masking3.specs.machinery.MaskingWriter.{HasMemory, told_before};
@@ -118,7 +98,7 @@ impl<P: Plan, S: BuildHasher + Drop> EntryWriter for MaskingWriter<P, S> {
         if self.failed {
             return Err(Error::Memory);
         }
-        open(counts, sink)?;
+        write_magic(counts, sink)?;
         self.write_entry(sink, kind_of(entry))?;
         self.begin_message();
         Ok(())

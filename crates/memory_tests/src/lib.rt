@@ -1,5 +1,5 @@
-//! Each call that takes memory, so that a growth can be refused at each place: `tests/memory.py` refuses the
-//! first, the second and so on, and every test holds whichever is refused, and where none is.
+//! Each call that takes memory, so that a growth can be refused at each place: `tests/faults/memory.py`
+//! refuses the first, the second and so on, and every test holds whichever is refused, and where none is.
 #![tactic(auto)]
 
 #[cfg(test)]

@@ -9,23 +9,30 @@ use Rattle.nfs3_types.specs.machinery.AttributeTails.{after_type, settable_times
 use Rattle.nfs3_types.specs.Shapes.{attributes, file_kind, time_how}
 use Rattle.nfs3_types.specs.Names.{names}
 
-pub attributes_scanned : {V : Type 0} (stands : V → List Item → Type 0) (v0 v1 : View) (s0 s1 : V) → Scans stands (file_kind then after_type) v0 v1 s0 s1 → Scans stands attributes v0 v1 s0 s1
+pub attributes_scanned : {V : Type 0} (stands : V → List Item → Type 0) (v0 v1 : View) (s0 s1 : V)
+    → Scans stands (file_kind then after_type) v0 v1 s0 s1 → Scans stands attributes v0 v1 s0 s1
 unfolding after_type attributes
 attributes_scanned stands v0 v1 s0 s1 h = h
 
-pub attributes_stop : (v0 : View) (error : GetError) → Stops (file_kind then after_type) v0 error → Stops attributes v0 error
+pub attributes_stop : (v0 : View) (error : GetError) → Stops (file_kind then after_type) v0 error
+    → Stops attributes v0 error
 unfolding after_type attributes
 attributes_stop v0 error h = h
 
 pub ruleset whole_attributes = (attributes_scanned, attributes_stop)
 
-pub settable_times_scanned : {V : Type 0} (stands : V → List Item → Type 0) (v0 v1 : View) (s0 s1 : V) → Scans stands settable_times v0 v1 s0 s1
-    → Scans stands (time_how names.set_atime names.atime_sec names.atime_nsec then time_how names.set_mtime names.mtime_sec names.mtime_nsec) v0 v1 s0 s1
+pub settable_times_scanned : {V : Type 0} (stands : V → List Item → Type 0) (v0 v1 : View)
+    (s0 s1 : V) → Scans stands settable_times v0 v1 s0 s1
+    → Scans stands
+    (time_how names.set_atime names.atime_sec names.atime_nsec
+    then time_how names.set_mtime names.mtime_sec names.mtime_nsec) v0 v1 s0 s1
 unfolding settable_times
 settable_times_scanned stands v0 v1 s0 s1 h = h
 
 pub settable_times_stop : (v0 : View) (error : GetError) → Stops settable_times v0 error
-    → Stops (time_how names.set_atime names.atime_sec names.atime_nsec then time_how names.set_mtime names.mtime_sec names.mtime_nsec) v0 error
+    → Stops
+    (time_how names.set_atime names.atime_sec names.atime_nsec
+    then time_how names.set_mtime names.mtime_sec names.mtime_nsec) v0 error
 unfolding settable_times
 settable_times_stop v0 error h = h
 

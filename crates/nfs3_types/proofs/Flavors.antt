@@ -11,6 +11,7 @@ four_each : (all : List Flavor) → length all ≤ length (zero_spelling (flat_m
 four_each [] = omega arith
 four_each (f ∷ all) = omega (arith, four_each all)
 
-pub few_flavors : (name : List ℕ) (all : List Flavor) → AreWithinLimit (counted_items name flavor_items all) → length all < 2 ^ 32
+pub few_flavors : (name : List ℕ) (all : List Flavor)
+    → AreWithinLimit (counted_items name flavor_items all) → length all < 2 ^ 32
 unfolding AreWithinLimit
 few_flavors name all h = omega (arith, four_each all)

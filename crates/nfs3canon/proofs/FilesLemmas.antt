@@ -1,62 +1,171 @@
--- A file that was not opened is told by its name, or memory ran out.
-use Rattle.std.proofs.Common.{◌≡◌, ℕ, List, Err, inl, inr, subst, sym}
+-- What came of files, by what was read of them.
+use Rattle.std.proofs.Common.{◌≡◌, ◌≢◌, ◌⊎◌, ℕ, List, [], ◌∷◌, Option, Some, Result, Err, IfErr, inl, inr, refl, subst, sym}
+use Rattle.capture3.specs.Device.{TracedReader}
+use Rattle.capture3.specs.Entries.{CountsReading}
+use Rattle.capture3.specs.Told.{Gave, GavePrefix}
+use Rattle.capture3.specs.declared.fault.Error.{Error}
 use Rattle.capture3.specs.declared.fault.Error.TheVariants as errors
-use Rattle.canon3.specs.declared.verdict.Which.{Which}
+use Rattle.capture3.proofs.Lemmas.Reader.ToldLemmas.{IsPrefixOf, prefix_of_kept}
+use Rattle.canon3.specs.Comparison.{CountsReadingOf, DecidesGiven}
+use Rattle.canon3.specs.Summary.{ConcludesAll, ConcludesGiven}
+use Rattle.canon3.specs.declared.comparison.verdict.SameError.{SameError}
+use Rattle.canon3.specs.declared.comparison.verdict.Verdict.{Verdict}
+use Rattle.canon3.specs.declared.comparison.verdict.Which.{Which}
+use Rattle.canon3.specs.declared.comparison.verdict.Which.TheVariants.{First, Second}
+use Rattle.canon3.specs.declared.summary.Summary.{Summary}
+use Rattle.canon3.proofs.Lemmas.Comparison.ComparisonLemmas.{decides_all}
 use Rattle.program3.specs.Opening.{IsOfName, TellsOf}
+use Rattle.program3.specs.Readings.{IsUnread, MayContain, FileReading, reading_under}
 use Rattle.program3.specs.declared.opening.OpenError.{OpenError}
 use Rattle.program3.specs.declared.opening.OpenError.TheVariants as causes
 use Rattle.program3.specs.declared.outcome.Outcome.{Outcome}
 use Rattle.program3.specs.declared.outcome.Outcome.TheVariants as outcomes
-use Rattle.nfs3canon.specs.Files.{ComparesFiles, CountsFile}
+use Rattle.program3.proofs.FilesLemmas.{one_failed, prefix_of, told_of}
+use Rattle.nfs3canon.specs.Files.{ComparesFiles, CountsFile, ListsFile}
 
-counts_none : (name bytes : List ℕ) (outcome : Outcome) → IsOfName name outcome → CountsFile name bytes outcome
-counts_none name bytes (outcomes.Unopened text) named = named
-counts_none name bytes (outcomes.Counted came) named = absurd named
-counts_none name bytes (outcomes.Masked summary told) named = absurd named
-counts_none name bytes (outcomes.Listed came) named = absurd named
-counts_none name bytes (outcomes.Compared came) named = absurd named
-counts_none name bytes (outcomes.Packed came) named = absurd named
-counts_none name bytes (outcomes.Line fault) named = absurd named
+-- ---- a file that was not opened is told by its name, or memory ran out
 
-pub uncounted_tells : (name bytes : List ℕ) (error : OpenError) (outcome : Outcome)
-    → TellsOf name error (outcomes.Counted (Err errors.Memory)) outcome → CountsFile name bytes outcome
-uncounted_tells name bytes causes.Unopened outcome (inl named) = counts_none name bytes outcome named
-uncounted_tells name bytes causes.Unopened outcome (inr is) = subst (CountsFile name bytes) (sym is) (tt, tt)
-uncounted_tells name bytes causes.Memory outcome is = subst (CountsFile name bytes) (sym is) (tt, tt)
+module _ (holds : List ℕ → Option (List ℕ)) (name : List ℕ) (readings : List FileReading)
+    (none : readings ≡ []) where
+  counts_none : (outcome : Outcome) → IsOfName name outcome → CountsFile holds readings name outcome
+  counts_none (outcomes.Unopened text) named = (named, none)
+  counts_none (outcomes.Counted came) named = absurd named
+  counts_none (outcomes.Masked summary told) named = absurd named
+  counts_none (outcomes.Listed came) named = absurd named
+  counts_none (outcomes.Compared came) named = absurd named
+  counts_none (outcomes.Packed came) named = absurd named
+  counts_none (outcomes.Line fault) named = absurd named
 
-first_unopened : (first second file other : List ℕ) (outcome : Outcome) → IsOfName first outcome → ComparesFiles first second file other outcome
-first_unopened first second file other (outcomes.Unopened text) named = inl named
-first_unopened first second file other (outcomes.Counted came) named = absurd named
-first_unopened first second file other (outcomes.Masked summary told) named = absurd named
-first_unopened first second file other (outcomes.Listed came) named = absurd named
-first_unopened first second file other (outcomes.Compared came) named = absurd named
-first_unopened first second file other (outcomes.Packed came) named = absurd named
-first_unopened first second file other (outcomes.Line fault) named = absurd named
+  pub uncounted_tells : (error : OpenError) (outcome : Outcome)
+      → TellsOf name error (outcomes.Counted (Err errors.Memory)) outcome
+      → CountsFile holds readings name outcome
+  uncounted_tells causes.Unopened outcome (inl named) = counts_none outcome named
+  uncounted_tells causes.Unopened outcome (inr is) =
+      subst (CountsFile holds readings name) (sym is) (inr (none, refl))
+  uncounted_tells causes.Memory outcome is =
+      subst (CountsFile holds readings name) (sym is) (inr (none, refl))
 
-second_unopened : (first second file other : List ℕ) (outcome : Outcome) → IsOfName second outcome → ComparesFiles first second file other outcome
-second_unopened first second file other (outcomes.Unopened text) named = inr named
-second_unopened first second file other (outcomes.Counted came) named = absurd named
-second_unopened first second file other (outcomes.Masked summary told) named = absurd named
-second_unopened first second file other (outcomes.Listed came) named = absurd named
-second_unopened first second file other (outcomes.Compared came) named = absurd named
-second_unopened first second file other (outcomes.Packed came) named = absurd named
-second_unopened first second file other (outcomes.Line fault) named = absurd named
+  module _ {W : Type 0} (contents : W → Option (List ℕ)) (output : W) where
+    lists_none : (outcome : Outcome) → IsOfName name outcome
+        → ListsFile holds readings contents name output outcome (Some output)
+    lists_none (outcomes.Unopened text) named = (named, none, refl)
+    lists_none (outcomes.Counted came) named = absurd named
+    lists_none (outcomes.Masked summary told) named = absurd named
+    lists_none (outcomes.Listed came) named = absurd named
+    lists_none (outcomes.Compared came) named = absurd named
+    lists_none (outcomes.Packed came) named = absurd named
+    lists_none (outcomes.Line fault) named = absurd named
 
-module _ (first second file other : List ℕ) (which : Which) where
-  no_memory : (outcome : Outcome) → outcome ≡ outcomes.Compared (Err (record { which = which; error = errors.Memory }))
-      → ComparesFiles first second file other outcome
-  no_memory outcome is = subst (ComparesFiles first second file other) (sym is) tt
+    no_lines : (outcome : Outcome) → outcome ≡ outcomes.Listed (Err errors.Memory)
+        → ListsFile holds readings contents name output outcome (Some output)
+    no_lines outcome is = subst (λ o. ListsFile holds readings contents name output o (Some output))
+        (sym is) (inr (none, refl, refl))
+
+    pub unlisted_tells : (error : OpenError) (outcome : Outcome)
+        → TellsOf name error (outcomes.Listed (Err errors.Memory)) outcome
+        → ListsFile holds readings contents name output outcome (Some output)
+    unlisted_tells causes.Unopened outcome (inl named) = lists_none outcome named
+    unlisted_tells causes.Unopened outcome (inr is) = no_lines outcome is
+    unlisted_tells causes.Memory outcome is = no_lines outcome is
+
+module _ (holds : List ℕ → Option (List ℕ)) (first second : List ℕ) (readings : List FileReading)
+    (none : readings ≡ [])
+    (which : Which) where
+  compares_none : (outcome : Outcome) → IsOfName first outcome ⊎ IsOfName second outcome
+      → ComparesFiles holds readings first second outcome
+  compares_none (outcomes.Unopened text) named = (named, none)
+  compares_none (outcomes.Counted came) (inl named) = absurd named
+  compares_none (outcomes.Counted came) (inr named) = absurd named
+  compares_none (outcomes.Masked summary told) (inl named) = absurd named
+  compares_none (outcomes.Masked summary told) (inr named) = absurd named
+  compares_none (outcomes.Listed came) (inl named) = absurd named
+  compares_none (outcomes.Listed came) (inr named) = absurd named
+  compares_none (outcomes.Compared came) (inl named) = absurd named
+  compares_none (outcomes.Compared came) (inr named) = absurd named
+  compares_none (outcomes.Packed came) (inl named) = absurd named
+  compares_none (outcomes.Packed came) (inr named) = absurd named
+  compares_none (outcomes.Line fault) (inl named) = absurd named
+  compares_none (outcomes.Line fault) (inr named) = absurd named
+
+  no_memory : (outcome : Outcome)
+      → outcome ≡ outcomes.Compared (Err (record { which = which; error = errors.Memory }))
+      → ComparesFiles holds readings first second outcome
+  no_memory outcome is =
+      subst (ComparesFiles holds readings first second) (sym is) (inr (none, (which, refl)))
 
   pub first_uncompared : (error : OpenError) (outcome : Outcome)
-      → TellsOf first error (outcomes.Compared (Err (record { which = which; error = errors.Memory }))) outcome
-      → ComparesFiles first second file other outcome
-  first_uncompared causes.Unopened outcome (inl named) = first_unopened first second file other outcome named
+      → TellsOf first error
+      (outcomes.Compared (Err (record { which = which; error = errors.Memory }))) outcome
+      → ComparesFiles holds readings first second outcome
+  first_uncompared causes.Unopened outcome (inl named) = compares_none outcome (inl named)
   first_uncompared causes.Unopened outcome (inr is) = no_memory outcome is
   first_uncompared causes.Memory outcome is = no_memory outcome is
 
   pub second_uncompared : (error : OpenError) (outcome : Outcome)
-      → TellsOf second error (outcomes.Compared (Err (record { which = which; error = errors.Memory }))) outcome
-      → ComparesFiles first second file other outcome
-  second_uncompared causes.Unopened outcome (inl named) = second_unopened first second file other outcome named
+      → TellsOf second error
+      (outcomes.Compared (Err (record { which = which; error = errors.Memory }))) outcome
+      → ComparesFiles holds readings first second outcome
+  second_uncompared causes.Unopened outcome (inl named) = compares_none outcome (inr named)
   second_uncompared causes.Unopened outcome (inr is) = no_memory outcome is
   second_uncompared causes.Memory outcome is = no_memory outcome is
+
+-- ---- what was read
+
+module _ {R : Type 0} (remaining : R → Option (List ℕ)) (whole : Option (List ℕ)) (name : List ℕ)
+    (was now : TracedReader R) (unread : IsUnread remaining whole was) (bytes : List ℕ)
+    (may : MayContain whole (reading_under name now) bytes) where
+  -- what a call took of the file is a prefix of all that it may contain
+  pub taken : (given : List ℕ) → Gave (told_of remaining was) (told_of remaining now) given
+      → IsPrefixOf (told_of remaining now) given bytes
+  taken given gave =
+      prefix_of_kept (told_of remaining was) (told_of remaining now) given bytes
+      (prefix_of remaining whole name was now unread given bytes gave may) gave
+
+module _ {R : Type 0} (remaining : R → Option (List ℕ)) (holds : List ℕ → Option (List ℕ))
+    (readings : List FileReading) where
+  pub counts_read : (name : List ℕ) (was now : TracedReader R)
+      → IsUnread remaining (holds name) was → (came : Result Summary Error)
+      → readings ≡ reading_under name now ∷ [] → CountsReading was.failures now.failures came
+      → IfErr came (λ error. error ≢ errors.Write)
+      → ConcludesGiven (told_of remaining was) (told_of remaining now) came
+      → ((bytes : List ℕ) → GavePrefix (told_of remaining was) (told_of remaining now) bytes
+      → ConcludesAll bytes came)
+      → CountsFile holds readings name (outcomes.Counted came)
+  counts_read name was now unread came is counts written (given, gave, concludes) all = inl (
+    reading_under name now,
+    is,
+    refl,
+    one_failed name was.failures now unread.failures came counts,
+    written,
+    λ bytes may. all bytes
+        (prefix_of remaining (holds name) name was now unread given bytes gave may),
+  )
+
+  pub compares_read : (first second : List ℕ) (was now other other_now : TracedReader R)
+      → IsUnread remaining (holds first) was → IsUnread remaining (holds second) other
+      → (came : Result Verdict SameError)
+      → readings ≡ reading_under first now ∷ reading_under second other_now ∷ []
+      → CountsReadingOf First was.failures now.failures came
+      → CountsReadingOf Second other.failures other_now.failures came
+      → IfErr came (λ error. error.error ≢ errors.Write)
+      → DecidesGiven (told_of remaining was) (told_of remaining now) (told_of remaining other)
+      (told_of remaining other_now) came
+      → ComparesFiles holds readings first second (outcomes.Compared came)
+  compares_read first second was now other other_now unread other_unread came is counts other_counts
+      written decides = inl (
+        reading_under first now,
+        reading_under second other_now,
+        is,
+        refl,
+        refl,
+        subst (λ n. CountsReadingOf First n now.failures came) unread.failures counts,
+        subst (λ n. CountsReadingOf Second n other_now.failures came) other_unread.failures
+            other_counts,
+        written,
+        λ file others may others_may.
+            decides_all (told_of remaining was) (told_of remaining now) (told_of remaining other)
+            (told_of remaining other_now) file others
+            (taken remaining (holds first) first was now unread file may)
+            (taken remaining (holds second) second other other_now other_unread others others_may)
+            came decides,
+      )

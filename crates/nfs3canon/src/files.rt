@@ -1,31 +1,36 @@
 //! What each job does with files, and what is said of them.
 
-ghost use Rattle.std.specs.Prelude.{◌≡◌, ℕ, List, Some, Err};
+ghost use Rattle.std.specs.Prelude.{◌≡◌, Err};
 ghost use Rattle.capture3.specs.declared.fault.Error.TheVariants as errors;
 ghost use Rattle.program3.specs.Opening.{TellsOf};
+ghost use Rattle.program3.specs.Readings.{readings_in};
 ghost use Rattle.program3.specs.declared.outcome.Outcome.TheVariants.{Compared};
 ghost use Rattle.nfs3canon.specs.Files.{ComparesFiles, CountsFile};
 
 use canon3::{SameError, Which, check, same};
-use capture3::{Error, FromRead, Hashers};
-use program3::{Files, OpenError, Outcome, uncounted, unopened};
+use capture3::{Error, Hashers};
+use program3::{Files, OpenError, Outcome, Readings, uncounted, unopened};
 use std::alloc::Global;
 use std::hash::BuildHasher;
 
-/// Checks the file of this name. The code cannot tell which files it has, so it says of the system's what
-/// it says of any that hold the same bytes.
+/// Checks the file of this name. Returns what came of it, and what was read.
 pub fn run_check<F: Files, S: BuildHasher + Drop>(
     alloc: Global,
     hashers: Hashers<S>,
     files: &F,
     name: &str,
-) -> Outcome
-    ensures counts { (bytes : List ℕ) → F.holds files.now name.now ≡ Some bytes
-        → CountsFile name.now bytes result }
+) -> (Outcome, Readings)
+    ensures counts { CountsFile (F.holds files.now) (readings_in result.1) name.now result.0 }
 {
     match files.open(name) {
-        Ok(file) => Outcome::Counted(check(alloc, hashers, &mut FromRead::new(file))),
-        Err(error) => uncounted(alloc, name, OpenError::from(error)),
+        Ok(mut opened) => {
+            let came = check(alloc, hashers, &mut opened.source);
+            (Outcome::Counted(came), Readings::OfOne(opened.close()))
+        }
+        Err(error) => {
+            let outcome = uncounted(alloc, name, OpenError::from(error));
+            (outcome, Readings::Nothing)
+        }
     }
 }
 
@@ -37,26 +42,35 @@ pub fn run_same<F: Files, S: BuildHasher + Drop>(
     files: &F,
     first: &str,
     second: &str,
-) -> Outcome
-    ensures compares { (bytes other : List ℕ) → F.holds files.now first.now ≡ Some bytes
-        → F.holds files.now second.now ≡ Some other
-        → ComparesFiles first.now second.now bytes other result }
+) -> (Outcome, Readings)
+    ensures compares { ComparesFiles (F.holds files.now) (readings_in result.1) first.now second.now
+        result.0 }
 {
-    let source = match files.open(first) {
-        Ok(source) => source,
-        Err(error) => return uncompared(alloc, Which::First, first, OpenError::from(error)),
+    let mut opened = match files.open(first) {
+        Ok(opened) => opened,
+        Err(error) => {
+            let outcome = uncompared(alloc, Which::First, first, OpenError::from(error));
+            return (outcome, Readings::Nothing);
+        }
     };
-    let other = match files.open(second) {
+    let mut other = match files.open(second) {
         Ok(other) => other,
-        Err(error) => return uncompared(alloc, Which::Second, second, OpenError::from(error)),
+        Err(error) => {
+            let outcome = uncompared(alloc, Which::Second, second, OpenError::from(error));
+            return (outcome, Readings::Nothing);
+        }
     };
-    Outcome::Compared(same(
+    let came = same(
         alloc,
         hashers,
         other_hashers,
-        &mut FromRead::new(source),
-        &mut FromRead::new(other),
-    ))
+        &mut opened.source,
+        &mut other.source,
+    );
+    (
+        Outcome::Compared(came),
+        Readings::OfTwo(opened.close(), other.close()),
+    )
 }
 
 /// If memory ran out for the name of one of two captures, that one is told.

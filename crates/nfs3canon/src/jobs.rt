@@ -1,10 +1,15 @@
 //! What a command line asks for, over any files, hashers and standard output.
 
-ghost use Rattle.std.specs.Prelude.{◌≡◌, ℕ, List, Some, map, string_bytes};
+ghost use Rattle.std.specs.Prelude.{◌≡◌, ◌⊎◌, ℕ, List, is_none, true, Some, Err, map, string_bytes};
+ghost use Rattle.capture3.specs.declared.fault.Error.TheVariants as errors;
 ghost use Rattle.canon3.specs.CanonicalForm.{canonical_bytes};
 ghost use Rattle.canon3.specs.Summary.{IsSummary};
+ghost use Rattle.canon3.specs.declared.comparison.verdict.Which.TheVariants.{First};
+ghost use Rattle.line3.specs.Asked.{Asks};
 ghost use Rattle.program3.specs.Files.{RewritesFile};
-ghost use Rattle.nfs3canon.specs.Answers.{AnswersJob, AnswersLine};
+ghost use Rattle.program3.specs.Readings.{readings_in};
+ghost use Rattle.program3.specs.declared.outcome.Outcome.TheVariants as outcomes;
+ghost use Rattle.nfs3canon.specs.Answers.{AnswersJob, AnswersLine, ReadsNone};
 ghost use Rattle.nfs3canon.specs.Files.{ComparesFiles, CountsFile, ListsFile};
 
 use crate::files::{run_check, run_same};
@@ -14,137 +19,181 @@ use crate::packing::run_pack;
 use canon3::{SameError, Which};
 use capture3::{Error, Hashers};
 use line3::{Job, job};
-use program3::{Ended, Files, Outcome, SecretHasher, hashers, run_rewriting};
+use program3::{Ended, Files, Outcome, Readings, run_rewriting};
 use std::alloc::Global;
 use std::hash::BuildHasher;
-use std::io;
 use std::io::Write;
 
-/// What gives hashers for the tables of a command. They affect no answer.
-pub trait Hashing {
-    type Hasher: BuildHasher + Drop;
-
-    /// # Errors
-    ///
-    /// That of the system if it gives no random bytes.
-    fn hashers(&self) -> io::Result<Hashers<Self::Hasher>>;
+/// The hashers of two captures' tables. They affect no answer.
+#[derive(Drop)]
+pub struct JobHashers<S: BuildHasher + Drop> {
+    pub first: Hashers<S>,
+    pub second: Hashers<S>,
 }
 
-impl Hashing for HostRuntime {
-    type Hasher = SecretHasher;
-
-    fn hashers(&self) -> io::Result<Hashers<SecretHasher>> {
-        hashers(self)
-    }
+/// What came of a command line: the end, the standard output unless memory ran out for what is gathered
+/// before it is written, and what was read.
+#[derive(Drop)]
+pub struct Answer<W: Drop> {
+    pub ended: Ended,
+    pub stdout: Option<W>,
+    pub readings: Readings,
 }
 
-/// Does what the words of a command line ask for. Returns what came of it, and the standard output, unless
-/// memory ran out for what is gathered before it is written.
-pub fn answered<F: Files, H: Hashing, W: Write + Drop>(
+/// Does what the words of a command line ask for. `hashers` is `None` if the system gave no random bytes.
+pub fn answered<F: Files, S: BuildHasher + Drop, W: Write + Drop>(
     alloc: Global,
-    hashing: &H,
+    hashers: Option<JobHashers<S>>,
     files: &mut F,
     stdout: W,
     words: &[String],
-) -> (Ended, Option<W>)
-    ensures answers { AnswersLine (F.holds files.old) (F.finished files.old) (F.finished files.new)
-        W.contents stdout result.1 (map string_bytes words.now) result.0.outcome }
+) -> Answer<W>
+    ensures answers { AnswersLine (is_none hashers ≡ true) (F.holds files.old)
+        (readings_in result.readings) (F.finished files.old) (F.finished files.new) W.contents
+        stdout result.stdout
+        (map string_bytes words.now) result.ended.outcome }
 {
     match job(alloc, words) {
-        Ok(job) => done(alloc, hashing, files, stdout, job),
-        Err(fault) => (Ended::printing(Outcome::Line(fault)), Some(stdout)),
+        Ok(job) => done(alloc, hashers, files, stdout, job),
+        Err(fault) => Answer {
+            ended: Ended::printing(Outcome::Line(fault)),
+            stdout: Some(stdout),
+            readings: Readings::Nothing,
+        },
     }
 }
 
-fn done<F: Files, H: Hashing, W: Write + Drop>(
+fn done<F: Files, S: BuildHasher + Drop, W: Write + Drop>(
     alloc: Global,
-    hashing: &H,
+    hashers: Option<JobHashers<S>>,
     files: &mut F,
     stdout: W,
     job: Job<'_>,
-) -> (Ended, Option<W>)
-    ensures { AnswersJob (F.holds files.old) (F.finished files.old) (F.finished files.new)
-        W.contents stdout result.1 job.entry result.0.outcome }
+) -> Answer<W>
+    ensures { (words : List (List ℕ)) → Asks words job.entry → AnswersJob (is_none hashers ≡ true)
+        (F.holds files.old) (readings_in result.readings)
+        (F.finished files.old) (F.finished files.new) W.contents stdout
+        result.stdout job.entry result.ended.outcome }
 {
     match job {
-        Job::Check(name) => (
-            Ended::printing(check(alloc, hashing, files, name)),
-            Some(stdout),
-        ),
-        Job::Show(name) => {
-            let (outcome, stdout) = show(alloc, hashing, files, stdout, name);
-            (Ended::printing(outcome), stdout)
+        Job::Check(name) => {
+            let (outcome, readings) = checked(alloc, hashers, files, name);
+            quiet(Ended::printing(outcome), stdout, readings)
         }
-        Job::Canon(input, output) => { (canon(alloc, hashing, files, input, output), Some(stdout)) }
+        Job::Show(name) => shown(alloc, hashers, files, stdout, name),
+        Job::Canon(input, output) => {
+            let (ended, readings) = canonical(alloc, hashers, files, input, output);
+            quiet(ended, stdout, readings)
+        }
         Job::Same(first, second) => {
-            let outcome = same(alloc, hashing, files, first, second);
-            (Ended::printing(outcome), Some(stdout))
+            let (outcome, readings) = compared(alloc, hashers, files, first, second);
+            quiet(Ended::printing(outcome), stdout, readings)
         }
-        Job::Pack(output, streams) => (run_pack(alloc, files, output, streams), Some(stdout)),
+        Job::Pack(output, streams) => {
+            let (ended, readings) = run_pack(alloc, files, output, streams);
+            quiet(ended, stdout, readings)
+        }
     }
 }
 
-fn check<F: Files, H: Hashing>(alloc: Global, hashing: &H, files: &F, name: &str) -> Outcome
-    ensures { (bytes : List ℕ) → F.holds files.now name.now ≡ Some bytes
-        → CountsFile name.now bytes result }
+/// The answer of a job that wrote nothing to standard output.
+fn quiet<W: Drop>(ended: Ended, stdout: W, readings: Readings) -> Answer<W>
+    ensures { result ≡ record { ended = ended; stdout = Some stdout; readings = readings } }
 {
-    match hashing.hashers() {
-        Ok(hashers) => run_check(alloc, hashers, files, name),
-        Err(_) => Outcome::Counted(Err(Error::Read)),
+    Answer {
+        ended,
+        stdout: Some(stdout),
+        readings,
     }
 }
 
-fn show<F: Files, H: Hashing, W: Write + Drop>(
+fn checked<F: Files, S: BuildHasher + Drop>(
     alloc: Global,
-    hashing: &H,
+    hashers: Option<JobHashers<S>>,
+    files: &F,
+    name: &str,
+) -> (Outcome, Readings)
+    ensures { CountsFile (F.holds files.now) (readings_in result.1) name.now result.0
+        ⊎ ReadsNone (is_none hashers ≡ true) (readings_in result.1)
+        (outcomes.Counted (Err errors.Read)) result.0 }
+{
+    match hashers {
+        Some(hashers) => run_check(alloc, hashers.first, files, name),
+        None => (Outcome::Counted(Err(Error::Read)), Readings::Nothing),
+    }
+}
+
+fn shown<F: Files, S: BuildHasher + Drop, W: Write + Drop>(
+    alloc: Global,
+    hashers: Option<JobHashers<S>>,
     files: &F,
     stdout: W,
     name: &str,
-) -> (Outcome, Option<W>)
-    ensures { (bytes : List ℕ) → F.holds files.now name.now ≡ Some bytes
-        → ListsFile W.contents name.now bytes stdout result.0 result.1 }
+) -> Answer<W>
+    ensures { ListsFile (F.holds files.now) (readings_in result.readings) W.contents name.now stdout
+        result.ended.outcome result.stdout
+        ⊎ (ReadsNone (is_none hashers ≡ true) (readings_in result.readings)
+        (outcomes.Listed (Err errors.Read)) result.ended.outcome
+        × (result.stdout ≡ Some stdout)) }
 {
-    match hashing.hashers() {
-        Ok(hashers) => run_show(alloc, hashers, files, name, stdout),
-        Err(_) => (Outcome::Listed(Err(Error::Read)), Some(stdout)),
+    let Some(hashers) = hashers else {
+        let ended = Ended::printing(Outcome::Listed(Err(Error::Read)));
+        return quiet(ended, stdout, Readings::Nothing);
+    };
+    let listed = run_show(alloc, hashers.first, files, name, stdout);
+    Answer {
+        ended: Ended::printing(listed.outcome),
+        stdout: listed.output,
+        readings: listed.readings,
     }
 }
 
-fn canon<F: Files, H: Hashing>(
+fn canonical<F: Files, S: BuildHasher + Drop>(
     alloc: Global,
-    hashing: &H,
+    hashers: Option<JobHashers<S>>,
     files: &mut F,
     input: &str,
     output: &str,
-) -> Ended
-    ensures { (bytes : List ℕ) → F.holds files.old input.now ≡ Some bytes
-        → RewritesFile IsSummary canonical_bytes input.now output.now bytes
-        (F.finished files.old) (F.finished files.new) result.outcome }
+) -> (Ended, Readings)
+    ensures { RewritesFile IsSummary canonical_bytes (F.holds files.old) input.now output.now
+        (readings_in result.1) (F.finished files.old) (F.finished files.new) result.0.outcome
+        ⊎ (ReadsNone (is_none hashers ≡ true) (readings_in result.1)
+        (outcomes.Counted (Err errors.Read)) result.0.outcome
+        × (F.finished files.new ≡ F.finished files.old)) }
 {
-    match hashing.hashers() {
-        Ok(hashers) => run_rewriting(alloc, Canonical { hashers }, files, input, output),
-        Err(_) => Ended::printing(Outcome::Counted(Err(Error::Read))),
+    match hashers {
+        Some(hashers) => {
+            let form = Canonical {
+                hashers: hashers.first,
+            };
+            run_rewriting(alloc, form, files, input, output)
+        }
+        None => (
+            Ended::printing(Outcome::Counted(Err(Error::Read))),
+            Readings::Nothing,
+        ),
     }
 }
 
-fn same<F: Files, H: Hashing>(
+fn compared<F: Files, S: BuildHasher + Drop>(
     alloc: Global,
-    hashing: &H,
+    hashers: Option<JobHashers<S>>,
     files: &F,
     first: &str,
     second: &str,
-) -> Outcome
-    ensures { (bytes other : List ℕ) → F.holds files.now first.now ≡ Some bytes
-        → F.holds files.now second.now ≡ Some other
-        → ComparesFiles first.now second.now bytes other result }
+) -> (Outcome, Readings)
+    ensures { ComparesFiles (F.holds files.now) (readings_in result.1) first.now second.now result.0
+        ⊎ ReadsNone (is_none hashers ≡ true) (readings_in result.1)
+        (outcomes.Compared (Err (record { which = First; error = errors.Read }))) result.0 }
 {
-    match (hashing.hashers(), hashing.hashers()) {
-        (Ok(hashers), Ok(other_hashers)) => {
-            run_same(alloc, hashers, other_hashers, files, first, second)
+    match hashers {
+        Some(hashers) => run_same(alloc, hashers.first, hashers.second, files, first, second),
+        None => {
+            let unread = SameError {
+                which: Which::First,
+                error: Error::Read,
+            };
+            (Outcome::Compared(Err(unread)), Readings::Nothing)
         }
-        _ => Outcome::Compared(Err(SameError {
-            which: Which::First,
-            error: Error::Read,
-        })),
     }
 }

@@ -1,45 +1,65 @@
 //! The listing of a file.
 
-ghost use Rattle.std.specs.Prelude.{◌≡◌, ℕ, List, Some, Err};
+ghost use Rattle.std.specs.Prelude.{◌≡◌, Err};
 ghost use Rattle.capture3.specs.declared.fault.Error.TheVariants as errors;
 ghost use Rattle.program3.specs.Opening.{TellsOf};
-ghost use Rattle.program3.specs.declared.outcome.Outcome.TheVariants.{Listed};
+ghost use Rattle.program3.specs.Readings.{readings_in};
+ghost use Rattle.program3.specs.declared.outcome.Outcome.TheVariants as outcomes;
 ghost use Rattle.nfs3canon.specs.Files.{ListsFile};
 
 use crate::forms::Listing;
 use capture3::{Error, Hashers};
-use program3::{Files, OpenError, Outcome, form_written, unopened};
+use program3::{Files, OpenError, Outcome, Readings, form_written, unopened};
 use std::alloc::Global;
 use std::hash::BuildHasher;
 use std::io::Write;
 
-/// Lists the file of this name to a writer. The lines before a fault are written too. Returns the writer,
-/// unless memory ran out for what is gathered before it is written.
+/// What came of a listing: the writer comes back unless memory ran out for what is gathered before it is
+/// written.
+#[derive(Drop)]
+pub struct Listed<W: Drop> {
+    pub outcome: Outcome,
+    pub output: Option<W>,
+    pub readings: Readings,
+}
+
+/// Lists the file of this name to a writer. The lines before a fault are written too.
 pub fn run_show<F: Files, W: Write + Drop, S: BuildHasher + Drop>(
     alloc: Global,
     hashers: Hashers<S>,
     files: &F,
     name: &str,
     output: W,
-) -> (Outcome, Option<W>)
-    ensures lists { (bytes : List ℕ) → F.holds files.now name.now ≡ Some bytes
-        → ListsFile W.contents name.now bytes output result.0 result.1 }
+) -> Listed<W>
+    ensures lists { ListsFile (F.holds files.now) (readings_in result.readings) W.contents name.now
+        output result.outcome result.output }
 {
-    let source = match files.open(name) {
-        Ok(source) => source,
+    let mut opened = match files.open(name) {
+        Ok(opened) => opened,
         Err(error) => {
-            let outcome = unlisted(alloc, name, OpenError::from(error));
-            return (outcome, Some(output));
+            return Listed {
+                outcome: unlisted(alloc, name, OpenError::from(error)),
+                output: Some(output),
+                readings: Readings::Nothing,
+            };
         }
     };
-    match form_written(alloc, Listing { hashers }, source, output) {
-        Ok((came, output)) => (Outcome::Listed(came), Some(output)),
-        Err(_) => (Outcome::Listed(Err(Error::Memory)), None),
+    match form_written(alloc, Listing { hashers }, &mut opened.source, output) {
+        Ok((came, output)) => Listed {
+            outcome: Outcome::Listed(came),
+            output: Some(output),
+            readings: Readings::OfOne(opened.close()),
+        },
+        Err(_) => Listed {
+            outcome: Outcome::Listed(Err(Error::Memory)),
+            output: None,
+            readings: Readings::Nothing,
+        },
     }
 }
 
 fn unlisted(alloc: Global, name: &str, error: OpenError) -> Outcome
-    ensures { TellsOf name.now error (Listed (Err errors.Memory)) result }
+    ensures { TellsOf name.now error (outcomes.Listed (Err errors.Memory)) result }
 {
     unopened(alloc, name, error, Outcome::Listed(Err(Error::Memory)))
 }

@@ -9,21 +9,56 @@ mod packing;
 #[cfg(test)]
 mod tests;
 
+ghost use Rattle.std.specs.Prelude.{◌≡◌, [], Bool, None, Some, map, string_bytes, true};
+ghost use Rattle.std.specs.declared.io.Stdout.{Stdout};
+ghost use Rattle.canon3.specs.Traced.{TracedWriter};
+ghost use Rattle.program3.specs.Readings.{readings_in};
+ghost use Rattle.program3.specs.Systems.{finished_of};
+ghost use Rattle.nfs3canon.specs.Answers.{AnswersLine};
+
 use canon3::Traced;
-use jobs::answered;
-use program3::{Ended, Outcome, System, print_ended, words};
+use jobs::{Answer, JobHashers, answered};
+use program3::{Ended, Outcome, SecretHasher, System, hashers, print_ended, words};
+use std::io;
+use std::io::Stdout;
 use std::process::ExitCode;
 
-fn run(rt: &HostRuntime) -> Ended {
-    let words = match words(rt) {
-        Ok(words) => words,
-        Err(fault) => return Ended::printing(Outcome::Line(fault)),
-    };
+/// Returns hashers with keys that nobody who writes a capture can know.
+///
+/// # Errors
+///
+/// That of the system if it gives no random bytes.
+fn job_hashers(rt: &HostRuntime) -> io::Result<JobHashers<SecretHasher>> {
+    Ok(JobHashers {
+        first: hashers(rt)?,
+        second: hashers(rt)?,
+    })
+}
+
+/// Does what the words ask for, with the files of the system and its standard output.
+fn run<'a>(rt: &'a HostRuntime, words: &[String]) -> (Answer<Traced<Stdout>>, System<'a>)
+    ensures answers { (has_no_keys : Bool) × (stdout : TracedWriter Stdout) × (stdout.taken ≡ [])
+        × AnswersLine (has_no_keys ≡ true) (λ _. None) (readings_in result.0.readings) []
+        (finished_of result.1)
+        (λ writer. Some writer.taken) stdout result.0.stdout
+        (map string_bytes words.now) result.0.ended.outcome }
+{
+    let mut files = System::new(rt);
     let stdout = Traced::new(rt.stdout());
-    let (ended, _stdout) = answered(rt.alloc(), rt, &mut System::new(rt), stdout, &words);
-    ended
+    let answer = answered(rt.alloc(), job_hashers(rt).ok(), &mut files, stdout, words);
+    (answer, files)
+}
+
+/// Closes the files. Without standard output one of them may have its number, and would get the line.
+fn files_closed<W: Drop>(ran: (Answer<W>, System<'_>)) -> Ended {
+    let (answer, _files) = ran;
+    answer.ended
 }
 
 fn main(rt: HostRuntime) -> ExitCode {
-    print_ended(&rt, &run(&rt))
+    let words = match words(&rt) {
+        Ok(words) => words,
+        Err(fault) => return print_ended(&rt, &Ended::printing(Outcome::Line(fault))),
+    };
+    print_ended(&rt, &files_closed(run(&rt, &words)))
 }

@@ -1,32 +1,37 @@
 //! Streams that are packed into a capture.
 
-ghost use Rattle.std.specs.Prelude.{◌≡◌, List, [], Some, IfErr, IfOk, map, string_bytes};
-ghost use Rattle.capture3.specs.SidedChunks.{Streams};
-ghost use Rattle.packing3.specs.Packing.{HasWrittenCapture};
-ghost use Rattle.nfs3canon.specs.Files.{HoldStreams, PacksFile};
-ghost use Rattle.nfs3canon.specs.machinery.Packing.{StopsPacking};
+ghost use Rattle.std.specs.Prelude.{◌≡◌, ◌%◌, [], Some, IfErr, IfOk, length, map, string_bytes};
+ghost use Rattle.program3.specs.Readings.{reading_in, readings_in};
+ghost use Rattle.nfs3canon.specs.Files.{PacksFile};
+ghost use Rattle.nfs3canon.specs.machinery.Packing.{StopsPacking, WritesStreams};
 
 use canon3::ToWrite;
-use capture3::FromRead;
+use capture3::Error;
 use packing3::Packing;
-use program3::{Ended, Files, Made, Outcome, named};
+use program3::{Closed, Ended, Files, Made, Outcome, Readings, named};
 use std::alloc::Global;
 
 /// Packs the streams of these names, pair by pair, into a capture of another name. The output is made first,
-/// and then each pair is opened in turn.
-pub fn run_pack<F: Files>(alloc: Global, files: &mut F, output: &str, streams: &[String]) -> Ended
-    ensures packs { let names = map string_bytes streams.now in (pairs : List Streams)
-        → HoldStreams (F.holds files.old) names pairs
-        → PacksFile output.now names pairs (F.finished files.old) (F.finished files.new)
-        result.outcome }
+/// and then each pair is opened in turn. Returns what came of it, and what was read.
+pub fn run_pack<F: Files>(
+    alloc: Global,
+    files: &mut F,
+    output: &str,
+    streams: &[String],
+) -> (Ended, Readings)
+    ensures packs { length streams.now % 2 ≡ 0 → PacksFile (F.holds files.old) output.now
+        (map string_bytes streams.now) (readings_in result.1)
+        (F.finished files.old) (F.finished files.new) result.0.outcome }
 {
-    match files.made_apart(output, streams) {
+    let mut closed = Vec::new(alloc);
+    let ended = match files.made_apart(output, streams) {
         Ok(made) => Ended {
             is_aside: files.is_standard_output(&made.place),
-            outcome: packing_kept(alloc, files, made, streams),
+            outcome: packing_kept(alloc, files, made, streams, &mut closed),
         },
         Err(outcome) => Ended::printing(outcome),
-    }
+    };
+    (ended, Readings::OfMany(closed))
 }
 
 fn packing_kept<F: Files>(
@@ -34,14 +39,15 @@ fn packing_kept<F: Files>(
     files: &mut F,
     made: Made<F::Output, F::Place>,
     streams: &[String],
+    closed: &mut Vec<Closed>,
 ) -> Outcome
-    ensures packs { let names = map string_bytes streams.now in (pairs : List Streams)
-        → HoldStreams (F.holds files.old) names pairs → F.Output.contents made.file ≡ Some []
-        → PacksFile (F.name_of made.place) names pairs
-        (F.finished files.old) (F.finished files.new) result }
+    requires { closed.old.items ≡ [] }
+    ensures packs { length streams.now % 2 ≡ 0 → F.Output.contents made.file ≡ Some []
+        → PacksFile (F.holds files.old) (F.name_of made.place) (map string_bytes streams.now)
+        (map reading_in closed.new.items) (F.finished files.old) (F.finished files.new) result }
 {
     let Made { file, place } = made;
-    match streams_packed(alloc, files, file, &place, streams) {
+    match streams_packed(alloc, files, file, &place, streams, closed) {
         Ok(file) => Outcome::Packed(named(files, file, place)),
         Err(outcome) => {
             files.remove(place);
@@ -56,21 +62,26 @@ fn streams_packed<F: Files>(
     file: F::Output,
     place: &F::Place,
     streams: &[String],
+    closed: &mut Vec<Closed>,
 ) -> Result<F::Output, Outcome>
-    ensures written { (pairs : List Streams)
-        → HoldStreams (F.holds files.now) (map string_bytes streams.now) pairs
-        → F.Output.contents file ≡ Some []
-        → IfOk result (λ file. HasWrittenCapture (Some []) (F.Output.contents file) pairs) }
-    ensures told { IfErr result (StopsPacking (map string_bytes streams.now)) }
+    requires { closed.old.items ≡ [] }
+    ensures written { length streams.now % 2 ≡ 0 → F.Output.contents file ≡ Some []
+        → IfOk result (λ file. WritesStreams (F.holds files.now) (map string_bytes streams.now)
+        (map reading_in closed.new.items) (F.Output.contents file)) }
+    ensures told { IfErr result (StopsPacking (map string_bytes streams.now)
+        (map reading_in closed.new.items)) }
 {
     let mut packing = match Packing::start(alloc, ToWrite::new(file)) {
         Ok(packing) => packing,
         Err((error, _)) => return Err(Outcome::Packed(Err(error))),
     };
     for index in 0..streams.len() / 2 {
-        let client = files.opened_apart(place, streams[2 * index].as_str())?;
-        let server = files.opened_apart(place, streams[2 * index + 1].as_str())?;
-        let added = packing.add(&mut FromRead::new(client), &mut FromRead::new(server));
+        let mut client = files.opened_apart(place, streams[2 * index].as_str())?;
+        let mut server = files.opened_apart(place, streams[2 * index + 1].as_str())?;
+        let added = packing.add(&mut client.source, &mut server.source);
+        if closed.push(client.close()).is_err() || closed.push(server.close()).is_err() {
+            return Err(Outcome::Packed(Err(Error::Memory)));
+        }
         if let Err(error) = added {
             return Err(Outcome::Packed(Err(error)));
         }

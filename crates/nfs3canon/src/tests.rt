@@ -3,11 +3,13 @@
 ghost use Rattle.std.specs.Prelude.{◌≡◌, ◌∷◌, List, [], IfErr, IfOk};
 
 use crate::forms::Canonical;
-use crate::jobs::answered;
+use crate::jobs::{JobHashers, answered};
 use crate::{files, listing, packing};
 use canon3::{MessageCounts, Summary, Verdict};
 use capture3::{Error, Fault, Place};
-use program3::{Files, Made, OpenError, Outcome, hashers, run_rewriting, uncounted, unopened};
+use program3::{
+    Files, Made, OpenError, Opened, Outcome, hashers, run_rewriting, uncounted, unopened,
+};
 use std::alloc::Global;
 use std::io;
 use std::io::ErrorKind;
@@ -63,18 +65,18 @@ impl<'a> Files for MemFiles<'a> {
 
     ghost bytes_of = { λ bytes. Some bytes.items };
 
-    fn open(&self, _name: &str) -> io::Result<&'a [u8]> {
+    fn open(&self, name: &str) -> io::Result<Opened<&'a [u8]>> {
         if self.failing == Some(Call::Open) {
             return Err(io::Error::from(ErrorKind::NotFound));
         }
-        Ok(self.bytes)
+        Ok(Opened::new(name, self.bytes))
     }
 
     fn both_opened(
         &self,
         input: &str,
         output: &str,
-    ) -> Result<(&'a [u8], Made<Vec<u8>, String>), Outcome> {
+    ) -> Result<(Opened<&'a [u8]>, Made<Vec<u8>, String>), Outcome> {
         if self.failing == Some(Call::Open) {
             return Err(uncounted(self.alloc, input, OpenError::Unopened));
         }
@@ -83,7 +85,7 @@ impl<'a> Files for MemFiles<'a> {
         }
         match String::from_str(self.alloc, output) {
             Ok(place) => Ok((
-                self.bytes,
+                Opened::new(input, self.bytes),
                 Made {
                     file: Vec::new(self.alloc),
                     place,
@@ -111,12 +113,12 @@ impl<'a> Files for MemFiles<'a> {
         }
     }
 
-    fn opened_apart(&self, _place: &String, stream: &str) -> Result<&'a [u8], Outcome> {
+    fn opened_apart(&self, _place: &String, stream: &str) -> Result<Opened<&'a [u8]>, Outcome> {
         if self.failing == Some(Call::Open) {
             let out_of_memory = Outcome::Packed(Err(Error::Memory));
             return Err(unopened(self.alloc, stream, OpenError::Unopened, out_of_memory));
         }
-        Ok(self.bytes)
+        Ok(Opened::new(stream, self.bytes))
     }
 
     fn is_standard_output(&self, _place: &String) -> bool {
@@ -176,7 +178,8 @@ fn canonical(rt: &HostRuntime, files: &mut MemFiles<'_>) -> Result<Outcome, Fail
     let canonical = Canonical {
         hashers: hashers(rt)?,
     };
-    Ok(run_rewriting(rt.alloc(), canonical, files, "in", "out").outcome)
+    let (ended, _readings) = run_rewriting(rt.alloc(), canonical, files, "in", "out");
+    Ok(ended.outcome)
 }
 
 // What came of it if a call fails, and how many files are finished.
@@ -235,7 +238,7 @@ fn no_file_is_finished_for_a_refused_capture(rt: HostRuntime) -> Result<(), Fail
 #[test]
 fn a_capture_is_counted(rt: HostRuntime) -> Result<(), Fail> {
     let files = MemFiles::new(rt.alloc(), &NULL, None);
-    let outcome = files::run_check(rt.alloc(), hashers(&rt)?, &files, "in");
+    let (outcome, _readings) = files::run_check(rt.alloc(), hashers(&rt)?, &files, "in");
     assert!(rt; matches!(&outcome, Outcome::Counted(Ok(counts)) if *counts == COUNTS));
     Ok(())
 }
@@ -249,8 +252,14 @@ fn a_line_is_answered(rt: HostRuntime) -> Result<(), Fail> {
         String::from_str(rt.alloc(), "in")?,
     ];
     let lines: Vec<u8> = Vec::new(rt.alloc());
-    let (ended, _lines) = answered(rt.alloc(), &rt, &mut files, lines, &words);
-    assert!(rt; matches!(&ended.outcome, Outcome::Counted(Ok(counts)) if *counts == COUNTS));
+    let hashers = Some(JobHashers {
+        first: hashers(&rt)?,
+        second: hashers(&rt)?,
+    });
+    let answered = answered(rt.alloc(), hashers, &mut files, lines, &words);
+    assert!(rt;
+        matches!(&answered.ended.outcome, Outcome::Counted(Ok(counts)) if *counts == COUNTS)
+    );
     Ok(())
 }
 
@@ -258,7 +267,7 @@ fn a_line_is_answered(rt: HostRuntime) -> Result<(), Fail> {
 fn a_file_is_the_same_as_itself(rt: HostRuntime) -> Result<(), Fail> {
     let files = MemFiles::new(rt.alloc(), &NULL, None);
     let (first, second) = (hashers(&rt)?, hashers(&rt)?);
-    let outcome = files::run_same(rt.alloc(), first, second, &files, "in", "other");
+    let (outcome, _readings) = files::run_same(rt.alloc(), first, second, &files, "in", "other");
     assert!(rt; matches!(&outcome, Outcome::Compared(Ok(Verdict::Same))));
     Ok(())
 }
@@ -267,7 +276,9 @@ fn a_file_is_the_same_as_itself(rt: HostRuntime) -> Result<(), Fail> {
 fn the_lines_of_a_file(rt: HostRuntime) -> Result<(), Fail> {
     let files = MemFiles::new(rt.alloc(), &NULL, None);
     let lines = Vec::new(rt.alloc());
-    let (outcome, lines) = listing::run_show(rt.alloc(), hashers(&rt)?, &files, "in", lines);
+    let hashers = hashers(&rt)?;
+    let listed = listing::run_show(rt.alloc(), hashers, &files, "in", lines);
+    let (outcome, lines) = (listed.outcome, listed.output);
     assert!(rt; matches!(&outcome, Outcome::Listed(Ok(counts)) if *counts == MESSAGE_COUNTS));
     let wanted = b"1 client 1 xid=3735928559 NFSPROC3_NULL";
     assert!(rt; matches!(&lines, Some(lines) if lines.as_slice().starts_with(wanted)));
@@ -278,7 +289,9 @@ fn the_lines_of_a_file(rt: HostRuntime) -> Result<(), Fail> {
 fn a_file_that_is_not_opened_has_no_lines(rt: HostRuntime) -> Result<(), Fail> {
     let files = MemFiles::new(rt.alloc(), &NULL, Some(Call::Open));
     let lines = Vec::new(rt.alloc());
-    let (outcome, lines) = listing::run_show(rt.alloc(), hashers(&rt)?, &files, "in", lines);
+    let hashers = hashers(&rt)?;
+    let listed = listing::run_show(rt.alloc(), hashers, &files, "in", lines);
+    let (outcome, lines) = (listed.outcome, listed.output);
     assert!(rt; matches!(&outcome, Outcome::Unopened(name) if name.as_str() == "in"));
     assert!(rt; matches!(&lines, Some(lines) if lines.is_empty()));
     Ok(())
@@ -290,7 +303,8 @@ fn packed(rt: &HostRuntime, files: &mut MemFiles<'_>) -> Result<Outcome, Fail> {
         String::from_str(rt.alloc(), "client")?,
         String::from_str(rt.alloc(), "server")?,
     ];
-    Ok(packing::run_pack(rt.alloc(), files, "out", &streams).outcome)
+    let (ended, _readings) = packing::run_pack(rt.alloc(), files, "out", &streams);
+    Ok(ended.outcome)
 }
 
 #[test]

@@ -1,17 +1,19 @@
 //! What the job does with files.
 
-ghost use Rattle.std.specs.Prelude.{◌≡◌, ℕ, List, Some};
+ghost use Rattle.std.specs.Prelude.{◌≡◌, ◌⊎◌, ℕ, List, is_none, true, Option, map, string_bytes};
 ghost use Rattle.canon3.specs.Summary.{IsSummary};
+ghost use Rattle.mask_line3.specs.Changes.{mask_told};
 ghost use Rattle.masking3.specs.Masked.{masked_bytes};
 ghost use Rattle.masking3.specs.declared.ways.Ways.{Ways};
 ghost use Rattle.program3.specs.Files.{RewritesFile, WrittenFile};
-ghost use Rattle.nfs3mask.specs.Masking.{MasksFile};
+ghost use Rattle.program3.specs.Readings.{FileReading, readings_in};
+ghost use Rattle.nfs3mask.specs.Masking.{AnswersMaskJob, AnswersMaskLine, MasksFile};
 
 use canon3::{Sink, Summary};
 use capture3::{Error, Source};
-use mask_line3::{MaskJob, ways_told};
+use mask_line3::{MaskJob, mask_job, ways_told};
 use masking3::{MaskHashers, Ways, mask};
-use program3::{Ended, Files, Outcome, Rewriting, run_rewriting};
+use program3::{Ended, Files, Outcome, Readings, Rewriting, run_rewriting};
 use std::alloc::Global;
 use std::hash::BuildHasher;
 
@@ -42,39 +44,90 @@ impl<S: BuildHasher + Drop> Rewriting for MaskedForm<S> {
     }
 }
 
+/// What came of a command line: the end, and what was read.
+#[derive(Drop)]
+pub struct Answer {
+    pub ended: Ended,
+    pub readings: Readings,
+}
+
+/// Does what the words of a command line ask for. `hashers` is `None` if the system gave no random bytes.
+pub fn answered<F: Files, S: BuildHasher + Drop>(
+    alloc: Global,
+    hashers: Option<MaskHashers<S>>,
+    files: &mut F,
+    words: &[String],
+) -> Answer
+    ensures answers { AnswersMaskLine (is_none hashers ≡ true) (F.holds files.old)
+        (readings_in result.readings) (F.finished files.old) (F.finished files.new)
+        (map string_bytes words.now)
+        result.ended.outcome }
+{
+    let (ended, readings) = match mask_job(alloc, words) {
+        Ok(job) => done(alloc, hashers, files, job),
+        Err(fault) => (Ended::printing(Outcome::Line(fault)), Readings::Nothing),
+    };
+    Answer { ended, readings }
+}
+
+fn done<F: Files, S: BuildHasher + Drop>(
+    alloc: Global,
+    hashers: Option<MaskHashers<S>>,
+    files: &mut F,
+    job: MaskJob<'_>,
+) -> (Ended, Readings)
+    ensures { AnswersMaskJob (is_none hashers ≡ true) (F.holds files.old) (readings_in result.1)
+        (F.finished files.old) (F.finished files.new) job.entry result.0.outcome }
+{
+    match hashers {
+        Some(hashers) => run_mask(alloc, hashers, files, job),
+        None => (
+            Ended::printing(Outcome::Counted(Err(Error::Read))),
+            Readings::Nothing,
+        ),
+    }
+}
+
 /// Masks the capture of one name into the file of another. The output is made once the input is open, and
 /// there is memory for the words that tell the mask.
-pub fn run_mask<F: Files, S: BuildHasher + Drop>(
+fn run_mask<F: Files, S: BuildHasher + Drop>(
     alloc: Global,
     hashers: MaskHashers<S>,
     files: &mut F,
     job: MaskJob<'_>,
-) -> Ended
-    ensures masks { (bytes : List ℕ) → F.holds files.old job.entry.input.now ≡ Some bytes
-        → MasksFile job.entry.ways job.entry.input.now job.entry.output.now bytes
-        (F.finished files.old) (F.finished files.new) result.outcome }
+) -> (Ended, Readings)
+    ensures masks { MasksFile (F.holds files.old) job.entry.ways job.entry.input.now
+        job.entry.output.now (readings_in result.1) (F.finished files.old) (F.finished files.new)
+        result.0.outcome }
 {
     let ways = job.ways;
     let Ok(told) = ways_told(alloc, &ways) else {
-        return Ended::printing(Outcome::Counted(Err(Error::Memory)));
+        let ended = Ended::printing(Outcome::Counted(Err(Error::Memory)));
+        return (ended, Readings::Nothing);
     };
     let form = MaskedForm { hashers, ways };
-    let ended = run_rewriting(alloc, form, files, job.input, job.output);
-    Ended {
-        is_aside: ended.is_aside,
-        outcome: with_mask_told(ended.outcome, told),
-    }
+    let (ended, readings) = run_rewriting(alloc, form, files, job.input, job.output);
+    let Ended { outcome, is_aside } = ended;
+    let ended = Ended {
+        is_aside,
+        outcome: with_mask_told(outcome, told),
+    };
+    (ended, readings)
 }
 
 /// Tells the mask with the counts. What came of it stays.
-#[tactic(auto, using(crate::proofs::MaskingLemmas::masks))]
 fn with_mask_told(outcome: Outcome, told: String) -> Outcome
-    ensures { (ways : Ways) (input output bytes : List ℕ) (old new : List WrittenFile)
-        → RewritesFile IsSummary (masked_bytes ways) input output bytes old new outcome
-        → MasksFile ways input output bytes old new result }
+    ensures { (holds : List ℕ → Option (List ℕ)) (ways : Ways) (input output : List ℕ)
+        (readings : List FileReading) (old new : List WrittenFile)
+        → string_bytes told ≡ mask_told ways
+        → RewritesFile IsSummary (masked_bytes ways) holds input output readings old new outcome
+        → MasksFile holds ways input output readings old new result }
 {
     match outcome {
-        Outcome::Counted(Ok(summary)) => Outcome::Masked(summary, told),
+        Outcome::Counted(came) => match came {
+            Ok(summary) => Outcome::Masked(summary, told),
+            Err(error) => Outcome::Counted(Err(error)),
+        },
         outcome => outcome,
     }
 }

@@ -4,31 +4,38 @@
 mod hashers;
 mod job;
 
-use capture3::Error;
+ghost use Rattle.std.specs.Prelude.{◌≡◌, [], Bool, None, map, string_bytes, true};
+ghost use Rattle.program3.specs.Readings.{readings_in};
+ghost use Rattle.program3.specs.Systems.{finished_of};
+ghost use Rattle.nfs3mask.specs.Masking.{AnswersMaskLine};
+
 use hashers::mask_hashers;
-use job::run_mask;
-use mask_line3::{MaskJob, mask_job};
+use job::{Answer, answered};
 use program3::{Ended, Outcome, System, print_ended, words};
 use std::process::ExitCode;
 
-fn run(rt: &HostRuntime) -> Ended {
-    let words = match words(rt) {
-        Ok(words) => words,
-        Err(fault) => return Ended::printing(Outcome::Line(fault)),
-    };
-    match mask_job(rt.alloc(), &words) {
-        Ok(job) => done(rt, job),
-        Err(fault) => Ended::printing(Outcome::Line(fault)),
-    }
+/// Does what the words ask for, with the files of the system.
+fn run<'a>(rt: &'a HostRuntime, words: &[String]) -> (Answer, System<'a>)
+    ensures answers { (has_no_keys : Bool)
+        × AnswersMaskLine (has_no_keys ≡ true) (λ _. None) (readings_in result.0.readings) []
+        (finished_of result.1)
+        (map string_bytes words.now) result.0.ended.outcome }
+{
+    let mut files = System::new(rt);
+    let answer = answered(rt.alloc(), mask_hashers(rt).ok(), &mut files, words);
+    (answer, files)
 }
 
-fn done(rt: &HostRuntime, job: MaskJob<'_>) -> Ended {
-    match mask_hashers(rt) {
-        Ok(hashers) => run_mask(rt.alloc(), hashers, &mut System::new(rt), job),
-        Err(_) => Ended::printing(Outcome::Counted(Err(Error::Read))),
-    }
+/// Closes the files. Without standard output one of them may have its number, and would get the line.
+fn files_closed(ran: (Answer, System<'_>)) -> Ended {
+    let (answer, _files) = ran;
+    answer.ended
 }
 
 fn main(rt: HostRuntime) -> ExitCode {
-    print_ended(&rt, &run(&rt))
+    let words = match words(&rt) {
+        Ok(words) => words,
+        Err(fault) => return print_ended(&rt, &Ended::printing(Outcome::Line(fault))),
+    };
+    print_ended(&rt, &files_closed(run(&rt, &words)))
 }

@@ -1,21 +1,12 @@
 -- The streams of a connection, after its word 1.
-use Rattle.std.proofs.Common.{arith, refl, subst, ◌≡◌, ◌+◌, ℕ, List, [], ◌++◌, length}
-use Rattle.std.specs.Prelude.{Option}
-use Rattle.capture3.specs.Told.{Told}
-use Rattle.capture3.proofs.Lemmas.Reader.ToldLemmas.{gave_none}
-use Rattle.std.specs.Io.KnownBytes.{Appends}
-use Rattle.std.proofs.KnownBytes.{Appends-trans}
-use Rattle.xdr3.specs.Item.{word_bytes}
-use Rattle.capture3.specs.declared.fault.Error.{Error}
+use Rattle.packing3.proofs.Common.{arith, refl, subst, ◌≡◌, ◌+◌, ℕ, List, [], ◌++◌, length, Option, Told, gave_none, Appends, Appends-trans, word_bytes, Error, AppendsFront, front_of_first, Extent, Grows, HasConnection, HasStream, IsStopped, StopsInConnection, StopsInStream}
 use Rattle.capture3.specs.declared.fault.Error.TheVariants as errors
-use Rattle.canon3.specs.SinkWrites.{AppendsFront}
-use Rattle.canon3.proofs.Lemmas.Writing.SinkWritesLemmas.{front_of_first}
-use Rattle.packing3.specs.declared.stream.Extent.{Extent}
-use Rattle.packing3.specs.machinery.Streaming.{Grows, HasConnection, HasStream, IsStopped, StopsInConnection, StopsInStream}
 use Rattle.packing3.proofs.Chunks.{grows_more, packed_none}
 use Rattle.packing3.proofs.Stops.{stopped_after, stopped_before, stopped_writing}
 
-pub whole_connection : (c0 c1 s0 s1 : Told) (w0 w1 w2 w3 : Option (List ℕ)) (e0 e1 e2 e3 : Extent) → Appends w0 w1 (word_bytes 1) → Grows e0 e1 (word_bytes 1) 0 → HasStream c0 c1 w1 w2 e1 e2 → HasStream s0 s1 w2 w3 e2 e3 → HasConnection c0 c1 s0 s1 w0 w3 e0 e3
+pub whole_connection : (c0 c1 s0 s1 : Told) (w0 w1 w2 w3 : Option (List ℕ)) (e0 e1 e2 e3 : Extent)
+    → Appends w0 w1 (word_bytes 1) → Grows e0 e1 (word_bytes 1) 0 → HasStream c0 c1 w1 w2 e1 e2
+    → HasStream s0 s1 w2 w3 e2 e3 → HasConnection c0 c1 s0 s1 w0 w3 e0 e3
 whole_connection c0 c1 s0 s1 w0 w1 w2 w3 e0 e1 e2 e3 word begun client server =
     let both = client.bytes ++ server.bytes in
     let many = length client.stream + length server.stream in
@@ -27,13 +18,26 @@ whole_connection c0 c1 s0 s1 w0 w1 w2 w3 e0 e1 e2 e3 word begun client server =
       from_server = server.consumed;
       client_ended = client.ended;
       server_ended = server.ended;
-      packed = record { client = client.bytes; server = server.bytes; split = refl; client_is = client.packed; server_is = server.packed };
-      appended = Appends-trans w0 w1 w3 (word_bytes 1) both word (Appends-trans w1 w2 w3 client.bytes server.bytes client.appended server.appended);
+      packed =
+          record {
+            client = client.bytes;
+            server = server.bytes;
+            split = refl;
+            client_is = client.packed;
+            server_is = server.packed;
+          };
+      appended =
+          Appends-trans w0 w1 w3 (word_bytes 1) both word
+          (Appends-trans w1 w2 w3 client.bytes server.bytes client.appended server.appended);
       grows = subst (Grows e0 e3 (word_bytes 1 ++ both)) total
-          (grows_more e0 e1 e3 (word_bytes 1) both 0 many begun (grows_more e1 e2 e3 client.bytes server.bytes (length client.stream) (length server.stream) client.grows server.grows));
+          (grows_more e0 e1 e3 (word_bytes 1) both 0 many begun (grows_more e1 e2 e3 client.bytes
+          server.bytes (length client.stream) (length server.stream) client.grows
+          server.grows));
     }
 
-pub stops_at_mark : (c0 s0 : Told) (w0 w1 : Option (List ℕ)) (e0 : Extent) (error : Error) → error ≡ errors.Write → AppendsFront w0 w1 (word_bytes 1) → StopsInConnection c0 c0 s0 s0 w0 w1 e0 error
+pub stops_at_mark : (c0 s0 : Told) (w0 w1 : Option (List ℕ)) (e0 : Extent) (error : Error)
+    → error ≡ errors.Write → AppendsFront w0 w1 (word_bytes 1)
+    → StopsInConnection c0 c0 s0 s0 w0 w1 e0 error
 stops_at_mark c0 s0 w0 w1 e0 error is front =
     let more = word_bytes 0 ++ word_bytes 0 in
     record {
@@ -41,36 +45,70 @@ stops_at_mark c0 s0 w0 w1 e0 error is front =
       bytes = word_bytes 1 ++ more;
       from_client = gave_none c0;
       from_server = gave_none s0;
-      packed = record { client = word_bytes 0; server = word_bytes 0; split = refl; client_is = packed_none; server_is = packed_none };
-      stopped = stopped_writing w0 w1 (word_bytes 1 ++ more) e0.at _ error is (front_of_first w0 w1 (word_bytes 1) more (word_bytes 1 ++ more) refl front);
+      packed =
+          record {
+            client = word_bytes 0;
+            server = word_bytes 0;
+            split = refl;
+            client_is = packed_none;
+            server_is = packed_none;
+          };
+      stopped =
+          stopped_writing w0 w1 (word_bytes 1 ++ more) e0.at _ error is
+          (front_of_first w0 w1 (word_bytes 1) more (word_bytes 1 ++ more) refl front);
     }
 
-pub stops_in_client : (c0 c1 s0 : Told) (w0 w1 w2 : Option (List ℕ)) (e0 e1 : Extent) (error : Error) → Appends w0 w1 (word_bytes 1) → Grows e0 e1 (word_bytes 1) 0 → StopsInStream c0 c1 w1 w2 e1 error → StopsInConnection c0 c1 s0 s0 w0 w2 e0 error
+pub stops_in_client : (c0 c1 s0 : Told) (w0 w1 w2 : Option (List ℕ)) (e0 e1 : Extent)
+    (error : Error) → Appends w0 w1 (word_bytes 1) → Grows e0 e1 (word_bytes 1) 0
+    → StopsInStream c0 c1 w1 w2 e1 error → StopsInConnection c0 c1 s0 s0 w0 w2 e0 error
 stops_in_client c0 c1 s0 w0 w1 w2 e0 e1 error word begun it =
     let more = word_bytes 0 in
     let all = e1.streamed + length it.stream in
-    let total : all ≡ e0.streamed + (length it.stream + length {A = ℕ} []) = omega (arith, begun.streamed_is) in
+    let total : all ≡ e0.streamed + (length it.stream + length {A = ℕ} []) =
+    omega (arith, begun.streamed_is) in
     record {
       streams = record { client = it.stream; server = [] };
       bytes = word_bytes 1 ++ (it.bytes ++ more);
       from_client = it.consumed;
       from_server = gave_none s0;
-      packed = record { client = it.bytes; server = more; split = refl; client_is = it.packed; server_is = packed_none };
-      stopped = subst (λ n. IsStopped w0 w2 (word_bytes 1 ++ (it.bytes ++ more)) e0.at n error) total
-          (stopped_after w0 w1 w2 (word_bytes 1) (it.bytes ++ more) e0.at e1.at all error word begun.at (stopped_before w1 w2 it.bytes more e1.at all error it.stopped));
+      packed =
+          record {
+            client = it.bytes;
+            server = more;
+            split = refl;
+            client_is = it.packed;
+            server_is = packed_none;
+          };
+      stopped =
+          subst (λ n. IsStopped w0 w2 (word_bytes 1 ++ (it.bytes ++ more)) e0.at n error) total
+          (stopped_after w0 w1 w2 (word_bytes 1) (it.bytes ++ more) e0.at e1.at all error word
+          begun.at (stopped_before w1 w2 it.bytes more e1.at all error it.stopped));
     }
 
-pub stops_in_server : (c0 c1 s0 s1 : Told) (w0 w1 w2 w3 : Option (List ℕ)) (e0 e1 e2 : Extent) (error : Error) → Appends w0 w1 (word_bytes 1) → Grows e0 e1 (word_bytes 1) 0 → HasStream c0 c1 w1 w2 e1 e2 → StopsInStream s0 s1 w2 w3 e2 error → StopsInConnection c0 c1 s0 s1 w0 w3 e0 error
+pub stops_in_server : (c0 c1 s0 s1 : Told) (w0 w1 w2 w3 : Option (List ℕ)) (e0 e1 e2 : Extent)
+    (error : Error) → Appends w0 w1 (word_bytes 1) → Grows e0 e1 (word_bytes 1) 0
+    → HasStream c0 c1 w1 w2 e1 e2 → StopsInStream s0 s1 w2 w3 e2 error
+    → StopsInConnection c0 c1 s0 s1 w0 w3 e0 error
 stops_in_server c0 c1 s0 s1 w0 w1 w2 w3 e0 e1 e2 error word begun client it =
     let both = client.bytes ++ it.bytes in
     let all = e2.streamed + length it.stream in
-    let total : all ≡ e0.streamed + (length client.stream + length it.stream) = omega (arith, begun.streamed_is, client.grows.streamed_is) in
+    let total : all ≡ e0.streamed + (length client.stream + length it.stream) =
+    omega (arith, begun.streamed_is, client.grows.streamed_is) in
     record {
       streams = record { client = client.stream; server = it.stream };
       bytes = word_bytes 1 ++ both;
       from_client = client.consumed;
       from_server = it.consumed;
-      packed = record { client = client.bytes; server = it.bytes; split = refl; client_is = client.packed; server_is = it.packed };
+      packed =
+          record {
+            client = client.bytes;
+            server = it.bytes;
+            split = refl;
+            client_is = client.packed;
+            server_is = it.packed;
+          };
       stopped = subst (λ n. IsStopped w0 w3 (word_bytes 1 ++ both) e0.at n error) total
-          (stopped_after w0 w1 w3 (word_bytes 1) both e0.at e1.at all error word begun.at (stopped_after w1 w2 w3 client.bytes it.bytes e1.at e2.at all error client.appended client.grows.at it.stopped));
+          (stopped_after w0 w1 w3 (word_bytes 1) both e0.at e1.at all error word begun.at
+          (stopped_after w1 w2 w3 client.bytes it.bytes e1.at e2.at all error client.appended
+          client.grows.at it.stopped));
     }

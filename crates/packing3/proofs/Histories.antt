@@ -3,43 +3,44 @@ use Rattle.std.proofs.Common.{arith, refl, sym, ap, subst, inl, inr, ◌≡◌, 
 use Rattle.std.specs.Prelude.{Option, None, Result, Ok, Err, OnOk, OnErr, IfErr}
 use Rattle.capture3.specs.Told.{Gave, GavePrefix, Told}
 use Rattle.capture3.proofs.Lemmas.Reader.ToldLemmas.{gave_none, prefix_of_kept}
-use Rattle.std.specs.Io.KnownBytes.{Appends}
-use Rattle.std.proofs.KnownBytes.{Appends-trans}
+use Rattle.packing3.proofs.Common.{Appends, Appends-trans, word_bytes, Error, max_bytes, AppendsFront, front_of_second, ArePacked, IsPackedConnection, HasConnection, IsStopped, StopsInConnection}
 use Rattle.record_mark.proofs.Words.{Joins-snoc}
 use Rattle.xdr3.specs.declared.reason.Reason.TheVariants as reasons
-use Rattle.xdr3.specs.Item.{word_bytes}
-use Rattle.capture3.specs.declared.fault.Error.{Error}
 use Rattle.capture3.specs.declared.fault.Error.TheVariants as errors
 use Rattle.capture3.specs.declared.fault.Place.TheVariants as places
 use Rattle.capture3.specs.Capture.{One, magic, max_connections, total_size}
 use Rattle.capture3.specs.SidedChunks.{Streams, size}
-use Rattle.capture3.specs.Chunks.{max_bytes}
-use Rattle.canon3.specs.SinkWrites.{AppendsFront}
-use Rattle.canon3.proofs.Lemmas.Writing.SinkWritesLemmas.{front_of_second}
 use Rattle.packing3.specs.declared.packing.Packing.{Packing}
-use Rattle.packing3.specs.Packed.{ArePacked, IsPackedConnection}
 use Rattle.packing3.specs.Packing.{AddsPair, Finishes, HasAdded, ending_of}
 use Rattle.packing3.specs.machinery.StoppedAdds.{FailsToAdd, IsFull}
 use Rattle.packing3.specs.Stopped.{HasNoRoom, BreaksOff, Tells}
-use Rattle.packing3.specs.machinery.Streaming.{HasConnection, IsStopped, StopsInConnection}
 use Rattle.packing3.proofs.Captures.{is_capture}
 use Rattle.packing3.proofs.Stops.{stopped_after, stopped_before}
 
 -- one connection more
-packed_more : (front bytes : List ℕ) (pairs : List Streams) (streams : Streams) → ArePacked front pairs → IsPackedConnection bytes streams → ArePacked (front ++ bytes) (pairs ++ streams ∷ [])
+packed_more : (front bytes : List ℕ) (pairs : List Streams) (streams : Streams)
+    → ArePacked front pairs → IsPackedConnection bytes streams
+    → ArePacked (front ++ bytes) (pairs ++ streams ∷ [])
 packed_more front bytes pairs streams packed more = record {
   connections = packed.connections ++ bytes;
-  split = ap (λ (l : List ℕ). l ++ bytes) packed.split ∙ append_assoc (magic One) packed.connections bytes;
+  split =
+      ap (λ (l : List ℕ). l ++ bytes) packed.split
+      ∙ append_assoc (magic One) packed.connections bytes;
   joined = Joins-snoc IsPackedConnection pairs packed.connections bytes streams packed.joined more;
 }
 
-total_more : (pairs : List Streams) (streams : Streams) → total_size (pairs ++ streams ∷ []) ≡ total_size pairs + size streams
+total_more : (pairs : List Streams) (streams : Streams)
+    → total_size (pairs ++ streams ∷ []) ≡ total_size pairs + size streams
 total_more [] streams = omega arith
 total_more (p ∷ pairs) streams = omega (arith, total_more pairs streams)
 
 module _ {W : Type 0} (written : W → Option (List ℕ)) where
-  pub added : (old new : Packing W) (first : Option (List ℕ)) (c0 c1 s0 s1 : Told) (pairs : List Streams) → HasConnection c0 c1 s0 s1 (written old.sink) (written new.sink) old.extent new.extent → new.connections ≡ old.connections + 1 → ending_of new ≡ None
-      → HasAdded written old first pairs → AddsPair written new first c0 c1 s0 s1 pairs (Ok (tt {0}))
+  pub added : (old new : Packing W) (first : Option (List ℕ)) (c0 c1 s0 s1 : Told)
+      (pairs : List Streams)
+      → HasConnection c0 c1 s0 s1 (written old.sink) (written new.sink) old.extent new.extent
+      → new.connections ≡ old.connections + 1 → ending_of new ≡ None
+      → HasAdded written old first pairs
+      → AddsPair written new first c0 c1 s0 s1 pairs (Ok (tt {0}))
   added old new first c0 c1 s0 s1 pairs it count going h = record {
     streams = it.streams;
     from_client = it.from_client;
@@ -51,7 +52,9 @@ module _ {W : Type 0} (written : W → Option (List ℕ)) where
         going = going;
         front = h.front ++ it.bytes;
         packed = packed_more h.front it.bytes pairs it.streams h.packed it.packed;
-        appended = Appends-trans first (written old.sink) (written new.sink) h.front it.bytes h.appended it.appended;
+        appended =
+            Appends-trans first (written old.sink) (written new.sink) h.front it.bytes h.appended
+            it.appended;
         count = omega (arith, count, h.count, length-append pairs (it.streams ∷ []));
         streamed = omega (arith, it.grows.streamed_is, h.streamed, total_more pairs it.streams);
         at = omega (arith, it.grows.at, h.at, length-append h.front it.bytes);
@@ -60,44 +63,77 @@ module _ {W : Type 0} (written : W → Option (List ℕ)) where
   }
 
   -- of all bytes of both streams, of which the sources gave prefixes
-  pub added_all : (new : Packing W) (first : Option (List ℕ)) (c0 c1 s0 s1 : Told) (pairs : List Streams) (streams : Streams) → GavePrefix c0 c1 streams.client → GavePrefix s0 s1 streams.server
-      → AddsPair written new first c0 c1 s0 s1 pairs (Ok (tt {0})) → HasAdded written new first (pairs ++ streams ∷ [])
+  pub added_all : (new : Packing W) (first : Option (List ℕ)) (c0 c1 s0 s1 : Told)
+      (pairs : List Streams) (streams : Streams) → GavePrefix c0 c1 streams.client
+      → GavePrefix s0 s1 streams.server
+      → AddsPair written new first c0 c1 s0 s1 pairs (Ok (tt {0}))
+      → HasAdded written new first (pairs ++ streams ∷ [])
   added_all new first c0 c1 s0 s1 pairs streams from_client from_server it =
       let (client_ended, server_ended, has) = it.adds in
-      let client : it.streams.client ≡ streams.client = (prefix_of_kept c0 c1 it.streams.client streams.client from_client it.from_client).all client_ended in
-      let server : it.streams.server ≡ streams.server = (prefix_of_kept s0 s1 it.streams.server streams.server from_server it.from_server).all server_ended in
-      subst (λ (l : List ℕ). HasAdded written new first (pairs ++ record { client = streams.client; server = l } ∷ [])) server
-      (subst (λ (l : List ℕ). HasAdded written new first (pairs ++ record { client = l; server = it.streams.server } ∷ [])) client has)
+      let client : it.streams.client ≡ streams.client = (prefix_of_kept c0 c1 it.streams.client
+      streams.client from_client it.from_client).all client_ended in
+      let server : it.streams.server ≡ streams.server = (prefix_of_kept s0 s1 it.streams.server
+      streams.server from_server it.from_server).all server_ended in
+      subst
+      (λ (l : List ℕ).
+      HasAdded written new first
+      (pairs ++ record { client = streams.client; server = l } ∷ [])) server
+      (subst
+      (λ (l : List ℕ).
+      HasAdded written new first
+      (pairs ++ record { client = l; server = it.streams.server } ∷ [])) client has)
 
-  broken_off : (old : Packing W) (first : Option (List ℕ)) (c0 c1 s0 s1 : Told) (w1 : Option (List ℕ)) (pairs : List Streams) (error : Error) (it : StopsInConnection c0 c1 s0 s1 (written old.sink) w1 old.extent error)
+  broken_off : (old : Packing W) (first : Option (List ℕ)) (c0 c1 s0 s1 : Told)
+      (w1 : Option (List ℕ)) (pairs : List Streams) (error : Error)
+      (it : StopsInConnection c0 c1 s0 s1 (written old.sink) w1 old.extent error)
       → HasAdded written old first pairs → BreaksOff first w1 (pairs ++ it.streams ∷ []) error
   broken_off old first c0 c1 s0 s1 w1 pairs error it h =
       let before = old.extent.streamed + size it.streams in
       let all : IsStopped first w1 ((h.front ++ it.bytes) ++ word_bytes 0) 0 before error =
-      stopped_before first w1 (h.front ++ it.bytes) (word_bytes 0) 0 before error (stopped_after first (written old.sink) w1 h.front it.bytes 0 old.extent.at before error h.appended (omega (arith, h.at)) it.stopped) in
-      let total : before ≡ total_size (pairs ++ it.streams ∷ []) = omega (arith, h.streamed, total_more pairs it.streams) in
+      stopped_before first w1 (h.front ++ it.bytes) (word_bytes 0) 0 before error
+      (stopped_after first (written old.sink) w1 h.front it.bytes 0 old.extent.at before error
+      h.appended (omega (arith, h.at)) it.stopped) in
+      let total : before ≡ total_size (pairs ++ it.streams ∷ []) =
+      omega (arith, h.streamed, total_more pairs it.streams) in
       let at : 0 + length all.front ≡ length all.front = omega arith in
       record {
         file = (h.front ++ it.bytes) ++ word_bytes 0;
         front = all.front;
         next = all.next;
-        packed = record { front = h.front ++ it.bytes; split = refl; packed = packed_more h.front it.bytes pairs it.streams h.packed it.packed };
+        packed =
+            record {
+              front = h.front ++ it.bytes;
+              split = refl;
+              packed = packed_more h.front it.bytes pairs it.streams h.packed it.packed;
+            };
         split = all.split;
         appended = all.appended;
-        told = subst (λ n. Tells error (length all.front) all.next n) total (subst (λ n. Tells error n all.next before) at all.told);
+        told =
+            subst (λ n. Tells error (length all.front) all.next n) total
+            (subst (λ n. Tells error n all.next before) at all.told);
       }
 
-  no_room : (old : Packing W) (first : Option (List ℕ)) (c0 c1 s0 s1 : Told) (w1 : Option (List ℕ)) (pairs : List Streams) (error : Error) → IsFull old c0 c1 s0 s1 (written old.sink) w1 error
+  no_room : (old : Packing W) (first : Option (List ℕ)) (c0 c1 s0 s1 : Told) (w1 : Option (List ℕ))
+      (pairs : List Streams) (error : Error)
+      → IsFull old c0 c1 s0 s1 (written old.sink) w1 error
       → HasAdded written old first pairs → HasNoRoom first w1 pairs error
   no_room old first c0 c1 s0 s1 w1 pairs error full h = record {
     front = h.front;
     packed = h.packed;
     appended = subst (λ w. Appends first w h.front) (sym full.same_sink) h.appended;
     full = sym h.count ∙ full.full;
-    is = full.is ∙ ap (λ (n : ℕ). errors.Refused (record { place = places.File n; reason = reasons.TooManyConnections })) h.at;
+    is =
+        full.is
+        ∙ ap
+        (λ (n : ℕ).
+        errors.Refused
+        (record { place = places.File n; reason = reasons.TooManyConnections }))
+        h.at;
   }
 
-  pub not_added : (old new : Packing W) (first : Option (List ℕ)) (c0 c1 s0 s1 : Told) (pairs : List Streams) (error : Error) → FailsToAdd old c0 c1 s0 s1 (written old.sink) (written new.sink) error
+  pub not_added : (old new : Packing W) (first : Option (List ℕ)) (c0 c1 s0 s1 : Told)
+      (pairs : List Streams) (error : Error)
+      → FailsToAdd old c0 c1 s0 s1 (written old.sink) (written new.sink) error
       → HasAdded written old first pairs → AddsPair written new first c0 c1 s0 s1 pairs (Err error)
   not_added old new first c0 c1 s0 s1 pairs error (inl full) h = record {
     streams = record { client = []; server = [] };
@@ -112,18 +148,26 @@ module _ {W : Type 0} (written : W → Option (List ℕ)) where
     adds = inr (broken_off old first c0 c1 s0 s1 (written new.sink) pairs error it h);
   }
 
-  pub finishes : (old : Packing W) (first w1 : Option (List ℕ)) (pairs : List Streams) (result : Result (Unit {0}) Error) → old.connections ≤ max_connections → old.extent.streamed ≤ max_bytes
-      → OnOk result (Appends (written old.sink) w1 (word_bytes 0)) → OnErr result (AppendsFront (written old.sink) w1 (word_bytes 0)) → IfErr result (λ error. error ≡ errors.Write)
+  pub finishes : (old : Packing W) (first w1 : Option (List ℕ)) (pairs : List Streams)
+      (result : Result (Unit {0}) Error) → old.connections ≤ max_connections
+      → old.extent.streamed ≤ max_bytes
+      → OnOk result (Appends (written old.sink) w1 (word_bytes 0))
+      → OnErr result (AppendsFront (written old.sink) w1 (word_bytes 0))
+      → IfErr result (λ error. error ≡ errors.Write)
       → HasAdded written old first pairs → Finishes first w1 pairs result
   finishes old first w1 pairs (Ok done) few room whole front is h = record {
     file = h.front ++ word_bytes 0;
     packed = record { front = h.front; split = refl; packed = h.packed };
-    capture = is_capture h.front pairs h.packed (omega (arith, few, h.count)) (omega (arith, room, h.streamed));
+    capture =
+        is_capture h.front pairs h.packed (omega (arith, few, h.count))
+        (omega (arith, room, h.streamed));
     appended = Appends-trans first (written old.sink) w1 h.front (word_bytes 0) h.appended whole;
   }
   finishes old first w1 pairs (Err error) few room whole front is h = record {
     file = h.front ++ word_bytes 0;
     packed = record { front = h.front; split = refl; packed = h.packed };
-    appended = front_of_second first (written old.sink) w1 h.front (word_bytes 0) (h.front ++ word_bytes 0) refl h.appended front;
+    appended =
+        front_of_second first (written old.sink) w1 h.front (word_bytes 0) (h.front ++ word_bytes 0)
+        refl h.appended front;
     is = is;
   }

@@ -1,4 +1,5 @@
 -- Lemmas of packing.
+pub mod Common
 pub mod Stops
 pub mod Chunks
 pub mod Connections

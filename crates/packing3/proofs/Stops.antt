@@ -1,21 +1,16 @@
 -- Where packing has stopped, in a part of the bytes and in the whole.
-use Rattle.std.proofs.Common.{◌≡◌, ℕ, ◌+◌, List, ◌++◌, length, length-append, ap, sym, subst, ◌∙◌, append_assoc, arith}
-use Rattle.std.specs.Prelude.{Option}
-use Rattle.std.specs.Io.KnownBytes.{Appends}
-use Rattle.std.proofs.KnownBytes.{Appends-trans}
-use Rattle.capture3.specs.declared.fault.Error.{Error}
+use Rattle.packing3.proofs.Common.{◌≡◌, ℕ, ◌+◌, List, ◌++◌, length, length-append, ap, sym, subst, ◌∙◌, append_assoc, arith, Option, Appends, Appends-trans, Error, chunk_bytes, AppendsFront, Tells, IsStopped}
 use Rattle.capture3.specs.declared.fault.Error.TheVariants as errors
-use Rattle.canon3.specs.Bytes.{chunk_bytes}
-use Rattle.canon3.specs.SinkWrites.{AppendsFront}
-use Rattle.packing3.specs.Stopped.{Tells}
-use Rattle.packing3.specs.machinery.Streaming.{IsStopped}
 
 -- more bytes come at the end
-pub tells_with : (error : Error) (at total : ℕ) (next more : List ℕ) → Tells error at next total → Tells error at (next ++ more) total
+pub tells_with : (error : Error) (at total : ℕ) (next more : List ℕ) → Tells error at next total
+    → Tells error at (next ++ more) total
 tells_with (errors.Refused fault) at total next more told = record {
   chunk = told.chunk;
   more = told.more ++ more;
-  begins = ap (λ (l : List ℕ). l ++ more) told.begins ∙ append_assoc (chunk_bytes told.chunk) told.more more;
+  begins =
+      ap (λ (l : List ℕ). l ++ more) told.begins
+      ∙ append_assoc (chunk_bytes told.chunk) told.more more;
   over = told.over;
   within = told.within;
   is = told.is;
@@ -24,7 +19,9 @@ tells_with errors.Read at total next more told = tt
 tells_with errors.Write at total next more told = tt
 tells_with errors.Memory at total next more told = absurd told
 
-pub stopped_before : (old new : Option (List ℕ)) (bytes more : List ℕ) (at total : ℕ) (error : Error) → IsStopped old new bytes at total error → IsStopped old new (bytes ++ more) at total error
+pub stopped_before : (old new : Option (List ℕ)) (bytes more : List ℕ) (at total : ℕ)
+    (error : Error) → IsStopped old new bytes at total error
+    → IsStopped old new (bytes ++ more) at total error
 stopped_before old new bytes more at total error s = record {
   front = s.front;
   next = s.next ++ more;
@@ -34,15 +31,26 @@ stopped_before old new bytes more at total error s = record {
 }
 
 -- what was written before stands at the front
-pub stopped_after : (first old new : Option (List ℕ)) (done bytes : List ℕ) (start at total : ℕ) (error : Error) → Appends first old done → at ≡ start + length done → IsStopped old new bytes at total error → IsStopped first new (done ++ bytes) start total error
+pub stopped_after : (first old new : Option (List ℕ)) (done bytes : List ℕ) (start at total : ℕ)
+    (error : Error) → Appends first old done → at ≡ start + length done
+    → IsStopped old new bytes at total error → IsStopped first new (done ++ bytes) start total error
 stopped_after first old new done bytes start at total error before is s = record {
   front = done ++ s.front;
   next = s.next;
   split = ap (λ (l : List ℕ). done ++ l) s.split ∙ sym (append_assoc done s.front s.next);
   appended = Appends-trans first old new done s.front before s.appended;
-  told = subst (λ n. Tells error n s.next total) (omega (arith, length-append done s.front, is)) s.told;
+  told =
+      subst (λ n. Tells error n s.next total) (omega (arith, length-append done s.front, is))
+      s.told;
 }
 
-pub stopped_writing : (old new : Option (List ℕ)) (bytes : List ℕ) (at total : ℕ) (error : Error) → error ≡ errors.Write → AppendsFront old new bytes → IsStopped old new bytes at total error
+pub stopped_writing : (old new : Option (List ℕ)) (bytes : List ℕ) (at total : ℕ) (error : Error)
+    → error ≡ errors.Write → AppendsFront old new bytes → IsStopped old new bytes at total error
 stopped_writing old new bytes at total error is (front, back, split, appended) =
-    record { front = front; next = back; split = split; appended = appended; told = subst (λ e. Tells e (at + length front) back total) (sym is) tt }
+    record {
+      front = front;
+      next = back;
+      split = split;
+      appended = appended;
+      told = subst (λ e. Tells e (at + length front) back total) (sym is) tt;
+    }

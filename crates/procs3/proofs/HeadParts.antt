@@ -1,4 +1,5 @@
--- Each part of the heads of messages is one of the protocol's, save the version of a call, which is refused for a reason of its own.
+-- Each part of the heads of messages is one of the protocol's, save the version of a call, which is
+-- refused for a reason of its own.
 use Rattle.std.specs.Prelude.{nat_eq}
 use Rattle.xdr3.specs.declared.reason.Reason.TheVariants.{RpcVersion}
 use Rattle.xdr3.specs.Item.{Var}
@@ -19,19 +20,35 @@ auth_sys_parts = assumption
 
 credential_parts : AreProtocolParts credential
 unfolding credential head_names
-credential_parts = (assumption, λ n. parts_if IsProtocolPart (nat_eq n 0) (opaque Var head_names.cred_body 400) auth_sys (assumption) auth_sys_parts)
+credential_parts = (
+  assumption,
+  λ n.
+      parts_if IsProtocolPart (nat_eq n 0) (opaque Var head_names.cred_body 400) auth_sys
+      (assumption) auth_sys_parts,
+)
 
 accept_parts : AreProtocolParts accept
 unfolding accept head_names
-accept_parts = (assumption, λ n. parts_if IsProtocolPart (nat_eq n 2) versions nothing (assumption) tt)
+accept_parts =
+    (assumption, λ n. parts_if IsProtocolPart (nat_eq n 2) versions nothing (assumption) tt)
 
 deny_parts : AreProtocolParts deny
 unfolding deny head_names
-deny_parts = (assumption, λ n. parts_if IsProtocolPart (nat_eq n 0) versions (listed head_names.auth_stat auth_stats) (assumption) (assumption))
+deny_parts = (
+  assumption,
+  λ n.
+      parts_if IsProtocolPart (nat_eq n 0) versions (listed head_names.auth_stat auth_stats)
+      (assumption) (assumption),
+)
 
 pub reply_head_parts : AreProtocolParts reply_head
 unfolding reply_head head_names
-reply_head_parts = (assumption, λ n. parts_if IsProtocolPart (nat_eq n 0) (verifier then accept) deny (verifier_parts, accept_parts) deny_parts)
+reply_head_parts = (
+  assumption,
+  λ n.
+      parts_if IsProtocolPart (nat_eq n 0) (verifier then accept) deny
+      (verifier_parts, accept_parts) deny_parts,
+)
 
 pub message_start_parts : AreProtocolParts message_start
 unfolding message_start head_names
@@ -47,13 +64,17 @@ reply_start_parts = assumption
 
 -- call_body after its version
 abbrev pub after_version : Shape
-after_version = word head_names.prog then word head_names.vers then word head_names.proc then credential then verifier
+after_version =
+    word head_names.prog then word head_names.vers then word head_names.proc then credential
+    then verifier
 
 pub after_version_parts : AreProtocolParts after_version
 unfolding head_names
 after_version_parts = assumption (credential_parts, verifier_parts)
 
 -- whatever is so of the version, and of all parts of the protocol, is so of each part
-pub call_head_parts : (P : Part → Type 0) → ((part : Part) → IsProtocolPart part → P part) → P (word_part head_names.rpcvers RpcVersion) → HasParts P call_head
+pub call_head_parts : (P : Part → Type 0) → ((part : Part) → IsProtocolPart part → P part)
+    → P (word_part head_names.rpcvers RpcVersion) → HasParts P call_head
 unfolding call_head
-call_head_parts P weaker h = (h, λ n. parts_weaker IsProtocolPart P weaker after_version after_version_parts)
+call_head_parts P weaker h =
+    (h, λ n. parts_weaker IsProtocolPart P weaker after_version after_version_parts)

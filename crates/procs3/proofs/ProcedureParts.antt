@@ -1,4 +1,5 @@
--- Each part of all arguments and results is one of the protocol's, shape by shape and procedure by procedure.
+-- Each part of all arguments and results is one of the protocol's, shape by shape and procedure by
+-- procedure.
 use Rattle.std.proofs.Common.{ℕ, Bool, List, arith, refl}
 use Rattle.std.specs.Prelude.{nat_eq, ◌||◌, if◌then◌else◌}
 use Rattle.xdr3.specs.Item.{Item}
@@ -13,7 +14,8 @@ use Rattle.procs3.specs.Shapes.{access_args, access_ok, commit_ok, create_args, 
 use Rattle.procs3.specs.Table.{arguments_of, is_mount, is_nfs, mount_arguments, mount_results_of, nfs_arguments, nfs_results, results_of}
 use Rattle.procs3.proofs.ProtocolParts.{AWord, AHyper, AreProtocolParts, IsNameOf, IsProtocolPart}
 
-optional_parts : (name : List ℕ) (s : Shape) → IsNameOf name AWord → AreProtocolParts s → AreProtocolParts (optional name s)
+optional_parts : (name : List ℕ) (s : Shape) → IsNameOf name AWord → AreProtocolParts s
+    → AreProtocolParts (optional name s)
 unfolding optional
 optional_parts name s w h = (assumption, λ n. parts_if IsProtocolPart (nat_eq n 0) nothing s tt h)
 
@@ -23,7 +25,8 @@ handle_parts : AreProtocolParts handle
 unfolding handle names
 handle_parts = record { reason = tt; room = (omega arith, omega arith); name = (refl, refl) }
 
-time_parts : (sec nsec : List ℕ) → IsNameOf sec AWord → IsNameOf nsec AWord → AreProtocolParts (time sec nsec)
+time_parts : (sec nsec : List ℕ) → IsNameOf sec AWord → IsNameOf nsec AWord
+    → AreProtocolParts (time sec nsec)
 unfolding time
 time_parts sec nsec h k = assumption
 
@@ -51,15 +54,23 @@ post_op_fh_parts : AreProtocolParts post_op_fh
 unfolding post_op_fh names
 post_op_fh_parts = optional_parts names.handle handle (refl, refl) handle_parts
 
-time_how_parts : (name sec nsec : List ℕ) → IsNameOf name AWord → IsNameOf sec AWord → IsNameOf nsec AWord → AreProtocolParts (time_how name sec nsec)
+time_how_parts : (name sec nsec : List ℕ) → IsNameOf name AWord → IsNameOf sec AWord
+    → IsNameOf nsec AWord → AreProtocolParts (time_how name sec nsec)
 unfolding time_how
-time_how_parts name sec nsec w h k = (assumption, λ how. parts_if IsProtocolPart (nat_eq how 2) (time sec nsec) nothing (time_parts sec nsec h k) tt)
+time_how_parts name sec nsec w h k = (
+  assumption,
+  λ how.
+      parts_if IsProtocolPart (nat_eq how 2) (time sec nsec) nothing (time_parts sec nsec h k)
+      tt,
+)
 
-set_word_parts : (set name : List ℕ) → IsNameOf set AWord → IsNameOf name AWord → AreProtocolParts (set_word set name)
+set_word_parts : (set name : List ℕ) → IsNameOf set AWord → IsNameOf name AWord
+    → AreProtocolParts (set_word set name)
 unfolding set_word
 set_word_parts set name w h = optional_parts set (word name) w assumption
 
-set_hyper_parts : (set name : List ℕ) → IsNameOf set AWord → IsNameOf name AHyper → AreProtocolParts (set_hyper set name)
+set_hyper_parts : (set name : List ℕ) → IsNameOf set AWord → IsNameOf name AHyper
+    → AreProtocolParts (set_hyper set name)
 unfolding set_hyper
 set_hyper_parts set name w h = optional_parts set (hyper name) w assumption
 
@@ -70,17 +81,23 @@ settable_parts = assumption (
   set_word_parts names.set_uid names.uid (refl, refl) (refl, refl),
   set_word_parts names.set_gid names.gid (refl, refl) (refl, refl),
   set_hyper_parts names.set_size names.size (refl, refl) (refl, refl),
-  time_how_parts names.set_atime names.atime_sec names.atime_nsec (refl, refl) (refl, refl) (refl, refl),
-  time_how_parts names.set_mtime names.mtime_sec names.mtime_nsec (refl, refl) (refl, refl) (refl, refl),
+  time_how_parts names.set_atime names.atime_sec names.atime_nsec (refl, refl) (refl, refl)
+      (refl, refl),
+  time_how_parts names.set_mtime names.mtime_sec names.mtime_nsec (refl, refl) (refl, refl)
+      (refl, refl),
 )
 
 guard_parts : AreProtocolParts guard
 unfolding guard names
-guard_parts = optional_parts names.check (time names.ctime_sec names.ctime_nsec) (refl, refl) (time_parts names.ctime_sec names.ctime_nsec (refl, refl) (refl, refl))
+guard_parts =
+    optional_parts names.check (time names.ctime_sec names.ctime_nsec) (refl, refl)
+    (time_parts names.ctime_sec names.ctime_nsec (refl, refl) (refl, refl))
 
-results_parts : (done failed : Shape) → AreProtocolParts done → AreProtocolParts failed → AreProtocolParts (results done failed)
+results_parts : (done failed : Shape) → AreProtocolParts done → AreProtocolParts failed
+    → AreProtocolParts (results done failed)
 unfolding results names
-results_parts done failed h k = (assumption, λ n. parts_if IsProtocolPart (nat_eq n 0) done failed h k)
+results_parts done failed h k =
+    (assumption, λ n. parts_if IsProtocolPart (nat_eq n 0) done failed h k)
 
 dir_op_parts : AreProtocolParts dir_op
 unfolding dir_op names
@@ -118,7 +135,12 @@ write_args_parts = assumption handle_parts
 
 create_how_parts : AreProtocolParts create_how
 unfolding create_how names
-create_how_parts = (assumption, λ how. parts_if IsProtocolPart (nat_eq how 2) (fixed names.createverf) settable (assumption) settable_parts)
+create_how_parts = (
+  assumption,
+  λ how.
+      parts_if IsProtocolPart (nat_eq how 2) (fixed names.createverf) settable (assumption)
+      settable_parts,
+)
 
 create_args_parts : AreProtocolParts create_args
 unfolding create_args
@@ -140,7 +162,9 @@ mknod_what_parts : AreProtocolParts mknod_what
 unfolding mknod_what names
 mknod_what_parts = (
   assumption,
-  λ kind. parts_if IsProtocolPart (nat_eq kind 3 || nat_eq kind 4) device (if nat_eq kind 6 || nat_eq kind 7 then settable else nothing) device_parts
+  λ kind.
+      parts_if IsProtocolPart (nat_eq kind 3 || nat_eq kind 4) device
+      (if nat_eq kind 6 || nat_eq kind 7 then settable else nothing) device_parts
       (parts_if IsProtocolPart (nat_eq kind 6 || nat_eq kind 7) settable nothing settable_parts tt),
 )
 
@@ -228,18 +252,23 @@ pathconf_ok_parts = assumption post_op_attr_parts
 
 mount_results_parts : AreProtocolParts mount_results
 unfolding mount_results names
-mount_results_parts = (assumption, λ n. parts_if IsProtocolPart (nat_eq n 0) mount_ok nothing mount_ok_parts tt)
+mount_results_parts =
+    (assumption, λ n. parts_if IsProtocolPart (nat_eq n 0) mount_ok nothing mount_ok_parts tt)
 
 -- ---- the table of procedures
 
 abbrev pub IsProtocolRow : Layout → Type 0
 IsProtocolRow layout = RowHasParts IsProtocolPart layout
 
-row : (b : Bool) (s : Shape) (more : Layout) → AreProtocolParts s → IsProtocolRow more → IsProtocolRow (if b then exactly s else more)
+row : (b : Bool) (s : Shape) (more : Layout) → AreProtocolParts s → IsProtocolRow more
+    → IsProtocolRow (if b then exactly s else more)
 row b s more h k = row_if IsProtocolPart b (exactly s) more h k
 
-result_row : (b : Bool) (done failed : Shape) (more : Layout) → AreProtocolParts done → AreProtocolParts failed → IsProtocolRow more → IsProtocolRow (if b then exactly (results done failed) else more)
-result_row b done failed more h k l = row b (results done failed) more (results_parts done failed h k) l
+result_row : (b : Bool) (done failed : Shape) (more : Layout) → AreProtocolParts done
+    → AreProtocolParts failed → IsProtocolRow more
+    → IsProtocolRow (if b then exactly (results done failed) else more)
+result_row b done failed more h k l =
+    row b (results done failed) more (results_parts done failed h k) l
 
 rest_parts : IsProtocolRow (rest names.rest)
 unfolding names
@@ -321,14 +350,19 @@ pub arguments_have_parts : (id : ProcId) → IsProtocolRow (arguments_of id)
 unfolding arguments_of
 arguments_have_parts id =
     row_if IsProtocolPart (is_nfs id) (nfs_arguments id.proc_no) _ (nfs_arguments_parts id.proc_no)
-    (row_if IsProtocolPart (is_mount id) (mount_arguments id.proc_no) (rest names.rest) (mount_arguments_parts id.proc_no) rest_parts)
+    (row_if IsProtocolPart (is_mount id) (mount_arguments id.proc_no) (rest names.rest)
+    (mount_arguments_parts id.proc_no) rest_parts)
 
 pub results_have_parts : (id : ProcId) → IsProtocolRow (results_of id)
 unfolding results_of
 results_have_parts id =
     row_if IsProtocolPart (is_nfs id) (nfs_results id.proc_no) _ (nfs_results_parts id.proc_no)
-    (row_if IsProtocolPart (is_mount id) (mount_results_of id.proc_no) (rest names.rest) (mount_results_of_parts id.proc_no) rest_parts)
+    (row_if IsProtocolPart (is_mount id) (mount_results_of id.proc_no) (rest names.rest)
+    (mount_results_of_parts id.proc_no) rest_parts)
 
 -- what follows the head of a reply
-pub reply_has_parts : (id : ProcId) (items : List Item) → IsProtocolRow (if has_results items then results_of id else exactly nothing)
-reply_has_parts id items = row_if IsProtocolPart (has_results items) (results_of id) (exactly nothing) (results_have_parts id) tt
+pub reply_has_parts : (id : ProcId) (items : List Item)
+    → IsProtocolRow (if has_results items then results_of id else exactly nothing)
+reply_has_parts id items =
+    row_if IsProtocolPart (has_results items) (results_of id) (exactly nothing)
+    (results_have_parts id) tt

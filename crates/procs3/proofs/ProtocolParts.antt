@@ -1,4 +1,5 @@
--- What is so of each part of the protocol's shapes: for which reason it is refused, which room it has, and that its name tells its kind.
+-- What is so of each part of the protocol's shapes: for which reason it is refused, which room it
+-- has, and that its name tells its kind.
 use Rattle.std.proofs.Common.{◌≡◌, ℕ, List, [], ◌∷◌, Bool, true, ◌≤◌}
 use Rattle.std.specs.Prelude.{⊤, ◌==◌, not, bytes_eq, codes, if◌then◌else◌}
 use Rattle.std.specs.List.{list_all, list_any}
@@ -18,11 +19,14 @@ is_among names name = list_any (bytes_eq name) names
 
 abbrev hypers : List (List ℕ)
 hypers =
-    codes "size" ∷ codes "used" ∷ codes "fsid" ∷ codes "fileid" ∷ codes "offset" ∷ codes "cookie" ∷ codes "tbytes" ∷ codes "fbytes" ∷ codes "abytes" ∷ codes "tfiles"
+    codes "size" ∷ codes "used" ∷ codes "fsid" ∷ codes "fileid" ∷ codes "offset" ∷ codes "cookie"
+    ∷ codes "tbytes" ∷ codes "fbytes" ∷ codes "abytes" ∷ codes "tfiles"
     ∷ codes "ffiles" ∷ codes "afiles" ∷ codes "maxfilesize" ∷ []
 
 abbrev texts : List (List ℕ)
-texts = codes "machinename" ∷ codes "name" ∷ codes "path" ∷ codes "hostname" ∷ codes "directory" ∷ codes "dirpath" ∷ []
+texts =
+    codes "machinename" ∷ codes "name" ∷ codes "path" ∷ codes "hostname" ∷ codes "directory"
+    ∷ codes "dirpath" ∷ []
 
 -- the kind that has this name in every message
 abbrev pub kind_of : List ℕ → ItemKind
@@ -30,7 +34,8 @@ kind_of name =
     (if is_among hypers name then AHyper else
     (if is_among (codes "cookieverf" ∷ codes "createverf" ∷ []) name then AFixed else
     (if is_among (codes "verf" ∷ []) name then AWriteVerf else
-    (if is_among (codes "cred_body" ∷ codes "verf_body" ∷ codes "data" ∷ []) name then AnOpaque Var else
+    (if is_among (codes "cred_body" ∷ codes "verf_body" ∷ codes "data" ∷ []) name then AnOpaque Var
+    else
     (if is_among texts name then AnOpaque Text else
     (if is_among (codes "fh" ∷ []) name then AnOpaque Handle else
     (if is_among (codes "rest" ∷ []) name then ARest else
@@ -60,7 +65,8 @@ IsUnnumbered (write_verf_part name) = ⊥
 IsUnnumbered (opaque_part Handle name max) = ⊥
 IsUnnumbered _ = ⊤
 
--- a handle has room for a number and no more than 64 bytes, and what is counted in bytes has no handle and no write verifier
+-- a handle has room for a number and no more than 64 bytes, and what is counted in bytes has no
+-- handle and no write verifier
 abbrev pub HasRoom : Part → Type 0
 HasRoom (opaque_part Handle name max) = (4 ≤ max) × (max ≤ 64)
 HasRoom (size_part name shape) = HasParts IsUnnumbered shape

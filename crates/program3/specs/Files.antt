@@ -9,6 +9,7 @@ use Rattle.capture3.specs.FirstFault.{FirstFault}
 use Rattle.capture3.specs.Typed.{Typed}
 use Rattle.canon3.specs.declared.summary.Summary.{Summary}
 use Rattle.program3.specs.Opening.{IsOfName}
+use Rattle.program3.specs.Readings.{IsByFailedRead, MayContain, FileReading}
 use Rattle.program3.specs.declared.files.Made.{Made}
 use Rattle.program3.specs.declared.outcome.Outcome.{Outcome}
 use Rattle.program3.specs.declared.outcome.Outcome.TheVariants as outcomes
@@ -52,12 +53,20 @@ KeepsForm AreCountsOf form name bytes old new (Ok counts) = (entries : List Entr
 KeepsForm {C = C} AreCountsOf form name bytes old new (Err error) =
     OnRefused {X = C} (Err error) (FirstFault bytes) × (new ≡ old)
 
--- the same of the file of one name and that of another; or no file was finished, since one of the
--- two was not opened or made
-abbrev pub RewritesFile : (IsSummaryOf : List ℕ → Summary → Type 0)
-    → (form : List Entry → List ℕ) → (input output bytes : List ℕ) → (old new : List WrittenFile)
-    → Outcome → Type 0
-RewritesFile IsSummaryOf form input output bytes old new (outcomes.Counted came) =
-    KeepsForm IsSummaryOf form output bytes old new came
-RewritesFile IsSummaryOf form input output bytes old new outcome =
-    FailsToOpen input output outcome × (new ≡ old)
+-- The same of the file of one name, which alone was read, and that of another, whatever the file
+-- may
+-- contain. Or nothing was read and no file was finished, since one of the two was not opened or
+-- made.
+module _ (IsSummaryOf : List ℕ → Summary → Type 0) (form : List Entry → List ℕ)
+    (holds : List ℕ → Option (List ℕ)) (input output : List ℕ) (readings : List FileReading)
+    (old new : List WrittenFile) where
+  abbrev pub KeepsWhatever : FileReading → Result Summary Error → Type 0
+  KeepsWhatever reading came = IsByFailedRead reading came × ((bytes : List ℕ)
+      → MayContain (holds input) reading bytes
+      → KeepsForm IsSummaryOf form output bytes old new came)
+
+  abbrev pub RewritesFile : Outcome → Type 0
+  RewritesFile (outcomes.Counted came) = ((reading : FileReading) × (readings ≡ reading ∷ [])
+      × (reading.name ≡ input) × KeepsWhatever reading came)
+      ⊎ ((readings ≡ []) × (came ≡ Err errors.Memory) × (new ≡ old))
+  RewritesFile outcome = FailsToOpen input output outcome × (readings ≡ []) × (new ≡ old)

@@ -1,8 +1,10 @@
+pub mod Ending
 pub mod Files
 pub mod Hashing
 pub mod Opening
 pub mod Places
 pub mod Printed
+pub mod Readings
 pub mod Rights
 pub mod Standard
 pub mod Systems

@@ -11,10 +11,10 @@ use Rattle.capture3.specs.declared.fault.Place.TheVariants.{File, Record}
 use Rattle.capture3.specs.declared.fault.Side.{Side}
 use Rattle.capture3.specs.declared.fault.Side.TheVariants.{Client, Server}
 use Rattle.canon3.specs.declared.summary.Summary.{Summary}
-use Rattle.canon3.specs.declared.verdict.Verdict.{Verdict}
-use Rattle.canon3.specs.declared.verdict.Verdict.TheVariants.{Same, Differ}
-use Rattle.canon3.specs.declared.verdict.Which.{Which}
-use Rattle.canon3.specs.declared.verdict.Which.TheVariants.{First, Second}
+use Rattle.canon3.specs.declared.comparison.verdict.Verdict.{Verdict}
+use Rattle.canon3.specs.declared.comparison.verdict.Verdict.TheVariants.{Same, Differ}
+use Rattle.canon3.specs.declared.comparison.verdict.Which.{Which}
+use Rattle.canon3.specs.declared.comparison.verdict.Which.TheVariants.{First, Second}
 use Rattle.line3.specs.declared.asked.LineFault.{LineFault}
 use Rattle.line3.specs.declared.asked.LineFault.TheVariants as lines
 use Rattle.program3.specs.declared.outcome.Outcome.{Outcome}

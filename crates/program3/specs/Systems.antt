@@ -4,6 +4,7 @@ use Rattle.program3.specs.Files.{WrittenFile}
 use Rattle.program3.specs.declared.files.Made.{Made}
 use Rattle.program3.specs.declared.place.Place.{Place}
 use Rattle.program3.specs.declared.system.SafeFile.{SafeFile}
+use Rattle.program3.specs.declared.system.System.{System}
 
 -- a file of the system, and the bytes that its writes took
 abbrev pub written_file : Made SafeFile Place → WrittenFile
@@ -13,3 +14,6 @@ written_file made =
 -- the last first
 abbrev pub written_files : List (Made SafeFile Place) → List WrittenFile
 written_files finished = map written_file (reverse finished)
+
+abbrev pub finished_of : System → List WrittenFile
+finished_of system = written_files system.finished.items

@@ -1,29 +1,67 @@
 //! The end of a program: its texts are printed, and its status is returned.
 
+ghost use Rattle.std.specs.Prelude.{◌≡◌, IfOk, OnOk, true};
+ghost use Rattle.std.specs.Io.KnownBytes.{Appends};
+ghost use Rattle.program3.specs.Ending.{IsReport, TellsEnded, TellsError};
+
 use crate::outcome::{Ended, Report};
 use crate::printed::{OUTSIDE, on_standard_error, report};
+use canon3::Traced;
 use std::alloc::{AllocError, Global};
 use std::io;
 use std::io::Write;
 use std::process::ExitCode;
+
+/// What the end of a program told: the exit status, and whether standard error took its text.
+#[derive(Clone, Copy, Debug, PartialEq, Eq)]
+pub struct Told {
+    pub status: u8,
+    pub is_told: bool,
+}
 
 /// Prints the report of what came of a job, and returns its exit status.
 ///
 /// If standard output cannot be written, prints `write failed` on standard error and returns 3. If memory
 /// ran out for the report, prints nothing and returns 3. If standard error fails, its text is lost.
 pub fn print_ended(rt: &HostRuntime, ended: &Ended) -> ExitCode {
-    let Ok(report) = reported(rt.alloc(), ended) else {
-        return ExitCode::from(OUTSIDE);
-    };
-    if print_report(rt, &report).is_err() {
-        print_error(rt, b"write failed\n");
-        return ExitCode::from(OUTSIDE);
-    }
-    print_error(rt, &report.err);
-    ExitCode::from(report.status)
+    let mut out = Traced::new(rt.stdout());
+    let mut err = Traced::new(rt.stderr());
+    ExitCode::from(tell_ended(rt.alloc(), ended, &mut out, &mut err).status)
 }
 
-fn reported(alloc: Global, ended: &Ended) -> Result<Report, AllocError> {
+/// Prints the report of what came of a job to these writers, as `print_ended` does to those of the system.
+pub fn tell_ended<O: Write, E: Write>(
+    alloc: Global,
+    ended: &Ended,
+    out: &mut O,
+    err: &mut E,
+) -> Told
+    ensures { TellsEnded ended.now (O.contents out.old) (O.contents out.new)
+        (E.contents err.old) (E.contents err.new) result }
+{
+    let Ok(report) = reported(alloc, ended) else {
+        return Told {
+            status: OUTSIDE,
+            is_told: true,
+        };
+    };
+    if print_report(out, &report).is_err() {
+        let is_told = tell(err, b"write failed\n");
+        return Told {
+            status: OUTSIDE,
+            is_told,
+        };
+    }
+    let is_told = tell(err, &report.err);
+    Told {
+        status: report.status,
+        is_told,
+    }
+}
+
+fn reported(alloc: Global, ended: &Ended) -> Result<Report, AllocError>
+    ensures { IfOk result (IsReport ended.now.is_aside ended.now.outcome) }
+{
     let report = report(alloc, &ended.outcome)?;
     if ended.is_aside {
         on_standard_error(alloc, report)
@@ -32,12 +70,16 @@ fn reported(alloc: Global, ended: &Ended) -> Result<Report, AllocError> {
     }
 }
 
-fn print_report(rt: &HostRuntime, report: &Report) -> io::Result<()> {
-    rt.stdout().write_all(&report.out)?;
-    rt.stdout().flush()
+fn print_report<O: Write>(out: &mut O, report: &Report) -> io::Result<()>
+    ensures { OnOk result (Appends (O.contents out.old) (O.contents out.new) report.now.out.items) }
+{
+    out.write_all(&report.out)?;
+    out.flush()
 }
 
-/// Nothing is left to be told if standard error fails.
-fn print_error(rt: &HostRuntime, text: &[u8]) {
-    let _ = rt.stderr().write_all(text);
+/// Nothing is left to be told if standard error fails. Returns whether it took the text.
+fn tell<E: Write>(err: &mut E, text: &[u8]) -> bool
+    ensures { TellsError result (E.contents err.old) (E.contents err.new) text.now }
+{
+    err.write_all(text).is_ok()
 }

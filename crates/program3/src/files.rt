@@ -3,8 +3,10 @@
 ghost use Rattle.std.specs.Prelude.{◌≡◌, ◌∷◌, ℕ, List, Option, IfErr, IfOk, OnErr, OnOk, map, string_bytes};
 ghost use Rattle.canon3.specs.WriteErrors.{IsOfWriting};
 ghost use Rattle.program3.specs.Files.{FailsToOpenStream, FailsToMake, FailsToOpen, IsNew, WrittenFile};
+ghost use Rattle.program3.specs.Readings.{IsOpened};
 
 use crate::outcome::Outcome;
+use crate::reading::Opened;
 use capture3::Error;
 use std::io;
 use std::io::{Read, Write};
@@ -42,8 +44,9 @@ pub trait Files {
     ghost bytes_of: { Self.Safe → Option (List ℕ) };
 
     /// Opens a file, whose reads give its bytes from the first on.
-    fn open(&self, name: &str) -> io::Result<Self::Input>
-        ensures held { IfOk result (λ file. Self.Input.remaining file ≡ holds self.now name.now) };
+    fn open(&self, name: &str) -> io::Result<Opened<Self::Input>>
+        ensures opened { IfOk result
+            (IsOpened Self.Input.remaining (holds self.now) name.now) };
 
     /// Opens the input, and then makes the output.
     ///
@@ -57,9 +60,9 @@ pub trait Files {
         &self,
         input: &str,
         output: &str,
-    ) -> Result<(Self::Input, Made<Self::Output, Self::Place>), Outcome>
-        ensures held { IfOk result
-            (λ both. Self.Input.remaining both.0 ≡ holds self.now input.now) }
+    ) -> Result<(Opened<Self::Input>, Made<Self::Output, Self::Place>), Outcome>
+        ensures opened { IfOk result
+            (λ both. IsOpened Self.Input.remaining (holds self.now) input.now both.0) }
         ensures made { IfOk result (λ both. IsNew Self.Output.contents name_of both.1 output.now) }
         ensures told { IfErr result (FailsToOpen input.now output.now) };
 
@@ -87,8 +90,13 @@ pub trait Files {
     /// - `Outcome::Unopened` with the name if it cannot be opened.
     /// - `Outcome::Line(LineFault::SameName)` if it is what is written.
     /// - `Outcome::Packed(Err(Error::Memory))` if memory ran out.
-    fn opened_apart(&self, place: &Self::Place, stream: &str) -> Result<Self::Input, Outcome>
-        ensures held { IfOk result (λ file. Self.Input.remaining file ≡ holds self.now stream.now) }
+    fn opened_apart(
+        &self,
+        place: &Self::Place,
+        stream: &str,
+    ) -> Result<Opened<Self::Input>, Outcome>
+        ensures opened { IfOk result
+            (IsOpened Self.Input.remaining (holds self.now) stream.now) }
         ensures told { IfErr result (FailsToOpenStream stream.now) };
 
     /// Whether the program prints to this file, too.

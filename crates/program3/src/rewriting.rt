@@ -1,14 +1,17 @@
 //! A form of a capture's entries, written to a file.
 
-ghost use Rattle.std.specs.Prelude.{◌≡◌, ◌∷◌, ℕ, List, [], Some, IfErr, IfOk, OnErr, OnOk};
+ghost use Rattle.std.specs.Prelude.{◌≡◌, ◌∷◌, ℕ, List, [], Option, Some, IfErr, IfOk, OnErr, OnOk};
 ghost use Rattle.capture3.specs.Entry as spec;
+ghost use Rattle.capture3.specs.Entries.{CountsReading};
 ghost use Rattle.capture3.specs.Told.{GavePrefix};
 ghost use Rattle.canon3.specs.EntryWriter.{WritesAllCounted, WritesGivenCounted};
 ghost use Rattle.canon3.specs.WriteErrors.{IsOfWriting};
 ghost use Rattle.program3.specs.Files.{KeepsForm, RewritesFile};
+ghost use Rattle.program3.specs.Readings.{IsByFailedRead, IsUnread, MayContain, reading_under, readings_in};
 
 use crate::files::{Files, Made};
 use crate::outcome::{Ended, Outcome};
+use crate::reading::Readings;
 use crate::writing::{WRITTEN_AT_ONCE, written_out};
 use canon3::{Sink, Summary, ToWrite};
 use capture3::{Error, FromRead, Source};
@@ -38,28 +41,34 @@ pub trait Rewriting {
         ensures whole { (bytes : List ℕ)
             → GavePrefix (R.told source.old) (R.told source.new) bytes
             → WritesAllCounted counts (form self) bytes (W.written sink.old)
-            (W.written sink.new) result };
+            (W.written sink.new) result }
+        ensures read { CountsReading (R.failures source.old) (R.failures source.new) result };
 }
 
 /// Reads the capture of one name, and writes the form of its entries to the file of another. The file gets
-/// its name once the form is whole and safe, and at no other end.
+/// its name once the form is whole and safe, and at no other end. Returns what was read, too.
 pub fn run_rewriting<F: Files, J: Rewriting<Counts = Summary> + Drop>(
     alloc: Global,
     rewriting: J,
     files: &mut F,
     input: &str,
     output: &str,
-) -> Ended
-    ensures rewrites { (bytes : List ℕ) → F.holds files.old input.now ≡ Some bytes
-        → RewritesFile J.counts (J.form rewriting) input.now output.now bytes
-        (F.finished files.old) (F.finished files.new) result.outcome }
+) -> (Ended, Readings)
+    ensures rewrites { RewritesFile J.counts (J.form rewriting) (F.holds files.old) input.now
+        output.now (readings_in result.1) (F.finished files.old) (F.finished files.new)
+        result.0.outcome }
 {
     match files.both_opened(input, output) {
-        Ok((source, made)) => Ended {
-            is_aside: files.is_standard_output(&made.place),
-            outcome: Outcome::Counted(kept(alloc, rewriting, files, source, made)),
-        },
-        Err(outcome) => Ended::printing(outcome),
+        Ok((mut opened, made)) => {
+            let is_aside = files.is_standard_output(&made.place);
+            let came = kept(alloc, rewriting, files, &mut opened.source, made);
+            let ended = Ended {
+                is_aside,
+                outcome: Outcome::Counted(came),
+            };
+            (ended, Readings::OfOne(opened.close()))
+        }
+        Err(outcome) => (Ended::printing(outcome), Readings::Nothing),
     }
 }
 
@@ -67,13 +76,17 @@ fn kept<F: Files, J: Rewriting<Counts = Summary> + Drop>(
     alloc: Global,
     rewriting: J,
     files: &mut F,
-    source: F::Input,
+    source: &mut FromRead<F::Input>,
     made: Made<F::Output, F::Place>,
 ) -> Result<Summary, Error>
-    ensures keeps { (bytes : List ℕ) → F.Input.remaining source ≡ Some bytes
+    ensures keeps { (whole : Option (List ℕ)) (name bytes : List ℕ)
+        → IsUnread F.Input.remaining whole source.old
+        → MayContain whole (reading_under name source.new) bytes
         → F.Output.contents made.file ≡ Some []
         → KeepsForm J.counts (J.form rewriting) (F.name_of made.place) bytes
         (F.finished files.old) (F.finished files.new) result }
+    ensures read { (name : List ℕ) → source.old.failures ≡ 0
+        → IsByFailedRead (reading_under name source.new) result }
 {
     let Made { file, place } = made;
     match form_written(alloc, rewriting, source, file) {
@@ -122,20 +135,25 @@ pub fn named<F: Files>(files: &mut F, file: F::Output, place: F::Place) -> Resul
 /// # Errors
 ///
 /// If memory ran out before anything was read.
-pub fn form_written<R: Read + Drop, W: Write + Drop, J: Rewriting + Drop>(
+pub fn form_written<R: Read, W: Write + Drop, J: Rewriting + Drop>(
     alloc: Global,
     rewriting: J,
-    source: R,
+    source: &mut FromRead<R>,
     output: W,
 ) -> Result<(Result<J::Counts, Error>, W), AllocError>
-    ensures writes { IfOk result (λ done. (bytes : List ℕ) → R.remaining source ≡ Some bytes
-        → WritesAllCounted J.counts (J.form rewriting) bytes (W.contents output)
-        (W.contents done.1) done.0) }
+    ensures writes { (whole : Option (List ℕ)) (name bytes : List ℕ)
+        → IsUnread R.remaining whole source.old
+        → MayContain whole (reading_under name source.new) bytes
+        → IfOk result (λ done. WritesAllCounted J.counts (J.form rewriting) bytes
+        (W.contents output) (W.contents done.1) done.0) }
+    ensures read { (name : List ℕ) → source.old.failures ≡ 0
+        → IfOk result (λ done. IsByFailedRead (reading_under name source.new) done.0) }
+    ensures unread { OnErr result (source.new ≡ source.old) }
 {
     let Ok(buffer) = BufWriter::with_capacity(alloc, WRITTEN_AT_ONCE, output) else {
         return Err(AllocError);
     };
     let mut sink = ToWrite::new(buffer);
-    let came = rewriting.rewrite(alloc, &mut FromRead::new(source), &mut sink);
+    let came = rewriting.rewrite(alloc, source, &mut sink);
     Ok(written_out(came, sink.into_inner()))
 }

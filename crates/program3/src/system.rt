@@ -1,11 +1,12 @@
 //! The files of the system.
 
-ghost use Rattle.std.specs.Prelude.{◌≡◌, Any, Err, IfErr, IfOk, IfSome, map, string_bytes};
+ghost use Rattle.std.specs.Prelude.{◌≡◌, [], Any, Err, IfErr, IfOk, IfSome, map, string_bytes};
 ghost use Rattle.capture3.specs.declared.fault.Error.TheVariants as errors;
 ghost use Rattle.program3.specs.Files.{FailsToOpenStream};
 ghost use Rattle.program3.specs.Opening.{TellsOf};
 ghost use Rattle.program3.specs.declared.outcome.Outcome.TheVariants.{Packed};
 ghost use Rattle.program3.specs.Places.{IsMade};
+ghost use Rattle.program3.specs.Systems.{finished_of};
 
 use crate::destination::Destination;
 use crate::files::{Files, Made};
@@ -13,6 +14,7 @@ use crate::identity::{FileId, if_there};
 use crate::opening::{OpenError, opened, uncounted, unopened};
 use crate::outcome::Outcome;
 use crate::place::Place;
+use crate::reading::Opened;
 use crate::retried::Retried;
 use crate::standard::StandardOutput;
 use canon3::Traced;
@@ -28,7 +30,7 @@ pub struct SafeFile {
     file: Traced<File>,
 }
 
-/// The files of the system. No contract tells their bytes.
+/// The files of the system. No contract tells their bytes, but what is read of them is noted.
 #[derive(Drop)]
 pub struct System<'a> {
     rt: &'a HostRuntime,
@@ -37,7 +39,9 @@ pub struct System<'a> {
 
 impl<'a> System<'a> {
     /// Returns the files of the system, of which none was finished yet.
-    pub fn new(rt: &'a HostRuntime) -> System<'a> {
+    pub fn new(rt: &'a HostRuntime) -> System<'a>
+        ensures { finished_of result ≡ [] }
+    {
         System {
             rt,
             finished: Vec::new(rt.alloc()),
@@ -91,35 +95,34 @@ impl Files for System<'_> {
     type Place = Place;
 
     ghost use Rattle.std.specs.Prelude.{None, Some, string_bytes};
-    ghost use Rattle.program3.specs.Systems.{written_files};
+    ghost use Rattle.program3.specs.Systems.{finished_of};
 
     ghost holds = { λ _ _. None };
 
-    ghost finished = { λ system. written_files system.finished.items };
+    ghost finished = { finished_of };
 
     ghost name_of = { λ place. string_bytes place.name };
 
     ghost bytes_of = { λ safe. Some safe.file.taken };
 
-    fn open(&self, name: &str) -> io::Result<Retried<File>> {
-        Ok(Retried {
-            reader: fs::open(self.rt, name)?,
-        })
+    fn open(&self, name: &str) -> io::Result<Opened<Retried<File>>> {
+        let reader = fs::open(self.rt, name)?;
+        Ok(Opened::new(name, Retried { reader }))
     }
 
     fn both_opened(
         &self,
         input: &str,
         output: &str,
-    ) -> Result<(Retried<File>, Made<Traced<File>, Place>), Outcome> {
+    ) -> Result<(Opened<Retried<File>>, Made<Traced<File>, Place>), Outcome> {
         let alloc = self.rt.alloc();
         let own = StandardOutput::new(self.rt);
-        let (source, read) = match opened(self.rt, input) {
+        let (reader, read) = match opened(self.rt, input) {
             Ok(opened) => opened,
             Err(error) => return Err(uncounted(alloc, input, error)),
         };
         match self.made_apart(output, own, &read) {
-            Ok(Some(made)) => Ok((Retried { reader: source }, made)),
+            Ok(Some(made)) => Ok((Opened::new(input, Retried { reader }), made)),
             Ok(None) => Err(Outcome::Line(LineFault::SameName)),
             Err(error) => Err(uncounted(alloc, output, error)),
         }
@@ -151,10 +154,10 @@ impl Files for System<'_> {
     }
 
     // The part may have got the number of a standard input that is closed.
-    fn opened_apart(&self, place: &Place, stream: &str) -> Result<Retried<File>, Outcome> {
+    fn opened_apart(&self, place: &Place, stream: &str) -> Result<Opened<Retried<File>>, Outcome> {
         match opened(self.rt, stream) {
             Ok((_, data)) if place.is_regular(&data) => Err(Outcome::Line(LineFault::SameName)),
-            Ok((file, _)) => Ok(Retried { reader: file }),
+            Ok((reader, _)) => Ok(Opened::new(stream, Retried { reader })),
             Err(error) => Err(unpacked(self.rt.alloc(), stream, error)),
         }
     }

@@ -6,7 +6,9 @@ use std::io;
 use std::test::Fail;
 
 const SECRETS: usize = 200;
+
 const KEYS: u64 = 1_024;
+
 const BUCKETS: usize = 2_048;
 /// Of random keys, two are in one bucket once in 2,048 pairs.
 const PAIRS_OF_RANDOM_KEYS: usize = 256;
@@ -26,7 +28,11 @@ fn pairs_in_one_bucket(hasher: &SecretHasher, width: usize, is_big: bool, step: 
     for number in 1..=KEYS {
         let little = (number * step).to_le_bytes();
         let big = (number * step).to_be_bytes();
-        let key = if is_big { &big[8 - width..] } else { &little[..width] };
+        let key = if is_big {
+            &big[8 - width..]
+        } else {
+            &little[..width]
+        };
         let at = bucket(hasher, key);
         pairs += counts[at];
         counts[at] += 1;

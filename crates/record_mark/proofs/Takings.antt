@@ -1,15 +1,10 @@
 -- What a joiner has taken, and where that leads the machine.
-use Rattle.std.proofs.Common.{◌≡◌, inl, inr, ℕ, zero, suc, ◌+◌, ◌<◌, List, [], ◌++◌, take, drop, refl, sym, ap, subst, ◌∙◌, arith}
-use Rattle.std.proofs.Math.Seq.{take-add}
-use Rattle.record_mark.specs.Machine.{Run, Runs, Stops, Stopped, after}
-use Rattle.record_mark.specs.RecordMark.{IsUnfinished, HasBody}
-use Rattle.record_mark.specs.Joining.{Joining, Between, Header, Bytes, Joined, Whole, TooLong, join_next, HasJoined, EndsRecord}
-use Rattle.record_mark.specs.Taking.{Taking, Led, OutOfMemory, HasTaken, unbegun, IsWhole, IsRunning, joining_of, joined_body, body_of}
-use Rattle.record_mark.specs.machinery.TakingSteps.{led_on}
+use Rattle.record_mark.proofs.Common.{◌≡◌, inl, inr, ℕ, zero, suc, ◌+◌, ◌<◌, List, [], ◌++◌, take, drop, refl, sym, ap, subst, ◌∙◌, arith, take-add, Run, Runs, Stops, Stopped, after, IsUnfinished, HasBody, Joining, Between, Header, Bytes, Joined, Whole, TooLong, join_next, HasJoined, EndsRecord, Taking, Led, OutOfMemory, HasTaken, unbegun, IsWhole, IsRunning, joining_of, joined_body, body_of, led_on}
 use Rattle.record_mark.proofs.Machines.{Tells, after-append}
 use Rattle.record_mark.proofs.Joins.{join_tells, record_stops, too_long_stops, joining_runs}
 
-pub led_by : (run : Run Joining Joined) (bytes : List ℕ) → HasTaken (Led run) bytes → after join_next (Runs Between) bytes ≡ run
+pub led_by : (run : Run Joining Joined) (bytes : List ℕ) → HasTaken (Led run) bytes
+    → after join_next (Runs Between) bytes ≡ run
 led_by (Runs s) bytes h = joining_runs bytes s h
 led_by (Stops (Whole body)) bytes h = record_stops bytes body h
 led_by (Stops (TooLong at)) bytes h = too_long_stops bytes at h
@@ -21,20 +16,29 @@ IsKnown (Runs s) = Unit {0}
 IsKnown (Stops end) = Unit {0}
 IsKnown (Stopped end) = ⊥
 
-pub taken_by : (run : Run Joining Joined) (bytes : List ℕ) → IsKnown run → after join_next (Runs Between) bytes ≡ run → HasTaken (Led run) bytes
-taken_by (Runs s) bytes known e = subst (λ r. Tells HasJoined EndsRecord bytes r) e (join_tells bytes)
-taken_by (Stops end) bytes known e = subst (λ r. Tells HasJoined EndsRecord bytes r) e (join_tells bytes)
+pub taken_by : (run : Run Joining Joined) (bytes : List ℕ) → IsKnown run
+    → after join_next (Runs Between) bytes ≡ run → HasTaken (Led run) bytes
+taken_by (Runs s) bytes known e =
+    subst (λ r. Tells HasJoined EndsRecord bytes r) e (join_tells bytes)
+taken_by (Stops end) bytes known e =
+    subst (λ r. Tells HasJoined EndsRecord bytes r) e (join_tells bytes)
 taken_by (Stopped end) bytes known e = absurd known
 
 -- bytes more
-pub led_further : (old new : Run Joining Joined) (bytes more : List ℕ) → HasTaken (Led old) bytes → after join_next old more ≡ new → after join_next (Runs Between) (bytes ++ more) ≡ new
-led_further old new bytes more h e = after-append join_next (Runs Between) bytes more ∙ ap (λ r. after join_next r more) (led_by old bytes h) ∙ e
+pub led_further : (old new : Run Joining Joined) (bytes more : List ℕ) → HasTaken (Led old) bytes
+    → after join_next old more ≡ new → after join_next (Runs Between) (bytes ++ more) ≡ new
+led_further old new bytes more h e =
+    after-append join_next (Runs Between) bytes more
+    ∙ ap (λ r. after join_next r more) (led_by old bytes h) ∙ e
 
-pub taken_further : (old new : Run Joining Joined) (bytes more : List ℕ) → HasTaken (Led old) bytes → IsKnown new → after join_next old more ≡ new → HasTaken (Led new) (bytes ++ more)
-taken_further old new bytes more h known e = taken_by new (bytes ++ more) known (led_further old new bytes more h e)
+pub taken_further : (old new : Run Joining Joined) (bytes more : List ℕ) → HasTaken (Led old) bytes
+    → IsKnown new → after join_next old more ≡ new → HasTaken (Led new) (bytes ++ more)
+taken_further old new bytes more h known e =
+    taken_by new (bytes ++ more) known (led_further old new bytes more h e)
 
 -- what has a body is a record, or one that is not whole
-pub unfinished : (bytes : List ℕ) (s : Joining) → HasJoined bytes s → IsUnfinished bytes (joined_body s)
+pub unfinished : (bytes : List ℕ) (s : Joining) → HasJoined bytes s
+    → IsUnfinished bytes (joined_body s)
 unfinished bytes Between h = inl (h, refl)
 unfinished bytes (Header body part) h = inr (inl (part, h))
 unfinished bytes (Bytes body last left) h = inr (inr (last, left, h))
@@ -47,20 +51,25 @@ pub record Standing (bytes body : List ℕ) : Type 0 where
 
 pub standing : (bytes body : List ℕ) → IsUnfinished bytes body → Standing bytes body
 standing bytes body (inl h) = record { joining = Between; joined = h.0; carries = sym h.1 }
-standing bytes body (inr (inl h)) = record { joining = Header body h.0; joined = h.1; carries = refl }
-standing bytes body (inr (inr h)) = record { joining = Bytes body h.0 h.1; joined = h.2; carries = refl }
+standing bytes body (inr (inl h)) =
+    record { joining = Header body h.0; joined = h.1; carries = refl }
+standing bytes body (inr (inr h)) =
+    record { joining = Bytes body h.0 h.1; joined = h.2; carries = refl }
 
 -- the body that the machine has is that of the bytes
-pub has_body : (taking : Taking) (bytes body : List ℕ) → HasTaken taking bytes → HasBody bytes body → body_of taking ≡ body
+pub has_body : (taking : Taking) (bytes body : List ℕ) → HasTaken taking bytes → HasBody bytes body
+    → body_of taking ≡ body
 has_body OutOfMemory bytes body h k = absurd h
-has_body (Led run) bytes body h (inl k) = let e = sym (led_by run bytes h) ∙ record_stops bytes body k in ap (λ r. body_of (Led r)) e
+has_body (Led run) bytes body h (inl k) =
+    let e = sym (led_by run bytes h) ∙ record_stops bytes body k in ap (λ r. body_of (Led r)) e
 has_body (Led run) bytes body h (inr k) =
     let is = standing bytes body k in
     let e = sym (led_by run bytes h) ∙ joining_runs bytes is.joining is.joined in
     ap (λ r. body_of (Led r)) e ∙ is.carries
 
 -- what it means to be whole, and to run
-pub whole_is : (taking : Taking) → IsWhole taking → (body : List ℕ) × (taking ≡ Led (Stops (Whole body)))
+pub whole_is : (taking : Taking) → IsWhole taking
+    → (body : List ℕ) × (taking ≡ Led (Stops (Whole body)))
 whole_is (Led (Stops (Whole body))) h = (body, refl)
 whole_is (Led (Stops (TooLong at))) h = absurd h
 whole_is (Led (Runs s)) h = absurd h
@@ -88,38 +97,55 @@ pub led_on-nil : (taking : Taking) → led_on taking [] ≡ taking
 led_on-nil (Led run) = refl
 led_on-nil OutOfMemory = refl
 
-pub led_on-append : (taking : Taking) (front back : List ℕ) → led_on taking (front ++ back) ≡ led_on (led_on taking front) back
+pub led_on-append : (taking : Taking) (front back : List ℕ)
+    → led_on taking (front ++ back) ≡ led_on (led_on taking front) back
 led_on-append (Led run) front back = ap Led (after-append join_next run front back)
 led_on-append OutOfMemory front back = refl
 
 -- a front of the piece, and then some of the rest
-pub led_on-take : (old now next : Taking) (piece : List ℕ) (n m : ℕ) → now ≡ led_on old (take n piece) → next ≡ led_on now (take m (drop n piece)) → next ≡ led_on old (take (n + m) piece)
-led_on-take old now next piece n m is more = more ∙ ap (λ t. led_on t (take m (drop n piece))) is ∙ sym (led_on-append old (take n piece) (take m (drop n piece))) ∙ ap (led_on old) (sym (take-add n m piece))
+pub led_on-take : (old now next : Taking) (piece : List ℕ) (n m : ℕ)
+    → now ≡ led_on old (take n piece) → next ≡ led_on now (take m (drop n piece))
+    → next ≡ led_on old (take (n + m) piece)
+led_on-take old now next piece n m is more =
+    more ∙ ap (λ t. led_on t (take m (drop n piece))) is
+    ∙ sym (led_on-append old (take n piece) (take m (drop n piece)))
+    ∙ ap (led_on old) (sym (take-add n m piece))
 
 -- what runs after some bytes ran before them
-pub ran_before : (old now : Taking) (piece : List ℕ) (taken : ℕ) → now ≡ led_on old (take taken piece) → (0 < taken → IsRunning old) → IsRunning now → IsRunning old
+pub ran_before : (old now : Taking) (piece : List ℕ) (taken : ℕ)
+    → now ≡ led_on old (take taken piece) → (0 < taken → IsRunning old) → IsRunning now
+    → IsRunning old
 ran_before old now piece zero is moved runs = subst IsRunning (is ∙ led_on-nil old) runs
 ran_before old now piece (suc n) is moved runs = moved (omega arith)
 
 -- the machine by itself, for a joiner whose record is not whole
-pub runs_on : (old new : Taking) (bytes : List ℕ) → IsRunning old → new ≡ led_on old bytes → IsRunning new → after join_next (Runs (joining_of old)) bytes ≡ Runs (joining_of new)
+pub runs_on : (old new : Taking) (bytes : List ℕ) → IsRunning old → new ≡ led_on old bytes
+    → IsRunning new → after join_next (Runs (joining_of old)) bytes ≡ Runs (joining_of new)
 runs_on old new bytes h led k =
     let before = running_is old h in
     let later = running_is new k in
-    let same : Led (after join_next (Runs before.0) bytes) ≡ Led (Runs later.0) = ap (λ t. led_on t bytes) (sym before.1) ∙ sym led ∙ later.1 in
-    ap (λ t. after join_next (Runs (joining_of t)) bytes) before.1 ∙ (cc) ∙ ap (λ t. Runs (joining_of t)) (sym later.1)
+    let same : Led (after join_next (Runs before.0) bytes) ≡ Led (Runs later.0) =
+    ap (λ t. led_on t bytes) (sym before.1) ∙ sym led ∙ later.1 in
+    ap (λ t. after join_next (Runs (joining_of t)) bytes) before.1 ∙ (cc)
+    ∙ ap (λ t. Runs (joining_of t)) (sym later.1)
 
-pub stops_at : (old : Taking) (end : Joined) (bytes : List ℕ) → IsRunning old → led_on old bytes ≡ Led (Stops end) → after join_next (Runs (joining_of old)) bytes ≡ Stops end
+pub stops_at : (old : Taking) (end : Joined) (bytes : List ℕ) → IsRunning old
+    → led_on old bytes ≡ Led (Stops end) → after join_next (Runs (joining_of old)) bytes ≡ Stops end
 stops_at old end bytes h led =
     let before = running_is old h in
-    let same : Led (after join_next (Runs before.0) bytes) ≡ Led (Stops end) = ap (λ t. led_on t bytes) (sym before.1) ∙ led in
+    let same : Led (after join_next (Runs before.0) bytes) ≡ Led (Stops end) =
+    ap (λ t. led_on t bytes) (sym before.1) ∙ led in
     ap (λ t. after join_next (Runs (joining_of t)) bytes) before.1 ∙ (cc)
 
-pub stops_whole : (old new : Taking) (bytes : List ℕ) → IsRunning old → new ≡ led_on old bytes → IsWhole new → after join_next (Runs (joining_of old)) bytes ≡ Stops (Whole (body_of new))
+pub stops_whole : (old new : Taking) (bytes : List ℕ) → IsRunning old → new ≡ led_on old bytes
+    → IsWhole new → after join_next (Runs (joining_of old)) bytes ≡ Stops (Whole (body_of new))
 stops_whole old new bytes h led k =
     let later = whole_is new k in
-    stops_at old (Whole (body_of new)) bytes h (sym led ∙ later.1 ∙ ap (λ t. Led (Stops (Whole (body_of t)))) (sym later.1))
+    stops_at old (Whole (body_of new)) bytes h
+    (sym led ∙ later.1 ∙ ap (λ t. Led (Stops (Whole (body_of t)))) (sym later.1))
 
 -- what runs, and stands between records, has taken nothing
-pub is_between : (taking : Taking) → IsRunning taking → joining_of taking ≡ Between → taking ≡ unbegun
-is_between taking h e = let is = running_is taking h in is.1 ∙ ap (λ s. Led (Runs s)) (sym (ap joining_of is.1) ∙ e)
+pub is_between : (taking : Taking) → IsRunning taking → joining_of taking ≡ Between
+    → taking ≡ unbegun
+is_between taking h e =
+    let is = running_is taking h in is.1 ∙ ap (λ s. Led (Runs s)) (sym (ap joining_of is.1) ∙ e)

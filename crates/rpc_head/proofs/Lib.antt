@@ -1,3 +1,4 @@
+pub mod Common
 pub mod Lengths
 pub mod Limits
 pub mod Messages

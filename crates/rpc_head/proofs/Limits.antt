@@ -1,13 +1,11 @@
 -- Items that were read from a body are within the limit on bodies.
-use Rattle.std.proofs.Common.{◌≡◌, ℕ, ◌≤◌, List, length, Ok, arith}
-use Rattle.xdr3.specs.Item.{AreBytes, Item}
-use Rattle.xdr3.specs.Shape.{Shape}
-use Rattle.xdr3.specs.Reading.{reading}
+use Rattle.rpc_head.proofs.Common.{◌≡◌, ℕ, ◌≤◌, List, length, Ok, arith, Shape, reading, AreBytes, Item, sound}
 use Rattle.xdr3.specs.Visit.{AreWithinLimit, body_limit}
 use Rattle.xdr3.proofs.Lemmas.Reading.Items.{length_of_spelling}
-use Rattle.xdr3.proofs.Lemmas.Reading.Sound.{sound}
 
-pub read_within_limit : (shape : Shape) (items : List Item) (body : List ℕ) (at to : ℕ) → AreBytes body → at ≤ length body → length body ≤ body_limit → reading shape body at ≡ Ok (items, to) → AreWithinLimit items
+pub read_within_limit : (shape : Shape) (items : List Item) (body : List ℕ) (at to : ℕ)
+    → AreBytes body → at ≤ length body → length body ≤ body_limit
+    → reading shape body at ≡ Ok (items, to) → AreWithinLimit items
 unfolding AreWithinLimit
 read_within_limit shape items body at to bytes h limit e =
     let t = (sound shape).takes body at to items bytes h e in

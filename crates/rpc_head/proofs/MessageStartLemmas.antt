@@ -1,15 +1,12 @@
 -- What reading a message's start gives is a start.
-use Rattle.std.proofs.Common.{◌≤◌, length, Result, Ok, Err}
-use Rattle.xdr3.specs.declared.reason.Stop.{Stop}
-use Rattle.xdr3.specs.Item.{AreBytes}
-use Rattle.xdr3.specs.Reading.{reading}
+use Rattle.rpc_head.proofs.Common.{◌≤◌, length, Result, Ok, Err, Stop, reading, message_start, AreBytes, sound, MessageStart}
 use Rattle.xdr3.specs.View.{Answers, View}
-use Rattle.xdr3.proofs.Lemmas.Reading.Sound.{sound}
-use Rattle.rpc_head.specs.declared.values.message_start.MessageStart.{MessageStart}
-use Rattle.rpc_head.specs.Shapes.{message_start}
 use Rattle.rpc_head.specs.MessageStart.{IsStart, start_items}
 
-pub is_start : (old new : View) (answer : Result MessageStart Stop) → AreBytes old.body → old.at ≤ length old.body → Answers start_items answer new.at (reading message_start old.body old.at) → IsStart old answer new
+pub is_start : (old new : View) (answer : Result MessageStart Stop) → AreBytes old.body
+    → old.at ≤ length old.body
+    → Answers start_items answer new.at (reading message_start old.body old.at)
+    → IsStart old answer new
 is_start old new (Ok s) bytes h e =
     let t = (sound message_start).takes old.body old.at new.at (start_items s) bytes h e in
     record { front = t.1.front; fits = t.0; spells = t.1.spells; whole = t.1.is }

@@ -1,31 +1,22 @@
 -- The user and the groups of a caller, which are read as runs.
-use Rattle.std.specs.Prelude.{IfErr, OnOk}
+use Rattle.rpc_head.proofs.Common.{IfErr, OnOk, big_number, GetError, Item, Word, Scans, Stops, MovesOn, View, Adds, adds_joined, short_after, head_names, gids}
 use Rattle.std.proofs.Common.{inl, inr, ◌≡◌, ℕ, zero, suc, ◌+◌, ◌-◌, ◌*◌, ◌/◌, ◌<◌, ◌≤◌, true, false, List, [], ◌∷◌, ◌++◌, length, take, drop, replicate, Result, Ok, Err, refl, sym, ap, subst, ◌∙◌, arith}
 use Rattle.std.proofs.lemmas.Bool.{cases_lt, le-leb, lt-leb, lt-ltb}
 use Rattle.std.proofs.lemmas.List.{drop-drop, take-replicate}
-use Rattle.byteorder.specs.Endian.{big_number}
 use Rattle.xdr3.specs.declared.plain.PlainField.{PlainField}
-use Rattle.xdr3.specs.declared.reason.GetError.{GetError}
 use Rattle.xdr3.specs.declared.reason.GetError.TheVariants as errors
 use Rattle.xdr3.specs.declared.reason.Reason.TheVariants.{BadEnum, Short, TooLong}
-use Rattle.xdr3.specs.Item.{Item, Word}
 use Rattle.xdr3.specs.Plain.{run_shape, run_size, shape_of, width}
 use Rattle.xdr3.specs.Reading.{Outcome, ◌>>=◌, number_at, reading, run_at, times_at, word_at}
-use Rattle.xdr3.specs.Scan.{Scans, Stops}
 use Rattle.xdr3.specs.Shape.{◌then◌, is_any, is_at_most, nothing, word}
-use Rattle.xdr3.specs.View.{MovesOn, View}
-use Rattle.xdr3.specs.Visit.{Adds}
 use Rattle.xdr3.proofs.Lemmas.Scans.ScanLemmas.{last_scans, last_stops, moves_both}
-use Rattle.xdr3.proofs.Lemmas.Shapes.Walks.{adds_joined}
 use Rattle.rpc_head.specs.machinery.HeadEnds.{group_words, owner}
-use Rattle.rpc_head.specs.machinery.HeadRuns.{short_after}
-use Rattle.rpc_head.specs.Names.{head_names}
-use Rattle.rpc_head.specs.Shapes.{gids}
 use Rattle.rpc_head.proofs.HeadRunLemmas.{later_stop, one_short, run_accepts, run_ends, run_refuses, run_word, stops_at}
 
 -- ---- the groups
 
-fields_shape : (n : ℕ) (g : PlainField) → shape_of g ≡ word head_names.group → run_shape (replicate n g) ≡ group_words n
+fields_shape : (n : ℕ) (g : PlainField) → shape_of g ≡ word head_names.group
+    → run_shape (replicate n g) ≡ group_words n
 fields_shape zero g is = refl
 fields_shape (suc n) g is = let more = fields_shape n g is in rw (is, more) refl
 
@@ -33,24 +24,31 @@ fields_size : (n : ℕ) (g : PlainField) → width g ≡ 4 → run_size (replica
 fields_size zero g is = refl
 fields_size (suc n) g is = let more = fields_size n g is in omega (arith, is, more)
 
-pub groups_shape : (n : ℕ) (g : PlainField) → n ≤ 16 → shape_of g ≡ word head_names.group → run_shape (take n (replicate 16 g)) ≡ group_words n
+pub groups_shape : (n : ℕ) (g : PlainField) → n ≤ 16 → shape_of g ≡ word head_names.group
+    → run_shape (take n (replicate 16 g)) ≡ group_words n
 groups_shape n g few is = ap run_shape (take-replicate n 16 g few) ∙ fields_shape n g is
 
-pub groups_size : (n : ℕ) (g : PlainField) → n ≤ 16 → width g ≡ 4 → run_size (take n (replicate 16 g)) ≡ 4 * n
+pub groups_size : (n : ℕ) (g : PlainField) → n ≤ 16 → width g ≡ 4
+    → run_size (take n (replicate 16 g)) ≡ 4 * n
 groups_size n g few is = ap run_size (take-replicate n 16 g few) ∙ fields_size n g is
 
 glue : Outcome (List Item) → (ℕ → Outcome (List Item)) → Outcome (List Item)
 glue r next = r >>= λ x. next x.1 >>= λ y. Ok (x.0 ++ y.0, y.1)
 
-glue_same : (r : Outcome (List Item)) (f g : ℕ → Outcome (List Item)) → ((at : ℕ) → f at ≡ g at) → glue r f ≡ glue r g
+glue_same : (r : Outcome (List Item)) (f g : ℕ → Outcome (List Item)) → ((at : ℕ) → f at ≡ g at)
+    → glue r f ≡ glue r g
 unfolding glue
-glue_same (Ok x) f g same = ap (λ (r : Outcome (List Item)). r >>= λ y. Ok (x.0 ++ y.0, y.1)) (same x.1)
+glue_same (Ok x) f g same =
+    ap (λ (r : Outcome (List Item)). r >>= λ y. Ok (x.0 ++ y.0, y.1)) (same x.1)
 glue_same (Err stop) f g same = refl
 
-times_reads : (n : ℕ) (body : List ℕ) (at : ℕ) → reading (group_words n) body at ≡ times_at (reading (word head_names.group)) n body at
+times_reads : (n : ℕ) (body : List ℕ) (at : ℕ)
+    → reading (group_words n) body at ≡ times_at (reading (word head_names.group)) n body at
 unfolding reading glue
 times_reads zero body at = refl
-times_reads (suc n) body at = glue_same (reading (word head_names.group) body at) (λ k. reading (group_words n) body k) (λ k. times_at (reading (word head_names.group)) n body k) (λ k. times_reads n body k)
+times_reads (suc n) body at =
+    glue_same (reading (word head_names.group) body at) (λ k. reading (group_words n) body k)
+    (λ k. times_at (reading (word head_names.group)) n body k) (λ k. times_reads n body k)
 
 -- ---- the user, the group and the number of groups
 
@@ -62,12 +60,18 @@ record IsOwned (v : View) (run : List ℕ) : Type 0 where
 
 owned : (v v1 : View) (run : List ℕ) → run_at 12 v.body v.at ≡ Ok (run, v1.at) → IsOwned v run
 owned v v1 run e =
-    let uid = run_word 0 12 v.body run v.at v1.at v.at (v.at + 4) e (omega arith) (omega arith) refl in
-    let gid = run_word 4 8 v.body run v.at v1.at (v.at + 4) (v.at + 8) e (omega arith) refl (omega arith) in
+    let uid =
+    run_word 0 12 v.body run v.at v1.at v.at (v.at + 4) e (omega arith) (omega arith) refl in
+    let gid =
+    run_word 4 8 v.body run v.at v1.at (v.at + 4) (v.at + 8) e (omega arith) refl (omega arith) in
     record {
       uid = run_accepts is_any BadEnum v.body (big_number 4 run) v.at (v.at + 4) uid refl;
-      gid = run_accepts is_any BadEnum v.body (big_number 4 (drop 4 run)) (v.at + 4) (v.at + 8) gid refl;
-      gids = run_word 8 4 v.body run v.at v1.at (v.at + 8) (v.at + 12) e (omega arith) refl (omega arith);
+      gid =
+          run_accepts is_any BadEnum v.body (big_number 4 (drop 4 run)) (v.at + 4) (v.at + 8) gid
+          refl;
+      gids =
+          run_word 8 4 v.body run v.at v1.at (v.at + 8) (v.at + 12) e (omega arith) refl
+          (omega arith);
     }
 
 few_is : (n : ℕ) → n ≤ 16 → is_at_most 16 n ≡ true
@@ -76,80 +80,139 @@ few_is n few = le-leb n 16 few
 few_is_not : (n : ℕ) → 16 < n → is_at_most 16 n ≡ false
 few_is_not n more = lt-leb n 16 more
 
-pub count_refused : (v v1 : View) (run : List ℕ) → run_at 12 v.body v.at ≡ Ok (run, v1.at) → 16 < big_number 4 (drop 8 run) → Stops owner v (errors.Stop (record { at = v.at + 8; reason = TooLong }))
+pub count_refused : (v v1 : View) (run : List ℕ) → run_at 12 v.body v.at ≡ Ok (run, v1.at)
+    → 16 < big_number 4 (drop 8 run)
+    → Stops owner v (errors.Stop (record { at = v.at + 8; reason = TooLong }))
 unfolding reading owner gids
 count_refused v v1 run e more =
     let w = owned v v1 run e in
-    let count = run_refuses (is_at_most 16) TooLong v.body (big_number 4 (drop 8 run)) (v.at + 8) (v.at + 12) w.gids (few_is_not (big_number 4 (drop 8 run)) more) in
+    let count =
+    run_refuses (is_at_most 16) TooLong v.body (big_number 4 (drop 8 run)) (v.at + 8) (v.at + 12)
+    w.gids (few_is_not (big_number 4 (drop 8 run)) more) in
     stops_at owner v (record { at = v.at + 8; reason = TooLong }) (rw (w.uid, w.gid, count) refl)
 
-gids_short : (body : List ℕ) (at place : ℕ) → length body < at + 4 → place ≡ at → reading gids body at ≡ Err (record { at = place; reason = Short })
+gids_short : (body : List ℕ) (at place : ℕ) → length body < at + 4 → place ≡ at
+    → reading gids body at ≡ Err (record { at = place; reason = Short })
 unfolding reading gids
 gids_short body at place h is = rw (lt-ltb (length body) (at + 4) h, is) refl
 
-pub owner_short : (v : View) → length v.body < v.at + 12 → v.at ≤ length v.body → Stops owner v (errors.Stop (short_after v.at (length v.body - v.at)))
+pub owner_short : (v : View) → length v.body < v.at + 12 → v.at ≤ length v.body
+    → Stops owner v (errors.Stop (short_after v.at (length v.body - v.at)))
 unfolding owner gids
 owner_short v few within =
     let left = length v.body - v.at in
     stops_at owner v (short_after v.at (length v.body - v.at)) (
     elim (cases_lt (length v.body - v.at) 4) [
-      | inl lt ↦ one_short head_names.uid is_any BadEnum (λ n. nothing) (word head_names.gid then gids) v.body v.at (v.at + (length v.body - v.at) / 4 * 4) (omega (arith, lt, within)) (omega (arith, lt))
-      | inr le ↦ later_stop head_names.uid (word head_names.gid then gids) v.body v.at (short_after v.at (length v.body - v.at)) (omega (arith, le, within)) (
+      | inl lt ↦ one_short head_names.uid is_any BadEnum (λ n. nothing)
+          (word head_names.gid then gids) v.body v.at (v.at + (length v.body - v.at) / 4 * 4)
+          (omega (arith, lt, within)) (omega (arith, lt))
+      | inr le ↦ later_stop head_names.uid (word head_names.gid then gids) v.body v.at
+          (short_after v.at (length v.body - v.at)) (omega (arith, le, within)) (
           elim (cases_lt (length v.body - v.at) 8) [
-            | inl lt ↦ one_short head_names.gid is_any BadEnum (λ n. nothing) gids v.body (v.at + 4) (v.at + (length v.body - v.at) / 4 * 4) (omega (arith, lt, within)) (omega (arith, le, lt))
-            | inr le8 ↦ later_stop head_names.gid gids v.body (v.at + 4) (short_after v.at (length v.body - v.at)) (omega (arith, le8, within)) (gids_short v.body (v.at + 4 + 4) (v.at + (length v.body - v.at) / 4 * 4) (omega (arith, few, within)) (omega (arith, few, within, le8)))
+            | inl lt ↦ one_short head_names.gid is_any BadEnum (λ n. nothing) gids v.body (v.at + 4)
+                (v.at + (length v.body - v.at) / 4 * 4) (omega (arith, lt, within))
+                (omega (arith, le, lt))
+            | inr le8 ↦ later_stop head_names.gid gids v.body (v.at + 4)
+                (short_after v.at (length v.body - v.at)) (omega (arith, le8, within))
+                (gids_short v.body (v.at + 4 + 4) (v.at + (length v.body - v.at) / 4 * 4)
+                (omega (arith, few, within)) (omega (arith, few, within, le8)))
           ])
     ])
 
-pub owner_scans : {V : Type 0} (stands : V → List Item → Type 0) (run : List ℕ) (v0 v1 v2 : View) (s0 s1 s2 : V) → run_at 12 v0.body v0.at ≡ Ok (run, v1.at) → MovesOn v0 v1 → big_number 4 (drop 8 run) ≤ 16
-    → Adds stands s0 s1 (Word head_names.uid (big_number 4 run) ∷ Word head_names.gid (big_number 4 (drop 4 run)) ∷ Word head_names.gids (big_number 4 (drop 4 (drop 4 run))) ∷ []) → Scans stands (group_words (big_number 4 (drop 8 run))) v1 v2 s1 s2 → Scans stands owner v0 v2 s0 s2
+pub owner_scans : {V : Type 0} (stands : V → List Item → Type 0) (run : List ℕ) (v0 v1 v2 : View)
+    (s0 s1 s2 : V) → run_at 12 v0.body v0.at ≡ Ok (run, v1.at) → MovesOn v0 v1
+    → big_number 4 (drop 8 run) ≤ 16
+    → Adds stands s0 s1 (Word head_names.uid (big_number 4 run)
+    ∷ Word head_names.gid (big_number 4 (drop 4 run))
+    ∷ Word head_names.gids (big_number 4 (drop 4 (drop 4 run))) ∷ [])
+    → Scans stands (group_words (big_number 4 (drop 8 run))) v1 v2 s1 s2
+    → Scans stands owner v0 v2 s0 s2
 unfolding Scans reading owner gids
 owner_scans stands run v0 v1 v2 s0 s1 s2 e moves few a y =
     let w = owned v0 v1 run e in
     let n = big_number 4 (drop 8 run) in
     let end : v0.at + 12 ≡ v1.at = run_ends 12 v0.body run v0.at v1.at e in
-    let count = run_accepts (is_at_most 16) TooLong v0.body (big_number 4 (drop 8 run)) (v0.at + 8) v1.at (w.gids ∙ ap (λ (to : ℕ). Ok (big_number 4 (drop 8 run), to)) end) (few_is (big_number 4 (drop 8 run)) few) in
-    let there : reading (group_words (big_number 4 (drop 8 run))) v0.body v1.at ≡ Ok (y.0, v2.at) = subst (λ (body : List ℕ). reading (group_words (big_number 4 (drop 8 run))) body v1.at ≡ Ok (y.0, v2.at)) moves.same_body y.1 in
-    let parts : times_at (reading (word head_names.group)) (big_number 4 (drop 8 run)) v0.body v1.at ≡ Ok (y.0, v2.at) = sym (times_reads (big_number 4 (drop 8 run)) v0.body v1.at) ∙ there in
+    let count =
+    run_accepts (is_at_most 16) TooLong v0.body (big_number 4 (drop 8 run)) (v0.at + 8) v1.at
+    (w.gids ∙ ap (λ (to : ℕ). Ok (big_number 4 (drop 8 run), to)) end)
+    (few_is (big_number 4 (drop 8 run)) few) in
+    let there : reading (group_words (big_number 4 (drop 8 run))) v0.body v1.at ≡ Ok (y.0, v2.at) =
+    subst
+    (λ (body : List ℕ).
+    reading (group_words (big_number 4 (drop 8 run))) body v1.at ≡ Ok (y.0, v2.at))
+    moves.same_body y.1 in
+    let parts : times_at (reading (word head_names.group)) (big_number 4 (drop 8 run)) v0.body v1.at
+    ≡ Ok (y.0, v2.at) = sym (times_reads (big_number 4 (drop 8 run)) v0.body v1.at) ∙ there in
     let d8 : drop 4 (drop 4 run) ≡ drop 8 run = drop-drop 4 4 run in
-    let told : Adds stands s0 s1 (Word head_names.uid (big_number 4 run) ∷ Word head_names.gid (big_number 4 (drop 4 run)) ∷ Word head_names.gids (big_number 4 (drop 8 run)) ∷ []) =
-    subst (λ (x : List ℕ). Adds stands s0 s1 (Word head_names.uid (big_number 4 run) ∷ Word head_names.gid (big_number 4 (drop 4 run)) ∷ Word head_names.gids (big_number 4 x) ∷ [])) d8 a in (
-      Word head_names.uid (big_number 4 run) ∷ Word head_names.gid (big_number 4 (drop 4 run)) ∷ Word head_names.gids (big_number 4 (drop 8 run)) ∷ y.0,
+    let told : Adds stands s0 s1 (Word head_names.uid (big_number 4 run)
+    ∷ Word head_names.gid (big_number 4 (drop 4 run))
+    ∷ Word head_names.gids (big_number 4 (drop 8 run)) ∷ []) =
+    subst
+    (λ (x : List ℕ).
+    Adds stands s0 s1 (Word head_names.uid (big_number 4 run)
+    ∷ Word head_names.gid (big_number 4 (drop 4 run))
+    ∷ Word head_names.gids (big_number 4 x) ∷ [])) d8 a in (
+      Word head_names.uid (big_number 4 run) ∷ Word head_names.gid (big_number 4 (drop 4 run))
+          ∷ Word head_names.gids (big_number 4 (drop 8 run)) ∷ y.0,
       rw (w.uid, w.gid, count, parts) refl,
       moves_both v0 v1 v2 moves y.2,
-      adds_joined stands s0 s1 s2 (Word head_names.uid (big_number 4 run) ∷ Word head_names.gid (big_number 4 (drop 4 run)) ∷ Word head_names.gids (big_number 4 (drop 8 run)) ∷ []) y.0
-          (Word head_names.uid (big_number 4 run) ∷ Word head_names.gid (big_number 4 (drop 4 run)) ∷ Word head_names.gids (big_number 4 (drop 8 run)) ∷ y.0) told y.3 refl,
+      adds_joined stands s0 s1 s2
+          (Word head_names.uid (big_number 4 run) ∷ Word head_names.gid (big_number 4 (drop 4 run))
+          ∷ Word head_names.gids (big_number 4 (drop 8 run)) ∷ []) y.0
+          (Word head_names.uid (big_number 4 run) ∷ Word head_names.gid (big_number 4 (drop 4 run))
+          ∷ Word head_names.gids (big_number 4 (drop 8 run)) ∷ y.0) told y.3 refl,
     )
 
-pub groups_stop : (run : List ℕ) (v0 v1 : View) (error : GetError) → run_at 12 v0.body v0.at ≡ Ok (run, v1.at) → MovesOn v0 v1 → big_number 4 (drop 8 run) ≤ 16 → Stops (group_words (big_number 4 (drop 8 run))) v1 error → Stops owner v0 error
+pub groups_stop : (run : List ℕ) (v0 v1 : View) (error : GetError)
+    → run_at 12 v0.body v0.at ≡ Ok (run, v1.at) → MovesOn v0 v1 → big_number 4 (drop 8 run) ≤ 16
+    → Stops (group_words (big_number 4 (drop 8 run))) v1 error → Stops owner v0 error
 unfolding Stops reading owner gids
 groups_stop run v0 v1 error e moves few h = λ stop is.
     let w = owned v0 v1 run e in
     let end : v0.at + 12 ≡ v1.at = run_ends 12 v0.body run v0.at v1.at e in
-    let count = run_accepts (is_at_most 16) TooLong v0.body (big_number 4 (drop 8 run)) (v0.at + 8) v1.at (w.gids ∙ ap (λ (to : ℕ). Ok (big_number 4 (drop 8 run), to)) end) (few_is (big_number 4 (drop 8 run)) few) in
-    let there : reading (group_words (big_number 4 (drop 8 run))) v0.body v1.at ≡ Err stop = subst (λ (body : List ℕ). reading (group_words (big_number 4 (drop 8 run))) body v1.at ≡ Err stop) moves.same_body (h stop is) in
-    let cut : times_at (reading (word head_names.group)) (big_number 4 (drop 8 run)) v0.body v1.at ≡ Err stop = sym (times_reads (big_number 4 (drop 8 run)) v0.body v1.at) ∙ there in
+    let count =
+    run_accepts (is_at_most 16) TooLong v0.body (big_number 4 (drop 8 run)) (v0.at + 8) v1.at
+    (w.gids ∙ ap (λ (to : ℕ). Ok (big_number 4 (drop 8 run), to)) end)
+    (few_is (big_number 4 (drop 8 run)) few) in
+    let there : reading (group_words (big_number 4 (drop 8 run))) v0.body v1.at ≡ Err stop =
+    subst
+    (λ (body : List ℕ). reading (group_words (big_number 4 (drop 8 run))) body v1.at ≡ Err stop)
+    moves.same_body (h stop is) in
+    let cut : times_at (reading (word head_names.group)) (big_number 4 (drop 8 run)) v0.body v1.at
+    ≡ Err stop = sym (times_reads (big_number 4 (drop 8 run)) v0.body v1.at) ∙ there in
     rw (w.uid, w.gid, count, cut) refl
 
 -- the same for the groups' own answer
 
-pub owner_scanned : {V X : Type 0} (stands : V → List Item → Type 0) (run : List ℕ) (v0 v1 v2 : View) (s0 s1 s2 : V) (r : Result X GetError) → run_at 12 v0.body v0.at ≡ Ok (run, v1.at) → MovesOn v0 v1 → big_number 4 (drop 8 run) ≤ 16
-    → Adds stands s0 s1 (Word head_names.uid (big_number 4 run) ∷ Word head_names.gid (big_number 4 (drop 4 run)) ∷ Word head_names.gids (big_number 4 (drop 4 (drop 4 run))) ∷ []) → OnOk r (Scans stands (group_words (big_number 4 (drop 8 run))) v1 v2 s1 s2)
+pub owner_scanned : {V X : Type 0} (stands : V → List Item → Type 0) (run : List ℕ)
+    (v0 v1 v2 : View) (s0 s1 s2 : V) (r : Result X GetError)
+    → run_at 12 v0.body v0.at ≡ Ok (run, v1.at) → MovesOn v0 v1 → big_number 4 (drop 8 run) ≤ 16
+    → Adds stands s0 s1 (Word head_names.uid (big_number 4 run)
+    ∷ Word head_names.gid (big_number 4 (drop 4 run))
+    ∷ Word head_names.gids (big_number 4 (drop 4 (drop 4 run))) ∷ [])
+    → OnOk r (Scans stands (group_words (big_number 4 (drop 8 run))) v1 v2 s1 s2)
     → OnOk r (Scans stands owner v0 v2 s0 s2)
-owner_scanned stands run v0 v1 v2 s0 s1 s2 (Ok x) e moves few a h = owner_scans stands run v0 v1 v2 s0 s1 s2 e moves few a h
+owner_scanned stands run v0 v1 v2 s0 s1 s2 (Ok x) e moves few a h =
+    owner_scans stands run v0 v1 v2 s0 s1 s2 e moves few a h
 owner_scanned stands run v0 v1 v2 s0 s1 s2 (Err error) e moves few a h = h
 
-pub owner_stopped : {X : Type 0} (run : List ℕ) (v0 v1 : View) (r : Result X GetError) → run_at 12 v0.body v0.at ≡ Ok (run, v1.at) → MovesOn v0 v1 → big_number 4 (drop 8 run) ≤ 16 → IfErr r (λ error. Stops (group_words (big_number 4 (drop 8 run))) v1 error) → IfErr r (λ error. Stops owner v0 error)
+pub owner_stopped : {X : Type 0} (run : List ℕ) (v0 v1 : View) (r : Result X GetError)
+    → run_at 12 v0.body v0.at ≡ Ok (run, v1.at) → MovesOn v0 v1 → big_number 4 (drop 8 run) ≤ 16
+    → IfErr r (λ error. Stops (group_words (big_number 4 (drop 8 run))) v1 error)
+    → IfErr r (λ error. Stops owner v0 error)
 owner_stopped run v0 v1 (Ok x) e moves few h = h
 owner_stopped run v0 v1 (Err error) e moves few h = groups_stop run v0 v1 error e moves few h
 
 -- ---- an owner by its parts
 
-pub whole_scans : {V X : Type 0} (stands : V → List Item → Type 0) (v0 v1 : View) (s0 s1 : V) (r : Result X GetError) → OnOk r (Scans stands owner v0 v1 s0 s1) → OnOk r (Scans stands (word head_names.uid then word head_names.gid then gids) v0 v1 s0 s1)
+pub whole_scans : {V X : Type 0} (stands : V → List Item → Type 0) (v0 v1 : View) (s0 s1 : V)
+    (r : Result X GetError) → OnOk r (Scans stands owner v0 v1 s0 s1)
+    → OnOk r (Scans stands (word head_names.uid then word head_names.gid then gids) v0 v1 s0 s1)
 unfolding owner
 whole_scans stands v0 v1 s0 s1 r h = h
 
-pub whole_stops : {X : Type 0} (v0 : View) (r : Result X GetError) → IfErr r (λ e. Stops owner v0 e) → IfErr r (λ e. Stops (word head_names.uid then word head_names.gid then gids) v0 e)
+pub whole_stops : {X : Type 0} (v0 : View) (r : Result X GetError) → IfErr r (λ e. Stops owner v0 e)
+    → IfErr r (λ e. Stops (word head_names.uid then word head_names.gid then gids) v0 e)
 unfolding owner
 whole_stops v0 r h = h
 

@@ -40,16 +40,23 @@ unfolding followed_by
 call_procedure_is m = refl
 
 -- the call that a body spells is of the procedure of any call that it spells
-pub call_has_procedure : (id : ProcId) (body : List ℕ) (m : CallMsg) → IsCall body (call_items m) → ∥ SpellsCall id body ∥₁ → m.head.id ≡ id
+pub call_has_procedure : (id : ProcId) (body : List ℕ) (m : CallMsg) → IsCall body (call_items m)
+    → ∥ SpellsCall id body ∥₁ → m.head.id ≡ id
 call_has_procedure id body m is s = same_is m.head.id id (∥∥₁_elim s (Bool-set _ _) same)
   where
     same : SpellsCall id body → is_same m.head.id id ≡ true
-    same x = ap (is_same m.head.id) (x.2 ∙ sym (ap procedure_in (one_call body (call_items m) x.0 is x.1)) ∙ call_procedure_is m) ∙ is_same_self m.head.id
+    same x =
+        ap (is_same m.head.id) (x.2
+        ∙ sym (ap procedure_in (one_call body (call_items m) x.0 is x.1))
+        ∙ call_procedure_is m) ∙ is_same_self m.head.id
 
 -- where judging the body stops, it spells no call
-pub no_call : {M : Type 0} (r : Result M GetError) (body : List ℕ) → IfErr r (λ e. StopsMessage e (judge_call [] body)) → IfErr r (λ e. SpellsNoCall e body)
+pub no_call : {M : Type 0} (r : Result M GetError) (body : List ℕ)
+    → IfErr r (λ e. StopsMessage e (judge_call [] body)) → IfErr r (λ e. SpellsNoCall e body)
 no_call (Ok m) body h = h
-no_call (Err e) body h = λ stop same items is. call_never_stops (procedure_in items) body stop (items, is, refl) (h stop same)
+no_call (Err e) body h =
+    λ stop same items is.
+    call_never_stops (procedure_in items) body stop (items, is, refl) (h stop same)
 
 -- ---- replies
 
@@ -72,14 +79,21 @@ pub asked_by : (xid : ℕ) (id : ProcId) → procedure_of (the_call xid id) xid 
 asked_by xid id = ap (λ (b : Bool). cond b (Some id) None) (eq-eqb xid xid refl)
 
 -- a call with the xid of the reply that a body spells is asked for by the xid that is read
-pub asked : (id : ProcId) (body : List ℕ) (items : List Item) (s : MessageStart) (to : ℕ) → IsReply body (record { id = id; items = items }) → reading message_start body 0 ≡ Ok (start_items s, to)
+pub asked : (id : ProcId) (body : List ℕ) (items : List Item) (s : MessageStart) (to : ℕ)
+    → IsReply body (record { id = id; items = items })
+    → reading message_start body 0 ≡ Ok (start_items s, to)
     → procedure_of (the_call (xid_in items) id) s.xid ≡ Some id
-asked id body items s to is read = ap (procedure_of (the_call (xid_in items) id)) (reply_has_xid id body items s to is read) ∙ asked_by (xid_in items) id
+asked id body items s to is read =
+    ap (procedure_of (the_call (xid_in items) id)) (reply_has_xid id body items s to is read)
+    ∙ asked_by (xid_in items) id
 
 -- where judging the body after such a call stops, it spells no reply
 pub no_reply : {M : Type 0} (r : Result M GetError) (id : ProcId) (body : List ℕ)
-    → ((items : List Item) → IsReply body (record { id = id; items = items }) → IfErr r (λ e. StopsMessage e (judge_reply (the_call (xid_in items) id) body)))
+    → ((items : List Item) → IsReply body (record { id = id; items = items })
+    → IfErr r (λ e. StopsMessage e (judge_reply (the_call (xid_in items) id) body)))
     → IfErr r (λ e. SpellsNoReply e id body)
 no_reply (Ok m) id body h = tt
 no_reply (Err e) id body h = λ stop same items is.
-    reply_never_stops id body (record { xid = xid_in items; id = id }) stop refl (λ other was. ap xid_in (one_reply id body items other is was)) (items, is) (h items is stop same)
+    reply_never_stops id body (record { xid = xid_in items; id = id }) stop refl
+    (λ other was. ap xid_in (one_reply id body items other is was)) (items, is)
+    (h items is stop same)

@@ -6,8 +6,8 @@ use Rattle.capture3.specs.Entries.{OnRefused}
 use Rattle.capture3.specs.Entry.{Entry, items_of}
 use Rattle.capture3.specs.FirstFault.{FirstFault}
 use Rattle.capture3.specs.Typed.{Typed}
-use Rattle.canon3.specs.declared.verdict.SameError.{SameError}
-use Rattle.canon3.specs.declared.verdict.Which.TheVariants.{First, Second}
+use Rattle.canon3.specs.declared.comparison.verdict.SameError.{SameError}
+use Rattle.canon3.specs.declared.comparison.verdict.Which.TheVariants.{First, Second}
 
 -- the bytes of the handle that the item is (RFC 1813, section 2.5), if it is one
 abbrev pub handle_of_item : Item → List (List ℕ)

@@ -15,10 +15,10 @@ use Rattle.capture3.specs.Typed.{Typed}
 use Rattle.canon3.specs.declared.comparison.Comparison.{Comparison}
 use Rattle.canon3.specs.declared.comparison.Finding.{Finding}
 use Rattle.canon3.specs.declared.comparison.Finding.TheVariants as findings
-use Rattle.canon3.specs.declared.verdict.SameError.{SameError}
-use Rattle.canon3.specs.declared.verdict.Verdict.{Verdict}
-use Rattle.canon3.specs.declared.verdict.Which.{Which}
-use Rattle.canon3.specs.declared.verdict.Which.TheVariants.{Second}
+use Rattle.canon3.specs.declared.comparison.verdict.SameError.{SameError}
+use Rattle.canon3.specs.declared.comparison.verdict.Verdict.{Verdict}
+use Rattle.canon3.specs.declared.comparison.verdict.Which.{Which}
+use Rattle.canon3.specs.declared.comparison.verdict.Which.TheVariants.{Second}
 use Rattle.canon3.specs.Bytes.{bytes_of}
 use Rattle.canon3.specs.Canonical.{canonical}
 use Rattle.canon3.specs.machinery.MessageWriter.{told_after, WriterStands, values_of}

@@ -1,11 +1,11 @@
 -- The canonical form, entry by entry: the values of the entries before, and the magic.
-use Rattle.std.specs.Prelude.{ℕ, ◌==◌, Bool, true, false, if◌then◌else◌, Option, List, [], ◌∷◌, ◌++◌, Result, Ok, Err}
+use Rattle.std.specs.Prelude.{ℕ, Bool, true, false, Option, List, [], ◌∷◌, ◌++◌, Result, Ok, Err}
 use Rattle.std.specs.Io.KnownBytes.{Appends}
 use Rattle.xdr3.specs.Item.{Item}
 use Rattle.capture3.specs.declared.fault.Error.{Error}
 use Rattle.capture3.specs.Capture.{One, magic}
 use Rattle.capture3.specs.Entry.{Entry}
-use Rattle.canon3.specs.declared.message_writer.MessageWriter.{MessageWriter}
+use Rattle.canon3.specs.declared.canonical_form.message_writer.MessageWriter.{MessageWriter}
 use Rattle.canon3.specs.machinery.MessageWriter.{told_after, IsGoing, WriterStands, values_of}
 use Rattle.canon3.specs.machinery.Spelling.{bytes_after}
 use Rattle.canon3.specs.SinkWrites.{AppendsFront}
@@ -21,10 +21,6 @@ are_some (entry ∷ entries) = true
 abbrev pub magic_unless : Bool → List ℕ
 magic_unless true = []
 magic_unless false = magic One
-
--- the magic stands before the first connection, and before the end where there is none
-abbrev pub magic_before : (connections : ℕ) → List ℕ
-magic_before connections = if connections == 0 then magic One else []
 
 -- the entry's values are held after those before it, and its bytes in the canonical form are
 -- written, or a front of them

@@ -4,9 +4,9 @@ use Rattle.std.specs.Prelude.{◌≡◌, ◌≢◌, ℕ, ◌<◌, ◌^◌, List,
 use Rattle.xdr3.specs.Item.{Item, Word, Rest, Spells, word_bytes, zero_spelling}
 use Rattle.patches.specs.Patches.{Makes, Noted, patched}
 use Rattle.capture3.specs.Entry.{Entry}
-use Rattle.canon3.specs.declared.message_writer.MessageWriter.{MessageWriter}
-use Rattle.canon3.specs.declared.message_writer.Stage.{Stage}
-use Rattle.canon3.specs.declared.message_writer.Stage.TheVariants.{Begins, Goes, Failed}
+use Rattle.canon3.specs.declared.canonical_form.message_writer.MessageWriter.{MessageWriter}
+use Rattle.canon3.specs.declared.canonical_form.message_writer.Stage.{Stage}
+use Rattle.canon3.specs.declared.canonical_form.message_writer.Stage.TheVariants.{Begins, Goes, Failed}
 use Rattle.canon3.specs.CanonicalStream.{items_after}
 use Rattle.canon3.specs.machinery.OpenXids.{open_xids}
 use Rattle.canon3.specs.HandleTable.{HoldsHandles}

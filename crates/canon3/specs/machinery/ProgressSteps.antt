@@ -5,7 +5,7 @@ use Rattle.capture3.specs.declared.fault.Side.TheVariants.{Client, Server}
 use Rattle.capture3.specs.declared.fault.Place.{Place}
 use Rattle.capture3.specs.declared.fault.Place.TheVariants as places
 use Rattle.capture3.specs.Entry.{Entry, Call, Reply}
-use Rattle.canon3.specs.declared.progress.Progress.{Progress}
+use Rattle.canon3.specs.declared.entries.progress.Progress.{Progress}
 use Rattle.capture3.specs.declared.reader.entry.Kind.{Kind}
 use Rattle.capture3.specs.declared.reader.entry.Kind.TheVariants as kinds
 

@@ -6,8 +6,8 @@ use Rattle.capture3.specs.declared.reader.entries.Entries.{Entries}
 use Rattle.capture3.specs.declared.fault.Error.{Error}
 use Rattle.capture3.specs.declared.fault.Error.TheVariants as errors
 use Rattle.capture3.specs.Entries.{CountsReads, loan_of}
-use Rattle.canon3.specs.declared.verdict.SameError.{SameError}
-use Rattle.canon3.specs.declared.verdict.Which.TheVariants.{First, Second}
+use Rattle.canon3.specs.declared.comparison.verdict.SameError.{SameError}
+use Rattle.canon3.specs.declared.comparison.verdict.Which.TheVariants.{First, Second}
 use Rattle.canon3.specs.Comparison.{CountsReadingOf}
 use Rattle.canon3.specs.machinery.ComparisonSteps.{CountsReadsOf}
 

@@ -3,9 +3,9 @@ use Rattle.std.specs.Prelude.{◌≡◌, ℕ, List, [], ◌∷◌, ◌++◌}
 use Rattle.std.specs.List.{flat_map}
 use Rattle.xdr3.specs.Item.{word_bytes}
 use Rattle.capture3.specs.Entry.{Entry}
-use Rattle.canon3.specs.declared.message_writer.MessageWriter.{MessageWriter}
-use Rattle.canon3.specs.declared.spelling.Spelling.{Spelling}
-use Rattle.canon3.specs.declared.spelling.Spelling.TheVariants.{Zero, One, Message}
+use Rattle.canon3.specs.declared.canonical_form.message_writer.MessageWriter.{MessageWriter}
+use Rattle.canon3.specs.declared.canonical_form.spelling.Spelling.{Spelling}
+use Rattle.canon3.specs.declared.canonical_form.spelling.Spelling.TheVariants.{Zero, One, Message}
 use Rattle.canon3.specs.Bytes.{chunk_bytes, entry_bytes, record_bytes}
 use Rattle.canon3.specs.CanonicalStream.{entries_after}
 use Rattle.canon3.specs.machinery.OpenXids.{open_xids}

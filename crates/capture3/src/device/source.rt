@@ -70,6 +70,49 @@ impl<R: Read> FromRead<R> {
     }
 }
 
+impl<R: Drop> FromRead<R> {
+    /// Drops the reader, and keeps what its reads gave.
+    pub fn into_given(self) -> Given
+        ensures { result ≡ record {
+          given = self.given;
+          failures = self.failures;
+          is_spent = self.is_spent;
+        } }
+    {
+        let FromRead {
+            reader: _reader,
+            failures,
+            given,
+            is_spent,
+        } = self;
+        Given {
+            trail: given,
+            failures,
+            is_spent,
+        }
+    }
+}
+
+/// What the reads of a source gave, without its reader. Only clauses see the bytes.
+#[derive(Drop)]
+pub struct Given {
+    trail: Trail,
+    failures: u64,
+    is_spent: bool,
+}
+
+impl Model for Given {
+    ghost use Rattle.capture3.specs.Device.{GivenBytes};
+
+    ghost Value = { GivenBytes };
+
+    ghost view = { λ g. record {
+      given = g.trail.bytes;
+      failures = g.failures;
+      is_spent = g.is_spent;
+    } };
+}
+
 impl<R: Read> Source for FromRead<R> {
     ghost told = { λ s. record {
       left = R.remaining s.device;

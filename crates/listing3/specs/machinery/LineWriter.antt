@@ -4,14 +4,15 @@ use Rattle.xdr3.specs.Item.{Item, Word}
 use Rattle.capture3.specs.Entry.{Entry}
 use Rattle.canon3.specs.Values.{handles_in}
 use Rattle.canon3.specs.machinery.Sums.{all_items}
+use Rattle.listing3.specs.declared.items_text.ItemsText.{ItemsText}
 use Rattle.listing3.specs.declared.line_writer.LineWriter.{LineWriter}
-use Rattle.listing3.specs.Listing.{shown_items}
+use Rattle.listing3.specs.machinery.ItemsText.{TextStands}
 
 -- the message up to here: its xid, and the text of the items after it; nothing is said where it
 -- begins with another item
-abbrev pub IsTextOf : Option ℕ → List ℕ → List Item → Type 0
-IsTextOf xid text [] = (xid ≡ None) × (text ≡ [])
-IsTextOf xid text (Word name n ∷ items) = (xid ≡ Some n) × (text ≡ shown_items items)
+abbrev pub IsTextOf : Option ℕ → ItemsText → List Item → Type 0
+IsTextOf xid text [] = (xid ≡ None) × TextStands text []
+IsTextOf xid text (Word name n ∷ items) = (xid ≡ Some n) × TextStands text items
 IsTextOf xid text _ = Unit {0}
 
 -- The items of the messages before stand in front of the message's own, and how many these are in

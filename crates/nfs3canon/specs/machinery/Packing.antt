@@ -1,11 +1,24 @@
--- Why streams are not packed.
-use Rattle.std.specs.Prelude.{ℕ, List, Any, Ok, Err, ⊤}
+-- What came of packing streams, before the file has its name.
+use Rattle.std.specs.Prelude.{ℕ, List, [], Any, Ok, Err, Option, Some, ⊤}
+use Rattle.capture3.specs.SidedChunks.{Streams}
+use Rattle.capture3.specs.declared.fault.Error.TheVariants as errors
+use Rattle.packing3.specs.Packing.{HasWrittenCapture}
 use Rattle.program3.specs.Files.{FailsToOpenStream}
+use Rattle.program3.specs.Readings.{FileReading}
 use Rattle.program3.specs.declared.outcome.Outcome.{Outcome}
 use Rattle.program3.specs.declared.outcome.Outcome.TheVariants as outcomes
+use Rattle.nfs3canon.specs.Files.{AreReadStreams, OneHasFailed}
 
--- a stream was not opened, or the packing met an error
-abbrev pub StopsPacking : List (List ℕ) → Outcome → Type 0
-StopsPacking names (outcomes.Packed (Ok done)) = ⊥
-StopsPacking names (outcomes.Packed (Err error)) = ⊤
-StopsPacking names outcome = Any (λ name. FailsToOpenStream name outcome) names
+-- all streams were read to their ends, and the capture of them is written to a file that was empty
+abbrev pub WritesStreams : (holds : List ℕ → Option (List ℕ)) → List (List ℕ) → List FileReading
+    → Option (List ℕ) → Type 0
+WritesStreams holds names readings written = (pairs : List Streams)
+    × AreReadStreams holds names readings pairs × HasWrittenCapture (Some []) written pairs
+
+-- a stream was not opened, or a read of one failed, or the packing met another error
+abbrev pub StopsPacking : List (List ℕ) → List FileReading → Outcome → Type 0
+StopsPacking names readings (outcomes.Packed (Ok done)) = ⊥
+StopsPacking names readings (outcomes.Packed (Err errors.Read)) =
+    OneHasFailed readings
+StopsPacking names readings (outcomes.Packed (Err error)) = ⊤
+StopsPacking names readings outcome = Any (λ name. FailsToOpenStream name outcome) names

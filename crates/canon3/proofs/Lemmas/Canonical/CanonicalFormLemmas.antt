@@ -1,24 +1,9 @@
 -- What was rewritten, entry by entry.
-use Rattle.std.proofs.Common.{◌≡◌, ℕ, ◌+◌, Bool, true, false, List, [], ◌∷◌, ◌++◌, refl, sym, ap, ◌∙◌, subst, arith, Option, Result, Ok, Err}
-use Rattle.std.specs.Prelude.{◌==◌, if◌then◌else◌}
-use Rattle.std.proofs.lemmas.Bool.Decides.{Decides-eqb}
-use Rattle.std.specs.Io.KnownBytes.{Appends}
-use Rattle.std.proofs.KnownBytes.{Appends-trans}
-use Rattle.capture3.specs.declared.fault.Error.{Error}
-use Rattle.capture3.specs.Capture.{One, magic}
-use Rattle.capture3.specs.Entry.{Entry, Begin, Call, Turn, Reply, Close, End}
-use Rattle.canon3.specs.declared.message_writer.MessageWriter.{MessageWriter}
-use Rattle.canon3.specs.Bytes.{bytes_of}
-use Rattle.canon3.specs.Canonical.{canonical}
-use Rattle.canon3.specs.declared.summary.Summary.{Summary}
+use Rattle.canon3.proofs.Common.{◌≡◌, ℕ, ◌+◌, Bool, true, false, List, [], ◌∷◌, ◌++◌, refl, sym, ap, ◌∙◌, subst, arith, Option, Result, Ok, Err, Decides-eqb, Appends, Error, One, magic, Entry, Begin, Call, Turn, Reply, Close, End, MessageWriter, bytes_of, canonical, AreFirst, IsGoing, WriterStands, connections, bytes_after, AppendsFront, ◌==◌, if◌then◌else◌, Appends-trans, Summary}
 use Rattle.canon3.specs.EntryWriter.{HasWrittenOrCut, WritesAll}
-use Rattle.canon3.specs.Laws.{AreFirst}
-use Rattle.canon3.specs.machinery.MessageWriter.{IsGoing, WriterStands}
-use Rattle.canon3.specs.Parting.{connections}
 use Rattle.canon3.specs.CanonicalForm.{canonical_bytes, WritesNoMore}
-use Rattle.canon3.specs.machinery.FormSteps.{are_some, Follows, magic_before, magic_unless, values_before}
-use Rattle.canon3.specs.machinery.Spelling.{bytes_after}
-use Rattle.canon3.specs.SinkWrites.{AppendsFront}
+use Rattle.canon3.specs.machinery.FormSteps.{are_some, Follows, magic_unless, values_before}
+use Rattle.canon3.specs.Bytes.{magic_before}
 use Rattle.canon3.proofs.Lemmas.WellFormed.Files.{canonical_is_file}
 use Rattle.canon3.proofs.Lemmas.Order.First.{first_in_order}
 use Rattle.canon3.proofs.Lemmas.Canonical.Growing.{form_grows}
@@ -28,7 +13,8 @@ use Rattle.canon3.proofs.Lemmas.Writing.SinkWritesLemmas.{front_of_first, front_
 -- ---- the magic
 
 -- nothing comes after a capture's end
-none_after : (entries : List Entry) (one : Entry) (s : Stage) → Runs Over (entries ++ one ∷ []) s → ⊥
+none_after : (entries : List Entry) (one : Entry) (s : Stage) → Runs Over (entries ++ one ∷ []) s
+    → ⊥
 none_after [] one s (steps x r) = elim x [ ]
 none_after (e ∷ entries) one s (steps x r) = elim x [ ]
 
@@ -42,7 +28,8 @@ no_magic count = by_test (1 + count == 0) refl
     by_test false e = refl
 
 -- before the first entry, and then not
-magic_is : (entries : List Entry) (one : Entry) (s : Stage) → Runs Between (entries ++ one ∷ []) s → magic_before (connections entries) ≡ magic_unless (are_some entries)
+magic_is : (entries : List Entry) (one : Entry) (s : Stage) → Runs Between (entries ++ one ∷ []) s
+    → magic_before (connections entries) ≡ magic_unless (are_some entries)
 magic_is [] one s r = refl
 magic_is (Begin ∷ entries) one s r = no_magic (connections entries)
 magic_is (Call m ∷ entries) one s (steps x r) = elim x [ ]
@@ -51,36 +38,59 @@ magic_is (Reply id m ∷ entries) one s (steps x r) = elim x [ ]
 magic_is (Close ∷ entries) one s (steps x r) = elim x [ ]
 magic_is (End ∷ entries) one s (steps end r) = absurd (none_after entries one s r)
 
-pub the_magic : (entries : List Entry) (one : Entry) (count : ℕ) → AreFirst (entries ++ one ∷ []) → count ≡ connections entries → magic_before count ≡ magic_unless (are_some entries)
+pub the_magic : (entries : List Entry) (one : Entry) (count : ℕ) → AreFirst (entries ++ one ∷ [])
+    → count ≡ connections entries → magic_before count ≡ magic_unless (are_some entries)
 the_magic entries one count first is =
     let order = first_in_order (entries ++ one ∷ []) first in
     ap magic_before is ∙ magic_is entries one order.stage order.run
 
 -- ---- one entry more, where the sink had the old bytes first, and then these in turn
 
-module _ {S H : Type 0} (n : MessageWriter S H) (old before between after : Option (List ℕ)) (entries : List Entry) (one : Entry) (count : ℕ) (first : AreFirst (entries ++ one ∷ [])) (counted : count ≡ connections entries) (so_far : Appends old before (bytes_of (canonical entries))) where
-  with_magic : Appends before between (magic_before count) → Appends old between (bytes_of (canonical entries) ++ magic_unless (are_some entries))
-  with_magic magic = Appends-trans old before between (bytes_of (canonical entries)) (magic_unless (are_some entries)) so_far (subst (Appends before between) (the_magic entries one count first counted) magic)
+module _ {S H : Type 0} (n : MessageWriter S H) (old before between after : Option (List ℕ))
+    (entries : List Entry) (one : Entry) (count : ℕ) (first : AreFirst (entries ++ one ∷ []))
+    (counted : count ≡ connections entries)
+    (so_far : Appends old before (bytes_of (canonical entries))) where
+  with_magic : Appends before between (magic_before count)
+      → Appends old between (bytes_of (canonical entries) ++ magic_unless (are_some entries))
+  with_magic magic =
+      Appends-trans old before between (bytes_of (canonical entries))
+      (magic_unless (are_some entries)) so_far
+      (subst (Appends before between) (the_magic entries one count first counted) magic)
 
-  pub written_or_cut : {X : Type 0} (r : Result X Error) → Appends before between (magic_before count) → Follows n between after entries one r → HasWrittenOrCut canonical_bytes values_before WriterStands IsGoing n old after (entries ++ one ∷ []) r
+  pub written_or_cut : {X : Type 0} (r : Result X Error)
+      → Appends before between (magic_before count) → Follows n between after entries one r
+      → HasWrittenOrCut canonical_bytes values_before WriterStands IsGoing n old after
+      (entries ++ one ∷ []) r
   written_or_cut (Ok x) magic (going, stands, followed) = (
     going,
     stands,
     subst (Appends old after) (sym (form_grows entries one first))
-        (Appends-trans old between after (bytes_of (canonical entries) ++ magic_unless (are_some entries)) (bytes_after entries (one ∷ [])) (with_magic magic) followed),
+        (Appends-trans old between after
+        (bytes_of (canonical entries) ++ magic_unless (are_some entries))
+        (bytes_after entries (one ∷ [])) (with_magic magic) followed),
   )
   written_or_cut (Err error) magic cut =
-      front_of_second old between after (bytes_of (canonical entries) ++ magic_unless (are_some entries)) (bytes_after entries (one ∷ [])) (bytes_of (canonical (entries ++ one ∷ []))) (form_grows entries one first) (with_magic magic) cut
+      front_of_second old between after
+      (bytes_of (canonical entries) ++ magic_unless (are_some entries))
+      (bytes_after entries (one ∷ [])) (bytes_of (canonical (entries ++ one ∷ [])))
+      (form_grows entries one first) (with_magic magic) cut
 
   -- the magic was cut
-  pub cut_in_magic : AppendsFront before between (magic_before count) → AppendsFront old between (bytes_of (canonical (entries ++ one ∷ [])))
+  pub cut_in_magic : AppendsFront before between (magic_before count)
+      → AppendsFront old between (bytes_of (canonical (entries ++ one ∷ [])))
   cut_in_magic cut =
-      front_of_first old between (bytes_of (canonical entries) ++ magic_unless (are_some entries)) (bytes_after entries (one ∷ [])) (bytes_of (canonical (entries ++ one ∷ []))) (form_grows entries one first)
-      (front_of_second old before between (bytes_of (canonical entries)) (magic_unless (are_some entries)) (bytes_of (canonical entries) ++ magic_unless (are_some entries)) refl so_far
+      front_of_first old between (bytes_of (canonical entries) ++ magic_unless (are_some entries))
+      (bytes_after entries (one ∷ [])) (bytes_of (canonical (entries ++ one ∷ [])))
+      (form_grows entries one first)
+      (front_of_second old before between (bytes_of (canonical entries))
+      (magic_unless (are_some entries))
+      (bytes_of (canonical entries) ++ magic_unless (are_some entries)) refl so_far
       (subst (AppendsFront before between) (the_magic entries one count first counted) cut))
 
 -- ---- its stream bytes
 
-pub written_no_more : (bytes : List ℕ) (old new : Option (List ℕ)) (result : Result Summary Error) → WritesAll canonical_bytes bytes old new result → WritesNoMore bytes old new result
-written_no_more bytes old new (Ok summary) (entries, typed, is, written) = (entries, typed, written, canonical_is_file bytes entries typed)
+pub written_no_more : (bytes : List ℕ) (old new : Option (List ℕ)) (result : Result Summary Error)
+    → WritesAll canonical_bytes bytes old new result → WritesNoMore bytes old new result
+written_no_more bytes old new (Ok summary) (entries, typed, is, written) =
+    (entries, typed, written, canonical_is_file bytes entries typed)
 written_no_more bytes old new (Err error) w = tt

@@ -1,18 +1,6 @@
 -- The canonical form is a one-to-one renaming of the entries.
-use Rattle.std.proofs.Common.{◌≡◌, ℕ, ◌<◌, ◌^◌, List, [], ◌∷◌, ◌++◌, length, map, refl, sym, ap, ◌∙◌, subst, ⊎_elim, arith}
-use Rattle.std.specs.Prelude.{bytes_eq, nat_eq}
-use Rattle.std.specs.List.{AllByRecursion}
-use Rattle.byteorder.specs.Endian.{big_bytes, big_number}
+use Rattle.canon3.proofs.Common.{◌≡◌, ℕ, ◌<◌, ◌^◌, List, [], ◌∷◌, ◌++◌, length, map, refl, sym, ap, ◌∙◌, subst, ⊎_elim, arith, bytes_eq, nat_eq, AllByRecursion, Decides-eqb, bytes_eq-Decides, Item, Word, Opaque, Handle, WriteVerf, word_bytes, Entry, Begin, Call, Turn, Reply, Close, End, handle_in, verifier_in, handles_in, verifiers_in, handles, verifiers, call_xids, xid_of, rank, Member, here, there, Pairs, IsHandle, IsVerifier, IsXid, RenamesItem, handle, verifier, plain, Pairwise, none, more, RenamesMessage, message, Renames, ended, begins, calls, turns, replies, closes, ends, Same, numbered_item, numbered_message, numbered, canonical, big_bytes, big_number}
 use Rattle.byteorder.specs.Numbers.{big_number-reads_back}
-use Rattle.std.proofs.lemmas.Bool.Decides.{Decides-eqb}
-use Rattle.std.proofs.lemmas.Slice.Eq.{bytes_eq-Decides}
-use Rattle.xdr3.specs.Item.{Item, Word, Opaque, Handle, WriteVerf, word_bytes}
-use Rattle.capture3.specs.Entry.{Entry, Begin, Call, Turn, Reply, Close, End}
-use Rattle.canon3.specs.Values.{handle_in, verifier_in, handles_in, verifiers_in, handles, verifiers, call_xids, xid_of}
-use Rattle.canon3.specs.Rank.{rank}
-use Rattle.canon3.specs.Pairing.{Member, here, there, Pairs, IsHandle, IsVerifier, IsXid}
-use Rattle.canon3.specs.Renaming.{RenamesItem, handle, verifier, plain, Pairwise, none, more, RenamesMessage, message, Renames, ended, begins, calls, turns, replies, closes, ends, Same}
-use Rattle.canon3.specs.Canonical.{numbered_item, numbered_message, numbered, canonical}
 use Rattle.canon3.proofs.Lemmas.Order.Order.{BeginsWithXid, IsAnswering, IsWellFormed}
 use Rattle.canon3.proofs.Lemmas.WellFormed.Nesting.{Paired, paired, no_call}
 use Rattle.canon3.proofs.Lemmas.Numbers.RankLemmas.{same_rank, rank-le-length, member-append_left, member-append_right, member-append_cases}
@@ -32,7 +20,8 @@ within_right l m n f x h = f x (member-append_right l h)
 within_both : {K : Type 0} (l m n : List K) → Within l n → Within m n → Within (l ++ m) n
 within_both l m n f g x h = ⊎_elim (f x) (g x) (member-append_cases l h)
 
-pub answering : (xs : List ℕ) (m : List Item) → IsAnswering xs m → BeginsWithXid m × Within (xid_of m) xs
+pub answering : (xs : List ℕ) (m : List Item) → IsAnswering xs m
+    → BeginsWithXid m × Within (xid_of m) xs
 answering xs (Word name x ∷ items) a = (tt, one x xs a)
   where
     one : (x : ℕ) (xs : List ℕ) → Member x xs → Within (x ∷ []) xs
@@ -44,7 +33,9 @@ answering xs _ a = absurd a
 
 -- a number is known by its bytes
 pub number_back : (n x y : ℕ) → x < 256 ^ n → y < 256 ^ n → big_bytes n x ≡ big_bytes n y → x ≡ y
-number_back n x y a b e = sym (big_number-reads_back n x [] a) ∙ (ap (λ (l : List ℕ). big_number n (l ++ [])) e ∙ big_number-reads_back n y [] b)
+number_back n x y a b e =
+    sym (big_number-reads_back n x [] a)
+    ∙ (ap (λ (l : List ℕ). big_number n (l ++ [])) e ∙ big_number-reads_back n y [] b)
 
 abbrev handle_number : List (List ℕ) → List ℕ → List ℕ
 handle_number hs h = word_bytes (rank bytes_eq h hs)
@@ -60,24 +51,33 @@ xid_graphs [] = []
 xid_graphs (Begin ∷ es) = graph (xid_number (call_xids es)) (call_xids es) ∷ xid_graphs es
 xid_graphs (_ ∷ es) = xid_graphs es
 
-agree-handles : (hs : List (List ℕ)) → ((h : List ℕ) → Member h hs → IsHandle h) → length hs < 2 ^ 32 → Agree bytes_eq IsHandle (graph (handle_number hs) hs)
+agree-handles : (hs : List (List ℕ)) → ((h : List ℕ) → Member h hs → IsHandle h)
+    → length hs < 2 ^ 32 → Agree bytes_eq IsHandle (graph (handle_number hs) hs)
 agree-handles hs fit few =
-    agree-graph bytes_eq bytes_eq-Decides (handle_number hs) hs (λ h m. (fit h m, (omega arith, omega arith)))
+    agree-graph bytes_eq bytes_eq-Decides (handle_number hs) hs
+    (λ h m. (fit h m, (omega arith, omega arith)))
     (λ h k m n e.
-    let a : rank bytes_eq h hs < 2 ^ 32 = omega (arith, rank-le-length bytes_eq bytes_eq-Decides m) in
-    let b : rank bytes_eq k hs < 2 ^ 32 = omega (arith, rank-le-length bytes_eq bytes_eq-Decides n) in
+    let a : rank bytes_eq h hs < 2 ^ 32 =
+    omega (arith, rank-le-length bytes_eq bytes_eq-Decides m) in
+    let b : rank bytes_eq k hs < 2 ^ 32 =
+    omega (arith, rank-le-length bytes_eq bytes_eq-Decides n) in
     same_rank bytes_eq bytes_eq-Decides m n (number_back 4 _ _ (omega arith) (omega arith) e))
 
-agree-verifiers : (vs : List (List ℕ)) → ((v : List ℕ) → Member v vs → IsVerifier v) → length vs < 2 ^ 32 → Agree bytes_eq IsVerifier (graph (verifier_number vs) vs)
+agree-verifiers : (vs : List (List ℕ)) → ((v : List ℕ) → Member v vs → IsVerifier v)
+    → length vs < 2 ^ 32 → Agree bytes_eq IsVerifier (graph (verifier_number vs) vs)
 agree-verifiers vs fit few =
     agree-graph bytes_eq bytes_eq-Decides (verifier_number vs) vs (λ v m. (fit v m, refl))
     (λ h k m n e.
-    let a : rank bytes_eq h vs < 2 ^ 64 = omega (arith, rank-le-length bytes_eq bytes_eq-Decides m) in
-    let b : rank bytes_eq k vs < 2 ^ 64 = omega (arith, rank-le-length bytes_eq bytes_eq-Decides n) in
+    let a : rank bytes_eq h vs < 2 ^ 64 =
+    omega (arith, rank-le-length bytes_eq bytes_eq-Decides m) in
+    let b : rank bytes_eq k vs < 2 ^ 64 =
+    omega (arith, rank-le-length bytes_eq bytes_eq-Decides n) in
     same_rank bytes_eq bytes_eq-Decides m n (number_back 8 _ _ (omega arith) (omega arith) e))
 
 agree-xids : (l : List ℕ) → Agree nat_eq IsXid (graph (xid_number l) l)
-agree-xids l = agree-graph nat_eq Decides-eqb (xid_number l) l (λ x m. (tt, tt)) (λ x y m n e. same_rank nat_eq Decides-eqb m n e)
+agree-xids l =
+    agree-graph nat_eq Decides-eqb (xid_number l) l (λ x m. (tt, tt))
+    (λ x y m n e. same_rank nat_eq Decides-eqb m n e)
 
 agree-graphs : (es : List Entry) → AllByRecursion (Agree nat_eq IsXid) (xid_graphs es)
 agree-graphs [] = tt
@@ -93,35 +93,53 @@ module _ (hs vs : List (List ℕ)) where
   abbrev qs : Pairs (List ℕ)
   qs = graph (verifier_number vs) vs
 
-  item_renumbers : (i : Item) → Within (handle_in i) hs → Within (verifier_in i) vs → RenamesItem ps qs i (numbered_item hs vs i)
+  item_renumbers : (i : Item) → Within (handle_in i) hs → Within (verifier_in i) vs
+      → RenamesItem ps qs i (numbered_item hs vs i)
   item_renumbers (Opaque Handle name []) h k = plain (Opaque Handle name []) tt
-  item_renumbers (Opaque Handle name (b ∷ bs)) h k = handle (member-graph (handle_number hs) (h (b ∷ bs) here))
+  item_renumbers (Opaque Handle name (b ∷ bs)) h k =
+      handle (member-graph (handle_number hs) (h (b ∷ bs) here))
   item_renumbers (WriteVerf name v) h k = verifier (member-graph (verifier_number vs) (k v here))
   item_renumbers i h k = plain i tt
 
-  items_renumber : (l : List Item) → Within (handles_in l) hs → Within (verifiers_in l) vs → Pairwise (RenamesItem ps qs) l (map (numbered_item hs vs) l)
+  items_renumber : (l : List Item) → Within (handles_in l) hs → Within (verifiers_in l) vs
+      → Pairwise (RenamesItem ps qs) l (map (numbered_item hs vs) l)
   items_renumber [] h k = none
   items_renumber (i ∷ l) h k =
-      more (item_renumbers i (within_left (handle_in i) (handles_in l) hs h) (within_left (verifier_in i) (verifiers_in l) vs k))
-      (items_renumber l (within_right (handle_in i) (handles_in l) hs h) (within_right (verifier_in i) (verifiers_in l) vs k))
+      more (item_renumbers i (within_left (handle_in i) (handles_in l) hs h)
+      (within_left (verifier_in i) (verifiers_in l) vs k))
+      (items_renumber l (within_right (handle_in i) (handles_in l) hs h)
+      (within_right (verifier_in i) (verifiers_in l) vs k))
 
-  message_renumbers : (xs : List ℕ) (m : List Item) → BeginsWithXid m → Within (xid_of m) xs → Within (handles_in m) hs → Within (verifiers_in m) vs → RenamesMessage ps qs (graph (xid_number xs) xs) m (numbered_message hs vs xs m)
-  message_renumbers xs (Word name x ∷ items) b f h k = message (member-graph (xid_number xs) (f x here)) (items_renumber items h k)
+  message_renumbers : (xs : List ℕ) (m : List Item) → BeginsWithXid m → Within (xid_of m) xs
+      → Within (handles_in m) hs → Within (verifiers_in m) vs
+      → RenamesMessage ps qs (graph (xid_number xs) xs) m (numbered_message hs vs xs m)
+  message_renumbers xs (Word name x ∷ items) b f h k =
+      message (member-graph (xid_number xs) (f x here)) (items_renumber items h k)
   message_renumbers xs _ b f h k = absurd b
 
   -- seen: the xids of the open connection's calls so far; xs: those of all its calls
-  entries_renumber : (es : List Entry) (seen xs : List ℕ) → Paired seen es → Within seen xs → Within (call_xids es) xs → Within (handles es) hs → Within (verifiers es) vs → Renames ps qs (graph (xid_number xs) xs) (xid_graphs es) es (numbered hs vs xs es)
+  entries_renumber : (es : List Entry) (seen xs : List ℕ) → Paired seen es → Within seen xs
+      → Within (call_xids es) xs → Within (handles es) hs → Within (verifiers es) vs
+      → Renames ps qs (graph (xid_number xs) xs) (xid_graphs es) es (numbered hs vs xs es)
   entries_renumber [] seen xs p s c h k = ended
-  entries_renumber (Begin ∷ es) seen xs p s c h k = begins (entries_renumber es [] (call_xids es) p (λ x m. elim m [ ]) (λ x m. m) h k)
+  entries_renumber (Begin ∷ es) seen xs p s c h k =
+      begins (entries_renumber es [] (call_xids es) p (λ x m. elim m [ ]) (λ x m. m) h k)
   entries_renumber (Call m ∷ es) seen xs p s c h k =
       let own = within_left (xid_of m) (call_xids es) xs c in
-      calls (message_renumbers xs m p.0 own (within_left (handles_in m) (handles es) hs h) (within_left (verifiers_in m) (verifiers es) vs k))
-      (entries_renumber es (seen ++ xid_of m) xs p.1 (within_both seen (xid_of m) xs s own) (within_right (xid_of m) (call_xids es) xs c) (within_right (handles_in m) (handles es) hs h) (within_right (verifiers_in m) (verifiers es) vs k))
+      calls (message_renumbers xs m p.0 own (within_left (handles_in m) (handles es) hs h)
+      (within_left (verifiers_in m) (verifiers es) vs k))
+      (entries_renumber es (seen ++ xid_of m) xs p.1 (within_both seen (xid_of m) xs s own)
+      (within_right (xid_of m) (call_xids es) xs c)
+      (within_right (handles_in m) (handles es) hs h)
+      (within_right (verifiers_in m) (verifiers es) vs k))
   entries_renumber (Turn ∷ es) seen xs p s c h k = turns (entries_renumber es seen xs p s c h k)
   entries_renumber (Reply id m ∷ es) seen xs p s c h k =
       let a = answering seen m p.0 in
-      replies (message_renumbers xs m a.0 (λ x n. s x (a.1 x n)) (within_left (handles_in m) (handles es) hs h) (within_left (verifiers_in m) (verifiers es) vs k))
-      (entries_renumber es seen xs p.1 s c (within_right (handles_in m) (handles es) hs h) (within_right (verifiers_in m) (verifiers es) vs k))
+      replies (message_renumbers xs m a.0 (λ x n. s x (a.1 x n))
+      (within_left (handles_in m) (handles es) hs h)
+      (within_left (verifiers_in m) (verifiers es) vs k))
+      (entries_renumber es seen xs p.1 s c (within_right (handles_in m) (handles es) hs h)
+      (within_right (verifiers_in m) (verifiers es) vs k))
   entries_renumber (Close ∷ es) seen xs p s c h k = closes (entries_renumber es seen xs p s c h k)
   entries_renumber (End ∷ es) seen xs p s c h k = ends (entries_renumber es seen xs p s c h k)
 
@@ -133,7 +151,9 @@ matches_canonical es w = record {
   handles_agree = agree-handles (handles es) w.handles_fit w.few_handles;
   verifiers_agree = agree-verifiers (verifiers es) w.verifiers_fit w.few_verifiers;
   xids_agree = agree-graphs es;
-  renames = entries_renumber (handles es) (verifiers es) es [] [] (paired w.run [] tt) (λ x m. m) (λ x m. subst (Member x) (sym (no_call w.run)) m) (λ x m. m) (λ x m. m);
+  renames =
+      entries_renumber (handles es) (verifiers es) es [] [] (paired w.run [] tt) (λ x m. m)
+      (λ x m. subst (Member x) (sym (no_call w.run)) m) (λ x m. m) (λ x m. m);
 }
 
 pub same-canonical : (es : List Entry) → IsWellFormed es → Same es (canonical es)

@@ -1,36 +1,36 @@
 -- The canonical form grows after the entries so far.
-use Rattle.std.proofs.Common.{◌≡◌, ◌≤◌, ◌<◌, ◌+◌, ◌^◌, ℕ, true, List, [], ◌∷◌, ◌++◌, length, length-append, refl, sym, ap, ◌∙◌, append_assoc, append-nil, arith}
-use Rattle.std.specs.List.{flat_map}
-use Rattle.std.proofs.lemmas.Grind.{flat_map-append}
-use Rattle.xdr3.specs.Item.{Item, Word}
-use Rattle.capture3.specs.Capture.{One, magic}
-use Rattle.capture3.specs.Entry.{Entry, Begin, Call, Turn, Reply, Close, End, items_of}
-use Rattle.canon3.specs.Bytes.{bytes_of, entry_bytes}
-use Rattle.canon3.specs.Canonical.{canonical, numbered}
-use Rattle.canon3.specs.CanonicalStream.{entries_after}
-use Rattle.canon3.specs.machinery.OpenXids.{open_xids}
-use Rattle.canon3.specs.Laws.{AreFirst}
-use Rattle.canon3.specs.machinery.FormSteps.{are_some, magic_unless}
-use Rattle.canon3.specs.Values.{handles, handles_in, verifiers, verifiers_in, xid_of}
-use Rattle.canon3.specs.machinery.Spelling.{bytes_after}
+use Rattle.canon3.proofs.Common.{◌≡◌, ◌≤◌, ◌<◌, ◌+◌, ◌^◌, ℕ, true, List, [], ◌∷◌, ◌++◌, length, length-append, refl, sym, ap, ◌∙◌, append_assoc, append-nil, arith, flat_map, flat_map-append, Item, Word, One, magic, Entry, Begin, Call, Turn, Reply, Close, End, items_of, bytes_of, entry_bytes, canonical, numbered, entries_after, open_xids, AreFirst, are_some, magic_unless, handles, handles_in, verifiers, verifiers_in, xid_of, bytes_after}
 use Rattle.canon3.proofs.Lemmas.Order.First.{first_in_order}
 use Rattle.canon3.proofs.Lemmas.Canonical.CanonicalStreamLemmas.{canonical-after, entries_after-append}
 use Rattle.canon3.proofs.Lemmas.WellFormed.Nesting.{Paired, paired}
 
 pub first_front : (a b : List Entry) → AreFirst (a ++ b) → AreFirst a
-first_front a b f = record { file = f.file; all = f.all; more = b ++ f.more; typed = f.typed; split = f.split ∙ append_assoc a b f.more }
+first_front a b f =
+    record {
+      file = f.file;
+      all = f.all;
+      more = b ++ f.more;
+      typed = f.typed;
+      split = f.split ∙ append_assoc a b f.more;
+    }
 
 -- ---- values
 
-pub handles_push : (entries : List Entry) (one : Entry) → handles (entries ++ one ∷ []) ≡ handles entries ++ handles_in (items_of one)
+pub handles_push : (entries : List Entry) (one : Entry)
+    → handles (entries ++ one ∷ []) ≡ handles entries ++ handles_in (items_of one)
 handles_push entries one =
-    flat_map-append (λ e. handles_in (items_of e)) entries (one ∷ []) ∙ ap (λ (l : List (List ℕ)). handles entries ++ l) (append-nil (handles_in (items_of one)))
+    flat_map-append (λ e. handles_in (items_of e)) entries (one ∷ [])
+    ∙ ap (λ (l : List (List ℕ)). handles entries ++ l) (append-nil (handles_in (items_of one)))
 
-pub verifiers_push : (entries : List Entry) (one : Entry) → verifiers (entries ++ one ∷ []) ≡ verifiers entries ++ verifiers_in (items_of one)
+pub verifiers_push : (entries : List Entry) (one : Entry)
+    → verifiers (entries ++ one ∷ []) ≡ verifiers entries ++ verifiers_in (items_of one)
 verifiers_push entries one =
-    flat_map-append (λ e. verifiers_in (items_of e)) entries (one ∷ []) ∙ ap (λ (l : List (List ℕ)). verifiers entries ++ l) (append-nil (verifiers_in (items_of one)))
+    flat_map-append (λ e. verifiers_in (items_of e)) entries (one ∷ [])
+    ∙ ap (λ (l : List (List ℕ)). verifiers entries ++ l)
+    (append-nil (verifiers_in (items_of one)))
 
-pub open-append : (a b : List Entry) (xs : List ℕ) → open_xids xs (a ++ b) ≡ open_xids (open_xids xs a) b
+pub open-append : (a b : List Entry) (xs : List ℕ)
+    → open_xids xs (a ++ b) ≡ open_xids (open_xids xs a) b
 open-append [] b xs = refl
 open-append (Begin ∷ a) b xs = open-append a b []
 open-append (Call m ∷ a) b xs = open-append a b (xs ++ xid_of m)
@@ -47,14 +47,17 @@ one_xid (_ ∷ items) = omega arith
 pub few_open : (a : List Entry) (xs : List ℕ) → length (open_xids xs a) ≤ length xs + length a
 few_open [] xs = omega arith
 few_open (Begin ∷ a) xs = omega (arith, few_open a [])
-few_open (Call m ∷ a) xs = omega (arith, few_open a (xs ++ xid_of m), length-append xs (xid_of m), one_xid m)
+few_open (Call m ∷ a) xs =
+    omega (arith, few_open a (xs ++ xid_of m), length-append xs (xid_of m), one_xid m)
 few_open (Turn ∷ a) xs = omega (arith, few_open a xs)
 few_open (Reply id m ∷ a) xs = omega (arith, few_open a xs)
 few_open (Close ∷ a) xs = omega (arith, few_open a xs)
 few_open (End ∷ a) xs = omega (arith, few_open a xs)
 
-pub few_xids : (a : List Entry) (one : Entry) → length (a ++ one ∷ []) < 2 ^ 32 → length (open_xids (open_xids [] a) (one ∷ [])) < 2 ^ 32
-few_xids a one few = omega (arith, few, few_open (a ++ one ∷ []) [], ap length (open-append a (one ∷ []) []))
+pub few_xids : (a : List Entry) (one : Entry) → length (a ++ one ∷ []) < 2 ^ 32
+    → length (open_xids (open_xids [] a) (one ∷ [])) < 2 ^ 32
+few_xids a one few =
+    omega (arith, few, few_open (a ++ one ∷ []) [], ap length (open-append a (one ∷ []) []))
 
 -- ---- a message's xid
 
@@ -67,12 +70,15 @@ paired_after (Reply id m ∷ a) b xs p = paired_after a b xs p.1
 paired_after (Close ∷ a) b xs p = paired_after a b xs p
 paired_after (End ∷ a) b xs p = paired_after a b xs p
 
-pub last_paired : (a : List Entry) (one : Entry) → AreFirst (a ++ one ∷ []) → Paired (open_xids [] a) (one ∷ [])
-last_paired a one f = paired_after a (one ∷ []) [] (paired (first_in_order (a ++ one ∷ []) f).run [] tt)
+pub last_paired : (a : List Entry) (one : Entry) → AreFirst (a ++ one ∷ [])
+    → Paired (open_xids [] a) (one ∷ [])
+last_paired a one f =
+    paired_after a (one ∷ []) [] (paired (first_in_order (a ++ one ∷ []) f).run [] tt)
 
 -- ---- bytes
 
-some_numbered : (e : Entry) (a : List Entry) (hs vs : List (List ℕ)) (xs : List ℕ) → are_some (numbered hs vs xs (e ∷ a)) ≡ true
+some_numbered : (e : Entry) (a : List Entry) (hs vs : List (List ℕ)) (xs : List ℕ)
+    → are_some (numbered hs vs xs (e ∷ a)) ≡ true
 some_numbered Begin a hs vs xs = refl
 some_numbered (Call m) a hs vs xs = refl
 some_numbered Turn a hs vs xs = refl
@@ -87,26 +93,40 @@ bytes_some : (l : List Entry) → are_some l ≡ true → bytes_of l ≡ magic O
 bytes_some [] some = absurd cc
 bytes_some (e ∷ l) some = refl
 
-bytes_with : (l m : List Entry) → are_some l ≡ true → bytes_of (l ++ m) ≡ bytes_of l ++ flat_map entry_bytes m
+bytes_with : (l m : List Entry) → are_some l ≡ true
+    → bytes_of (l ++ m) ≡ bytes_of l ++ flat_map entry_bytes m
 bytes_with [] m some = absurd cc
 bytes_with (e ∷ l) m some =
-    ap (λ (b : List ℕ). magic One ++ b) (flat_map-append entry_bytes (e ∷ l) m) ∙ sym (append_assoc (magic One) (flat_map entry_bytes (e ∷ l)) (flat_map entry_bytes m))
+    ap (λ (b : List ℕ). magic One ++ b) (flat_map-append entry_bytes (e ∷ l) m)
+    ∙ sym (append_assoc (magic One) (flat_map entry_bytes (e ∷ l)) (flat_map entry_bytes m))
 
-form_some : (e : Entry) (a b : List Entry) → AreFirst ((e ∷ a) ++ b) → bytes_of (canonical ((e ∷ a) ++ b)) ≡ bytes_of (canonical (e ∷ a)) ++ bytes_after (e ∷ a) b
+form_some : (e : Entry) (a b : List Entry) → AreFirst ((e ∷ a) ++ b)
+    → bytes_of (canonical ((e ∷ a) ++ b)) ≡ bytes_of (canonical (e ∷ a)) ++ bytes_after (e ∷ a) b
 form_some e a b f =
-    let front : canonical (e ∷ a) ≡ entries_after [] [] [] (e ∷ a) = canonical-after (e ∷ a) (first_in_order (e ∷ a) (first_front (e ∷ a) b f)) in
-    let after : List Entry = entries_after (handles (e ∷ a)) (verifiers (e ∷ a)) (open_xids [] (e ∷ a)) b in
+    let front : canonical (e ∷ a) ≡ entries_after [] [] [] (e ∷ a) =
+    canonical-after (e ∷ a) (first_in_order (e ∷ a) (first_front (e ∷ a) b f)) in
+    let after : List Entry =
+    entries_after (handles (e ∷ a)) (verifiers (e ∷ a)) (open_xids [] (e ∷ a)) b in
     let whole : canonical ((e ∷ a) ++ b) ≡ canonical (e ∷ a) ++ after =
-    canonical-after ((e ∷ a) ++ b) (first_in_order ((e ∷ a) ++ b) f) ∙ (entries_after-append (e ∷ a) b [] [] [] ∙ ap (λ (l : List Entry). l ++ after) (sym front)) in
+    canonical-after ((e ∷ a) ++ b) (first_in_order ((e ∷ a) ++ b) f)
+    ∙ (entries_after-append (e ∷ a) b [] [] []
+    ∙ ap (λ (l : List Entry). l ++ after) (sym front)) in
     ap bytes_of whole ∙ bytes_with (canonical (e ∷ a)) after (some_canonical e a)
 
-pub form_grows : (a : List Entry) (one : Entry) → AreFirst (a ++ one ∷ []) → bytes_of (canonical (a ++ one ∷ [])) ≡ (bytes_of (canonical a) ++ magic_unless (are_some a)) ++ bytes_after a (one ∷ [])
+pub form_grows : (a : List Entry) (one : Entry) → AreFirst (a ++ one ∷ [])
+    → bytes_of (canonical (a ++ one ∷ []))
+    ≡ (bytes_of (canonical a) ++ magic_unless (are_some a)) ++ bytes_after a (one ∷ [])
 form_grows [] one f =
-    bytes_some (canonical (one ∷ [])) (some_canonical one []) ∙ ap (λ (l : List Entry). magic One ++ flat_map entry_bytes l) (canonical-after (one ∷ []) (first_in_order (one ∷ []) f))
+    bytes_some (canonical (one ∷ [])) (some_canonical one [])
+    ∙ ap (λ (l : List Entry). magic One ++ flat_map entry_bytes l)
+    (canonical-after (one ∷ []) (first_in_order (one ∷ []) f))
 form_grows (e ∷ a) one f =
-    form_some e a (one ∷ []) f ∙ ap (λ (l : List ℕ). l ++ bytes_after (e ∷ a) (one ∷ [])) (sym (append-nil (bytes_of (canonical (e ∷ a)))))
+    form_some e a (one ∷ []) f
+    ∙ ap (λ (l : List ℕ). l ++ bytes_after (e ∷ a) (one ∷ []))
+    (sym (append-nil (bytes_of (canonical (e ∷ a)))))
 
 -- the form of the first entries is a front of the form of all
-pub form_fronts : (a b : List Entry) → AreFirst (a ++ b) → (back : List ℕ) × (bytes_of (canonical (a ++ b)) ≡ bytes_of (canonical a) ++ back)
+pub form_fronts : (a b : List Entry) → AreFirst (a ++ b)
+    → (back : List ℕ) × (bytes_of (canonical (a ++ b)) ≡ bytes_of (canonical a) ++ back)
 form_fronts [] b f = (bytes_of (canonical b), refl)
 form_fronts (e ∷ a) b f = (bytes_after (e ∷ a) b, form_some e a b f)

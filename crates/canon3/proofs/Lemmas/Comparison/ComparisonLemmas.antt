@@ -1,42 +1,20 @@
 -- A comparison of two captures, entry by entry.
-use Rattle.std.proofs.Common.{◌≡◌, ◌≢◌, ℕ, ◌<◌, ◌^◌, List, [], ◌∷◌, ◌++◌, length, append-nil, append_assoc, Option, None, Some, Result, Ok, Err, refl, sym, ap, ◌∙◌, subst, arith}
-use Rattle.capture3.specs.Told.{Gave, Told}
+use Rattle.canon3.proofs.Common.{◌≡◌, ◌≢◌, ℕ, ◌<◌, ◌^◌, List, [], ◌∷◌, ◌++◌, length, append-nil, append_assoc, Option, None, Some, Result, Ok, Err, refl, sym, ap, ◌∙◌, subst, arith, Gave, Told, gave_both, gave_none, IsPrefixOf, shown_of_all, Item, Adds, Entries, Error, Place, Entry, items_of, Typed, MessageWriter, Kind, AreFirst, Before, told_after, WriterStands, values_of, Same, IsOfKind, HasPassed, place_from, side_in, IsMetBy, source_of, StandsFor, Progress, SameError, bytes_after, HasSpelled, spelling_of}
 use Rattle.std.specs.Option.{is_some, IsSomeAnd, MatchOption}
-use Rattle.capture3.proofs.Lemmas.Reader.ToldLemmas.{gave_both, gave_none, IsPrefixOf, shown_of_all}
 use Rattle.std.specs.declared.hash.BuildHasher as BuildHasher
 use Rattle.std.specs.declared.hash.Hasher as Hasher
-use Rattle.xdr3.specs.Item.{Item}
-use Rattle.xdr3.specs.Visit.{Adds}
-use Rattle.capture3.specs.declared.reader.entries.Entries.{Entries}
-use Rattle.capture3.specs.declared.fault.Error.{Error}
 use Rattle.capture3.specs.declared.fault.Error.TheVariants as errors
-use Rattle.capture3.specs.declared.fault.Place.{Place}
-use Rattle.capture3.specs.Entries.{IsMetBy, source_of}
 use Rattle.capture3.specs.Handing.{HandsOutGiven}
-use Rattle.capture3.specs.machinery.EntriesHistory.{StandsFor}
-use Rattle.capture3.specs.Entry.{Entry, items_of}
-use Rattle.capture3.specs.Typed.{Typed}
 use Rattle.canon3.specs.declared.comparison.Comparison.{Comparison}
 use Rattle.canon3.specs.declared.comparison.Finding.{Finding}
 use Rattle.canon3.specs.declared.comparison.Finding.TheVariants as findings
-use Rattle.canon3.specs.declared.message_writer.MessageWriter.{MessageWriter}
-use Rattle.canon3.specs.declared.spelling.Spelling.{Spelling}
-use Rattle.canon3.specs.declared.progress.Progress.{Progress}
-use Rattle.capture3.specs.declared.reader.entry.Kind.{Kind}
-use Rattle.canon3.specs.declared.verdict.SameError.{SameError}
-use Rattle.canon3.specs.declared.verdict.Verdict.{Verdict}
-use Rattle.canon3.specs.declared.verdict.Verdict.TheVariants as verdicts
-use Rattle.canon3.specs.declared.verdict.Which.{Which}
-use Rattle.canon3.specs.declared.verdict.Which.TheVariants.{First, Second}
+use Rattle.canon3.specs.declared.canonical_form.spelling.Spelling.{Spelling}
+use Rattle.canon3.specs.declared.comparison.verdict.Verdict.{Verdict}
+use Rattle.canon3.specs.declared.comparison.verdict.Verdict.TheVariants as verdicts
+use Rattle.canon3.specs.declared.comparison.verdict.Which.{Which}
+use Rattle.canon3.specs.declared.comparison.verdict.Which.TheVariants.{First, Second}
 use Rattle.canon3.specs.Comparison.{DecidesGiven, DecidesSame, GaveAll, StopsComparing, StopsGiven}
 use Rattle.canon3.specs.machinery.ComparisonSteps.{Agree, Compares, HasGiven, HasGivenOn, HaveEnded, HaveParted, IsCompared, IsFound, IsReadAfter, IsTold, Meets, met_second, PartWith, ReadsOn, SaysOfGiven, StepsOn}
-use Rattle.canon3.specs.Laws.{AreFirst}
-use Rattle.canon3.specs.machinery.MessageWriter.{Before, told_after, WriterStands, values_of}
-use Rattle.canon3.specs.Renaming.{Same}
-use Rattle.canon3.specs.machinery.Spelling.{bytes_after, HasSpelled, spelling_of}
-use Rattle.capture3.specs.Kept.{IsOfKind}
-use Rattle.canon3.specs.Progress.{HasPassed}
-use Rattle.canon3.specs.machinery.ProgressSteps.{place_from, side_in}
 use Rattle.canon3.proofs.Lemmas.Renaming.AgreementLemmas.{agree_more, differ_here, mark_alike, no_more, not_same, parting, place_there, typed_first}
 use Rattle.canon3.proofs.Lemmas.Order.First.{same_from_bytes}
 use Rattle.canon3.proofs.Lemmas.Order.Reaching.{first_reached}
@@ -45,55 +23,89 @@ use Rattle.canon3.proofs.Lemmas.Writing.Visiting.{told_after-append}
 
 -- ---- an entry of each
 
-module _ {S H : Type 0} (n m : MessageWriter S H) (form other_form : Spelling) (a b : List Entry) (e f : Entry) (first : AreFirst (a ++ e ∷ [])) (second : AreFirst (b ++ f ∷ [])) (s : HasSpelled n form a e) (t : HasSpelled m other_form b f) (g : Agree a b) where
+module _ {S H : Type 0} (n m : MessageWriter S H) (form other_form : Spelling) (a b : List Entry)
+    (e f : Entry) (first : AreFirst (a ++ e ∷ [])) (second : AreFirst (b ++ f ∷ []))
+    (s : HasSpelled n form a e) (t : HasSpelled m other_form b f) (g : Agree a b) where
   pub agree_on : spelling_of form n ≡ spelling_of other_form m → Agree (a ++ e ∷ []) (b ++ f ∷ [])
   agree_on alike = agree_more a b e f first second g (sym s.spelled ∙ (alike ∙ t.spelled))
 
-  pub parts_here : (progress : Progress) (place : Place) → spelling_of form n ≢ spelling_of other_form m → HasPassed progress a → place ≡ place_from progress (side_in e) (side_in f) → PartWith a b e f place
+  pub parts_here : (progress : Progress) (place : Place)
+      → spelling_of form n ≢ spelling_of other_form m → HasPassed progress a
+      → place ≡ place_from progress (side_in e) (side_in f) → PartWith a b e f place
   parts_here progress place unlike told_after is =
-      let differ : bytes_after a (e ∷ []) ≢ bytes_after b (f ∷ []) = λ same. unlike (s.spelled ∙ (same ∙ sym t.spelled)) in
+      let differ : bytes_after a (e ∷ []) ≢ bytes_after b (f ∷ []) =
+      λ same. unlike (s.spelled ∙ (same ∙ sym t.spelled)) in
       record {
         agree = g;
         differ = differ_here a b e f first second g differ;
-        place_is = rw is (place_is progress a told_after e f (λ same none. differ (mark_alike a b e none ∙ ap (λ k. bytes_after b (k ∷ [])) same)) (place_there a b e f first second g));
+        place_is =
+            rw is (place_is progress a told_after e f
+            (λ same none.
+            differ (mark_alike a b e none ∙ ap (λ k. bytes_after b (k ∷ [])) same))
+            (place_there a b e f first second g));
       }
 
 -- ---- a comparison whose numberings are told items
 
 abbrev pub with_first : {S H : Type 0} → Comparison S H → MessageWriter S H → Comparison S H
-with_first comparison n = record { first = n; second = comparison.second; progress = comparison.progress }
+with_first comparison n =
+    record { first = n; second = comparison.second; progress = comparison.progress }
 
 abbrev pub with_second : {S H : Type 0} → Comparison S H → MessageWriter S H → Comparison S H
-with_second comparison n = record { first = comparison.first; second = n; progress = comparison.progress }
+with_second comparison n =
+    record { first = comparison.first; second = n; progress = comparison.progress }
 
 -- the items told stand after the values
-told : {S H : Type 0} (was now : MessageWriter S H) (before : Before) (items : List Item) → Adds WriterStands was now items → WriterStands was (told_after before []) → WriterStands now (told_after before items)
+told : {S H : Type 0} (was now : MessageWriter S H) (before : Before) (items : List Item)
+    → Adds WriterStands was now items → WriterStands was (told_after before [])
+    → WriterStands now (told_after before items)
 unfolding Adds
-told was now before items adds stands = subst (WriterStands now) (sym (told_after-append before [] items)) (adds (told_after before []) stands)
+told was now before items adds stands =
+    subst (WriterStands now) (sym (told_after-append before [] items))
+    (adds (told_after before []) stands)
 
-module _ {S H : Type 0} (comparison : Comparison S H) (a b : List Entry) (n : MessageWriter S H) where
-  pub told_first : (items : List Item) → Adds WriterStands comparison.first n items → IsCompared comparison a b → IsTold (with_first comparison n) a b items []
-  told_first items adds c = record { agree = c.agree; first = told comparison.first n (values_of a) items adds c.first; second = c.second; progress = c.progress }
+module _ {S H : Type 0} (comparison : Comparison S H) (a b : List Entry)
+    (n : MessageWriter S H) where
+  pub told_first : (items : List Item) → Adds WriterStands comparison.first n items
+      → IsCompared comparison a b → IsTold (with_first comparison n) a b items []
+  told_first items adds c =
+      record {
+        agree = c.agree;
+        first = told comparison.first n (values_of a) items adds c.first;
+        second = c.second;
+        progress = c.progress;
+      }
 
-  pub told_second : (items others : List Item) → Adds WriterStands comparison.second n others → IsTold comparison a b items [] → IsTold (with_second comparison n) a b items others
-  told_second items others adds c = record { agree = c.agree; first = c.first; second = told comparison.second n (values_of b) others adds c.second; progress = c.progress }
+  pub told_second : (items others : List Item) → Adds WriterStands comparison.second n others
+      → IsTold comparison a b items [] → IsTold (with_second comparison n) a b items others
+  told_second items others adds c =
+      record {
+        agree = c.agree;
+        first = c.first;
+        second = told comparison.second n (values_of b) others adds c.second;
+        progress = c.progress;
+      }
 
 -- ---- what a reader answers
 
-says_of : (start now : Told) (given : List ℕ) (handed : List Entry) (error : Error) → Gave start now given → IsMetBy error now given handed → SaysOfGiven start now error
-says_of start now given handed (errors.Refused fault) gave met = record { given = given; handed = handed; gave = gave; shown = met }
+says_of : (start now : Told) (given : List ℕ) (handed : List Entry) (error : Error)
+    → Gave start now given → IsMetBy error now given handed → SaysOfGiven start now error
+says_of start now given handed (errors.Refused fault) gave met =
+    record { given = given; handed = handed; gave = gave; shown = met }
 says_of start now given handed errors.Read gave met = tt
 says_of start now given handed errors.Write gave met = tt
 says_of start now given handed errors.Memory gave met = tt
 
 module _ (old new old_other new_other : Told) where
-  pub first_stops : (error : Error) → SaysOfGiven old new error → StopsGiven old new old_other new_other error First
+  pub first_stops : (error : Error) → SaysOfGiven old new error
+      → StopsGiven old new old_other new_other error First
   first_stops (errors.Refused fault) met = met
   first_stops errors.Read met = tt
   first_stops errors.Write met = tt
   first_stops errors.Memory met = tt
 
-  pub second_stops : (a : List Entry) (error : Error) → GaveAll old new a → SaysOfGiven old_other new_other error → StopsGiven old new old_other new_other error Second
+  pub second_stops : (a : List Entry) (error : Error) → GaveAll old new a
+      → SaysOfGiven old_other new_other error → StopsGiven old new old_other new_other error Second
   second_stops a (errors.Refused fault) whole met = ((a, whole), met)
   second_stops a errors.Read whole met = tt
   second_stops a errors.Write whole met = tt
@@ -102,96 +114,186 @@ module _ (old new old_other new_other : Told) where
 -- ---- of all bytes, of which those that were given are a prefix
 
 -- two sources, what each told before the call and tells now, and all bytes of each
-module _ (old new old_other new_other : Told) (file other : List ℕ) (prefix : (given : List ℕ) → Gave old new given → IsPrefixOf new given file) (other_prefix : (given : List ℕ) → Gave old_other new_other given → IsPrefixOf new_other given other) where
+module _ (old new old_other new_other : Told) (file other : List ℕ)
+    (prefix : (given : List ℕ) → Gave old new given → IsPrefixOf new given file)
+    (other_prefix : (given : List ℕ) → Gave old_other new_other given
+    → IsPrefixOf new_other given other) where
   all_typed : (a : List Entry) → GaveAll old new a → Typed file a
-  all_typed a all = subst (λ (l : List ℕ). Typed l a) ((prefix all.given all.gave).all all.ended) all.typed
+  all_typed a all =
+      subst (λ (l : List ℕ). Typed l a) ((prefix all.given all.gave).all all.ended) all.typed
 
   all_other_typed : (b : List Entry) → GaveAll old_other new_other b → Typed other b
-  all_other_typed b all = subst (λ (l : List ℕ). Typed l b) ((other_prefix all.given all.gave).all all.ended) all.typed
+  all_other_typed b all =
+      subst (λ (l : List ℕ). Typed l b) ((other_prefix all.given all.gave).all all.ended) all.typed
 
-  stops_all : (error : Error) (which : Which) → StopsGiven old new old_other new_other error which → StopsComparing file other error which
-  stops_all (errors.Refused fault) First f = (shown_of_all new f.given file f.handed fault (prefix f.given f.gave) f.shown).0
-  stops_all (errors.Refused fault) Second ((a, whole), f) =
-      ((a, all_typed a whole), (shown_of_all new_other f.given other f.handed fault (other_prefix f.given f.gave) f.shown).0)
+  stops_all : (error : Error) (which : Which) → StopsGiven old new old_other new_other error which
+      → StopsComparing file other error which
+  stops_all (errors.Refused fault) First f =
+      (shown_of_all new f.given file f.handed fault (prefix f.given f.gave) f.shown).0
+  stops_all (errors.Refused fault) Second ((a, whole), f) = (
+    (a, all_typed a whole),
+    (shown_of_all new_other f.given other f.handed fault
+        (other_prefix f.given f.gave) f.shown).0,
+  )
   stops_all errors.Read which s = tt
   stops_all errors.Write which s = tt
   stops_all errors.Memory which s = tt
 
-  pub decides_all : (result : Result Verdict SameError) → DecidesGiven old new old_other new_other result → DecidesSame file other result
-  decides_all (Ok verdicts.Same) (a, b, whole, other_whole, alike) = (a, b, all_typed a whole, all_other_typed b other_whole, alike)
-  decides_all (Ok (verdicts.Differ place)) (a, b, whole, other_whole, unlike, parts) = (a, b, all_typed a whole, all_other_typed b other_whole, unlike, parts)
+  pub decides_all : (result : Result Verdict SameError)
+      → DecidesGiven old new old_other new_other result → DecidesSame file other result
+  decides_all (Ok verdicts.Same) (a, b, whole, other_whole, alike) =
+      (a, b, all_typed a whole, all_other_typed b other_whole, alike)
+  decides_all (Ok (verdicts.Differ place)) (a, b, whole, other_whole, unlike, parts) =
+      (a, b, all_typed a whole, all_other_typed b other_whole, unlike, parts)
   decides_all (Err error) s = stops_all error.error error.which s
 
 -- ---- along a reader
 
-module _ {R S H V : Type 0} {builds : BuildHasher.Ghosts S H} {hashes : Hasher.Ghosts H} (telling : R → Told) (stands : V → List Item → Type 0) (start : Told) (old new : Entries R S H builds hashes) (was now : V) (handed : List Entry) where
+module _ {R S H V : Type 0} {builds : BuildHasher.Ghosts S H} {hashes : Hasher.Ghosts H}
+    (telling : R → Told) (stands : V → List Item → Type 0) (start : Told)
+    (old new : Entries R S H builds hashes) (was now : V) (handed : List Entry) where
   -- what a call of it says of what the source gave, and of the visitor
   abbrev pub Hands : Result (Option Kind) Error → Type 0
-  Hands (Ok (Some kind)) = (entry : Entry) × IsOfKind kind entry × AreFirst (handed ++ entry ∷ []) × (length (handed ++ entry ∷ []) < 2 ^ 32) × Adds stands was now (items_of entry) × HasGiven telling start new (handed ++ entry ∷ [])
-  Hands (Ok None) = GaveAll start (telling (source_of new)) handed × HasGiven telling start new handed
+  Hands (Ok (Some kind)) = (entry : Entry) × IsOfKind kind entry × AreFirst (handed ++ entry ∷ [])
+      × (length (handed ++ entry ∷ []) < 2 ^ 32) × Adds stands was now (items_of entry)
+      × HasGiven telling start new (handed ++ entry ∷ [])
+  Hands (Ok None) =
+      GaveAll start (telling (source_of new)) handed × HasGiven telling start new handed
   Hands (Err error) = SaysOfGiven start (telling (source_of new)) error
 
-  more_given : (h : HasGiven telling start old handed) (more : List ℕ) → Gave (telling (source_of old)) (telling (source_of new)) more → Gave start (telling (source_of new)) (h.given ++ more)
-  more_given h more gave = gave_both start (telling (source_of old)) (telling (source_of new)) h.given more h.consumed gave
+  more_given : (h : HasGiven telling start old handed) (more : List ℕ)
+      → Gave (telling (source_of old)) (telling (source_of new)) more
+      → Gave start (telling (source_of new)) (h.given ++ more)
+  more_given h more gave =
+      gave_both start (telling (source_of old)) (telling (source_of new)) h.given more h.consumed
+      gave
 
-  pub hands : (h : HasGiven telling start old handed) (result : Result (Option Kind) Error) → HandsOutGiven telling stands old new was now h.given handed result → Hands result
+  pub hands : (h : HasGiven telling start old handed) (result : Result (Option Kind) Error)
+      → HandsOutGiven telling stands old new was now h.given handed result → Hands result
   hands h (Ok (Some kind)) a =
       let (entry, is, reached, adds, stands_for) = a.hands_out in
-      let few : length (handed ++ entry ∷ []) < 2 ^ 32 = omega (arith, stands_for.few) in
-      (entry, is, first_reached (h.given ++ a.more) (handed ++ entry ∷ []) reached, few, adds, record { given = h.given ++ a.more; consumed = more_given h a.more a.consumed; stands = stands_for })
+      let few : length (handed ++ entry ∷ []) < 2 ^ 32 = omega (arith, stands_for.few) in (
+        entry,
+        is,
+        first_reached (h.given ++ a.more) (handed ++ entry ∷ []) reached,
+        few,
+        adds,
+        record {
+          given = h.given ++ a.more;
+          consumed = more_given h a.more a.consumed;
+          stands = stands_for;
+        },
+      )
   hands h (Ok None) a =
       let (typed, ended, stands_for) = a.hands_out in
-      let gave = more_given h a.more a.consumed in
-      (record { given = h.given ++ a.more; gave = gave; ended = ended; typed = typed }, record { given = h.given ++ a.more; consumed = gave; stands = stands_for })
-  hands h (Err error) a = says_of start (telling (source_of new)) (h.given ++ a.more) handed error (more_given h a.more a.consumed) a.hands_out.0
+      let gave = more_given h a.more a.consumed in (
+        record { given = h.given ++ a.more; gave = gave; ended = ended; typed = typed },
+        record { given = h.given ++ a.more; consumed = gave; stands = stands_for },
+      )
+  hands h (Err error) a =
+      says_of start (telling (source_of new)) (h.given ++ a.more) handed error
+      (more_given h a.more a.consumed) a.hands_out.0
 
-module _ {R S H : Type 0} {builds : BuildHasher.Ghosts S H} {hashes : Hasher.Ghosts H} (telling : R → Told) (start : Told) (reader : Entries R S H builds hashes) (handed : List Entry) where
+module _ {R S H : Type 0} {builds : BuildHasher.Ghosts S H} {hashes : Hasher.Ghosts H}
+    (telling : R → Told) (start : Told) (reader : Entries R S H builds hashes)
+    (handed : List Entry) where
   pub given_on : HasGiven telling start reader handed → HasGivenOn telling start reader handed
-  given_on h = record { more = []; all = subst (HasGiven telling start reader) (sym (append-nil handed)) h }
+  given_on h =
+      record { more = []; all = subst (HasGiven telling start reader) (sym (append-nil handed)) h }
 
 -- the next entry was handed out, if there is one
-pub read_on : {R S H V : Type 0} {builds : BuildHasher.Ghosts S H} {hashes : Hasher.Ghosts H} (telling : R → Told) (stands : V → List Item → Type 0) (start : Told) (old new : Entries R S H builds hashes) (was now : V) (handed : List Entry) (h : HasGivenOn telling start old handed) (next : Option Kind) → Hands telling stands start old new was now (handed ++ h.more) (Ok next) → ReadsOn telling start new handed (Ok (is_some next))
-read_on telling stands start old new was now handed h (Some kind) (entry, is, first, few, adds, given) = record { more = h.more ++ entry ∷ []; all = subst (HasGiven telling start new) (append_assoc handed h.more (entry ∷ [])) given }
+pub read_on : {R S H V : Type 0} {builds : BuildHasher.Ghosts S H} {hashes : Hasher.Ghosts H}
+    (telling : R → Told) (stands : V → List Item → Type 0) (start : Told)
+    (old new : Entries R S H builds hashes) (was now : V) (handed : List Entry)
+    (h : HasGivenOn telling start old handed) (next : Option Kind)
+    → Hands telling stands start old new was now (handed ++ h.more) (Ok next)
+    → ReadsOn telling start new handed (Ok (is_some next))
+read_on telling stands start old new was now handed h (Some kind)
+    (entry, is, first, few, adds, given) =
+    record {
+      more = h.more ++ entry ∷ [];
+      all = subst (HasGiven telling start new) (append_assoc handed h.more (entry ∷ [])) given;
+    }
 read_on telling stands start old new was now handed h None (all, given) = (h.more, all)
 
 -- a new reader
-pub fresh : {R S H : Type 0} {builds : BuildHasher.Ghosts S H} {hashes : Hasher.Ghosts H} (telling : R → Told) (reader : Entries R S H builds hashes) → StandsFor telling reader [] [] → HasGiven telling (telling (source_of reader)) reader []
-fresh telling reader stands = record { given = []; consumed = gave_none (telling (source_of reader)); stands = stands }
+pub fresh : {R S H : Type 0} {builds : BuildHasher.Ghosts S H} {hashes : Hasher.Ghosts H}
+    (telling : R → Told) (reader : Entries R S H builds hashes) → StandsFor telling reader [] []
+    → HasGiven telling (telling (source_of reader)) reader []
+fresh telling reader stands =
+    record { given = []; consumed = gave_none (telling (source_of reader)); stands = stands }
 
 -- ---- along two readers
 
 pub turned : (a b : List Entry) → Agree a b → Agree b a
 turned a b g = record { many = sym g.many; bytes = sym g.bytes }
 
-module _ {R S H : Type 0} {builds : BuildHasher.Ghosts S H} {hashes : Hasher.Ghosts H} (telling : R → Told) (first now start : Told) (reader : Entries R S H builds hashes) (comparison : Comparison S H) (a b : List Entry) (e : Entry) where
-  pub refused_meets : (error : Error) → SaysOfGiven start (telling (source_of reader)) error → Meets telling first now start reader comparison a b e (met_second error)
+module _ {R S H : Type 0} {builds : BuildHasher.Ghosts S H} {hashes : Hasher.Ghosts H}
+    (telling : R → Told) (first now start : Told) (reader : Entries R S H builds hashes)
+    (comparison : Comparison S H) (a b : List Entry) (e : Entry) where
+  pub refused_meets : (error : Error) → SaysOfGiven start (telling (source_of reader)) error
+      → Meets telling first now start reader comparison a b e (met_second error)
   refused_meets (errors.Refused fault) met = met
   refused_meets errors.Read met = tt
   refused_meets errors.Write met = tt
   refused_meets errors.Memory met = tt
 
   -- an entry of the second came, and was compared
-  pub compared_meets : (f : Entry) → HasGiven telling start reader (b ++ f ∷ []) → (place : Option Place) (finding : Option Finding) → MatchOption place (finding ≡ None) (λ p. IsSomeAnd finding (λ parted. parted ≡ findings.Parted p)) → Compares comparison a b e f place → Meets telling first now start reader comparison a b e (Ok finding)
-  compared_meets f given None finding is compared = rw is (record { f = f; given = given; compared = compared })
+  pub compared_meets : (f : Entry) → HasGiven telling start reader (b ++ f ∷ [])
+      → (place : Option Place) (finding : Option Finding)
+      → MatchOption place (finding ≡ None)
+      (λ p. IsSomeAnd finding (λ parted. parted ≡ findings.Parted p))
+      → Compares comparison a b e f place
+      → Meets telling first now start reader comparison a b e (Ok finding)
+  compared_meets f given None finding is compared =
+      rw is (record { f = f; given = given; compared = compared })
   compared_meets f given (Some p) None is parts = absurd is
-  compared_meets f given (Some p) (Some parted) is parts = rw is (record { f = f; given = given; parts = parts })
+  compared_meets f given (Some p) (Some parted) is parts =
+      rw is (record { f = f; given = given; parts = parts })
 
   -- the second has not ended before the first
-  pub not_ended : AreFirst (a ++ e ∷ []) → Agree a b → GaveAll start (telling (source_of reader)) b → ⊥
+  pub not_ended : AreFirst (a ++ e ∷ []) → Agree a b → GaveAll start (telling (source_of reader)) b
+      → ⊥
   not_ended order g all =
       let none : e ∷ [] ≡ [] = no_more all.given b a (e ∷ []) all.typed order (turned a b g) in
       absurd (cc)
 
-module _ {A B S H : Type 0} {builds : BuildHasher.Ghosts S H} {hashes : Hasher.Ghosts H} (telling : A → Told) (telling_other : B → Told) (start other_start : Told) (first : Entries A S H builds hashes) (second : Entries B S H builds hashes) (comparison : Comparison S H) where
-  pub stepped : (a b : List Entry) (e : Entry) → HasGiven telling start first (a ++ e ∷ []) → (result : Result (Option Finding) SameError) → Meets telling_other start (telling (source_of first)) other_start second comparison a b e result → StepsOn telling telling_other start other_start first second comparison result
-  stepped a b e given (Ok None) m = record { a = a ++ e ∷ []; b = b ++ m.f ∷ []; first_given = given; second_given = m.given; compared = m.compared }
+module _ {A B S H : Type 0} {builds : BuildHasher.Ghosts S H} {hashes : Hasher.Ghosts H}
+    (telling : A → Told) (telling_other : B → Told) (start other_start : Told)
+    (first : Entries A S H builds hashes) (second : Entries B S H builds hashes)
+    (comparison : Comparison S H) where
+  pub stepped : (a b : List Entry) (e : Entry) → HasGiven telling start first (a ++ e ∷ [])
+      → (result : Result (Option Finding) SameError)
+      → Meets telling_other start (telling (source_of first)) other_start second comparison a b e
+      result → StepsOn telling telling_other start other_start first second comparison result
+  stepped a b e given (Ok None) m =
+      record {
+        a = a ++ e ∷ [];
+        b = b ++ m.f ∷ [];
+        first_given = given;
+        second_given = m.given;
+        compared = m.compared;
+      }
   stepped a b e given (Ok (Some findings.Ended)) m = absurd m
-  stepped a b e given (Ok (Some (findings.Parted place))) m = record { a = a; b = b; e = e; f = m.f; first_given = given; second_given = m.given; parts = m.parts }
+  stepped a b e given (Ok (Some (findings.Parted place))) m =
+      record {
+        a = a;
+        b = b;
+        e = e;
+        f = m.f;
+        first_given = given;
+        second_given = m.given;
+        parts = m.parts;
+      }
   stepped a b e given (Ok (Some (findings.Refused fault))) m = ((a ++ e ∷ [], given), m)
   stepped a b e given (Err error) m = m
 
-module _ {A B S H : Type 0} {builds : BuildHasher.Ghosts S H} {hashes : Hasher.Ghosts H} (telling : A → Told) (telling_other : B → Told) (start other_start : Told) (first : Entries A S H builds hashes) (second : Entries B S H builds hashes) where
-  pub first_of : (finding : Finding) → IsFound telling telling_other start other_start first second finding → (a : List Entry) × HasGiven telling start first a
+module _ {A B S H : Type 0} {builds : BuildHasher.Ghosts S H} {hashes : Hasher.Ghosts H}
+    (telling : A → Told) (telling_other : B → Told) (start other_start : Told)
+    (first : Entries A S H builds hashes) (second : Entries B S H builds hashes) where
+  pub first_of : (finding : Finding)
+      → IsFound telling telling_other start other_start first second finding
+      → (a : List Entry) × HasGiven telling start first a
   first_of findings.Ended found = (found.a, found.first_given)
   first_of (findings.Parted place) found = (found.a ++ found.e ∷ [], found.first_given)
   first_of (findings.Refused fault) found = found.0
@@ -199,22 +301,58 @@ module _ {A B S H : Type 0} {builds : BuildHasher.Ghosts S H} {hashes : Hasher.G
   -- the sources tell this once both are read out
   module _ (now other_now : Told) where
     -- the first had no more
-    whole_first : (h : HaveEnded telling telling_other start other_start first second) (rest : List Entry) → GaveAll start now (h.a ++ rest) → GaveAll start now h.a
+    whole_first : (h : HaveEnded telling telling_other start other_start first second)
+        (rest : List Entry) → GaveAll start now (h.a ++ rest) → GaveAll start now h.a
     whole_first h rest all =
-        let none : rest ≡ [] = no_more h.file h.a h.a rest h.typed (typed_first all.given (h.a ++ rest) [] (subst (Typed all.given) (sym (append-nil (h.a ++ rest))) all.typed)) (record { many = refl; bytes = refl }) in
+        let none : rest ≡ [] =
+        no_more h.file h.a h.a rest h.typed
+        (typed_first all.given (h.a ++ rest) []
+        (subst (Typed all.given) (sym (append-nil (h.a ++ rest))) all.typed))
+        (record { many = refl; bytes = refl }) in
         subst (GaveAll start now) (ap (λ (l : List Entry). h.a ++ l) none ∙ append-nil h.a) all
 
     -- and the second has no more either
-    pub ended_decides : (h : HaveEnded telling telling_other start other_start first second) (result : Result Verdict SameError) → (more : List Entry) × GaveAll start now (h.a ++ more) → IsReadAfter other_start other_now h.b verdicts.Same result → DecidesGiven start now other_start other_now result
+    pub ended_decides : (h : HaveEnded telling telling_other start other_start first second)
+        (result : Result Verdict SameError)
+        → (more : List Entry) × GaveAll start now (h.a ++ more)
+        → IsReadAfter other_start other_now h.b verdicts.Same result
+        → DecidesGiven start now other_start other_now result
     ended_decides h (Ok answer) (rest, all) (same, more, other_all) =
         let whole = whole_first h rest all in
-        let none : more ≡ [] = no_more whole.given h.a h.b more whole.typed (typed_first other_all.given (h.b ++ more) [] (subst (Typed other_all.given) (sym (append-nil (h.b ++ more))) other_all.typed)) h.agree in
-        let other_whole : GaveAll other_start other_now h.b = subst (GaveAll other_start other_now) (ap (λ (l : List Entry). h.b ++ l) none ∙ append-nil h.b) other_all in
-        let alike : Same h.a h.b = same_from_bytes h.a h.b (typed_first whole.given h.a [] (subst (Typed whole.given) (sym (append-nil h.a)) whole.typed)) (typed_first other_all.given h.b more other_all.typed) h.agree.bytes in
+        let none : more ≡ [] =
+        no_more whole.given h.a h.b more whole.typed
+        (typed_first other_all.given (h.b ++ more) []
+        (subst (Typed other_all.given) (sym (append-nil (h.b ++ more))) other_all.typed))
+        h.agree in
+        let other_whole : GaveAll other_start other_now h.b =
+        subst (GaveAll other_start other_now)
+        (ap (λ (l : List Entry). h.b ++ l) none ∙ append-nil h.b) other_all in
+        let alike : Same h.a h.b =
+        same_from_bytes h.a h.b
+        (typed_first whole.given h.a []
+        (subst (Typed whole.given) (sym (append-nil h.a)) whole.typed))
+        (typed_first other_all.given h.b more other_all.typed) h.agree.bytes in
         rw same (h.a, h.b, whole, other_whole, alike)
-    ended_decides h (Err error) (rest, all) (is, met) = rw is (second_stops start now other_start other_now (h.a ++ rest) error.error all met)
+    ended_decides h (Err error) (rest, all) (is, met) =
+        rw is (second_stops start now other_start other_now (h.a ++ rest) error.error all met)
 
-    pub parted_decides : (place : Place) (h : HaveParted telling telling_other start other_start first second place) (result : Result Verdict SameError) → (more : List Entry) × GaveAll start now ((h.a ++ h.e ∷ []) ++ more) → IsReadAfter other_start other_now (h.b ++ h.f ∷ []) (verdicts.Differ place) result → DecidesGiven start now other_start other_now result
+    pub parted_decides : (place : Place)
+        (h : HaveParted telling telling_other start other_start first second place)
+        (result : Result Verdict SameError)
+        → (more : List Entry) × GaveAll start now ((h.a ++ h.e ∷ []) ++ more)
+        → IsReadAfter other_start other_now (h.b ++ h.f ∷ []) (verdicts.Differ place) result
+        → DecidesGiven start now other_start other_now result
     parted_decides place h (Ok answer) (more, all) (same, rest, other_all) =
-        rw same ((h.a ++ h.e ∷ []) ++ more, (h.b ++ h.f ∷ []) ++ rest, all, other_all, not_same all.given other_all.given h.a h.b h.e h.f more rest place h.parts all.typed other_all.typed, parting all.given other_all.given h.a h.b h.e h.f more rest place h.parts all.typed other_all.typed)
-    parted_decides place h (Err error) (more, all) (is, met) = rw is (second_stops start now other_start other_now ((h.a ++ h.e ∷ []) ++ more) error.error all met)
+        rw same (
+          (h.a ++ h.e ∷ []) ++ more,
+          (h.b ++ h.f ∷ []) ++ rest,
+          all,
+          other_all,
+          not_same all.given other_all.given h.a h.b h.e h.f more rest place h.parts all.typed
+              other_all.typed,
+          parting all.given other_all.given h.a h.b h.e h.f more rest place h.parts all.typed
+              other_all.typed,
+        )
+    parted_decides place h (Err error) (more, all) (is, met) =
+        rw is (second_stops start now other_start other_now ((h.a ++ h.e ∷ []) ++ more) error.error
+        all met)

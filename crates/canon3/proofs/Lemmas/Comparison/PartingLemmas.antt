@@ -1,22 +1,5 @@
 -- Two complete captures that are not the same part at one place.
-use Rattle.std.proofs.Common.{◌≡◌, ◌⊎◌, inl, inr, ⊎_elim, ℕ, zero, suc, ◌+◌, ◌≤◌, List, [], ◌∷◌, ◌++◌, length, take, refl, sym, ap, ◌∙◌, subst, arith, Option, Some, None, append-nil}
-use Rattle.std.specs.Prelude.{slice_get, bytes_eq}
-use Rattle.std.proofs.lemmas.Bool.{cases_lt}
-use Rattle.std.proofs.lemmas.List.{take_all}
-use Rattle.std.proofs.lemmas.Slice.Eq.{bytes_eq-Decides}
-use Rattle.capture3.specs.Entry.{Entry, Begin, Call, Turn, Reply, Close, End}
-use Rattle.capture3.specs.Typed.{Typed}
-use Rattle.capture3.specs.declared.fault.Side.{Side}
-use Rattle.capture3.specs.declared.fault.Side.TheVariants.{Client, Server}
-use Rattle.capture3.specs.declared.fault.Place.{Place}
-use Rattle.canon3.specs.Bytes.{bytes_of}
-use Rattle.canon3.specs.Canonical.{canonical}
-use Rattle.canon3.specs.CanonicalStream.{entries_after}
-use Rattle.canon3.specs.machinery.OpenXids.{open_xids}
-use Rattle.canon3.specs.Values.{handles, verifiers}
-use Rattle.canon3.specs.Renaming.{Same, ended}
-use Rattle.canon3.specs.Parting.{IsMessageOf, IsPlaceOf, first_message, second_message, first_ends, second_ends, next_record, PartsAt, Parting}
-use Rattle.canon3.specs.Laws.{AreFirst}
+use Rattle.canon3.proofs.Common.{◌≡◌, ◌⊎◌, inl, inr, ⊎_elim, ℕ, zero, suc, ◌+◌, ◌≤◌, List, [], ◌∷◌, ◌++◌, length, take, refl, sym, ap, ◌∙◌, subst, arith, Option, Some, None, append-nil, slice_get, bytes_eq, cases_lt, take_all, bytes_eq-Decides, Entry, Begin, Call, Turn, Reply, Close, End, Typed, Client, Server, Place, bytes_of, canonical, entries_after, open_xids, handles, verifiers, Same, ended, AreFirst, Side, IsMessageOf, IsPlaceOf, first_message, second_message, first_ends, second_ends, next_record, PartsAt, Parting}
 use Rattle.canon3.proofs.Lemmas.Order.Order.{Stage, Between, Steps, call, reply, IsWellFormed}
 use Rattle.canon3.proofs.Lemmas.Numbers.RankLemmas.{by_test}
 use Rattle.canon3.proofs.Lemmas.Canonical.CanonicalStreamLemmas.{canonical-after, entries_after-append}
@@ -40,7 +23,8 @@ no_message_at_end : (s : Side) → IsMessageOf s (Some End) → ⊥
 no_message_at_end Client h = h
 no_message_at_end Server h = h
 
-sides_agree : (x y : Side) (e f : Entry) (s t u v : Stage) → Steps s e u → Steps t f v → AreAlike s t → IsMessageOf x (Some e) → IsMessageOf y (Some f) → x ≡ y
+sides_agree : (x y : Side) (e f : Entry) (s t u v : Stage) → Steps s e u → Steps t f v
+    → AreAlike s t → IsMessageOf x (Some e) → IsMessageOf y (Some f) → x ≡ y
 sides_agree Client Client e f s t u v p q al h k = refl
 sides_agree Server Server e f s t u v p q al h k = refl
 sides_agree Client Server (Call m) (Reply id n) s t u v (call i g) (reply j l) al h k = absurd al
@@ -59,11 +43,17 @@ side_of Server Client (Some (Reply id m)) h k = absurd k
 side_of Server Client _ h k = absurd h
 
 module _ (before : List Entry) where
-  one_place : (e f : Option Entry) (p q : Place) → ((x y : Side) → IsMessageOf x e → IsMessageOf y f → x ≡ y) → IsPlaceOf before e f p → IsPlaceOf before e f q → p ≡ q
-  one_place e f p q agree (first_message s h) (first_message t k) = ap (λ z. next_record z before) (side_of s t e h k)
-  one_place e f p q agree (first_message s h) (second_message t k) = ap (λ z. next_record z before) (agree s t h k)
-  one_place e f p q agree (second_message s h) (first_message t k) = ap (λ z. next_record z before) (sym (agree t s k h))
-  one_place e f p q agree (second_message s h) (second_message t k) = ap (λ z. next_record z before) (side_of s t f h k)
+  one_place : (e f : Option Entry) (p q : Place)
+      → ((x y : Side) → IsMessageOf x e → IsMessageOf y f → x ≡ y) → IsPlaceOf before e f p
+      → IsPlaceOf before e f q → p ≡ q
+  one_place e f p q agree (first_message s h) (first_message t k) =
+      ap (λ z. next_record z before) (side_of s t e h k)
+  one_place e f p q agree (first_message s h) (second_message t k) =
+      ap (λ z. next_record z before) (agree s t h k)
+  one_place e f p q agree (second_message s h) (first_message t k) =
+      ap (λ z. next_record z before) (sym (agree t s k h))
+  one_place e f p q agree (second_message s h) (second_message t k) =
+      ap (λ z. next_record z before) (side_of s t f h k)
   one_place e f p q agree (first_message s h) first_ends = absurd (no_message_at_end s h)
   one_place e f p q agree (first_message s h) second_ends = absurd (no_message_at_begin s h)
   one_place e f p q agree (second_message s h) first_ends = absurd (no_message_at_begin s h)
@@ -88,22 +78,39 @@ module _ (a b : List Entry) where
 
   -- where they part at entry i, the first i are the same
   same_so_far : (i : ℕ) → PartsAt a b i → Same (take i a) (take i b)
-  same_so_far zero p = record { handle_pairs = []; verifier_pairs = []; xid_pairs = []; handles_one_to_one = record { parts = λ q m. elim m [ ]; no_two_alike = tt }; verifiers_one_to_one = record { parts = λ q m. elim m [ ]; no_two_alike = tt }; xids_one_to_one = tt; renames = ended }
-  same_so_far (suc i) p = let e : i + 1 ≡ suc i = omega arith in subst (λ n. Same (take n a) (take n b)) e (p.same_before i (omega arith))
+  same_so_far zero p =
+      record {
+        handle_pairs = [];
+        verifier_pairs = [];
+        xid_pairs = [];
+        handles_one_to_one = record { parts = λ q m. elim m [ ]; no_two_alike = tt };
+        verifiers_one_to_one = record { parts = λ q m. elim m [ ]; no_two_alike = tt };
+        xids_one_to_one = tt;
+        renames = ended;
+      }
+  same_so_far (suc i) p =
+      let e : i + 1 ≡ suc i = omega arith in
+      subst (λ n. Same (take n a) (take n b)) e (p.same_before i (omega arith))
 
-  sides_at : IsWellFormed a → IsWellFormed b → (i : ℕ) → Same (take i a) (take i b) → (e f : Option Entry) → slice_get a i ≡ e → slice_get b i ≡ f → (x y : Side) → IsMessageOf x e → IsMessageOf y f → x ≡ y
+  sides_at : IsWellFormed a → IsWellFormed b → (i : ℕ) → Same (take i a) (take i b)
+      → (e f : Option Entry) → slice_get a i ≡ e → slice_get b i ≡ f → (x y : Side)
+      → IsMessageOf x e → IsMessageOf y f → x ≡ y
   sides_at v w i s None f g h x y k l = absurd (no_message x k)
   sides_at v w i s (Some e) None g h x y k l = absurd (no_message y l)
   sides_at v w i s (Some e) (Some f) g h x y k l =
       let p = stage_at v.run i e g in
       let q = stage_at w.run i f h in
-      sides_agree x y e f p.here_stage q.here_stage p.next_stage q.next_stage p.step q.step (stages_alike s.renames Between Between p.here_stage q.here_stage p.front q.front tt) k l
+      sides_agree x y e f p.here_stage q.here_stage p.next_stage q.next_stage p.step q.step
+      (stages_alike s.renames Between Between p.here_stage q.here_stage p.front q.front tt) k l
 
   pub one_parting : AreFirst a → AreFirst b → (p q : Place) → Parting a b p → Parting a b q → p ≡ q
   one_parting f g p q x y =
       let e : x.0 ≡ y.0 = one_number x.0 y.0 x.1 y.1 in
-      let again : IsPlaceOf (take x.0 a) (slice_get a x.0) (slice_get b x.0) q = subst (λ n. IsPlaceOf (take n a) (slice_get a n) (slice_get b n) q) (sym e) y.2 in
-      one_place (take x.0 a) (slice_get a x.0) (slice_get b x.0) p q (sides_at (first_in_order a f) (first_in_order b g) x.0 (same_so_far x.0 x.1) (slice_get a x.0) (slice_get b x.0) refl refl) x.2 again
+      let again : IsPlaceOf (take x.0 a) (slice_get a x.0) (slice_get b x.0) q =
+      subst (λ n. IsPlaceOf (take n a) (slice_get a n) (slice_get b n) q) (sym e) y.2 in
+      one_place (take x.0 a) (slice_get a x.0) (slice_get b x.0) p q
+      (sides_at (first_in_order a f) (first_in_order b g) x.0 (same_so_far x.0 x.1)
+      (slice_get a x.0) (slice_get b x.0) refl refl) x.2 again
 
 -- ---- there is one
 
@@ -122,7 +129,12 @@ first_differs a b (suc n) d =
     let y = bytes_of (take n (canonical b)) in
     let next : n + 1 ≡ suc n = omega arith in
     by_test (bytes_eq x y)
-    (λ t. record { at = n; met = (bytes_eq-Decides x y).0 t; differ = λ e. d (subst (AreMet a b) next e) })
+    (λ t.
+    record {
+      at = n;
+      met = (bytes_eq-Decides x y).0 t;
+      differ = λ e. d (subst (AreMet a b) next e);
+    })
     (λ f. first_differs a b n (λ e. let t = (bytes_eq-Decides x y).1 e in absurd (cc)))
 
 -- an entry that is no message, which no number changes
@@ -137,25 +149,32 @@ message_or_mark (Reply id m) = inl (Server, tt)
 message_or_mark Close = inr (λ hs vs xs. refl)
 message_or_mark End = inr (λ hs vs xs. refl)
 
-one_taken : (l : List Entry) (i : ℕ) (e : Entry) → slice_get l i ≡ Some e → take (suc i) l ≡ take i l ++ e ∷ []
+one_taken : (l : List Entry) (i : ℕ) (e : Entry) → slice_get l i ≡ Some e
+    → take (suc i) l ≡ take i l ++ e ∷ []
 one_taken [] i e h = absurd cc
 one_taken (x ∷ l) zero e h = let same : x ≡ e = cc in ap (λ k. k ∷ []) same
 one_taken (x ∷ l) (suc i) e h = ap (λ (k : List Entry). x ∷ k) (one_taken l i e h)
 
-one_more : (l : List Entry) (i : ℕ) (e : Entry) → slice_get l i ≡ Some e → take (i + 1) l ≡ take i l ++ e ∷ []
+one_more : (l : List Entry) (i : ℕ) (e : Entry) → slice_get l i ≡ Some e
+    → take (i + 1) l ≡ take i l ++ e ∷ []
 one_more l i e h =
     let next : i + 1 ≡ suc i = omega arith in
     ap (λ n. take n l) next ∙ one_taken l i e h
 
-mark_kept : (a : List Entry) (i : ℕ) (e : Entry) → IsWellFormed a → slice_get a i ≡ Some e → IsMark e → take (i + 1) (canonical a) ≡ take i (canonical a) ++ e ∷ []
+mark_kept : (a : List Entry) (i : ℕ) (e : Entry) → IsWellFormed a → slice_get a i ≡ Some e
+    → IsMark e → take (i + 1) (canonical a) ≡ take i (canonical a) ++ e ∷ []
 mark_kept a i e w h mark =
     let more = one_more a i e h in
     let front = take i a in
     let all = canonical-take (i + 1) a w in
     let wi = IsWellFormed-take (i + 1) a w in
-    sym all ∙ (canonical-after (take (i + 1) a) wi ∙ (ap (entries_after [] [] []) more ∙ (entries_after-append front (e ∷ []) [] [] []
-    ∙ (ap (λ (k : List Entry). entries_after [] [] [] front ++ k) (mark ([] ++ handles front) ([] ++ verifiers front) (open_xids [] front))
-    ∙ ap (λ (k : List Entry). k ++ e ∷ []) (sym (canonical-after front (IsWellFormed-take i a w)) ∙ canonical-take i a w)))))
+    sym all
+    ∙ (canonical-after (take (i + 1) a) wi
+    ∙ (ap (entries_after [] [] []) more ∙ (entries_after-append front (e ∷ []) [] [] []
+    ∙ (ap (λ (k : List Entry). entries_after [] [] [] front ++ k)
+    (mark ([] ++ handles front) ([] ++ verifiers front) (open_xids [] front))
+    ∙ ap (λ (k : List Entry). k ++ e ∷ [])
+    (sym (canonical-after front (IsWellFormed-take i a w)) ∙ canonical-take i a w)))))
 
 module _ (file other : List ℕ) (a b : List Entry) (p : Typed file a) (q : Typed other b) where
   first_a : AreFirst a
@@ -164,7 +183,8 @@ module _ (file other : List ℕ) (a b : List Entry) (p : Typed file a) (q : Type
   first_b : AreFirst b
   first_b = record { file = other; all = b; more = []; typed = q; split = sym (append-nil b) }
 
-  whole_form : (l : List Entry) (n : ℕ) → IsWellFormed l → length l ≤ n → take n (canonical l) ≡ canonical l
+  whole_form : (l : List Entry) (n : ℕ) → IsWellFormed l → length l ≤ n
+      → take n (canonical l) ≡ canonical l
   whole_form l n w le = sym (canonical-take n l w) ∙ ap canonical (take_all n l le)
 
   v : IsWellFormed a
@@ -173,32 +193,46 @@ module _ (file other : List ℕ) (a b : List Entry) (p : Typed file a) (q : Type
   w : IsWellFormed b
   w = first_in_order b first_b
 
-  place_at : (d : FirstDiffers a b) → Same (take d.at a) (take d.at b) → (e f : Option Entry) → slice_get a d.at ≡ e → slice_get b d.at ≡ f → (place : Place) × IsPlaceOf (take d.at a) e f place
+  place_at : (d : FirstDiffers a b) → Same (take d.at a) (take d.at b) → (e f : Option Entry)
+      → slice_get a d.at ≡ e → slice_get b d.at ≡ f
+      → (place : Place) × IsPlaceOf (take d.at a) e f place
   place_at d s None f g h =
       let i = d.at in
       let ends = ends_too file other a b p q i s g in
       let la = past a i g in
       let lb = past b i ends in
-      let again : AreMet a b (i + 1) = ap bytes_of (whole_form a (i + 1) v (omega arith) ∙ sym (whole_form a i v la)) ∙ (d.met ∙ ap bytes_of (whole_form b i w lb ∙ sym (whole_form b (i + 1) w (omega arith)))) in
+      let again : AreMet a b (i + 1) =
+      ap bytes_of (whole_form a (i + 1) v (omega arith) ∙ sym (whole_form a i v la))
+      ∙ (d.met ∙ ap bytes_of (whole_form b i w lb ∙ sym (whole_form b (i + 1) w (omega arith))))
+      in
       absurd (d.differ again)
   place_at d s (Some e) None g h =
-      let ends = ends_too other file b a q p d.at (same_symmetric (take d.at a) (take d.at b) s) h in
+      let ends =
+      ends_too other file b a q p d.at (same_symmetric (take d.at a) (take d.at b) s) h in
       absurd (cc)
   place_at d s (Some e) (Some f) g h =
-      ⊎_elim (λ (m : (side : Side) × IsMessageOf side (Some e)). (next_record m.0 (take d.at a), first_message m.0 m.1))
+      ⊎_elim (λ (m : (side : Side) × IsMessageOf side (Some e)).
+      (next_record m.0 (take d.at a), first_message m.0 m.1))
       (λ mark.
       ⊎_elim (λ (same : e ≡ f).
       let left = mark_kept a d.at e v g mark in
       let right = mark_kept b d.at e w (subst (λ x. slice_get b d.at ≡ Some x) (sym same) h) mark in
-      let forms : take d.at (canonical a) ≡ take d.at (canonical b) = forms_of_fronts a b first_a first_b d.at d.met in
-      absurd (d.differ (ap bytes_of (left ∙ (ap (λ (k : List Entry). k ++ e ∷ []) forms ∙ sym right)))))
+      let forms : take d.at (canonical a) ≡ take d.at (canonical b) =
+      forms_of_fronts a b first_a first_b d.at d.met in
+      absurd (d.differ
+      (ap bytes_of (left ∙ (ap (λ (k : List Entry). k ++ e ∷ []) forms ∙ sym right)))))
       (λ place. place) (place_from_parting a b d.at e f v w s g h))
       (message_or_mark e)
 
   pub some_parting : (Same a b → ⊥) → (place : Place) × Parting a b place
   some_parting differ =
       let n = length a + length b in
-      let never : AreMet a b n → ⊥ = λ e. differ (same_from_bytes a b first_a first_b (ap bytes_of (sym (whole_form a n v (omega arith))) ∙ (e ∙ ap bytes_of (whole_form b n w (omega arith))))) in
+      let never : AreMet a b n → ⊥ =
+      λ e.
+      differ
+      (same_from_bytes a b first_a first_b (ap bytes_of
+      (sym (whole_form a n v (omega arith)))
+      ∙ (e ∙ ap bytes_of (whole_form b n w (omega arith))))) in
       let d = first_differs a b n never in
       let s = (fronts_decided a b first_a first_b d.at).1 d.met in
       let place = place_at d s (slice_get a d.at) (slice_get b d.at) refl refl in

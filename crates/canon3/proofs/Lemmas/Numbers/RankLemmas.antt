@@ -1,60 +1,71 @@
 -- Ranks are blind to one-to-one renaming, and tell the members of a list apart.
-use Rattle.std.proofs.Common.{◌≡◌, ◌≢◌, ◌⊎◌, inl, inr, ⊎_elim, suc, ◌+◌, ◌<◌, ◌≤◌, Bool, true, false, cond, not, ◌||◌, List, [], ◌∷◌, ◌++◌, length, map, refl, sym, ap, ap₂, ◌∙◌, subst, arith, append-nil, length-append}
-use Rattle.std.specs.Bool.{Decides}
+use Rattle.canon3.proofs.Common.{◌≡◌, ◌≢◌, ◌⊎◌, inl, inr, ⊎_elim, suc, ◌+◌, ◌<◌, ◌≤◌, Bool, true, false, cond, not, ◌||◌, List, [], ◌∷◌, ◌++◌, length, map, refl, sym, ap, ap₂, ◌∙◌, subst, arith, append-nil, length-append, Decides, list_any, position_or_len, Member, here, there, Pairwise, none, more}
 use Rattle.std.specs.Cmp.{IsEquivalence}
-use Rattle.std.specs.List.{list_any, position_or_len}
 use Rattle.std.proofs.lemmas.Bool.{false_from_ne_true}
 use Rattle.canon3.specs.Rank.{before, distinct, rank, with_key, with_keys, IsInjectiveOn}
-use Rattle.canon3.specs.Pairing.{Member, here, there}
-use Rattle.canon3.specs.Renaming.{Pairwise, none, more}
 
 -- ---- what stands beside one another is alike
 
-module _ {K L : Type 0} (same : K → K → Bool) (alike : L → L → Bool) (R : K → L → Type 0) (agree : (x y : K) (u v : L) → R x u → R y v → same x y ≡ alike u v) where
-  any_paired : {x : K} {u : L} {ks : List K} {ls : List L} → R x u → Pairwise R ks ls → list_any (same x) ks ≡ list_any (alike u) ls
+module _ {K L : Type 0} (same : K → K → Bool) (alike : L → L → Bool) (R : K → L → Type 0)
+    (agree : (x y : K) (u v : L) → R x u → R y v → same x y ≡ alike u v) where
+  any_paired : {x : K} {u : L} {ks : List K} {ls : List L} → R x u → Pairwise R ks ls
+      → list_any (same x) ks ≡ list_any (alike u) ls
   any_paired r none = refl
   any_paired r (more s p) = ap₂ (λ a b. a || b) (agree _ _ _ _ r s) (any_paired r p)
 
-  pushed_paired : {x : K} {u : L} {ks : List K} {ls : List L} → Pairwise R ks ls → R x u → Pairwise R (ks ++ x ∷ []) (ls ++ u ∷ [])
+  pushed_paired : {x : K} {u : L} {ks : List K} {ls : List L} → Pairwise R ks ls → R x u
+      → Pairwise R (ks ++ x ∷ []) (ls ++ u ∷ [])
   pushed_paired none r = more r none
   pushed_paired (more s p) r = more s (pushed_paired p r)
 
-  cond_paired : {ks ks' : List K} {ls ls' : List L} (b : Bool) → Pairwise R ks ls → Pairwise R ks' ls' → Pairwise R (cond b ks ks') (cond b ls ls')
+  cond_paired : {ks ks' : List K} {ls ls' : List L} (b : Bool) → Pairwise R ks ls
+      → Pairwise R ks' ls' → Pairwise R (cond b ks ks') (cond b ls ls')
   cond_paired true p q = p
   cond_paired false p q = q
 
-  with_keys_paired : {l : List K} {m : List L} → Pairwise R l m → (ks : List K) (ls : List L) → Pairwise R ks ls → Pairwise R (with_keys same ks l) (with_keys alike ls m)
+  with_keys_paired : {l : List K} {m : List L} → Pairwise R l m → (ks : List K) (ls : List L)
+      → Pairwise R ks ls → Pairwise R (with_keys same ks l) (with_keys alike ls m)
   with_keys_paired none ks ls p = p
   with_keys_paired (more {x = x} {y = u} r q) ks ls p =
-      with_keys_paired q (with_key same ks x) (with_key alike ls u) (rw (any_paired r p) (cond_paired (list_any (alike u) ls) p (pushed_paired p r)))
+      with_keys_paired q (with_key same ks x) (with_key alike ls u)
+      (rw (any_paired r p) (cond_paired (list_any (alike u) ls) p (pushed_paired p r)))
 
-  before_paired : {x : K} {u : L} {l : List K} {m : List L} → R x u → Pairwise R l m → Pairwise R (before same x l) (before alike u m)
+  before_paired : {x : K} {u : L} {l : List K} {m : List L} → R x u → Pairwise R l m
+      → Pairwise R (before same x l) (before alike u m)
   before_paired r none = none
-  before_paired {u = u} r (more {y = v} s q) = rw (agree _ _ _ _ r s) (cond_paired (alike u v) none (more s (before_paired r q)))
+  before_paired {u = u} r (more {y = v} s q) =
+      rw (agree _ _ _ _ r s) (cond_paired (alike u v) none (more s (before_paired r q)))
 
   length_paired : {l : List K} {m : List L} → Pairwise R l m → length l ≡ length m
   length_paired none = refl
   length_paired (more r p) = ap suc (length_paired p)
 
-  pub rank_paired : {x : K} {u : L} {l : List K} {m : List L} → R x u → Pairwise R l m → rank same x l ≡ rank alike u m
-  rank_paired r p = ap (λ n. 1 + n) (length_paired (with_keys_paired (before_paired r p) [] [] none))
+  pub rank_paired : {x : K} {u : L} {l : List K} {m : List L} → R x u → Pairwise R l m
+      → rank same x l ≡ rank alike u m
+  rank_paired r p =
+      ap (λ n. 1 + n) (length_paired (with_keys_paired (before_paired r p) [] [] none))
 
 -- ---- members
 
-pub member-append_left : {K : Type 0} {x : K} {l : List K} (m : List K) → Member x l → Member x (l ++ m)
+pub member-append_left : {K : Type 0} {x : K} {l : List K} (m : List K) → Member x l
+    → Member x (l ++ m)
 member-append_left m here = here
 member-append_left m (there h) = there (member-append_left m h)
 
-pub member-append_right : {K : Type 0} {x : K} (l : List K) {m : List K} → Member x m → Member x (l ++ m)
+pub member-append_right : {K : Type 0} {x : K} (l : List K) {m : List K} → Member x m
+    → Member x (l ++ m)
 member-append_right [] h = h
 member-append_right (y ∷ l) h = there (member-append_right l h)
 
-pub member-append_cases : {K : Type 0} {x : K} (l : List K) {m : List K} → Member x (l ++ m) → Member x l ⊎ Member x m
+pub member-append_cases : {K : Type 0} {x : K} (l : List K) {m : List K} → Member x (l ++ m)
+    → Member x l ⊎ Member x m
 member-append_cases [] h = inr h
 member-append_cases (y ∷ l) here = inl here
-member-append_cases (y ∷ l) (there h) = ⊎_elim (λ a. inl (there a)) (λ b. inr b) (member-append_cases l h)
+member-append_cases (y ∷ l) (there h) =
+    ⊎_elim (λ a. inl (there a)) (λ b. inr b) (member-append_cases l h)
 
-pub member_under : {K : Type 0} {x y : K} {l m : List K} → (Member x l → Member x m) → Member x (y ∷ l) → Member x (y ∷ m)
+pub member_under : {K : Type 0} {x y : K} {l m : List K} → (Member x l → Member x m)
+    → Member x (y ∷ l) → Member x (y ∷ m)
 member_under f here = here
 member_under f (there h) = there (f h)
 
@@ -75,47 +86,66 @@ cond_either P false p q = q
 -- ---- places among the distinct members
 
 module _ {K : Type 0} (same : K → K → Bool) (laws : IsEquivalence same) where
-  any-append : (x : K) (l m : List K) → list_any (same x) l ≡ true → list_any (same x) (l ++ m) ≡ true
+  any-append : (x : K) (l m : List K) → list_any (same x) l ≡ true
+      → list_any (same x) (l ++ m) ≡ true
   any-append x [] m e = absurd cc
-  any-append x (y ∷ l) m e = by_test (same x y) (λ t. rw t refl) (λ f. rw f (any-append x l m (rw f at e)))
+  any-append x (y ∷ l) m e =
+      by_test (same x y) (λ t. rw t refl) (λ f. rw f (any-append x l m (rw f at e)))
 
   any-alike : (x y : K) → same x y ≡ true → (l : List K) → list_any (same x) l ≡ list_any (same y) l
   any-alike x y t [] = refl
   any-alike x y t (z ∷ l) = ap₂ (λ a b. a || b) (laws.congr x y z t) (any-alike x y t l)
 
-  any-push : (x y : K) (ks : List K) → same x y ≡ false → list_any (same x) ks ≡ false → list_any (same x) (ks ++ y ∷ []) ≡ false
+  any-push : (x y : K) (ks : List K) → same x y ≡ false → list_any (same x) ks ≡ false
+      → list_any (same x) (ks ++ y ∷ []) ≡ false
   any-push x y [] f e = rw f refl
-  any-push x y (k ∷ ks) f e = by_test (same x k) (λ t. absurd (cc (t, e))) (λ g. rw g (any-push x y ks f (rw g at e)))
+  any-push x y (k ∷ ks) f e =
+      by_test (same x k) (λ t. absurd (cc (t, e))) (λ g. rw g (any-push x y ks f (rw g at e)))
 
-  any-with_keys : (x : K) (l ks : List K) → list_any (same x) ks ≡ true → list_any (same x) (with_keys same ks l) ≡ true
+  any-with_keys : (x : K) (l ks : List K) → list_any (same x) ks ≡ true
+      → list_any (same x) (with_keys same ks l) ≡ true
   any-with_keys x [] ks e = e
-  any-with_keys x (y ∷ l) ks e = any-with_keys x l (with_key same ks y) (cond_either (λ ls. list_any (same x) ls ≡ true) (list_any (same y) ks) e (any-append x ks (y ∷ []) e))
+  any-with_keys x (y ∷ l) ks e =
+      any-with_keys x l (with_key same ks y) (cond_either (λ ls. list_any (same x) ls ≡ true)
+      (list_any (same y) ks) e (any-append x ks (y ∷ []) e))
 
   any-last : (x y : K) (ks : List K) → same x y ≡ true → list_any (same x) (ks ++ y ∷ []) ≡ true
   any-last x y [] t = rw t refl
   any-last x y (k ∷ ks) t = rw (any-last x y ks t) (or_true (same x k))
 
-  any-with_key : (x y : K) (ks : List K) → same x y ≡ true → list_any (same x) (with_key same ks y) ≡ true
-  any-with_key x y ks t = by_test (list_any (same y) ks) (λ s. rw s (any-alike x y t ks ∙ s)) (λ f. rw f (any-last x y ks t))
+  any-with_key : (x y : K) (ks : List K) → same x y ≡ true
+      → list_any (same x) (with_key same ks y) ≡ true
+  any-with_key x y ks t =
+      by_test (list_any (same y) ks) (λ s. rw s (any-alike x y t ks ∙ s))
+      (λ f. rw f (any-last x y ks t))
 
   -- a key that is like one of the list is like a distinct one
-  pub any-distinct : (x : K) (l ks : List K) → list_any (same x) l ≡ true → list_any (same x) (with_keys same ks l) ≡ true
+  pub any-distinct : (x : K) (l ks : List K) → list_any (same x) l ≡ true
+      → list_any (same x) (with_keys same ks l) ≡ true
   any-distinct x [] ks e = absurd cc
   any-distinct x (y ∷ l) ks e =
-      by_test (same x y) (λ t. any-with_keys x l (with_key same ks y) (any-with_key x y ks t)) (λ f. any-distinct x l (with_key same ks y) (rw f at e))
+      by_test (same x y) (λ t. any-with_keys x l (with_key same ks y) (any-with_key x y ks t))
+      (λ f. any-distinct x l (with_key same ks y) (rw f at e))
 
   -- a key's place stays when keys are added
-  place-append : (x : K) (l m : List K) → list_any (same x) l ≡ true → position_or_len (same x) (l ++ m) ≡ position_or_len (same x) l
+  place-append : (x : K) (l m : List K) → list_any (same x) l ≡ true
+      → position_or_len (same x) (l ++ m) ≡ position_or_len (same x) l
   place-append x [] m e = absurd cc
-  place-append x (y ∷ l) m e = by_test (same x y) (λ t. rw t refl) (λ f. ap (λ n. cond (not (same x y)) (1 + n) 0) (place-append x l m (rw f at e)))
+  place-append x (y ∷ l) m e =
+      by_test (same x y) (λ t. rw t refl)
+      (λ f. ap (λ n. cond (not (same x y)) (1 + n) 0) (place-append x l m (rw f at e)))
 
-  place-with_keys : (x : K) (l ks : List K) → list_any (same x) ks ≡ true → position_or_len (same x) (with_keys same ks l) ≡ position_or_len (same x) ks
+  place-with_keys : (x : K) (l ks : List K) → list_any (same x) ks ≡ true
+      → position_or_len (same x) (with_keys same ks l) ≡ position_or_len (same x) ks
   place-with_keys x [] ks e = refl
   place-with_keys x (y ∷ l) ks e =
-      place-with_keys x l (with_key same ks y) (cond_either (λ ls. list_any (same x) ls ≡ true) (list_any (same y) ks) e (any-append x ks (y ∷ []) e))
-      ∙ cond_either (λ ls. position_or_len (same x) ls ≡ position_or_len (same x) ks) (list_any (same y) ks) refl (place-append x ks (y ∷ []) e)
+      place-with_keys x l (with_key same ks y) (cond_either (λ ls. list_any (same x) ls ≡ true)
+      (list_any (same y) ks) e (any-append x ks (y ∷ []) e))
+      ∙ cond_either (λ ls. position_or_len (same x) ls ≡ position_or_len (same x) ks)
+      (list_any (same y) ks) refl (place-append x ks (y ∷ []) e)
 
-  place-absent : (x : K) (ks m : List K) → list_any (same x) ks ≡ false → position_or_len (same x) (ks ++ m) ≡ length ks + position_or_len (same x) m
+  place-absent : (x : K) (ks m : List K) → list_any (same x) ks ≡ false
+      → position_or_len (same x) (ks ++ m) ≡ length ks + position_or_len (same x) m
   place-absent x [] m e = omega arith
   place-absent x (y ∷ ks) m e =
       by_test (same x y)
@@ -123,20 +153,29 @@ module _ {K : Type 0} (same : K → K → Bool) (laws : IsEquivalence same) wher
       (λ f. rw f (omega (arith, place-absent x ks m (rw f at e))))
 
   -- where x is not among the keys, it goes last and stays there
-  place-added : (x y : K) (l ks : List K) → same x y ≡ true → list_any (same x) ks ≡ false → position_or_len (same x) (with_keys same (with_key same ks y) l) ≡ length ks
+  place-added : (x y : K) (l ks : List K) → same x y ≡ true → list_any (same x) ks ≡ false
+      → position_or_len (same x) (with_keys same (with_key same ks y) l) ≡ length ks
   place-added x y l ks t e =
-      let last : position_or_len (same x) (ks ++ y ∷ []) ≡ length ks + 0 = place-absent x ks (y ∷ []) e ∙ ap (λ (b : Bool). length ks + cond (not b) 1 0) t in
-      rw (sym (any-alike x y t ks) ∙ e) (omega (arith, place-with_keys x l (ks ++ y ∷ []) (any-last x y ks t), last))
+      let last : position_or_len (same x) (ks ++ y ∷ []) ≡ length ks + 0 =
+      place-absent x ks (y ∷ []) e ∙ ap (λ (b : Bool). length ks + cond (not b) 1 0) t in
+      rw (sym (any-alike x y t ks) ∙ e)
+      (omega (arith, place-with_keys x l (ks ++ y ∷ []) (any-last x y ks t), last))
 
   -- a key's place among the distinct members is the number of those before its first place
-  place-distinct : (x : K) (l ks : List K) → list_any (same x) ks ≡ false → position_or_len (same x) (with_keys same ks l) ≡ length (with_keys same ks (before same x l))
+  place-distinct : (x : K) (l ks : List K) → list_any (same x) ks ≡ false
+      → position_or_len (same x) (with_keys same ks l)
+      ≡ length (with_keys same ks (before same x l))
   place-distinct x [] ks e = omega (arith, rw append-nil at (place-absent x ks [] e))
   place-distinct x (y ∷ l) ks e =
       by_test (same x y)
       (λ t. rw t (place-added x y l ks t e))
-      (λ f. rw f (place-distinct x l (with_key same ks y) (cond_either (λ ls. list_any (same x) ls ≡ false) (list_any (same y) ks) e (any-push x y ks f e))))
+      (λ f.
+      rw f (place-distinct x l (with_key same ks y) (cond_either
+      (λ ls. list_any (same x) ls ≡ false) (list_any (same y) ks) e
+      (any-push x y ks f e))))
 
-  pub rank-place : (x : K) (l : List K) → rank same x l ≡ 1 + position_or_len (same x) (distinct same l)
+  pub rank-place : (x : K) (l : List K)
+      → rank same x l ≡ 1 + position_or_len (same x) (distinct same l)
   rank-place x l = ap (λ n. 1 + n) (sym (place-distinct x l [] refl))
 
   before-push : (x : K) (l : List K) → before same x (l ++ x ∷ []) ≡ before same x l
@@ -144,26 +183,35 @@ module _ {K : Type 0} (same : K → K → Bool) (laws : IsEquivalence same) wher
   before-push x (y ∷ l) = ap (λ (k : List K). cond (same x y) [] (y ∷ k)) (before-push x l)
 
   -- a key's number by the table of the distinct keys before it
-  pub rank-push : (x : K) (l : List K) → rank same x (l ++ x ∷ []) ≡ 1 + position_or_len (same x) (distinct same l)
+  pub rank-push : (x : K) (l : List K)
+      → rank same x (l ++ x ∷ []) ≡ 1 + position_or_len (same x) (distinct same l)
   rank-push x l = ap (λ k. 1 + length (distinct same k)) (before-push x l) ∙ rank-place x l
 
-  with_keys-push : (x : K) (l ks : List K) → with_keys same ks (l ++ x ∷ []) ≡ with_key same (with_keys same ks l) x
+  with_keys-push : (x : K) (l ks : List K)
+      → with_keys same ks (l ++ x ∷ []) ≡ with_key same (with_keys same ks l) x
   with_keys-push x [] ks = refl
   with_keys-push x (y ∷ l) ks = with_keys-push x l (with_key same ks y)
 
-  pub distinct-push : (x : K) (l : List K) → distinct same (l ++ x ∷ []) ≡ with_key same (distinct same l) x
+  pub distinct-push : (x : K) (l : List K)
+      → distinct same (l ++ x ∷ []) ≡ with_key same (distinct same l) x
   distinct-push x l = with_keys-push x l []
 
-  before-append : (x : K) (l m : List K) → list_any (same x) l ≡ true → before same x (l ++ m) ≡ before same x l
+  before-append : (x : K) (l m : List K) → list_any (same x) l ≡ true
+      → before same x (l ++ m) ≡ before same x l
   before-append x [] m e = absurd cc
-  before-append x (y ∷ l) m e = by_test (same x y) (λ t. rw t refl) (λ f. ap (λ (k : List K). cond (same x y) [] (y ∷ k)) (before-append x l m (rw f at e)))
+  before-append x (y ∷ l) m e =
+      by_test (same x y) (λ t. rw t refl)
+      (λ f. ap (λ (k : List K). cond (same x y) [] (y ∷ k)) (before-append x l m (rw f at e)))
 
   length-with_key : (y : K) (ks : List K) → length (with_key same ks y) ≤ length ks + 1
-  length-with_key y ks = cond_either (λ ls. length ls ≤ length ks + 1) (list_any (same y) ks) (omega arith) (omega (arith, length-append ks (y ∷ [])))
+  length-with_key y ks =
+      cond_either (λ ls. length ls ≤ length ks + 1) (list_any (same y) ks) (omega arith)
+      (omega (arith, length-append ks (y ∷ [])))
 
   pub length-with_keys : (l ks : List K) → length (with_keys same ks l) ≤ length ks + length l
   length-with_keys [] ks = omega arith
-  length-with_keys (y ∷ l) ks = omega (arith, length-with_keys l (with_key same ks y), length-with_key y ks)
+  length-with_keys (y ∷ l) ks =
+      omega (arith, length-with_keys l (with_key same ks y), length-with_key y ks)
 
 -- ---- members, where the test decides equality
 
@@ -195,60 +243,88 @@ module _ {K : Type 0} (same : K → K → Bool) (decides : (x y : K) → Decides
       (λ f. there (member_of_test x l (rw f at e)))
 
   member-with_key : {x : K} {ks : List K} (k : K) → Member x ks → Member x (with_key same ks k)
-  member-with_key {x = x} {ks = ks} k h = cond_either (Member x) (list_any (same k) ks) h (member-append_left (k ∷ []) h)
+  member-with_key {x = x} {ks = ks} k h =
+      cond_either (Member x) (list_any (same k) ks) h (member-append_left (k ∷ []) h)
 
   member-tail : {x y : K} {l : List K} → same x y ≡ false → Member x (y ∷ l) → Member x l
   member-tail {x = x} f here = absurd (cc (itself x, f))
   member-tail f (there m) = m
 
-  same_place : (x y : K) (ks : List K) → Member x ks → Member y ks → position_or_len (same x) ks ≡ position_or_len (same y) ks → x ≡ y
+  same_place : (x y : K) (ks : List K) → Member x ks → Member y ks
+      → position_or_len (same x) ks ≡ position_or_len (same y) ks → x ≡ y
   same_place x y [] m n e = elim m [ ]
   same_place x y (k ∷ ks) m n e =
       by_test (same x k)
-      (λ s. by_test (same y k) (λ t. (decides x k).0 s ∙ sym ((decides y k).0 t)) (λ t. absurd (omega (arith, rw (s, t) at e))))
-      (λ s. by_test (same y k) (λ t. absurd (omega (arith, rw (s, t) at e))) (λ t. same_place x y ks (member-tail s m) (member-tail t n) (omega (arith, rw (s, t) at e))))
+      (λ s.
+      by_test (same y k) (λ t. (decides x k).0 s ∙ sym ((decides y k).0 t))
+      (λ t. absurd (omega (arith, rw (s, t) at e))))
+      (λ s.
+      by_test (same y k) (λ t. absurd (omega (arith, rw (s, t) at e))) (λ t.
+      same_place x y ks (member-tail s m) (member-tail t n)
+      (omega (arith, rw (s, t) at e))))
 
   member-with_key_itself : (x : K) (ks : List K) → Member x (with_key same ks x)
-  member-with_key_itself x ks = by_test (list_any (same x) ks) (λ t. rw t (member_of_test x ks t)) (λ f. rw f (member-append_right ks here))
+  member-with_key_itself x ks =
+      by_test (list_any (same x) ks) (λ t. rw t (member_of_test x ks t))
+      (λ f. rw f (member-append_right ks here))
 
   member-with_keys_left : {x : K} (l ks : List K) → Member x ks → Member x (with_keys same ks l)
   member-with_keys_left [] ks h = h
-  member-with_keys_left (y ∷ l) ks h = member-with_keys_left l (with_key same ks y) (member-with_key y h)
+  member-with_keys_left (y ∷ l) ks h =
+      member-with_keys_left l (with_key same ks y) (member-with_key y h)
 
-  member-distinct : {x : K} {l : List K} → Member x l → (ks : List K) → Member x (with_keys same ks l)
-  member-distinct {x = x} (here {l = l}) ks = member-with_keys_left l (with_key same ks x) (member-with_key_itself x ks)
+  member-distinct : {x : K} {l : List K} → Member x l → (ks : List K)
+      → Member x (with_keys same ks l)
+  member-distinct {x = x} (here {l = l}) ks =
+      member-with_keys_left l (with_key same ks x) (member-with_key_itself x ks)
   member-distinct (there {y = y} m) ks = member-distinct m (with_key same ks y)
 
   -- members of one rank are one
-  pub same_rank : {x y : K} {l : List K} → Member x l → Member y l → rank same x l ≡ rank same y l → x ≡ y
+  pub same_rank : {x y : K} {l : List K} → Member x l → Member y l → rank same x l ≡ rank same y l
+      → x ≡ y
   same_rank {x = x} {y = y} {l = l} m n e =
-      same_place x y (distinct same l) (member-distinct m []) (member-distinct n []) (omega (arith, e, rank-place same equivalence x l, rank-place same equivalence y l))
+      same_place x y (distinct same l) (member-distinct m []) (member-distinct n [])
+      (omega (arith, e, rank-place same equivalence x l, rank-place same equivalence y l))
 
   -- what comes after a member's first place leaves its rank
-  pub rank-append : {x : K} {l : List K} (m : List K) → Member x l → rank same x (l ++ m) ≡ rank same x l
-  rank-append {x = x} {l = l} m h = ap (λ k. 1 + length (distinct same k)) (before-append same equivalence x l m (any-member h))
+  pub rank-append : {x : K} {l : List K} (m : List K) → Member x l
+      → rank same x (l ++ m) ≡ rank same x l
+  rank-append {x = x} {l = l} m h =
+      ap (λ k. 1 + length (distinct same k)) (before-append same equivalence x l m (any-member h))
 
   length-before : {x : K} {l : List K} → Member x l → length (before same x l) < length l
   length-before {x = x} (here {l = l}) = rw (itself x) (omega arith)
-  length-before {x = x} (there {y = y} {l = l} h) = cond_either (λ k. length k < length (y ∷ l)) (same x y) (omega arith) (omega (arith, length-before h))
+  length-before {x = x} (there {y = y} {l = l} h) =
+      cond_either (λ k. length k < length (y ∷ l)) (same x y) (omega arith)
+      (omega (arith, length-before h))
 
   pub rank-le-length : {x : K} {l : List K} → Member x l → rank same x l ≤ length l
-  rank-le-length {x = x} {l = l} m = omega (arith, length-with_keys same equivalence (before same x l) [], length-before m)
+  rank-le-length {x = x} {l = l} m =
+      omega (arith, length-with_keys same equivalence (before same x l) [], length-before m)
 
 -- ---- injective functions
 
-module _ {K L : Type 0} (same : K → K → Bool) (decides : (x y : K) → Decides (same x y) (x ≡ y)) (alike : L → L → Bool) (decides_alike : (u v : L) → Decides (alike u v) (u ≡ v)) (f : K → L) where
-  pairwise-map : (l all : List K) → ((x : K) → Member x l → Member x all) → Pairwise (λ x u. Member x all × (f x ≡ u)) l (map f l)
+module _ {K L : Type 0} (same : K → K → Bool) (decides : (x y : K) → Decides (same x y) (x ≡ y))
+    (alike : L → L → Bool) (decides_alike : (u v : L) → Decides (alike u v) (u ≡ v))
+    (f : K → L) where
+  pairwise-map : (l all : List K) → ((x : K) → Member x l → Member x all)
+      → Pairwise (λ x u. Member x all × (f x ≡ u)) l (map f l)
   pairwise-map [] all w = none
   pairwise-map (x ∷ l) all w = more (w x here, refl) (pairwise-map l all (λ y m. w y (there m)))
 
-  agree-injective : (all : List K) → IsInjectiveOn f all → (x y : K) (u v : L) → Member x all × (f x ≡ u) → Member y all × (f y ≡ v) → same x y ≡ alike u v
+  agree-injective : (all : List K) → IsInjectiveOn f all → (x y : K) (u v : L)
+      → Member x all × (f x ≡ u) → Member y all × (f y ≡ v) → same x y ≡ alike u v
   agree-injective all one x y u v p q =
       rw (← p.1, ← q.1) (by_test (same x y)
       (λ t. t ∙ sym ((decides_alike (f x) (f y)).1 (ap f ((decides x y).0 t))))
-      (λ d. d ∙ sym (apart alike decides_alike (f x) (f y) (λ e. absurd (cc (d, (decides x y).1 (one x y p.0 q.0 e)))))))
+      (λ d.
+      d
+      ∙ sym (apart alike decides_alike (f x) (f y)
+      (λ e. absurd (cc (d, (decides x y).1 (one x y p.0 q.0 e)))))))
 
   -- ranks are blind to one-to-one renaming
-  pub rank-map : (x : K) (l : List K) → IsInjectiveOn f (x ∷ l) → rank alike (f x) (map f l) ≡ rank same x l
+  pub rank-map : (x : K) (l : List K) → IsInjectiveOn f (x ∷ l)
+      → rank alike (f x) (map f l) ≡ rank same x l
   rank-map x l one =
-      sym (rank_paired same alike (λ y u. Member y (x ∷ l) × (f y ≡ u)) (agree-injective (x ∷ l) one) (here, refl) (pairwise-map l (x ∷ l) (λ y m. there m)))
+      sym (rank_paired same alike (λ y u. Member y (x ∷ l) × (f y ≡ u))
+      (agree-injective (x ∷ l) one) (here, refl) (pairwise-map l (x ∷ l) (λ y m. there m)))

@@ -1,13 +1,5 @@
 -- What the first entries of a well-formed file are.
-use Rattle.std.proofs.Common.{◌≡◌, ◌≢◌, ◌↔◌, ℕ, ◌+◌, List, [], ◌++◌, length, take, drop, refl, sym, ap, ◌∙◌, subst, take-append-drop, append_assoc}
-use Rattle.std.proofs.lemmas.List.{take_at}
-use Rattle.capture3.specs.Entry.{Entry}
-use Rattle.canon3.specs.Bytes.{bytes_of}
-use Rattle.canon3.specs.Canonical.{canonical, numbered}
-use Rattle.canon3.specs.Values.{handles, verifiers}
-use Rattle.canon3.specs.Renaming.{Same}
-use Rattle.canon3.specs.Parting.{PartsAt}
-use Rattle.canon3.specs.Laws.{AreFirst}
+use Rattle.canon3.proofs.Common.{◌≡◌, ◌≢◌, ◌↔◌, ℕ, ◌+◌, List, [], ◌++◌, length, take, drop, refl, sym, ap, ◌∙◌, subst, take-append-drop, append_assoc, Entry, bytes_of, canonical, numbered, handles, verifiers, Same, PartsAt, AreFirst, take_at}
 use Rattle.canon3.proofs.Lemmas.Order.Order.{IsWellFormed}
 use Rattle.canon3.proofs.Lemmas.Renaming.Equality.{same_from_canonical}
 use Rattle.canon3.proofs.Lemmas.Order.Prefixes.{IsWellFormed-take, canonical-take, same_front, parts_from_first_difference}
@@ -19,7 +11,9 @@ taken : (a : List Entry) (f : AreFirst a) → a ≡ take (length a) f.all
 taken a f = sym (ap (take (length a)) f.split ∙ take_at a f.more (length a) refl)
 
 pub first_in_order : (a : List Entry) → AreFirst a → IsWellFormed a
-first_in_order a f = subst IsWellFormed (sym (taken a f)) (IsWellFormed-take (length a) f.all (typed_in_order f.file f.all f.typed))
+first_in_order a f =
+    subst IsWellFormed (sym (taken a f))
+    (IsWellFormed-take (length a) f.all (typed_in_order f.file f.all f.typed))
 
 pub first_taken : (i : ℕ) (a : List Entry) → AreFirst a → AreFirst (take i a)
 first_taken i a f = record {
@@ -27,7 +21,10 @@ first_taken i a f = record {
   all = f.all;
   more = drop i a ++ f.more;
   typed = f.typed;
-  split = f.split ∙ (ap (λ (l : List Entry). l ++ f.more) (sym (take-append-drop i a)) ∙ append_assoc (take i a) (drop i a) f.more);
+  split =
+      f.split
+      ∙ (ap (λ (l : List Entry). l ++ f.more) (sym (take-append-drop i a))
+      ∙ append_assoc (take i a) (drop i a) f.more);
 }
 
 -- the canonical form of first entries is the first entries of a capture
@@ -37,20 +34,29 @@ front_of_canonical a f =
     let hs = handles f.all in
     let vs = verifiers f.all in
     let i = length a in
-    let form : canonical f.all ≡ all_of (numbered_all_conversations hs vs h.cs) = ap (numbered hs vs []) h.is ∙ numbered-all hs vs h.cs [] in
-    let front : canonical a ≡ take i (canonical f.all) = ap canonical (taken a f) ∙ canonical-take i f.all (typed_in_order f.file f.all f.typed) in
+    let form : canonical f.all ≡ all_of (numbered_all_conversations hs vs h.cs) =
+    ap (numbered hs vs []) h.is ∙ numbered-all hs vs h.cs [] in
+    let front : canonical a ≡ take i (canonical f.all) =
+    ap canonical (taken a f) ∙ canonical-take i f.all (typed_in_order f.file f.all f.typed) in
     record {
       cs = numbered_all_conversations hs vs h.cs;
       more = drop i (canonical f.all);
-      split = sym form ∙ (sym (take-append-drop i (canonical f.all)) ∙ ap (λ (l : List Entry). l ++ drop i (canonical f.all)) (sym front));
+      split =
+          sym form
+          ∙ (sym (take-append-drop i (canonical f.all))
+          ∙ ap (λ (l : List Entry). l ++ drop i (canonical f.all)) (sym front));
       are = capture_numbered hs vs h.cs h.are;
     }
 
-pub forms_from_bytes : (a b : List Entry) → AreFirst a → AreFirst b → bytes_of (canonical a) ≡ bytes_of (canonical b) → canonical a ≡ canonical b
-forms_from_bytes a b f g e = told_apart (canonical a) (canonical b) (front_of_canonical a f) (front_of_canonical b g) e
+pub forms_from_bytes : (a b : List Entry) → AreFirst a → AreFirst b
+    → bytes_of (canonical a) ≡ bytes_of (canonical b) → canonical a ≡ canonical b
+forms_from_bytes a b f g e =
+    told_apart (canonical a) (canonical b) (front_of_canonical a f) (front_of_canonical b g) e
 
-pub same_from_bytes : (a b : List Entry) → AreFirst a → AreFirst b → bytes_of (canonical a) ≡ bytes_of (canonical b) → Same a b
-same_from_bytes a b f g e = same_from_canonical a b (first_in_order a f) (first_in_order b g) (forms_from_bytes a b f g e)
+pub same_from_bytes : (a b : List Entry) → AreFirst a → AreFirst b
+    → bytes_of (canonical a) ≡ bytes_of (canonical b) → Same a b
+same_from_bytes a b f g e =
+    same_from_canonical a b (first_in_order a f) (first_in_order b g) (forms_from_bytes a b f g e)
 
 -- ---- the first i entries
 
@@ -61,12 +67,25 @@ module _ (a b : List Entry) (f : AreFirst a) (g : AreFirst b) where
   w : IsWellFormed b
   w = first_in_order b g
 
-  pub forms_of_fronts : (i : ℕ) → bytes_of (take i (canonical a)) ≡ bytes_of (take i (canonical b)) → take i (canonical a) ≡ take i (canonical b)
+  pub forms_of_fronts : (i : ℕ) → bytes_of (take i (canonical a)) ≡ bytes_of (take i (canonical b))
+      → take i (canonical a) ≡ take i (canonical b)
   forms_of_fronts i e =
-      sym (canonical-take i a v) ∙ (forms_from_bytes (take i a) (take i b) (first_taken i a f) (first_taken i b g) (ap bytes_of (canonical-take i a v) ∙ (e ∙ ap bytes_of (sym (canonical-take i b w)))) ∙ canonical-take i b w)
+      sym (canonical-take i a v)
+      ∙ (forms_from_bytes (take i a) (take i b) (first_taken i a f) (first_taken i b g)
+      (ap bytes_of (canonical-take i a v) ∙ (e ∙ ap bytes_of (sym (canonical-take i b w))))
+      ∙ canonical-take i b w)
 
-  pub fronts_decided : (i : ℕ) → Same (take i a) (take i b) ↔ (bytes_of (take i (canonical a)) ≡ bytes_of (take i (canonical b)))
-  fronts_decided i = ((λ s. ap bytes_of ((same_front a b v w i).0 s)), (λ e. (same_front a b v w i).1 (forms_of_fronts i e)))
+  pub fronts_decided : (i : ℕ)
+      → Same (take i a) (take i b)
+      ↔ (bytes_of (take i (canonical a)) ≡ bytes_of (take i (canonical b)))
+  fronts_decided i = (
+    (λ s. ap bytes_of ((same_front a b v w i).0 s)),
+    (λ e. (same_front a b v w i).1 (forms_of_fronts i e)),
+  )
 
-  pub parts_where_forms_do : (i : ℕ) → bytes_of (take i (canonical a)) ≡ bytes_of (take i (canonical b)) → bytes_of (take (i + 1) (canonical a)) ≢ bytes_of (take (i + 1) (canonical b)) → PartsAt a b i
-  parts_where_forms_do i e d = parts_from_first_difference a b v w i (forms_of_fronts i e) (λ k. d (ap bytes_of k))
+  pub parts_where_forms_do : (i : ℕ)
+      → bytes_of (take i (canonical a)) ≡ bytes_of (take i (canonical b))
+      → bytes_of (take (i + 1) (canonical a)) ≢ bytes_of (take (i + 1) (canonical b))
+      → PartsAt a b i
+  parts_where_forms_do i e d =
+      parts_from_first_difference a b v w i (forms_of_fronts i e) (λ k. d (ap bytes_of k))

@@ -1,15 +1,7 @@
 -- The entries of a well-formed file are in order, and their handles and write verifiers fit.
-use Rattle.std.proofs.Common.{ℕ, ◌≤◌, List, [], ◌∷◌, ◌++◌, length, map, sym, subst, arith, length-append, append_assoc, append-nil, ⊎_elim}
-use Rattle.std.specs.List.{AllByRecursion, flat_map}
-use Rattle.xdr3.specs.Item.{Item, Spells, zero_spelling}
-use Rattle.capture3.specs.Bodies.{ReplyItems, xid_in}
-use Rattle.capture3.specs.Chunks.{max_bytes}
-use Rattle.capture3.specs.Entry.{Entry, Begin, Call, Turn, Reply, Close, End, items_of}
+use Rattle.canon3.proofs.Common.{ℕ, ◌≤◌, List, [], ◌∷◌, ◌++◌, length, map, sym, subst, arith, length-append, append_assoc, append-nil, ⊎_elim, AllByRecursion, flat_map, Item, Spells, zero_spelling, max_bytes, Entry, Begin, Call, Turn, Reply, Close, End, items_of, IsIn, reply_entry, Typed, handles_in, verifiers_in, xid_of, Member, IsHandle, IsVerifier, ReplyItems, xid_in}
 use Rattle.capture3.specs.Laws.{spelled}
-use Rattle.capture3.specs.Typed.{IsIn, reply_entry, Typed}
 use Rattle.capture3.proofs.Lemmas.Reached.Limits.{typed_within}
-use Rattle.canon3.specs.Values.{handles_in, verifiers_in, xid_of}
-use Rattle.canon3.specs.Pairing.{Member, IsHandle, IsVerifier}
 use Rattle.canon3.proofs.Lemmas.Order.Order.{BeginsWithXid, IsAnswering, Between, InCalls, InReplies, Over, begin, call, turn, reply, close, end, Runs, stays, steps, IsWellFormed}
 use Rattle.canon3.proofs.Lemmas.Numbers.RankLemmas.{member-append_cases}
 use Rattle.canon3.proofs.Lemmas.Renaming.RenamingLemmas.{all_weaker}
@@ -24,27 +16,42 @@ use Rattle.canon3.proofs.Lemmas.WellFormed.Files.{all_entries, all_of, all_regro
 begins_with_xid : (m : List Item) → BeginsWithWord m → BeginsWithXid m
 begins_with_xid m b = subst BeginsWithXid (sym b.is) tt
 
-answering : (xs : List ℕ) (m : List Item) → BeginsWithWord m → Member (xid_in m) xs → IsAnswering xs m
+answering : (xs : List ℕ) (m : List Item) → BeginsWithWord m → Member (xid_in m) xs
+    → IsAnswering xs m
 answering xs m b k = subst (IsAnswering xs) (sym b.is) (subst (λ l. Member (xid_in l) xs) b.is k)
 
-runs_calls : (calls : List (List Item)) (tail : List Entry) (xs : List ℕ) → AllByRecursion IsSpelledCall calls → Runs (InCalls (xs ++ xids_of calls)) tail Over → Runs (InCalls xs) (map Call calls ++ tail) Over
+runs_calls : (calls : List (List Item)) (tail : List Entry) (xs : List ℕ)
+    → AllByRecursion IsSpelledCall calls → Runs (InCalls (xs ++ xids_of calls)) tail Over
+    → Runs (InCalls xs) (map Call calls ++ tail) Over
 runs_calls [] tail xs h r = subst (λ l. Runs (InCalls l) tail Over) (append-nil xs) r
 runs_calls (m ∷ calls) tail xs h r =
-    steps (call m (begins_with_xid m (call_begins m h.0.0.0))) (runs_calls calls tail (xs ++ xid_of m) h.1 (subst (λ l. Runs (InCalls l) tail Over) (sym (append_assoc xs (xid_of m) (xids_of calls))) r))
+    steps (call m (begins_with_xid m (call_begins m h.0.0.0))) (runs_calls calls tail
+    (xs ++ xid_of m) h.1 (subst (λ l. Runs (InCalls l) tail Over)
+    (sym (append_assoc xs (xid_of m) (xids_of calls))) r))
 
-runs_replies : (replies : List ReplyItems) (tail : List Entry) (xs : List ℕ) → AllByRecursion (λ r. IsAnswering xs r.items) replies → Runs (InReplies xs) tail Over → Runs (InReplies xs) (map reply_entry replies ++ tail) Over
+runs_replies : (replies : List ReplyItems) (tail : List Entry) (xs : List ℕ)
+    → AllByRecursion (λ r. IsAnswering xs r.items) replies → Runs (InReplies xs) tail Over
+    → Runs (InReplies xs) (map reply_entry replies ++ tail) Over
 runs_replies [] tail xs h r = r
-runs_replies (m ∷ replies) tail xs h r = steps (reply m.items h.0) (runs_replies replies tail xs h.1 r)
+runs_replies (m ∷ replies) tail xs h r =
+    steps (reply m.items h.0) (runs_replies replies tail xs h.1 r)
 
-reply_answers : (c : Conversation) → AreConversing c → (r : ReplyItems) → IsIn r c.replies → IsAnswering (xids_of c.calls) r.items
-reply_answers c h r i = answering (xids_of c.calls) r.items (reply_begins r.id r.items (of_all IsSpelledReply c.replies r h.replies_are i).0.0) (reply_known c h r i)
+reply_answers : (c : Conversation) → AreConversing c → (r : ReplyItems) → IsIn r c.replies
+    → IsAnswering (xids_of c.calls) r.items
+reply_answers c h r i =
+    answering (xids_of c.calls) r.items
+    (reply_begins r.id r.items (of_all IsSpelledReply c.replies r h.replies_are i).0.0)
+    (reply_known c h r i)
 
-pub runs_all : (cs : List Conversation) → AllByRecursion AreConversing cs → Runs Between (all_of cs) Over
+pub runs_all : (cs : List Conversation) → AllByRecursion AreConversing cs
+    → Runs Between (all_of cs) Over
 runs_all [] h = steps end stays
 runs_all (c ∷ cs) h =
     subst (λ l. Runs Between l Over) (sym (all_regrouped c cs))
-    (steps begin (runs_calls c.calls (Turn ∷ (map reply_entry c.replies ++ (Close ∷ all_of cs))) [] h.0.calls_are
-    (steps turn (runs_replies c.replies (Close ∷ all_of cs) (xids_of c.calls) (all_in (λ r. IsAnswering (xids_of c.calls) r.items) c.replies (reply_answers c h.0))
+    (steps begin (runs_calls c.calls (Turn ∷ (map reply_entry c.replies ++ (Close ∷ all_of cs))) []
+    h.0.calls_are
+    (steps turn (runs_replies c.replies (Close ∷ all_of cs) (xids_of c.calls)
+    (all_in (λ r. IsAnswering (xids_of c.calls) r.items) c.replies (reply_answers c h.0))
     (steps close (runs_all cs h.1))))))
 
 -- ---- handles and write verifiers
@@ -59,10 +66,22 @@ abbrev EntryFits : Entry → Type 0
 EntryFits e = HasFit (items_of e)
 
 nothing_fits : HasFit []
-nothing_fits = record { handle_fits = λ h m. elim m [ ]; verifier_fits = λ v m. elim m [ ]; handle_count = omega arith; verifier_count = omega arith }
+nothing_fits =
+    record {
+      handle_fits = λ h m. elim m [ ];
+      verifier_fits = λ v m. elim m [ ];
+      handle_count = omega arith;
+      verifier_count = omega arith;
+    }
 
 message_fits : (m : List Item) (body : List ℕ) → AllByRecursion IsShort m → Spells m body → HasFit m
-message_fits m body s p = record { handle_fits = handles_are m s; verifier_fits = verifiers_are m body p; handle_count = few_handles m; verifier_count = few_verifiers m body p }
+message_fits m body s p =
+    record {
+      handle_fits = handles_are m s;
+      verifier_fits = verifiers_are m body p;
+      handle_count = few_handles m;
+      verifier_count = few_verifiers m body p;
+    }
 
 call_fits : (m : List Item) → IsSpelledCall m → EntryFits (Call m)
 call_fits m s = message_fits m (zero_spelling m) (call_short m s.0.0) s.0.1
@@ -70,34 +89,73 @@ call_fits m s = message_fits m (zero_spelling m) (call_short m s.0.0) s.0.1
 reply_fits : (r : ReplyItems) → IsSpelledReply r → EntryFits (reply_entry r)
 reply_fits r s = message_fits r.items (zero_spelling r.items) (reply_short r.id r.items s.0.0) s.0.1
 
-member_fits : (f : List Item → List (List ℕ)) (P : List ℕ → Type 0) (es : List Entry) → AllByRecursion (λ e. (x : List ℕ) → Member x (f (items_of e)) → P x) es → (x : List ℕ) → Member x (flat_map (λ e. f (items_of e)) es) → P x
+member_fits : (f : List Item → List (List ℕ)) (P : List ℕ → Type 0) (es : List Entry)
+    → AllByRecursion (λ e. (x : List ℕ) → Member x (f (items_of e)) → P x) es → (x : List ℕ)
+    → Member x (flat_map (λ e. f (items_of e)) es) → P x
 member_fits f P [] h x m = elim m [ ]
-member_fits f P (e ∷ es) h x m = ⊎_elim (h.0 x) (member_fits f P es h.1 x) (member-append_cases (f (items_of e)) m)
+member_fits f P (e ∷ es) h x m =
+    ⊎_elim (h.0 x) (member_fits f P es h.1 x) (member-append_cases (f (items_of e)) m)
 
-count_of : (f : List Item → List (List ℕ)) (es : List Entry) → AllByRecursion (λ e. length (f (items_of e)) ≤ length (zero_spelling (items_of e))) es → length (flat_map (λ e. f (items_of e)) es) ≤ spelled es
+count_of : (f : List Item → List (List ℕ)) (es : List Entry)
+    → AllByRecursion (λ e. length (f (items_of e)) ≤ length (zero_spelling (items_of e))) es
+    → length (flat_map (λ e. f (items_of e)) es) ≤ spelled es
 count_of f [] h = omega arith
-count_of f (Begin ∷ es) h = omega (arith, h.0, count_of f es h.1, length-append (f []) (flat_map (λ e. f (items_of e)) es))
-count_of f (Call m ∷ es) h = omega (arith, h.0, count_of f es h.1, length-append (f m) (flat_map (λ e. f (items_of e)) es))
-count_of f (Turn ∷ es) h = omega (arith, h.0, count_of f es h.1, length-append (f []) (flat_map (λ e. f (items_of e)) es))
-count_of f (Reply id m ∷ es) h = omega (arith, h.0, count_of f es h.1, length-append (f m) (flat_map (λ e. f (items_of e)) es))
-count_of f (Close ∷ es) h = omega (arith, h.0, count_of f es h.1, length-append (f []) (flat_map (λ e. f (items_of e)) es))
-count_of f (End ∷ es) h = omega (arith, h.0, count_of f es h.1, length-append (f []) (flat_map (λ e. f (items_of e)) es))
+count_of f (Begin ∷ es) h =
+    omega (arith, h.0, count_of f es h.1, length-append (f []) (flat_map (λ e. f (items_of e)) es))
+count_of f (Call m ∷ es) h =
+    omega (arith, h.0, count_of f es h.1, length-append (f m) (flat_map (λ e. f (items_of e)) es))
+count_of f (Turn ∷ es) h =
+    omega (arith, h.0, count_of f es h.1, length-append (f []) (flat_map (λ e. f (items_of e)) es))
+count_of f (Reply id m ∷ es) h =
+    omega (arith, h.0, count_of f es h.1, length-append (f m) (flat_map (λ e. f (items_of e)) es))
+count_of f (Close ∷ es) h =
+    omega (arith, h.0, count_of f es h.1, length-append (f []) (flat_map (λ e. f (items_of e)) es))
+count_of f (End ∷ es) h =
+    omega (arith, h.0, count_of f es h.1, length-append (f []) (flat_map (λ e. f (items_of e)) es))
 
-in_order : (cs : List Conversation) → AllByRecursion AreConversing cs → spelled (all_of cs) ≤ max_bytes → IsWellFormed (all_of cs)
+in_order : (cs : List Conversation) → AllByRecursion AreConversing cs
+    → spelled (all_of cs) ≤ max_bytes → IsWellFormed (all_of cs)
 in_order cs h small =
     let all = all_of cs in
-    let fit : AllByRecursion EntryFits all = all_entries EntryFits call_fits reply_fits nothing_fits nothing_fits nothing_fits nothing_fits cs h in
+    let fit : AllByRecursion EntryFits all =
+    all_entries EntryFits call_fits reply_fits nothing_fits nothing_fits nothing_fits nothing_fits
+    cs h in
     record {
       stage = Over;
       run = runs_all cs h;
-      handles_fit = member_fits handles_in IsHandle all (all_weaker EntryFits (λ e. (x : List ℕ) → Member x (handles_in (items_of e)) → IsHandle x) (λ e f. f.handle_fits) all fit);
-      verifiers_fit = member_fits verifiers_in IsVerifier all (all_weaker EntryFits (λ e. (x : List ℕ) → Member x (verifiers_in (items_of e)) → IsVerifier x) (λ e f. f.verifier_fits) all fit);
-      few_handles = omega (arith, small, count_of handles_in all (all_weaker EntryFits (λ e. length (handles_in (items_of e)) ≤ length (zero_spelling (items_of e))) (λ e f. f.handle_count) all fit));
-      few_verifiers = omega (arith, small, count_of verifiers_in all (all_weaker EntryFits (λ e. length (verifiers_in (items_of e)) ≤ length (zero_spelling (items_of e))) (λ e f. f.verifier_count) all fit));
+      handles_fit =
+          member_fits handles_in IsHandle all (all_weaker EntryFits
+          (λ e. (x : List ℕ) → Member x (handles_in (items_of e)) → IsHandle x)
+          (λ e f. f.handle_fits) all fit);
+      verifiers_fit =
+          member_fits verifiers_in IsVerifier all (all_weaker EntryFits
+          (λ e. (x : List ℕ) → Member x (verifiers_in (items_of e)) → IsVerifier x)
+          (λ e f. f.verifier_fits) all fit);
+      few_handles =
+          omega (
+            arith,
+            small,
+            count_of handles_in all (all_weaker EntryFits
+                (λ e.
+                length (handles_in (items_of e))
+                ≤ length (zero_spelling (items_of e))) (λ e f. f.handle_count) all
+                fit),
+          );
+      few_verifiers =
+          omega (
+            arith,
+            small,
+            count_of verifiers_in all (all_weaker EntryFits
+                (λ e.
+                length (verifiers_in (items_of e))
+                ≤ length (zero_spelling (items_of e))) (λ e f. f.verifier_count)
+                all fit),
+          );
     }
 
 pub typed_in_order : (file : List ℕ) (all : List Entry) → Typed file all → IsWellFormed all
 typed_in_order file all typed =
     let h = holds file all typed in
     let small : spelled all ≤ max_bytes = (typed_within file all typed).small in
-    subst IsWellFormed (sym h.is) (in_order h.cs h.are.converse (subst (λ l. spelled l ≤ max_bytes) h.is small))
+    subst IsWellFormed (sym h.is)
+    (in_order h.cs h.are.converse (subst (λ l. spelled l ≤ max_bytes) h.is small))

@@ -1,10 +1,6 @@
 -- The order of entries in a capture, and what the laws ask of entries.
 use Rattle.std.specs.Prelude.{ℕ, ◌<◌, ◌^◌, List, [], ◌∷◌, ◌++◌, length, ⊤}
-use Rattle.xdr3.specs.Item.{Item, Word}
-use Rattle.rpc_head.specs.declared.values.call.ProcId.{ProcId}
-use Rattle.capture3.specs.Entry.{Entry, Begin, Call, Turn, Reply, Close, End}
-use Rattle.canon3.specs.Values.{xid_of, handles, verifiers}
-use Rattle.canon3.specs.Pairing.{Member, IsHandle, IsVerifier}
+use Rattle.canon3.proofs.Common.{Item, Word, Entry, Begin, Call, Turn, Reply, Close, End, xid_of, handles, verifiers, Member, IsHandle, IsVerifier, ProcId}
 
 -- a message begins with its xid
 abbrev pub BeginsWithXid : List Item → Type 0
@@ -26,15 +22,18 @@ pub data Stage : Type 0 where
 -- an entry that may come next, and where it leads
 pub data Steps : Stage → Entry → Stage → Type 0 where
   begin : Steps Between Begin (InCalls [])
-  call : {xs : List ℕ} (items : List Item) → BeginsWithXid items → Steps (InCalls xs) (Call items) (InCalls (xs ++ xid_of items))
+  call : {xs : List ℕ} (items : List Item) → BeginsWithXid items
+      → Steps (InCalls xs) (Call items) (InCalls (xs ++ xid_of items))
   turn : {xs : List ℕ} → Steps (InCalls xs) Turn (InReplies xs)
-  reply : {xs : List ℕ} {id : ProcId} (items : List Item) → IsAnswering xs items → Steps (InReplies xs) (Reply id items) (InReplies xs)
+  reply : {xs : List ℕ} {id : ProcId} (items : List Item) → IsAnswering xs items
+      → Steps (InReplies xs) (Reply id items) (InReplies xs)
   close : {xs : List ℕ} → Steps (InReplies xs) Close Between
   end : Steps Between End Over
 
 pub data Runs : Stage → List Entry → Stage → Type 0 where
   stays : {s : Stage} → Runs s [] s
-  steps : {s t u : Stage} {e : Entry} {es : List Entry} → Steps s e t → Runs t es u → Runs s (e ∷ es) u
+  steps : {s t u : Stage} {e : Entry} {es : List Entry} → Steps s e t → Runs t es u
+      → Runs s (e ∷ es) u
 
 -- entries of a well-formed capture, or the first of them
 pub record IsWellFormed (es : List Entry) : Type 0 where

@@ -1,43 +1,33 @@
 -- From what was handed out to what a capture has.
 use Rattle.std.proofs.Common.{◌≡◌, ◌≤◌, ℕ, ◌+◌, Bool, cond, min, Result, Ok, Err, List, [], ◌∷◌, ◌++◌, count_by, length, refl, sym, ap, subst, ◌∙◌, append-nil, arith}
-use Rattle.std.specs.Prelude.{bytes_eq}
+use Rattle.canon3.proofs.Common.{bytes_eq, Gave, Told, gave_none, IsPrefixOf, shown_of_all, flat_map-append, Item, Error, Entry, Begin, Call, Turn, Reply, Close, End, items_of, Typed, Kind, distinct, number_limit, connections, HasPassed, IsOfKind, handles, reached_by_machine, EntryCounts, Summary}
 use Rattle.std.specs.Cmp.Lexicographic.{nat_list_eq_equiv}
-use Rattle.capture3.specs.Told.{Gave, Told}
-use Rattle.capture3.proofs.Lemmas.Reader.ToldLemmas.{gave_none, IsPrefixOf, shown_of_all}
-use Rattle.std.proofs.lemmas.Grind.{flat_map-append}
 use Rattle.std.proofs.lemmas.List.Sums.{sum_by-append, sum_by-cons}
-use Rattle.xdr3.specs.Item.{Item}
-use Rattle.capture3.specs.declared.fault.Error.{Error}
 use Rattle.capture3.specs.declared.fault.Error.TheVariants as errors
-use Rattle.capture3.specs.Entry.{Entry, Begin, Call, Turn, Reply, Close, End, items_of}
-use Rattle.capture3.specs.Typed.{Typed}
-use Rattle.capture3.proofs.Lemmas.Reached.EmittedEntries.{reached_by_machine}
-use Rattle.canon3.specs.declared.entry_counts.EntryCounts.{EntryCounts}
 use Rattle.canon3.specs.declared.summary.MessageCounts.{MessageCounts}
-use Rattle.canon3.specs.declared.summary.Summary.{Summary}
-use Rattle.capture3.specs.declared.reader.entry.Kind.{Kind}
 use Rattle.capture3.specs.declared.reader.entry.Kind.TheVariants as kinds
-use Rattle.canon3.specs.Rank.{distinct, number_limit}
-use Rattle.canon3.specs.Parting.{connections}
 use Rattle.canon3.specs.EntryCounts.{AreCounted}
 use Rattle.canon3.specs.machinery.CountedKinds.{calls, replies}
-use Rattle.canon3.specs.Progress.{HasPassed}
 use Rattle.canon3.specs.Summary.{AreMessageCounts, ConcludesAll, ConcludesGiven, is_begin, is_call, is_reply, IsSummary}
 use Rattle.canon3.specs.machinery.Sums.{all_items, Sums, SumsMessages}
-use Rattle.capture3.specs.Kept.{IsOfKind}
-use Rattle.canon3.specs.Values.{handles}
 use Rattle.canon3.proofs.Lemmas.Order.InOrder.{typed_in_order}
 use Rattle.canon3.proofs.Lemmas.Numbers.RankLemmas.{length-with_keys}
 
 -- one more is counted where it is one of them
-pub counts_after : {X : Type 0} (p : X → Bool) (n m : ℕ) (items : List X) (one : X) → m ≡ n + cond (p one) 1 0 → n ≡ count_by p items → m ≡ count_by p (items ++ one ∷ [])
+pub counts_after : {X : Type 0} (p : X → Bool) (n m : ℕ) (items : List X) (one : X)
+    → m ≡ n + cond (p one) 1 0 → n ≡ count_by p items → m ≡ count_by p (items ++ one ∷ [])
 counts_after p n m items one more is =
-    let whole : count_by p (items ++ one ∷ []) ≡ count_by p items + count_by p (one ∷ []) = sum_by-append (λ x. cond (p x) 1 0) items (one ∷ []) in
-    let last : count_by p (one ∷ []) ≡ cond (p one) 1 0 + count_by p [] = sum_by-cons (λ x. cond (p x) 1 0) one [] in
+    let whole : count_by p (items ++ one ∷ []) ≡ count_by p items + count_by p (one ∷ []) =
+    sum_by-append (λ x. cond (p x) 1 0) items (one ∷ []) in
+    let last : count_by p (one ∷ []) ≡ cond (p one) 1 0 + count_by p [] =
+    sum_by-cons (λ x. cond (p x) 1 0) one [] in
     omega (arith, more, is, whole, last)
 
-pub items_with_last : (front : List Entry) (last : Entry) → all_items (front ++ last ∷ []) ≡ all_items front ++ items_of last
-items_with_last front last = flat_map-append items_of front (last ∷ []) ∙ ap (λ (l : List Item). all_items front ++ l) (append-nil (items_of last))
+pub items_with_last : (front : List Entry) (last : Entry)
+    → all_items (front ++ last ∷ []) ≡ all_items front ++ items_of last
+items_with_last front last =
+    flat_map-append items_of front (last ∷ [])
+    ∙ ap (λ (l : List Item). all_items front ++ l) (append-nil (items_of last))
 
 call_same : (kind : Kind) (entry : Entry) → IsOfKind kind entry → calls kind ≡ is_call entry
 call_same kinds.Begin entry is = sym (ap is_call is)
@@ -56,12 +46,19 @@ reply_same kinds.Close entry is = sym (ap is_reply is)
 reply_same kinds.End entry is = sym (ap is_reply is)
 
 -- an entry is counted, after its place in the capture
-pub counted_more : (old new : EntryCounts) (kind : Kind) (entry : Entry) (entries : List Entry) → IsOfKind kind entry → HasPassed new.progress (entries ++ entry ∷ [])
-    → new.calls ≡ old.calls + cond (calls kind) 1 0 → new.replies ≡ old.replies + cond (replies kind) 1 0 → AreCounted old entries → AreCounted new (entries ++ entry ∷ [])
+pub counted_more : (old new : EntryCounts) (kind : Kind) (entry : Entry) (entries : List Entry)
+    → IsOfKind kind entry → HasPassed new.progress (entries ++ entry ∷ [])
+    → new.calls ≡ old.calls + cond (calls kind) 1 0
+    → new.replies ≡ old.replies + cond (replies kind) 1 0 → AreCounted old entries
+    → AreCounted new (entries ++ entry ∷ [])
 counted_more old new kind entry entries is progress called replied t = record {
   progress = progress;
-  calls_are = counts_after is_call old.calls new.calls entries entry (called ∙ ap (λ b. old.calls + cond b 1 0) (call_same kind entry is)) t.calls_are;
-  replies_are = counts_after is_reply old.replies new.replies entries entry (replied ∙ ap (λ b. old.replies + cond b 1 0) (reply_same kind entry is)) t.replies_are;
+  calls_are =
+      counts_after is_call old.calls new.calls entries entry
+      (called ∙ ap (λ b. old.calls + cond b 1 0) (call_same kind entry is)) t.calls_are;
+  replies_are =
+      counts_after is_reply old.replies new.replies entries entry
+      (replied ∙ ap (λ b. old.replies + cond b 1 0) (reply_same kind entry is)) t.replies_are;
 }
 
 -- an entry is a call or a reply at most
@@ -76,7 +73,8 @@ counts_once kinds.End = omega arith
 pub connections_counted : (entries : List Entry) → connections entries ≡ count_by is_begin entries
 connections_counted [] = refl
 connections_counted (Begin ∷ entries) =
-    let whole : count_by is_begin (Begin ∷ entries) ≡ 1 + count_by is_begin entries = sum_by-cons (λ entry. cond (is_begin entry) 1 0) Begin entries in
+    let whole : count_by is_begin (Begin ∷ entries) ≡ 1 + count_by is_begin entries =
+    sum_by-cons (λ entry. cond (is_begin entry) 1 0) Begin entries in
     omega (arith, whole, connections_counted entries)
 connections_counted (Call items ∷ entries) = connections_counted entries
 connections_counted (Turn ∷ entries) = connections_counted entries
@@ -84,7 +82,8 @@ connections_counted (Reply id items ∷ entries) = connections_counted entries
 connections_counted (Close ∷ entries) = connections_counted entries
 connections_counted (End ∷ entries) = connections_counted entries
 
-pub message_counts_are : (bytes : List ℕ) (counts : MessageCounts) (entries : List Entry) → Typed bytes entries → SumsMessages counts entries → AreMessageCounts bytes counts
+pub message_counts_are : (bytes : List ℕ) (counts : MessageCounts) (entries : List Entry)
+    → Typed bytes entries → SumsMessages counts entries → AreMessageCounts bytes counts
 message_counts_are bytes counts entries typed sums = record {
   entries = entries;
   typed = typed;
@@ -94,10 +93,18 @@ message_counts_are bytes counts entries typed sums = record {
 }
 
 -- there are few enough handles to be counted
-few_distinct : (bytes : List ℕ) (entries : List Entry) → Typed bytes entries → min (length (distinct bytes_eq (handles entries))) number_limit ≡ length (distinct bytes_eq (handles entries))
-few_distinct bytes entries typed = omega (arith, (typed_in_order bytes entries typed).few_handles, length-with_keys bytes_eq nat_list_eq_equiv (handles entries) [])
+few_distinct : (bytes : List ℕ) (entries : List Entry) → Typed bytes entries
+    → min (length (distinct bytes_eq (handles entries))) number_limit
+    ≡ length (distinct bytes_eq (handles entries))
+few_distinct bytes entries typed =
+    omega (
+      arith,
+      (typed_in_order bytes entries typed).few_handles,
+      length-with_keys bytes_eq nat_list_eq_equiv (handles entries) [],
+    )
 
-pub summary_is : (bytes : List ℕ) (summary : Summary) (entries : List Entry) → Typed bytes entries → Sums summary entries → IsSummary bytes summary
+pub summary_is : (bytes : List ℕ) (summary : Summary) (entries : List Entry) → Typed bytes entries
+    → Sums summary entries → IsSummary bytes summary
 summary_is bytes summary entries typed sums = record {
   entries = entries;
   typed = typed;
@@ -108,9 +115,13 @@ summary_is bytes summary entries typed sums = record {
 }
 
 -- of all bytes, of which those that were given are a prefix
-pub concluded : (bytes : List ℕ) (old new : Told) (result : Result Summary Error) → ((given : List ℕ) → Gave old new given → IsPrefixOf new given bytes) → ConcludesGiven old new result → ConcludesAll bytes result
-concluded bytes old new (Ok summary) prefix (given, gave, (ended, is)) = (subst (λ (b : List ℕ). IsSummary b summary) ((prefix given gave).all ended) is, tt)
-concluded bytes old new (Err (errors.Refused fault)) prefix (given, gave, (entries, met)) = (tt, (shown_of_all new given bytes entries fault (prefix given gave) met).0)
+pub concluded : (bytes : List ℕ) (old new : Told) (result : Result Summary Error)
+    → ((given : List ℕ) → Gave old new given → IsPrefixOf new given bytes)
+    → ConcludesGiven old new result → ConcludesAll bytes result
+concluded bytes old new (Ok summary) prefix (given, gave, (ended, is)) =
+    (subst (λ (b : List ℕ). IsSummary b summary) ((prefix given gave).all ended) is, tt)
+concluded bytes old new (Err (errors.Refused fault)) prefix (given, gave, (entries, met)) =
+    (tt, (shown_of_all new given bytes entries fault (prefix given gave) met).0)
 concluded bytes old new (Err errors.Read) prefix c = (tt, tt)
 concluded bytes old new (Err errors.Write) prefix c = (tt, tt)
 concluded bytes old new (Err errors.Memory) prefix c = (tt, tt)

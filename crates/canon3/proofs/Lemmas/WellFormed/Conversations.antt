@@ -1,36 +1,31 @@
 -- The messages of connections, apart from the streams that carry them.
-use Rattle.std.proofs.Common.{◌≡◌, ℕ, ◌+◌, ◌≤◌, ◌^◌, false, List, [], ◌∷◌, ◌++◌, length, map, refl, sym, ap, ◌∙◌, subst, arith, length-append}
+use Rattle.canon3.proofs.Common.{◌≡◌, ℕ, ◌+◌, ◌≤◌, ◌^◌, false, List, [], ◌∷◌, ◌++◌, length, map, refl, sym, ap, ◌∙◌, subst, arith, length-append, map-append, length-bytes_high_first, Item, Spells, word_bytes, zero_spelling, length_of_spelling, ReplyItems, IsCall, IsReply, Streams, record_bytes, chunk_bytes, message_bytes, Joins, AreEach, IsIn, HaveOneProcedure, AnswerCalls}
 use Rattle.std.specs.List.{AllByRecursion, flat_map, concat}
-use Rattle.std.proofs.lemmas.List.{map-append}
-use Rattle.byteorder.specs.Numbers.{length-bytes_high_first}
-use Rattle.xdr3.specs.Item.{Item, Spells, word_bytes, zero_spelling}
-use Rattle.xdr3.proofs.Lemmas.Reading.Items.{length_of_spelling}
 use Rattle.record_mark.specs.RecordMark.{max_body, IsFragment, IsRecord, Marks}
-use Rattle.record_mark.specs.Word.{Joins}
 use Rattle.record_mark.proofs.Steps.{IsWord-big_bytes, heads, one_fragment}
-use Rattle.capture3.specs.Bodies.{ReplyItems, IsCall, IsReply}
-use Rattle.capture3.specs.SidedChunks.{Streams}
 use Rattle.capture3.specs.Chunks.{IsChunk, IsStream}
-use Rattle.capture3.specs.Typed.{AreEach, IsIn, HaveOneProcedure, AnswerCalls}
-use Rattle.canon3.specs.Bytes.{record_bytes, chunk_bytes, message_bytes}
 
 -- ---- lists
 
 pub in_later : {A : Type 0} (y : A) (l : List A) (x : A) → IsIn x l → IsIn x (y ∷ l)
 in_later y l x p = (y ∷ p.0, p.1, ap (λ k. y ∷ k) p.2)
 
-pub all_in : {A : Type 0} (P : A → Type 0) (l : List A) → ((x : A) → IsIn x l → P x) → AllByRecursion P l
+pub all_in : {A : Type 0} (P : A → Type 0) (l : List A) → ((x : A) → IsIn x l → P x)
+    → AllByRecursion P l
 all_in P [] f = tt
 all_in P (x ∷ l) f = (f x ([], l, refl), all_in P l (λ y p. f y (in_later x l y p)))
 
-in_front : {A : Type 0} (P : A → Type 0) (front back : List A) (x : A) → AllByRecursion P (front ++ x ∷ back) → P x
+in_front : {A : Type 0} (P : A → Type 0) (front back : List A) (x : A)
+    → AllByRecursion P (front ++ x ∷ back) → P x
 in_front P [] back x h = h.0
 in_front P (y ∷ front) back x h = in_front P front back x h.1
 
-pub of_all : {A : Type 0} (P : A → Type 0) (l : List A) (x : A) → AllByRecursion P l → IsIn x l → P x
+pub of_all : {A : Type 0} (P : A → Type 0) (l : List A) (x : A) → AllByRecursion P l → IsIn x l
+    → P x
 of_all P l x h p = in_front P p.0 p.1 x (subst (AllByRecursion P) p.2 h)
 
-pub in_map : {A B : Type 0} (f : A → B) (l : List A) (y : B) (front back : List B) → map f l ≡ front ++ y ∷ back → (x : A) × IsIn x l × (y ≡ f x)
+pub in_map : {A B : Type 0} (f : A → B) (l : List A) (y : B) (front back : List B)
+    → map f l ≡ front ++ y ∷ back → (x : A) × IsIn x l × (y ≡ f x)
 in_map f [] y [] back e = absurd cc
 in_map f [] y (z ∷ front) back e = absurd cc
 in_map f (x ∷ l) y [] back e = (x, ([], l, refl), cc)
@@ -54,63 +49,121 @@ abbrev pub IsSmall : List Item → Type 0
 IsSmall message = length (zero_spelling message) ≤ max_body
 
 pub length_of_record : (body : List ℕ) → length (record_bytes body) ≡ 4 + length body
-length_of_record body = omega (arith, length-append (word_bytes (2 ^ 31 + length body)) body, length-bytes_high_first 4 (2 ^ 31 + length body))
+length_of_record body =
+    omega (
+      arith,
+      length-append (word_bytes (2 ^ 31 + length body)) body,
+      length-bytes_high_first 4 (2 ^ 31 + length body),
+    )
 
 is_record : (body : List ℕ) → length body ≤ max_body → IsRecord (record_bytes body) body
-is_record body fits = one_fragment (word_bytes (2 ^ 31 + length body)) body (length body) (heads (length body) fits) refl fits
+is_record body fits =
+    one_fragment (word_bytes (2 ^ 31 + length body)) body (length body) (heads (length body) fits)
+    refl fits
 
-pub marks_of : (messages : List (List Item)) → AllByRecursion IsSmall messages → Marks (stream_of messages) (map zero_spelling messages)
+pub marks_of : (messages : List (List Item)) → AllByRecursion IsSmall messages
+    → Marks (stream_of messages) (map zero_spelling messages)
 marks_of [] h = refl
-marks_of (m ∷ messages) h = (record_bytes (zero_spelling m), stream_of messages, refl, is_record (zero_spelling m) h.0, marks_of messages h.1)
+marks_of (m ∷ messages) h = (
+  record_bytes (zero_spelling m),
+  stream_of messages,
+  refl,
+  is_record (zero_spelling m) h.0,
+  marks_of messages h.1,
+)
 
 abbrev records_of : List (List Item) → List (List ℕ)
 records_of messages = map (λ m. record_bytes (zero_spelling m)) messages
 
 carried_of : (messages : List (List Item)) → stream_of messages ≡ concat (records_of messages)
 carried_of [] = refl
-carried_of (m ∷ messages) = ap (λ (l : List ℕ). record_bytes (zero_spelling m) ++ l) (carried_of messages)
+carried_of (m ∷ messages) =
+    ap (λ (l : List ℕ). record_bytes (zero_spelling m) ++ l) (carried_of messages)
 
-is_chunk : (body : List ℕ) → length body ≤ max_body → IsChunk (chunk_bytes (record_bytes body)) (record_bytes body)
+is_chunk : (body : List ℕ) → length body ≤ max_body
+    → IsChunk (chunk_bytes (record_bytes body)) (record_bytes body)
 is_chunk body fits =
     let size = length_of_record body in
-    record { header = word_bytes (length (record_bytes body)); split = refl; word = IsWord-big_bytes (length (record_bytes body)) (omega arith); some = omega arith }
+    record {
+      header = word_bytes (length (record_bytes body));
+      split = refl;
+      word = IsWord-big_bytes (length (record_bytes body)) (omega arith);
+      some = omega arith;
+    }
 
-chunks_joined : (messages : List (List Item)) → AllByRecursion IsSmall messages → Joins IsChunk (chunks_of messages) (records_of messages)
+chunks_joined : (messages : List (List Item)) → AllByRecursion IsSmall messages
+    → Joins IsChunk (chunks_of messages) (records_of messages)
 chunks_joined [] h = refl
-chunks_joined (m ∷ messages) h = (message_bytes m, chunks_of messages, refl, is_chunk (zero_spelling m) h.0, chunks_joined messages h.1)
+chunks_joined (m ∷ messages) h = (
+  message_bytes m,
+  chunks_of messages,
+  refl,
+  is_chunk (zero_spelling m) h.0,
+  chunks_joined messages h.1,
+)
 
-pub is_stream : (messages : List (List Item)) → AllByRecursion IsSmall messages → IsStream (chunks_of messages ++ word_bytes 0) (stream_of messages)
+pub is_stream : (messages : List (List Item)) → AllByRecursion IsSmall messages
+    → IsStream (chunks_of messages ++ word_bytes 0) (stream_of messages)
 is_stream messages h = record {
   front = chunks_of messages;
   last = word_bytes 0;
   split = refl;
-  chunks = record { chunks = records_of messages; joined = chunks_joined messages h; carried = carried_of messages };
+  chunks =
+      record {
+        chunks = records_of messages;
+        joined = chunks_joined messages h;
+        carried = carried_of messages;
+      };
   closes = IsWord-big_bytes 0 (omega arith);
 }
 
 -- ---- records are longer than their bodies
 
-carried_size : (parts : List (List ℕ)) (bytes : List ℕ) → Joins (IsFragment false) bytes parts → length (concat parts) ≤ length bytes
+carried_size : (parts : List (List ℕ)) (bytes : List ℕ) → Joins (IsFragment false) bytes parts
+    → length (concat parts) ≤ length bytes
 carried_size [] bytes h = omega arith
 carried_size (part ∷ parts) bytes h =
-    omega (arith, carried_size parts h.1 h.4, length-append part (concat parts), ap length h.2, length-append h.0 h.1, ap length h.3.1, length-append h.3.0 part)
+    omega (
+      arith,
+      carried_size parts h.1 h.4,
+      length-append part (concat parts),
+      ap length h.2,
+      length-append h.0 h.1,
+      ap length h.3.1,
+      length-append h.3.0 part,
+    )
 
 record_size : (bytes body : List ℕ) → IsRecord bytes body → 4 + length body ≤ length bytes
 record_size bytes body h =
-    omega (arith, carried_size h.fragments h.front h.joined, ap length h.carried, length-append (concat h.fragments) h.last, ap length h.split, length-append h.front h.back, ap length h.closes.1, length-append h.closes.0 h.last, h.closes.2.word)
+    omega (
+      arith,
+      carried_size h.fragments h.front h.joined,
+      ap length h.carried,
+      length-append (concat h.fragments) h.last,
+      ap length h.split,
+      length-append h.front h.back,
+      ap length h.closes.1,
+      length-append h.closes.0 h.last,
+      h.closes.2.word,
+    )
 
-module _ {M : Type 0} (items : M → List Item) (Is : List ℕ → M → Type 0) (spelled : (body : List ℕ) (m : M) → Is body m → Spells (items m) body) where
+module _ {M : Type 0} (items : M → List Item) (Is : List ℕ → M → Type 0)
+    (spelled : (body : List ℕ) (m : M) → Is body m → Spells (items m) body) where
   -- a body that it is, which is small
   abbrev pub HasBody : M → Type 0
   HasBody m = (body : List ℕ) × Is body m × (length body ≤ max_body)
 
-  pub each_has_body : (bodies : List (List ℕ)) (ms : List M) (stream : List ℕ) → Marks stream bodies → AreEach Is bodies ms → AllByRecursion HasBody ms
+  pub each_has_body : (bodies : List (List ℕ)) (ms : List M) (stream : List ℕ) → Marks stream bodies
+      → AreEach Is bodies ms → AllByRecursion HasBody ms
   each_has_body [] ms stream marks each = subst (AllByRecursion HasBody) (sym each) tt
   each_has_body (body ∷ bodies) ms stream marks each =
-      subst (AllByRecursion HasBody) (sym each.2) ((body, each.3, marks.3.fits), each_has_body bodies each.1 marks.1 marks.4 each.4)
+      subst (AllByRecursion HasBody) (sym each.2)
+      ((body, each.3, marks.3.fits), each_has_body bodies each.1 marks.1 marks.4 each.4)
 
-  pub each_size : (bodies : List (List ℕ)) (ms : List M) (stream : List ℕ) → Marks stream bodies → AreEach Is bodies ms → length (stream_of (map items ms)) ≤ length stream
-  each_size [] ms stream marks each = let none = ap (λ l. length (stream_of (map items l))) each in omega (arith, none)
+  pub each_size : (bodies : List (List ℕ)) (ms : List M) (stream : List ℕ) → Marks stream bodies
+      → AreEach Is bodies ms → length (stream_of (map items ms)) ≤ length stream
+  each_size [] ms stream marks each =
+      let none = ap (λ l. length (stream_of (map items l))) each in omega (arith, none)
   each_size (body ∷ bodies) ms stream marks each =
       let m = each.0 in
       let parts = ap (λ l. length (stream_of (map items l))) each.2 in
@@ -127,7 +180,8 @@ module _ {M : Type 0} (items : M → List Item) (Is : List ℕ → M → Type 0)
         length-append marks.0 marks.1,
       )
 
-  pub each_from : (ms : List M) → AllByRecursion (λ m. Is (zero_spelling (items m)) m) ms → AreEach Is (map zero_spelling (map items ms)) ms
+  pub each_from : (ms : List M) → AllByRecursion (λ m. Is (zero_spelling (items m)) m) ms
+      → AreEach Is (map zero_spelling (map items ms)) ms
   each_from [] h = refl
   each_from (m ∷ ms) h = (m, ms, refl, h.0, each_from ms h.1)
 

@@ -1,20 +1,8 @@
 -- Files from the messages of their connections.
-use Rattle.std.proofs.Common.{◌≡◌, ℕ, suc, ◌+◌, ◌<◌, ◌≤◌, ◌^◌, List, [], ◌∷◌, ◌++◌, length, map, refl, sym, ap, ap₂, ◌∙◌, subst, arith, append_assoc, append-nil}
-use Rattle.std.specs.List.{AllByRecursion, flat_map}
+use Rattle.canon3.proofs.Common.{◌≡◌, ℕ, suc, ◌+◌, ◌<◌, ◌≤◌, ◌^◌, List, [], ◌∷◌, ◌++◌, length, map, refl, sym, ap, ap₂, ◌∙◌, subst, arith, append_assoc, append-nil, AllByRecursion, flat_map, Item, word_bytes, ReplyItems, Streams, max_bytes, Entry, Begin, Call, Turn, Reply, Close, End, xid_of, call_xids, handles, verifiers, message_bytes, entry_bytes, bytes_of, numbered_message, numbered, canonical, Joins, IsWord-big_bytes, reply_entry, connection_entries, HaveEntries, Typed}
 use Rattle.std.proofs.lemmas.List.Concat.{flat_map-append}
 use Rattle.std.proofs.lemmas.List.Folds.{flat_map-map}
-use Rattle.xdr3.specs.Item.{Item, word_bytes}
-use Rattle.record_mark.specs.Word.{Joins}
-use Rattle.record_mark.proofs.Steps.{IsWord-big_bytes}
-use Rattle.capture3.specs.Bodies.{ReplyItems}
 use Rattle.capture3.specs.Capture.{One, magic, max_connections, total_size, IsConnection}
-use Rattle.capture3.specs.SidedChunks.{Streams}
-use Rattle.capture3.specs.Chunks.{max_bytes}
-use Rattle.capture3.specs.Entry.{Entry, Begin, Call, Turn, Reply, Close, End}
-use Rattle.capture3.specs.Typed.{reply_entry, connection_entries, HaveEntries, Typed}
-use Rattle.canon3.specs.Values.{xid_of, call_xids, handles, verifiers}
-use Rattle.canon3.specs.Bytes.{message_bytes, entry_bytes, bytes_of}
-use Rattle.canon3.specs.Canonical.{numbered_message, numbered, canonical}
 use Rattle.canon3.specs.Laws.{AreOfTheirBytes}
 use Rattle.canon3.proofs.Lemmas.Renaming.RenamingLemmas.{all_mapped, all_weaker}
 use Rattle.canon3.proofs.Lemmas.WellFormed.Items.{all_append}
@@ -50,7 +38,8 @@ pub record Have (connections : List Streams) (front : List Entry) : Type 0 where
   pub count : length cs ≡ length connections
   pub light : total_weight cs ≤ total_size connections
 
-pub have : (connections : List Streams) (front : List Entry) → HaveEntries connections front → Have connections front
+pub have : (connections : List Streams) (front : List Entry) → HaveEntries connections front
+    → Have connections front
 have [] front h = record { cs = []; is = h; converse = tt; count = refl; light = omega arith }
 have (streams ∷ connections) front h =
     let more = have connections h.2 h.5 in
@@ -69,13 +58,19 @@ pub record Holds (file : List ℕ) (all : List Entry) (total : ℕ) : Type 0 whe
   pub are : AreCapture cs
   pub light : total_weight cs ≤ total
 
-pub holds : (file : List ℕ) (all : List Entry) (typed : Typed file all) → Holds file all (total_size typed.connections)
+pub holds : (file : List ℕ) (all : List Entry) (typed : Typed file all)
+    → Holds file all (total_size typed.connections)
 holds file all typed =
     let h = have typed.connections typed.front typed.messages in
     record {
       cs = h.cs;
       is = typed.ends ∙ ap (λ (l : List Entry). l ++ End ∷ []) h.is;
-      are = record { converse = h.converse; few = omega (arith, h.count, typed.capture.few); small = omega (arith, h.light, typed.capture.small) };
+      are =
+          record {
+            converse = h.converse;
+            few = omega (arith, h.count, typed.capture.few);
+            small = omega (arith, h.light, typed.capture.small);
+          };
       light = h.light;
     }
 
@@ -84,8 +79,11 @@ holds file all typed =
 call_bytes : (calls : List (List Item)) → flat_map entry_bytes (map Call calls) ≡ chunks_of calls
 call_bytes calls = flat_map-map entry_bytes Call calls
 
-reply_bytes : (replies : List ReplyItems) → flat_map entry_bytes (map reply_entry replies) ≡ chunks_of (reply_items replies)
-reply_bytes replies = flat_map-map entry_bytes reply_entry replies ∙ sym (flat_map-map message_bytes items_of_reply replies)
+reply_bytes : (replies : List ReplyItems)
+    → flat_map entry_bytes (map reply_entry replies) ≡ chunks_of (reply_items replies)
+reply_bytes replies =
+    flat_map-map entry_bytes reply_entry replies
+    ∙ sym (flat_map-map message_bytes items_of_reply replies)
 
 abbrev pub client_bytes : Conversation → List ℕ
 client_bytes c = chunks_of c.calls ++ word_bytes 0
@@ -93,15 +91,21 @@ client_bytes c = chunks_of c.calls ++ word_bytes 0
 abbrev pub server_bytes : Conversation → List ℕ
 server_bytes c = chunks_of (reply_items c.replies) ++ word_bytes 0
 
-connection_bytes : (c : Conversation) → flat_map entry_bytes (connection_entries c.calls c.replies) ≡ word_bytes 1 ++ (client_bytes c ++ server_bytes c)
+connection_bytes : (c : Conversation)
+    → flat_map entry_bytes (connection_entries c.calls c.replies)
+    ≡ word_bytes 1 ++ (client_bytes c ++ server_bytes c)
 connection_bytes c =
     let calls = map Call c.calls in
     let replies = map reply_entry c.replies in
     flat_map-append entry_bytes ((Begin ∷ calls) ++ (Turn ∷ replies)) (Close ∷ [])
-    ∙ ap₂ (λ (l m : List ℕ). l ++ m) (flat_map-append entry_bytes (Begin ∷ calls) (Turn ∷ replies) ∙ ap₂ (λ (l m : List ℕ). (word_bytes 1 ++ l) ++ (word_bytes 0 ++ m)) (call_bytes c.calls) (reply_bytes c.replies)) (append-nil (word_bytes 0))
+    ∙ ap₂ (λ (l m : List ℕ). l ++ m)
+    (flat_map-append entry_bytes (Begin ∷ calls) (Turn ∷ replies)
+    ∙ ap₂ (λ (l m : List ℕ). (word_bytes 1 ++ l) ++ (word_bytes 0 ++ m))
+    (call_bytes c.calls) (reply_bytes c.replies)) (append-nil (word_bytes 0))
     ∙ simp append_assoc
 
-is_connection : (c : Conversation) → AreConversing c → IsConnection One (word_bytes 1 ++ (client_bytes c ++ server_bytes c)) (streams_of c)
+is_connection : (c : Conversation) → AreConversing c
+    → IsConnection One (word_bytes 1 ++ (client_bytes c ++ server_bytes c)) (streams_of c)
 is_connection c h = record {
   mark = word_bytes 1;
   rest = client_bytes c ++ server_bytes c;
@@ -116,7 +120,8 @@ is_connection c h = record {
   };
 }
 
-joined_connections : (cs : List Conversation) → AllByRecursion AreConversing cs → Joins (IsConnection One) (flat_map entry_bytes (entries_of cs)) (map streams_of cs)
+joined_connections : (cs : List Conversation) → AllByRecursion AreConversing cs
+    → Joins (IsConnection One) (flat_map entry_bytes (entries_of cs)) (map streams_of cs)
 joined_connections [] h = refl
 joined_connections (c ∷ cs) h = (
   flat_map entry_bytes (connection_entries c.calls c.replies),
@@ -126,9 +131,11 @@ joined_connections (c ∷ cs) h = (
   joined_connections cs h.1,
 )
 
-have_anew : (cs : List Conversation) → AllByRecursion AreConversing cs → HaveEntries (map streams_of cs) (entries_of cs)
+have_anew : (cs : List Conversation) → AllByRecursion AreConversing cs
+    → HaveEntries (map streams_of cs) (entries_of cs)
 have_anew [] h = refl
-have_anew (c ∷ cs) h = (c.calls, c.replies, entries_of cs, refl, converses_anew c h.0, have_anew cs h.1)
+have_anew (c ∷ cs) h =
+    (c.calls, c.replies, entries_of cs, refl, converses_anew c h.0, have_anew cs h.1)
 
 total_anew : (cs : List Conversation) → total_size (map streams_of cs) ≡ total_weight cs
 total_anew [] = refl
@@ -138,10 +145,14 @@ length_anew : (cs : List Conversation) → length (map streams_of cs) ≡ length
 length_anew [] = refl
 length_anew (c ∷ cs) = ap suc (length_anew cs)
 
-bytes_of_all : (cs : List Conversation) → bytes_of (all_of cs) ≡ magic One ++ (flat_map entry_bytes (entries_of cs) ++ word_bytes 0)
+bytes_of_all : (cs : List Conversation)
+    → bytes_of (all_of cs) ≡ magic One ++ (flat_map entry_bytes (entries_of cs) ++ word_bytes 0)
 bytes_of_all [] = simp append-nil
 bytes_of_all (c ∷ cs) =
-    ap (λ (l : List ℕ). magic One ++ l) (flat_map-append entry_bytes (entries_of (c ∷ cs)) (End ∷ []) ∙ ap (λ (l : List ℕ). flat_map entry_bytes (entries_of (c ∷ cs)) ++ l) (append-nil (word_bytes 0)))
+    ap (λ (l : List ℕ). magic One ++ l) (flat_map-append entry_bytes (entries_of (c ∷ cs))
+    (End ∷ [])
+    ∙ ap (λ (l : List ℕ). flat_map entry_bytes (entries_of (c ∷ cs)) ++ l)
+    (append-nil (word_bytes 0)))
 
 -- they are the entries of their own bytes
 pub typed_anew : (cs : List Conversation) → AreCapture cs → Typed (bytes_of (all_of cs)) (all_of cs)
@@ -162,20 +173,27 @@ typed_anew cs h = record {
   ends = refl;
 }
 
-pub total_of_anew : (cs : List Conversation) (h : AreCapture cs) → total_size (typed_anew cs h).connections ≡ total_weight cs
+pub total_of_anew : (cs : List Conversation) (h : AreCapture cs)
+    → total_size (typed_anew cs h).connections ≡ total_weight cs
 unfolding typed_anew
 total_of_anew cs h = total_anew cs
 
 -- ---- under numbers
 
-regrouped : (calls replies rest : List Entry) → (((Begin ∷ calls) ++ (Turn ∷ replies)) ++ Close ∷ []) ++ rest ≡ Begin ∷ (calls ++ (Turn ∷ (replies ++ (Close ∷ rest))))
+regrouped : (calls replies rest : List Entry)
+    → (((Begin ∷ calls) ++ (Turn ∷ replies)) ++ Close ∷ []) ++ rest
+    ≡ Begin ∷ (calls ++ (Turn ∷ (replies ++ (Close ∷ rest))))
 regrouped calls replies rest = simp append_assoc
 
-call_xids-calls : (calls : List (List Item)) (tail : List Entry) → call_xids (map Call calls ++ tail) ≡ xids_of calls ++ call_xids tail
+call_xids-calls : (calls : List (List Item)) (tail : List Entry)
+    → call_xids (map Call calls ++ tail) ≡ xids_of calls ++ call_xids tail
 call_xids-calls [] tail = refl
-call_xids-calls (m ∷ calls) tail = ap (λ (l : List ℕ). xid_of m ++ l) (call_xids-calls calls tail) ∙ sym (append_assoc (xid_of m) (xids_of calls) (call_xids tail))
+call_xids-calls (m ∷ calls) tail =
+    ap (λ (l : List ℕ). xid_of m ++ l) (call_xids-calls calls tail)
+    ∙ sym (append_assoc (xid_of m) (xids_of calls) (call_xids tail))
 
-call_xids-replies : (replies : List ReplyItems) (tail : List Entry) → call_xids (map reply_entry replies ++ tail) ≡ call_xids tail
+call_xids-replies : (replies : List ReplyItems) (tail : List Entry)
+    → call_xids (map reply_entry replies ++ tail) ≡ call_xids tail
 call_xids-replies [] tail = refl
 call_xids-replies (r ∷ replies) tail = call_xids-replies replies tail
 
@@ -184,77 +202,113 @@ no_calls : (cs : List Conversation) → call_xids (all_of cs) ≡ []
 no_calls [] = refl
 no_calls (c ∷ cs) = refl
 
-own_xids : (c : Conversation) (cs : List Conversation) → call_xids (map Call c.calls ++ (Turn ∷ (map reply_entry c.replies ++ (Close ∷ all_of cs)))) ≡ xids_of c.calls
+own_xids : (c : Conversation) (cs : List Conversation)
+    → call_xids (map Call c.calls ++ (Turn ∷ (map reply_entry c.replies ++ (Close ∷ all_of cs))))
+    ≡ xids_of c.calls
 own_xids c cs =
     call_xids-calls c.calls (Turn ∷ (map reply_entry c.replies ++ (Close ∷ all_of cs)))
-    ∙ (ap (λ (l : List ℕ). xids_of c.calls ++ l) (call_xids-replies c.replies (Close ∷ all_of cs) ∙ no_calls cs) ∙ append-nil (xids_of c.calls))
+    ∙ (ap (λ (l : List ℕ). xids_of c.calls ++ l)
+    (call_xids-replies c.replies (Close ∷ all_of cs) ∙ no_calls cs)
+    ∙ append-nil (xids_of c.calls))
 
-pub all_regrouped : (c : Conversation) (cs : List Conversation) → all_of (c ∷ cs) ≡ Begin ∷ (map Call c.calls ++ (Turn ∷ (map reply_entry c.replies ++ (Close ∷ all_of cs))))
-all_regrouped c cs = append_assoc (connection_entries c.calls c.replies) (entries_of cs) (End ∷ []) ∙ regrouped (map Call c.calls) (map reply_entry c.replies) (all_of cs)
+pub all_regrouped : (c : Conversation) (cs : List Conversation)
+    → all_of (c ∷ cs)
+    ≡ Begin ∷ (map Call c.calls ++ (Turn ∷ (map reply_entry c.replies ++ (Close ∷ all_of cs))))
+all_regrouped c cs =
+    append_assoc (connection_entries c.calls c.replies) (entries_of cs) (End ∷ [])
+    ∙ regrouped (map Call c.calls) (map reply_entry c.replies) (all_of cs)
 
 -- what holds of each message, and of each other entry, holds of all
-module _ (P : Entry → Type 0) (call : (m : List Item) → IsSpelledCall m → P (Call m)) (reply : (r : ReplyItems) → IsSpelledReply r → P (reply_entry r)) (begin : P Begin) (turn : P Turn) (close : P Close) (end : P End) where
-  pub all_entries : (cs : List Conversation) → AllByRecursion AreConversing cs → AllByRecursion P (all_of cs)
+module _ (P : Entry → Type 0) (call : (m : List Item) → IsSpelledCall m → P (Call m))
+    (reply : (r : ReplyItems) → IsSpelledReply r → P (reply_entry r)) (begin : P Begin)
+    (turn : P Turn) (close : P Close) (end : P End) where
+  pub all_entries : (cs : List Conversation) → AllByRecursion AreConversing cs
+      → AllByRecursion P (all_of cs)
   all_entries [] h = (end, tt)
   all_entries (c ∷ cs) h =
       subst (AllByRecursion P) (sym (all_regrouped c cs)) (
         begin,
-        all_append P (map Call c.calls) (Turn ∷ (map reply_entry c.replies ++ (Close ∷ all_of cs))) (all_mapped IsSpelledCall P Call call c.calls h.0.calls_are) (
-          turn,
-          all_append P (map reply_entry c.replies) (Close ∷ all_of cs) (all_mapped IsSpelledReply P reply_entry reply c.replies h.0.replies_are)
-              (close, all_entries cs h.1),
-        ),
+        all_append P (map Call c.calls) (Turn ∷ (map reply_entry c.replies ++ (Close ∷ all_of cs)))
+            (all_mapped IsSpelledCall P Call call c.calls h.0.calls_are) (
+              turn,
+              all_append P (map reply_entry c.replies) (Close ∷ all_of cs)
+                  (all_mapped IsSpelledReply P reply_entry reply c.replies h.0.replies_are)
+                  (close, all_entries cs h.1),
+            ),
       )
 
 module _ (hs vs : List (List ℕ)) where
-  numbered-calls : (xs : List ℕ) (calls : List (List Item)) (tail : List Entry) → numbered hs vs xs (map Call calls ++ tail) ≡ map Call (map (numbered_message hs vs xs) calls) ++ numbered hs vs xs tail
+  numbered-calls : (xs : List ℕ) (calls : List (List Item)) (tail : List Entry)
+      → numbered hs vs xs (map Call calls ++ tail)
+      ≡ map Call (map (numbered_message hs vs xs) calls) ++ numbered hs vs xs tail
   numbered-calls xs [] tail = refl
-  numbered-calls xs (m ∷ calls) tail = ap (λ (l : List Entry). Call (numbered_message hs vs xs m) ∷ l) (numbered-calls xs calls tail)
+  numbered-calls xs (m ∷ calls) tail =
+      ap (λ (l : List Entry). Call (numbered_message hs vs xs m) ∷ l) (numbered-calls xs calls tail)
 
-  numbered-replies : (xs : List ℕ) (replies : List ReplyItems) (tail : List Entry) → numbered hs vs xs (map reply_entry replies ++ tail) ≡ map reply_entry (map (numbered_reply hs vs xs) replies) ++ numbered hs vs xs tail
+  numbered-replies : (xs : List ℕ) (replies : List ReplyItems) (tail : List Entry)
+      → numbered hs vs xs (map reply_entry replies ++ tail)
+      ≡ map reply_entry (map (numbered_reply hs vs xs) replies) ++ numbered hs vs xs tail
   numbered-replies xs [] tail = refl
-  numbered-replies xs (r ∷ replies) tail = ap (λ (l : List Entry). Reply r.id (numbered_message hs vs xs r.items) ∷ l) (numbered-replies xs replies tail)
+  numbered-replies xs (r ∷ replies) tail =
+      ap (λ (l : List Entry). Reply r.id (numbered_message hs vs xs r.items) ∷ l)
+      (numbered-replies xs replies tail)
 
   abbrev pub numbered_all_conversations : List Conversation → List Conversation
   numbered_all_conversations cs = map (numbered_conversation hs vs) cs
 
-  pub numbered-all : (cs : List Conversation) (xs : List ℕ) → numbered hs vs xs (all_of cs) ≡ all_of (map (numbered_conversation hs vs) cs)
+  pub numbered-all : (cs : List Conversation) (xs : List ℕ)
+      → numbered hs vs xs (all_of cs) ≡ all_of (map (numbered_conversation hs vs) cs)
   numbered-all [] xs = refl
   numbered-all (c ∷ cs) xs =
       let own = xids_of c.calls in
       let d = numbered_conversation hs vs c in
       let told_after : List Entry = map reply_entry c.replies ++ (Close ∷ all_of cs) in
       ap (numbered hs vs xs) (all_regrouped c cs)
-      ∙ (ap (λ (l : List ℕ). Begin ∷ numbered hs vs l (map Call c.calls ++ (Turn ∷ told_after))) (own_xids c cs)
+      ∙ (ap (λ (l : List ℕ). Begin ∷ numbered hs vs l (map Call c.calls ++ (Turn ∷ told_after)))
+      (own_xids c cs)
       ∙ (ap (λ (l : List Entry). Begin ∷ l) (numbered-calls own c.calls (Turn ∷ told_after)
-      ∙ ap (λ (l : List Entry). map Call d.calls ++ (Turn ∷ l)) (numbered-replies own c.replies (Close ∷ all_of cs)
+      ∙ ap (λ (l : List Entry). map Call d.calls ++ (Turn ∷ l))
+      (numbered-replies own c.replies (Close ∷ all_of cs)
       ∙ ap (λ (l : List Entry). map reply_entry d.replies ++ (Close ∷ l)) (numbered-all cs own)))
       ∙ sym (all_regrouped d (map (numbered_conversation hs vs) cs))))
 
   light_xids : (c : Conversation) → weight c ≤ max_bytes → length (xids_of c.calls) < 2 ^ 32
   light_xids c light = omega (arith, length_of_xids c.calls)
 
-  all_numbered : (cs : List Conversation) → AllByRecursion AreConversing cs → total_weight cs ≤ max_bytes → AllByRecursion AreConversing (map (numbered_conversation hs vs) cs) × (total_weight (map (numbered_conversation hs vs) cs) ≤ total_weight cs)
+  all_numbered : (cs : List Conversation) → AllByRecursion AreConversing cs
+      → total_weight cs ≤ max_bytes
+      → AllByRecursion AreConversing (map (numbered_conversation hs vs) cs)
+      × (total_weight (map (numbered_conversation hs vs) cs) ≤ total_weight cs)
   all_numbered [] h small = (tt, omega arith)
   all_numbered (c ∷ cs) h small =
       let more = all_numbered cs h.1 (omega arith) in
-      let few = light_xids c (omega arith) in
-      ((conversing_numbered hs vs c h.0 few, more.0), omega (arith, more.1, weight_numbered hs vs c h.0 few))
+      let few = light_xids c (omega arith) in (
+        (conversing_numbered hs vs c h.0 few, more.0),
+        omega (arith, more.1, weight_numbered hs vs c h.0 few),
+      )
 
-  length_numbered : (cs : List Conversation) → length (map (numbered_conversation hs vs) cs) ≡ length cs
+  length_numbered : (cs : List Conversation)
+      → length (map (numbered_conversation hs vs) cs) ≡ length cs
   length_numbered [] = refl
   length_numbered (c ∷ cs) = ap suc (length_numbered cs)
 
-  pub capture_numbered : (cs : List Conversation) → AreCapture cs → AreCapture (map (numbered_conversation hs vs) cs)
+  pub capture_numbered : (cs : List Conversation) → AreCapture cs
+      → AreCapture (map (numbered_conversation hs vs) cs)
   capture_numbered cs h =
       let n = all_numbered cs h.converse h.small in
-      record { converse = n.0; few = omega (arith, length_numbered cs, h.few); small = omega (arith, n.1, h.small) }
+      record {
+        converse = n.0;
+        few = omega (arith, length_numbered cs, h.few);
+        small = omega (arith, n.1, h.small);
+      }
 
-  pub weight_of_numbered : (cs : List Conversation) → AreCapture cs → total_weight (map (numbered_conversation hs vs) cs) ≤ total_weight cs
+  pub weight_of_numbered : (cs : List Conversation) → AreCapture cs
+      → total_weight (map (numbered_conversation hs vs) cs) ≤ total_weight cs
   weight_of_numbered cs h = (all_numbered cs h.converse h.small).1
 
 -- the canonical form has the entries of its own bytes, in no more stream bytes
-pub canonical_is_file : (file : List ℕ) (all : List Entry) (typed : Typed file all) → AreOfTheirBytes (canonical all) (total_size typed.connections)
+pub canonical_is_file : (file : List ℕ) (all : List Entry) (typed : Typed file all)
+    → AreOfTheirBytes (canonical all) (total_size typed.connections)
 canonical_is_file file all typed =
     let h = holds file all typed in
     let hs = handles all in
@@ -262,4 +316,7 @@ canonical_is_file file all typed =
     let ds = map (numbered_conversation hs vs) h.cs in
     let are = capture_numbered hs vs h.cs h.are in
     let e : canonical all ≡ all_of ds = ap (numbered hs vs []) h.is ∙ numbered-all hs vs h.cs [] in
-    subst (λ l. AreOfTheirBytes l (total_size typed.connections)) (sym e) (typed_anew ds are, omega (arith, total_of_anew ds are, weight_of_numbered hs vs h.cs h.are, h.light))
+    subst (λ l. AreOfTheirBytes l (total_size typed.connections)) (sym e) (
+      typed_anew ds are,
+      omega (arith, total_of_anew ds are, weight_of_numbered hs vs h.cs h.are, h.light),
+    )

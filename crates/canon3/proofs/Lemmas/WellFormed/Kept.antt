@@ -1,12 +1,5 @@
 -- A renamed capture is well formed too.
-use Rattle.std.proofs.Common.{◌≡◌, ℕ, suc, List, [], ◌∷◌, length, refl, sym, ap, ◌∙◌, subst, arith}
-use Rattle.std.specs.Prelude.{⊤, nat_eq}
-use Rattle.std.specs.List.{AllByRecursion}
-use Rattle.std.proofs.lemmas.Bool.Decides.{Decides-eqb}
-use Rattle.capture3.specs.Entry.{Entry}
-use Rattle.canon3.specs.Pairing.{Member, here, there, Pairs, IsXid}
-use Rattle.canon3.specs.Renaming.{Pairwise, none, more, message, Renames, ended, begins, calls, turns, replies, closes, ends, Same}
-use Rattle.canon3.specs.Canonical.{canonical}
+use Rattle.canon3.proofs.Common.{◌≡◌, ℕ, suc, List, [], ◌∷◌, length, refl, sym, ap, ◌∙◌, subst, arith, ⊤, nat_eq, AllByRecursion, Decides-eqb, Entry, Member, here, there, Pairs, IsXid, Pairwise, none, more, message, Renames, ended, begins, calls, turns, replies, closes, ends, Same, canonical}
 use Rattle.canon3.proofs.Lemmas.Order.Order.{Stage, Between, InCalls, InReplies, Over, begin, call, turn, reply, close, end, Runs, stays, steps, IsWellFormed}
 use Rattle.canon3.proofs.Lemmas.Numbers.RankLemmas.{itself}
 use Rattle.canon3.proofs.Lemmas.Renaming.PairingLemmas.{Agree, Alike}
@@ -14,21 +7,25 @@ use Rattle.canon3.proofs.Lemmas.Renaming.RenamingLemmas.{matches-from_same}
 use Rattle.canon3.proofs.Lemmas.Canonical.OneFormLemmas.{In, pairwise-append, all_handles_paired, all_verifiers_paired}
 use Rattle.canon3.proofs.Lemmas.Canonical.CanonicalLemmas.{same-canonical}
 
-pairwise-length : {A B : Type 0} {R : A → B → Type 0} {l : List A} {m : List B} → Pairwise R l m → length l ≡ length m
+pairwise-length : {A B : Type 0} {R : A → B → Type 0} {l : List A} {m : List B} → Pairwise R l m
+    → length l ≡ length m
 pairwise-length none = refl
 pairwise-length (more r p) = ap suc (pairwise-length p)
 
 -- a member of the second list has a partner
-first_part : {K : Type 0} {ps : Pairs K} {l m : List K} (y : K) → Pairwise (In ps) l m → Member y m → (x : K) × Member (x, y) ps
+first_part : {K : Type 0} {ps : Pairs K} {l m : List K} (y : K) → Pairwise (In ps) l m → Member y m
+    → (x : K) × Member (x, y) ps
 first_part y none m = elim m [ ]
 first_part y (more {x = x} r p) here = (x, r)
 first_part y (more r p) (there m) = first_part y p m
 
 -- the partner of a member of the first list is a member of the second
-partner : {q : Pairs ℕ} {l m : List ℕ} {x y : ℕ} → Alike nat_eq q → Pairwise (In q) l m → Member x l → Member (x, y) q → Member y m
+partner : {q : Pairs ℕ} {l m : List ℕ} {x y : ℕ} → Alike nat_eq q → Pairwise (In q) l m → Member x l
+    → Member (x, y) q → Member y m
 partner al none m n = elim m [ ]
 partner {x = x} {y = y} al (more {y = u} {ys = ys} r p) here n =
-    subst (λ k. Member k (u ∷ ys)) ((Decides-eqb u y).0 (sym (al (x, u) (x, y) r n) ∙ itself nat_eq Decides-eqb x)) here
+    subst (λ k. Member k (u ∷ ys))
+    ((Decides-eqb u y).0 (sym (al (x, u) (x, y) r n) ∙ itself nat_eq Decides-eqb x)) here
 partner al (more r p) (there m) n = there (partner al p m n)
 
 abbrev AreBy : Pairs ℕ → Stage → Stage → Type 0
@@ -38,16 +35,23 @@ AreBy q (InReplies l) (InReplies m) = Pairwise (In q) l m
 AreBy q Over Over = ⊤
 AreBy q _ _ = ⊥
 
-runs_renamed : {ps vs : Pairs (List ℕ)} {q : Pairs ℕ} {qs : List (Pairs ℕ)} {a b : List Entry} → Renames ps vs q qs a b → {s u : Stage} → Runs s a u → (t : Stage) → AreBy q s t → Alike nat_eq q → AllByRecursion (Agree nat_eq IsXid) qs → (v : Stage) × Runs t b v
+runs_renamed : {ps vs : Pairs (List ℕ)} {q : Pairs ℕ} {qs : List (Pairs ℕ)} {a b : List Entry}
+    → Renames ps vs q qs a b → {s u : Stage} → Runs s a u → (t : Stage) → AreBy q s t
+    → Alike nat_eq q → AllByRecursion (Agree nat_eq IsXid) qs → (v : Stage) × Runs t b v
 runs_renamed ended r t k al g = (t, stays)
-runs_renamed (begins d) (steps begin r) Between k al g = let p = runs_renamed d r (InCalls []) none g.0.alike g.1 in (p.0, steps begin p.1)
+runs_renamed (begins d) (steps begin r) Between k al g =
+    let p = runs_renamed d r (InCalls []) none g.0.alike g.1 in (p.0, steps begin p.1)
 runs_renamed (calls (message x p) d) (steps (call i b) r) (InCalls m) k al g =
-    let q = runs_renamed d r _ (pairwise-append k (more x none)) al g in (q.0, steps (call _ tt) q.1)
-runs_renamed (turns d) (steps turn r) (InCalls m) k al g = let p = runs_renamed d r (InReplies m) k al g in (p.0, steps turn p.1)
+    let q = runs_renamed d r _ (pairwise-append k (more x none)) al g in
+    (q.0, steps (call _ tt) q.1)
+runs_renamed (turns d) (steps turn r) (InCalls m) k al g =
+    let p = runs_renamed d r (InReplies m) k al g in (p.0, steps turn p.1)
 runs_renamed (replies (message x p) d) (steps (reply i a) r) (InReplies m) k al g =
     let q = runs_renamed d r (InReplies m) k al g in (q.0, steps (reply _ (partner al k a x)) q.1)
-runs_renamed (closes d) (steps close r) (InReplies m) k al g = let p = runs_renamed d r Between tt al g in (p.0, steps close p.1)
-runs_renamed (ends d) (steps end r) Between k al g = let p = runs_renamed d r Over tt al g in (p.0, steps end p.1)
+runs_renamed (closes d) (steps close r) (InReplies m) k al g =
+    let p = runs_renamed d r Between tt al g in (p.0, steps close p.1)
+runs_renamed (ends d) (steps end r) Between k al g =
+    let p = runs_renamed d r Over tt al g in (p.0, steps end p.1)
 runs_renamed _ _ _ k al g = absurd k
 
 pub well_formed_like : (a b : List Entry) → Same a b → IsWellFormed a → IsWellFormed b

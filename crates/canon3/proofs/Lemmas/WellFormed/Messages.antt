@@ -1,25 +1,13 @@
 -- Messages under numbers are messages of the same procedures.
-use Rattle.std.proofs.Common.{◌≡◌, ℕ, zero, suc, ◌<◌, ◌≤◌, ◌^◌, List, [], ◌∷◌, ◌++◌, length, map, refl, sym, ap, ◌∙◌, subst, arith, length-append}
-use Rattle.std.specs.Prelude.{nat_eq, if◌then◌else◌}
-use Rattle.std.specs.List.{AllByRecursion}
-use Rattle.std.proofs.lemmas.List.{map-append}
-use Rattle.std.proofs.lemmas.Bool.Decides.{Decides-eqb}
-use Rattle.byteorder.specs.Numbers.{length-bytes_high_first}
-use Rattle.xdr3.specs.Item.{Item, Word, Hyper, Fixed, WriteVerf, Opaque, Rest, Var, Text, Handle, Spells, word_bytes, zero_spelling}
+use Rattle.canon3.proofs.Common.{◌≡◌, ℕ, zero, suc, ◌<◌, ◌≤◌, ◌^◌, List, [], ◌∷◌, ◌++◌, length, map, refl, sym, ap, ◌∙◌, subst, arith, length-append, nat_eq, if◌then◌else◌, AllByRecursion, map-append, Decides-eqb, length-bytes_high_first, Item, Word, Hyper, Fixed, WriteVerf, Opaque, Rest, Var, Text, Handle, Spells, word_bytes, zero_spelling, rank, numbered_item, numbered_message, Member, ProcId, call_head, reply_head, arguments_of, results_of}
 use Rattle.xdr3.specs.Shape.{Shape, ◌then◌, both, nothing, word, listed, Fits}
 use Rattle.xdr3.specs.Layout.{Layout, exactly, after, FitsLayout, number_of_word, word_in}
 use Rattle.xdr3.proofs.Lemmas.Shapes.ShapeParts.{HasParts, Part, RowHasParts, parts_weaker, row_weaker}
-use Rattle.rpc_head.specs.declared.values.call.ProcId.{ProcId}
 use Rattle.rpc_head.specs.Names.{head_names}
 use Rattle.rpc_head.specs.Messages.{procedure_in, call_start, reply_start, call_layout, reply_layout, has_results}
-use Rattle.rpc_head.specs.Shapes.{call_head, reply_head}
-use Rattle.procs3.specs.Table.{arguments_of, results_of}
 use Rattle.procs3.proofs.HeadParts.{call_head_parts, call_start_parts, reply_head_parts, reply_start_parts}
 use Rattle.procs3.proofs.ProcedureParts.{IsProtocolRow, arguments_have_parts, reply_has_parts}
 use Rattle.procs3.proofs.ProtocolParts.{AreProtocolParts, HasRoom, IsProtocolPart}
-use Rattle.canon3.specs.Rank.{rank}
-use Rattle.canon3.specs.Canonical.{numbered_item, numbered_message}
-use Rattle.canon3.specs.Pairing.{Member}
 use Rattle.canon3.proofs.Lemmas.Numbers.RankLemmas.{rank-le-length}
 use Rattle.canon3.proofs.Lemmas.WellFormed.Items.{spells_numbered, shorter_numbered, fits_numbered, row_numbered, all_in_message, short_part, IsEach, IsShort}
 
@@ -36,7 +24,8 @@ call_head_room = call_head_parts HasRoom (λ part is. is.room) tt
 
 -- ---- words under numbers
 
-number_under : (hs vs : List (List ℕ)) (i : Item) → number_of_word (numbered_item hs vs i) ≡ number_of_word i
+number_under : (hs vs : List (List ℕ)) (i : Item)
+    → number_of_word (numbered_item hs vs i) ≡ number_of_word i
 number_under hs vs (Opaque Handle name []) = refl
 number_under hs vs (Opaque Handle name (b ∷ bs)) = refl
 number_under hs vs (Opaque Var name bytes) = refl
@@ -47,7 +36,8 @@ number_under hs vs (Hyper name n) = refl
 number_under hs vs (Fixed name bytes) = refl
 number_under hs vs (Rest name bytes) = refl
 
-words_under : (hs vs : List (List ℕ)) (items : List Item) (i : ℕ) → word_in (map (numbered_item hs vs) items) i ≡ word_in items i
+words_under : (hs vs : List (List ℕ)) (items : List Item) (i : ℕ)
+    → word_in (map (numbered_item hs vs) items) i ≡ word_in items i
 words_under hs vs [] i = refl
 words_under hs vs (item ∷ items) zero = number_under hs vs item
 words_under hs vs (item ∷ items) (suc i) = words_under hs vs items i
@@ -68,15 +58,20 @@ module _ (name : List ℕ) (s t : Shape) (next : List Item → Layout) where
     pub back_fits : FitsLayout (next (Word name number ∷ (start ++ head))) back
     pub is : items ≡ Word name number ∷ ((start ++ head) ++ back)
 
-  front_is : (first word_items more start_items head_items : List Item) (n : ℕ) → more ≡ [] → word_items ≡ Word name n ∷ more → first ≡ word_items ++ start_items → first ++ head_items ≡ Word name n ∷ (start_items ++ head_items)
+  front_is : (first word_items more start_items head_items : List Item) (n : ℕ) → more ≡ []
+      → word_items ≡ Word name n ∷ more → first ≡ word_items ++ start_items
+      → first ++ head_items ≡ Word name n ∷ (start_items ++ head_items)
   front_is first word_items more start_items head_items n e f g =
-      ap (λ (l : List Item). l ++ head_items) (g ∙ ap (λ (l : List Item). l ++ start_items) (f ∙ ap (λ (l : List Item). Word name n ∷ l) e))
+      ap (λ (l : List Item). l ++ head_items) (g
+      ∙ ap (λ (l : List Item). l ++ start_items)
+      (f ∙ ap (λ (l : List Item). Word name n ∷ l) e))
 
   pub is_headed : (items : List Item) → FitsLayout headed items → IsHeaded items
   is_headed items p =
       let first = p.2 in
       let w = first.2 in
-      let f : p.0 ≡ Word name w.2.0 ∷ (w.1 ++ first.1) = first.4 ∙ front_is first.0 w.0 w.2.1 w.1 first.1 w.2.0 w.2.3 w.2.4 w.4 in
+      let f : p.0 ≡ Word name w.2.0 ∷ (w.1 ++ first.1) =
+      first.4 ∙ front_is first.0 w.0 w.2.1 w.1 first.1 w.2.0 w.2.3 w.2.4 w.4 in
       record {
         number = w.2.0;
         start = w.1;
@@ -92,16 +87,26 @@ module _ (name : List ℕ) (s t : Shape) (next : List Item → Layout) where
   headed_fits items h = (
     Word name h.number ∷ (h.start ++ h.head),
     h.back,
-    (Word name h.number ∷ h.start, h.head, (Word name h.number ∷ [], h.start, (h.number, [], refl, refl, refl), h.start_fits, refl), h.head_fits, refl),
+    (
+      Word name h.number ∷ h.start,
+      h.head,
+      (Word name h.number ∷ [], h.start, (h.number, [], refl, refl, refl), h.start_fits, refl),
+      h.head_fits,
+      refl,
+    ),
     h.back_fits,
     h.is,
   )
 
-  pub headed_numbered : (hs vs : List (List ℕ)) (xs : List ℕ) (items : List Item) → HasParts HasRoom s → HasParts HasRoom t → ((l : List Item) → RowHasParts HasRoom (next l)) → ((m n : ℕ) (l : List Item) → next (Word name m ∷ map (numbered_item hs vs) l) ≡ next (Word name n ∷ l))
+  pub headed_numbered : (hs vs : List (List ℕ)) (xs : List ℕ) (items : List Item)
+      → HasParts HasRoom s → HasParts HasRoom t → ((l : List Item) → RowHasParts HasRoom (next l))
+      → ((m n : ℕ) (l : List Item)
+      → next (Word name m ∷ map (numbered_item hs vs) l) ≡ next (Word name n ∷ l))
       → IsHeaded items → IsHeaded (numbered_message hs vs xs items)
   headed_numbered hs vs xs items s_room t_room rooms blind h =
       let f = numbered_item hs vs in
-      let parts : map f (h.start ++ h.head) ≡ map f h.start ++ map f h.head = map-append f h.start h.head in
+      let parts : map f (h.start ++ h.head) ≡ map f h.start ++ map f h.head =
+      map-append f h.start h.head in
       let number = rank nat_eq h.number xs in
       record {
         number = number;
@@ -110,9 +115,16 @@ module _ (name : List ℕ) (s t : Shape) (next : List Item → Layout) where
         back = map f h.back;
         start_fits = fits_numbered hs vs s h.start s_room h.start_fits;
         head_fits = fits_numbered hs vs t h.head t_room h.head_fits;
-        back_fits = subst (λ layout. FitsLayout layout (map f h.back)) (sym (blind number h.number (h.start ++ h.head)) ∙ ap (λ (l : List Item). next (Word name number ∷ l)) parts)
-            (row_numbered hs vs (next (Word name h.number ∷ (h.start ++ h.head))) h.back (rooms (Word name h.number ∷ (h.start ++ h.head))) h.back_fits);
-        is = ap (numbered_message hs vs xs) h.is ∙ ap (λ (l : List Item). Word name number ∷ l) (map-append f (h.start ++ h.head) h.back ∙ ap (λ (l : List Item). l ++ map f h.back) parts);
+        back_fits =
+            subst (λ layout. FitsLayout layout (map f h.back)) (sym
+            (blind number h.number (h.start ++ h.head))
+            ∙ ap (λ (l : List Item). next (Word name number ∷ l)) parts)
+            (row_numbered hs vs (next (Word name h.number ∷ (h.start ++ h.head))) h.back
+            (rooms (Word name h.number ∷ (h.start ++ h.head))) h.back_fits);
+        is =
+            ap (numbered_message hs vs xs) h.is
+            ∙ ap (λ (l : List Item). Word name number ∷ l) (map-append f (h.start ++ h.head)
+            h.back ∙ ap (λ (l : List Item). l ++ map f h.back) parts);
       }
 
 -- ---- calls and replies
@@ -121,13 +133,15 @@ abbrev pub call_next : List Item → Layout
 call_next items = arguments_of (procedure_in items)
 
 abbrev pub IsHeadedCall : List Item → Type 0
-IsHeadedCall items = IsHeaded head_names.xid (listed head_names.mtype (0 ∷ [])) call_head call_next items
+IsHeadedCall items =
+    IsHeaded head_names.xid (listed head_names.mtype (0 ∷ [])) call_head call_next items
 
 abbrev pub reply_next : ProcId → List Item → Layout
 reply_next id items = if has_results items then results_of id else exactly nothing
 
 abbrev pub IsHeadedReply : ProcId → List Item → Type 0
-IsHeadedReply id items = IsHeaded head_names.xid (listed head_names.mtype (1 ∷ [])) reply_head (reply_next id) items
+IsHeadedReply id items =
+    IsHeaded head_names.xid (listed head_names.mtype (1 ∷ [])) reply_head (reply_next id) items
 
 abbrev pub FitsCall : List Item → Type 0
 FitsCall items = FitsLayout (call_layout arguments_of) items
@@ -137,36 +151,56 @@ FitsReply id items = FitsLayout (reply_layout (results_of id)) items
 
 pub is_headed_call : (items : List Item) → FitsCall items → IsHeadedCall items
 unfolding call_layout call_start
-is_headed_call items p = is_headed head_names.xid (listed head_names.mtype (0 ∷ [])) call_head call_next items p
+is_headed_call items p =
+    is_headed head_names.xid (listed head_names.mtype (0 ∷ [])) call_head call_next items p
 
 pub headed_call_fits : (items : List Item) → IsHeadedCall items → FitsCall items
 unfolding call_layout call_start
-headed_call_fits items p = headed_fits head_names.xid (listed head_names.mtype (0 ∷ [])) call_head call_next items p
+headed_call_fits items p =
+    headed_fits head_names.xid (listed head_names.mtype (0 ∷ [])) call_head call_next items p
 
-pub is_headed_reply : (id : ProcId) (items : List Item) → FitsReply id items → IsHeadedReply id items
+pub is_headed_reply : (id : ProcId) (items : List Item) → FitsReply id items
+    → IsHeadedReply id items
 unfolding reply_layout reply_start
-is_headed_reply id items p = is_headed head_names.xid (listed head_names.mtype (1 ∷ [])) reply_head (reply_next id) items p
+is_headed_reply id items p =
+    is_headed head_names.xid (listed head_names.mtype (1 ∷ [])) reply_head (reply_next id) items p
 
-pub headed_reply_fits : (id : ProcId) (items : List Item) → IsHeadedReply id items → FitsReply id items
+pub headed_reply_fits : (id : ProcId) (items : List Item) → IsHeadedReply id items
+    → FitsReply id items
 unfolding reply_layout reply_start
-headed_reply_fits id items p = headed_fits head_names.xid (listed head_names.mtype (1 ∷ [])) reply_head (reply_next id) items p
+headed_reply_fits id items p =
+    headed_fits head_names.xid (listed head_names.mtype (1 ∷ [])) reply_head (reply_next id) items p
 
-procedure_under : (hs vs : List (List ℕ)) (m n : ℕ) (l : List Item) → procedure_in (Word head_names.xid m ∷ map (numbered_item hs vs) l) ≡ procedure_in (Word head_names.xid n ∷ l)
-procedure_under hs vs m n l = rw (words_under hs vs l 2, words_under hs vs l 3, words_under hs vs l 4) refl
+procedure_under : (hs vs : List (List ℕ)) (m n : ℕ) (l : List Item)
+    → procedure_in (Word head_names.xid m ∷ map (numbered_item hs vs) l)
+    ≡ procedure_in (Word head_names.xid n ∷ l)
+procedure_under hs vs m n l =
+    rw (words_under hs vs l 2, words_under hs vs l 3, words_under hs vs l 4) refl
 
-results_under : (hs vs : List (List ℕ)) (m n : ℕ) (l : List Item) → has_results (Word head_names.xid m ∷ map (numbered_item hs vs) l) ≡ has_results (Word head_names.xid n ∷ l)
+results_under : (hs vs : List (List ℕ)) (m n : ℕ) (l : List Item)
+    → has_results (Word head_names.xid m ∷ map (numbered_item hs vs) l)
+    ≡ has_results (Word head_names.xid n ∷ l)
 results_under hs vs m n l = rw (words_under hs vs l 1, words_under hs vs l 4) refl
 
-pub call_numbered : (hs vs : List (List ℕ)) (xs : List ℕ) (items : List Item) → FitsCall items → FitsCall (numbered_message hs vs xs items)
+pub call_numbered : (hs vs : List (List ℕ)) (xs : List ℕ) (items : List Item) → FitsCall items
+    → FitsCall (numbered_message hs vs xs items)
 call_numbered hs vs xs items p =
     headed_call_fits (numbered_message hs vs xs items)
-    (headed_numbered head_names.xid (listed head_names.mtype (0 ∷ [])) call_head call_next hs vs xs items (tt, λ n. tt) call_head_room (λ l. row_room (call_next l) (arguments_have_parts (procedure_in l))) (λ m n l. ap arguments_of (procedure_under hs vs m n l)) (is_headed_call items p))
+    (headed_numbered head_names.xid (listed head_names.mtype (0 ∷ [])) call_head call_next hs vs xs
+    items (tt, λ n. tt) call_head_room
+    (λ l. row_room (call_next l) (arguments_have_parts (procedure_in l)))
+    (λ m n l. ap arguments_of (procedure_under hs vs m n l)) (is_headed_call items p))
 
-pub reply_numbered : (hs vs : List (List ℕ)) (xs : List ℕ) (id : ProcId) (items : List Item) → FitsReply id items → FitsReply id (numbered_message hs vs xs items)
+pub reply_numbered : (hs vs : List (List ℕ)) (xs : List ℕ) (id : ProcId) (items : List Item)
+    → FitsReply id items → FitsReply id (numbered_message hs vs xs items)
 reply_numbered hs vs xs id items p =
     headed_reply_fits id (numbered_message hs vs xs items)
-    (headed_numbered head_names.xid (listed head_names.mtype (1 ∷ [])) reply_head (reply_next id) hs vs xs items (tt, λ n. tt) (shape_room reply_head reply_head_parts)
-    (λ l. row_room (reply_next id l) (reply_has_parts id l)) (λ m n l. ap (λ b. if b then results_of id else exactly nothing) (results_under hs vs m n l)) (is_headed_reply id items p))
+    (headed_numbered head_names.xid (listed head_names.mtype (1 ∷ [])) reply_head (reply_next id) hs
+    vs xs items (tt, λ n. tt) (shape_room reply_head reply_head_parts)
+    (λ l. row_room (reply_next id l) (reply_has_parts id l))
+    (λ m n l.
+    ap (λ b. if b then results_of id else exactly nothing) (results_under hs vs m n l))
+    (is_headed_reply id items p))
 
 -- ---- what is so of each item of a message
 
@@ -177,17 +211,20 @@ module _ (P : Item → Type 0) (each : (part : Part) → IsProtocolPart part →
   each_in_row : (layout : Layout) → IsProtocolRow layout → RowHasParts (IsEach P) layout
   each_in_row layout h = row_weaker IsProtocolPart (IsEach P) each layout h
 
-  pub each_of_call : ((version : ℕ) → P (Word head_names.rpcvers version)) → (items : List Item) → FitsCall items → AllByRecursion P items
+  pub each_of_call : ((version : ℕ) → P (Word head_names.rpcvers version)) → (items : List Item)
+      → FitsCall items → AllByRecursion P items
   unfolding call_layout
   each_of_call version items p =
       all_in_message P (call_start then call_head) call_next items
       (each_fitting call_start call_start_parts, call_head_parts (IsEach P) each version)
       (λ front. each_in_row (call_next front) (arguments_have_parts (procedure_in front))) p
 
-  pub each_of_reply : (id : ProcId) (items : List Item) → FitsReply id items → AllByRecursion P items
+  pub each_of_reply : (id : ProcId) (items : List Item) → FitsReply id items
+      → AllByRecursion P items
   unfolding reply_layout
   each_of_reply id items p =
-      all_in_message P (reply_start then reply_head) (reply_next id) items (each_fitting (reply_start then reply_head) (reply_start_parts, reply_head_parts))
+      all_in_message P (reply_start then reply_head) (reply_next id) items
+      (each_fitting (reply_start then reply_head) (reply_start_parts, reply_head_parts))
       (λ front. each_in_row (reply_next id front) (reply_has_parts id front)) p
 
 each_short : (part : Part) → IsProtocolPart part → IsEach IsShort part
@@ -196,7 +233,8 @@ each_short part is = short_part part is.room
 pub call_short : (items : List Item) → FitsCall items → AllByRecursion IsShort items
 call_short items p = each_of_call IsShort each_short (λ version. tt) items p
 
-pub reply_short : (id : ProcId) (items : List Item) → FitsReply id items → AllByRecursion IsShort items
+pub reply_short : (id : ProcId) (items : List Item) → FitsReply id items
+    → AllByRecursion IsShort items
 reply_short id items p = each_of_reply IsShort each_short id items p
 
 -- ---- what begins with a word
@@ -209,37 +247,67 @@ pub record BeginsWithWord (items : List Item) : Type 0 where
   pub is : items ≡ Word name number ∷ more
 
 pub call_begins : (items : List Item) → FitsCall items → BeginsWithWord items
-call_begins items p = let h = is_headed_call items p in record { name = head_names.xid; number = h.number; more = (h.start ++ h.head) ++ h.back; is = h.is }
+call_begins items p =
+    let h = is_headed_call items p in
+    record {
+      name = head_names.xid;
+      number = h.number;
+      more = (h.start ++ h.head) ++ h.back;
+      is = h.is;
+    }
 
 pub reply_begins : (id : ProcId) (items : List Item) → FitsReply id items → BeginsWithWord items
-reply_begins id items p = let h = is_headed_reply id items p in record { name = head_names.xid; number = h.number; more = (h.start ++ h.head) ++ h.back; is = h.is }
+reply_begins id items p =
+    let h = is_headed_reply id items p in
+    record {
+      name = head_names.xid;
+      number = h.number;
+      more = (h.start ++ h.head) ++ h.back;
+      is = h.is;
+    }
 
-pub xid_numbered : (hs vs : List (List ℕ)) (xs : List ℕ) (items : List Item) → BeginsWithWord items → word_in (numbered_message hs vs xs items) 0 ≡ rank nat_eq (word_in items 0) xs
+pub xid_numbered : (hs vs : List (List ℕ)) (xs : List ℕ) (items : List Item) → BeginsWithWord items
+    → word_in (numbered_message hs vs xs items) 0 ≡ rank nat_eq (word_in items 0) xs
 xid_numbered hs vs xs items b = rw b.is refl
 
-pub procedure_numbered : (hs vs : List (List ℕ)) (xs : List ℕ) (items : List Item) → BeginsWithWord items → procedure_in (numbered_message hs vs xs items) ≡ procedure_in items
-procedure_numbered hs vs xs items b = rw (b.is, words_under hs vs b.more 2, words_under hs vs b.more 3, words_under hs vs b.more 4) refl
+pub procedure_numbered : (hs vs : List (List ℕ)) (xs : List ℕ) (items : List Item)
+    → BeginsWithWord items → procedure_in (numbered_message hs vs xs items) ≡ procedure_in items
+procedure_numbered hs vs xs items b =
+    rw (b.is, words_under hs vs b.more 2, words_under hs vs b.more 3, words_under hs vs b.more 4)
+    refl
 
 -- ---- spellings of messages
 
 -- the number of the xid is a word
-pub message_spelled : (hs vs : List (List ℕ)) (xs : List ℕ) (items : List Item) (bytes : List ℕ) → BeginsWithWord items → Member (word_in items 0) xs → length xs < 2 ^ 32 → Spells items bytes → Spells (numbered_message hs vs xs items) (zero_spelling (numbered_message hs vs xs items))
+pub message_spelled : (hs vs : List (List ℕ)) (xs : List ℕ) (items : List Item) (bytes : List ℕ)
+    → BeginsWithWord items → Member (word_in items 0) xs → length xs < 2 ^ 32 → Spells items bytes
+    → Spells (numbered_message hs vs xs items) (zero_spelling (numbered_message hs vs xs items))
 message_spelled hs vs xs items bytes b m few p =
     let q : Spells (Word b.name b.number ∷ b.more) bytes = subst (λ l. Spells l bytes) b.is p in
     let n : Member b.number xs = subst (λ l. Member (word_in l 0) xs) b.is m in
     let number = rank nat_eq b.number xs in
     let small : number < 2 ^ 32 = omega (arith, rank-le-length nat_eq Decides-eqb n) in
-    subst (λ l. Spells (numbered_message hs vs xs l) (zero_spelling (numbered_message hs vs xs l))) (sym b.is)
-    (word_bytes number, zero_spelling (map (numbered_item hs vs) b.more), (small, refl), spells_numbered hs vs b.more q.1 q.3, refl)
+    subst (λ l. Spells (numbered_message hs vs xs l) (zero_spelling (numbered_message hs vs xs l)))
+    (sym b.is) (
+      word_bytes number,
+      zero_spelling (map (numbered_item hs vs) b.more),
+      (small, refl),
+      spells_numbered hs vs b.more q.1 q.3,
+      refl,
+    )
 
-pub message_shorter : (hs vs : List (List ℕ)) (xs : List ℕ) (items : List Item) (bytes : List ℕ) → BeginsWithWord items → Spells items bytes → length (zero_spelling (numbered_message hs vs xs items)) ≤ length (zero_spelling items)
+pub message_shorter : (hs vs : List (List ℕ)) (xs : List ℕ) (items : List Item) (bytes : List ℕ)
+    → BeginsWithWord items → Spells items bytes
+    → length (zero_spelling (numbered_message hs vs xs items)) ≤ length (zero_spelling items)
 message_shorter hs vs xs items bytes b p =
     let q : Spells (Word b.name b.number ∷ b.more) bytes = subst (λ l. Spells l bytes) b.is p in
-    subst (λ l. length (zero_spelling (numbered_message hs vs xs l)) ≤ length (zero_spelling l)) (sym b.is)
+    subst (λ l. length (zero_spelling (numbered_message hs vs xs l)) ≤ length (zero_spelling l))
+    (sym b.is)
     (omega (
       arith,
       shorter_numbered hs vs b.more q.1 q.3,
-      length-append (word_bytes (rank nat_eq b.number xs)) (zero_spelling (map (numbered_item hs vs) b.more)),
+      length-append (word_bytes (rank nat_eq b.number xs))
+          (zero_spelling (map (numbered_item hs vs) b.more)),
       length-append (word_bytes b.number) (zero_spelling b.more),
       length-bytes_high_first 4 (rank nat_eq b.number xs),
       length-bytes_high_first 4 b.number,

@@ -1,31 +1,12 @@
 -- Each visit adds its item to the message, and notes what it becomes with numbers.
-use Rattle.std.proofs.Common.{◌≡◌, ◌≢◌, ℕ, ◌+◌, ◌<◌, ◌≤◌, ◌^◌, List, [], ◌∷◌, ◌++◌, drop, take, replicate, length, length-append, append_assoc, append-nil, refl, sym, ap, ap₂, ◌∙◌, subst, arith, min, Result, Ok, Err, ◌⊎◌, inl, inr, Bool, true}
-use Rattle.std.specs.Prelude.{bytes_eq, nat_eq, OnOk, ◌==◌}
-use Rattle.std.specs.Bool.{Decides}
-use Rattle.std.specs.List.{AllByRecursion, flat_map}
-use Rattle.std.proofs.lemmas.Grind.{flat_map-append}
-use Rattle.std.proofs.lemmas.Bool.Decides.{Decides-eqb}
-use Rattle.std.proofs.lemmas.Slice.Eq.{bytes_eq-Decides}
-use Rattle.byteorder.specs.Endian.{big_bytes, big_number}
-use Rattle.xdr3.specs.declared.plain.PlainField.{PlainField}
+use Rattle.canon3.proofs.Common.{◌≡◌, ◌≢◌, ℕ, ◌+◌, ◌<◌, ◌≤◌, ◌^◌, List, [], ◌∷◌, ◌++◌, drop, take, replicate, length, length-append, append_assoc, append-nil, refl, sym, ap, ap₂, ◌∙◌, subst, arith, min, Result, Ok, Err, ◌⊎◌, inl, inr, Bool, true, Decides, AllByRecursion, flat_map, flat_map-append, Decides-eqb, bytes_eq-Decides, PlainField, run_items, run_size, Adds, MessageWriter, numbered_item, items_after, HoldsHandles, here, number_limit, rank, HoldsDistinct, handle_in, verifier_in, handles_in, verifiers_in, bytes_eq, nat_eq, OnOk, ◌==◌, big_bytes, big_number, Noted, IsPlain}
 use Rattle.xdr3.specs.declared.plain.PlainField.TheVariants as fields
-use Rattle.xdr3.specs.Plain.{run_items, run_size}
-use Rattle.patches.specs.Patches.{Noted}
 use Rattle.xdr3.proofs.Lemmas.Shapes.Walks.{adds_both}
 use Rattle.xdr3.specs.Item.{Item, Fixed, Hyper, Word, WriteVerf, Opaque, Rest, Kind, Handle, residue, word_bytes}
-use Rattle.xdr3.specs.Visit.{Adds}
 use Rattle.nfs3_types.specs.declared.values.handle.Handle as declared
-use Rattle.canon3.specs.declared.message_writer.MessageWriter.{MessageWriter}
-use Rattle.canon3.specs.declared.message_writer.Stage.{Stage}
-use Rattle.canon3.specs.declared.message_writer.Stage.TheVariants.{Begins, Goes, Failed}
-use Rattle.canon3.specs.Canonical.{numbered_item}
-use Rattle.canon3.specs.CanonicalStream.{items_after}
-use Rattle.canon3.specs.HandleTable.{HoldsHandles}
+use Rattle.canon3.specs.declared.canonical_form.message_writer.Stage.{Stage}
+use Rattle.canon3.specs.declared.canonical_form.message_writer.Stage.TheVariants.{Begins, Goes, Failed}
 use Rattle.canon3.specs.machinery.MessageWriter.{AreFew, Before, HasMessageUnderWay, IsNotedAs, IsSpelled, IsWithinMessage, Notes, in_front_of, told_after, WriterStands}
-use Rattle.canon3.specs.Pairing.{here}
-use Rattle.canon3.specs.Rank.{number_limit, rank, HoldsDistinct}
-use Rattle.canon3.specs.Renaming.{IsPlain}
-use Rattle.canon3.specs.Values.{handle_in, verifier_in, handles_in, verifiers_in}
 use Rattle.canon3.proofs.Lemmas.Canonical.CanonicalStreamLemmas.{items_after-push}
 use Rattle.canon3.proofs.Lemmas.Canonical.OneFormLemmas.{plain_handle, plain_verifier, plain_numbered}
 use Rattle.canon3.proofs.Lemmas.Numbers.RankLemmas.{member-append_right, rank-le-length}
@@ -39,16 +20,21 @@ is_none (x ∷ l) b e t =
 
 -- ---- items in front of a message's own
 
-listed-append : (xs : List (List ℕ)) (items more : List Item) → in_front_of xs (items ++ more) ≡ in_front_of xs items ++ more
+listed-append : (xs : List (List ℕ)) (items more : List Item)
+    → in_front_of xs (items ++ more) ≡ in_front_of xs items ++ more
 listed-append [] items more = refl
-listed-append (x ∷ xs) items more = ap (λ (l : List Item). Rest [] x ∷ l) (listed-append xs items more)
+listed-append (x ∷ xs) items more =
+    ap (λ (l : List Item). Rest [] x ∷ l) (listed-append xs items more)
 
-pub told_after-append : (before : Before) (items more : List Item) → told_after before (items ++ more) ≡ told_after before items ++ more
+pub told_after-append : (before : Before) (items more : List Item)
+    → told_after before (items ++ more) ≡ told_after before items ++ more
 told_after-append before items more =
     ap (λ (l : List Item). Rest [] before.xids ∷ l)
-    (ap (in_front_of before.handles) (listed-append before.verifiers items more) ∙ listed-append before.handles (in_front_of before.verifiers items) more)
+    (ap (in_front_of before.handles) (listed-append before.verifiers items more)
+    ∙ listed-append before.handles (in_front_of before.verifiers items) more)
 
-listed-same : (xs ys : List (List ℕ)) (items more : List Item) → in_front_of xs items ≡ in_front_of ys more → (xs ≡ ys) × (items ≡ more)
+listed-same : (xs ys : List (List ℕ)) (items more : List Item)
+    → in_front_of xs items ≡ in_front_of ys more → (xs ≡ ys) × (items ≡ more)
 listed-same [] [] items more e = (refl, cc)
 listed-same [] (y ∷ ys) items more e = absurd cc
 listed-same (x ∷ xs) [] items more e = absurd cc
@@ -59,26 +45,45 @@ listed-same (x ∷ xs) (y ∷ ys) items more e =
     (ap₂ (λ a (b : List (List ℕ)). a ∷ b) head r.0, r.1)
 
 -- the items in front tell all
-pub told_after-same : (a b : Before) (items more : List Item) → told_after a items ≡ told_after b more → (a ≡ b) × (items ≡ more)
+pub told_after-same : (a b : Before) (items more : List Item)
+    → told_after a items ≡ told_after b more → (a ≡ b) × (items ≡ more)
 told_after-same a b items more e =
     let xids : a.xids ≡ b.xids = cc in
-    let rest : in_front_of a.handles (in_front_of a.verifiers items) ≡ in_front_of b.handles (in_front_of b.verifiers more) = cc in
+    let rest : in_front_of a.handles (in_front_of a.verifiers items)
+    ≡ in_front_of b.handles (in_front_of b.verifiers more) = cc in
     let h = listed-same a.handles b.handles _ _ rest in
     let v = listed-same a.verifiers b.verifiers items more h.1 in
     let handles : a.handles ≡ b.handles = h.0 in
     let verifiers : a.verifiers ≡ b.verifiers = v.0 in
-    let same : a ≡ b = λ i. record { handles = handles i; verifiers = verifiers i; xids = xids i } in
+    let same : a ≡ b =
+    λ i. record { handles = handles i; verifiers = verifiers i; xids = xids i } in
     (same, v.1)
 
 -- ---- one more item
 
-values-push : (f : Item → List (List ℕ)) (l : List (List ℕ)) (items : List Item) (i : Item) → l ++ flat_map f (items ++ i ∷ []) ≡ (l ++ flat_map f items) ++ f i
-values-push f l items i = ap (λ (k : List (List ℕ)). l ++ k) (flat_map-append f items (i ∷ []) ∙ ap (λ (k : List (List ℕ)). flat_map f items ++ k) (append-nil (f i))) ∙ sym (append_assoc l (flat_map f items) (f i))
+values-push : (f : Item → List (List ℕ)) (l : List (List ℕ)) (items : List Item) (i : Item)
+    → l ++ flat_map f (items ++ i ∷ []) ≡ (l ++ flat_map f items) ++ f i
+values-push f l items i =
+    ap (λ (k : List (List ℕ)). l ++ k) (flat_map-append f items (i ∷ [])
+    ∙ ap (λ (k : List (List ℕ)). flat_map f items ++ k) (append-nil (f i)))
+    ∙ sym (append_assoc l (flat_map f items) (f i))
 
-few_before : (hs vs : List (List ℕ)) (items : List Item) (i : Item) → AreFew (hs ++ handles_in (items ++ i ∷ [])) (vs ++ verifiers_in (items ++ i ∷ [])) → AreFew (hs ++ handles_in items) (vs ++ verifiers_in items)
+few_before : (hs vs : List (List ℕ)) (items : List Item) (i : Item)
+    → AreFew (hs ++ handles_in (items ++ i ∷ [])) (vs ++ verifiers_in (items ++ i ∷ []))
+    → AreFew (hs ++ handles_in items) (vs ++ verifiers_in items)
 few_before hs vs items i few = (
-  omega (arith, few.0, ap length (values-push handle_in hs items i), length-append (hs ++ handles_in items) (handle_in i)),
-  omega (arith, few.1, ap length (values-push verifier_in vs items i), length-append (vs ++ verifiers_in items) (verifier_in i)),
+  omega (
+    arith,
+    few.0,
+    ap length (values-push handle_in hs items i),
+    length-append (hs ++ handles_in items) (handle_in i),
+  ),
+  omega (
+    arith,
+    few.1,
+    ap length (values-push verifier_in vs items i),
+    length-append (vs ++ verifiers_in items) (verifier_in i),
+  ),
 )
 
 -- a message that has its xid, or an item that is no word
@@ -87,11 +92,16 @@ IsLater (Word name x) [] = ⊥
 IsLater (Word name x) (_ ∷ _) = Unit {0}
 IsLater _ _ = Unit {0}
 
-spelled_more : (stage : Stage) (table : List ℕ) (number : ℕ) (old new : Noted) (before : Before) (items : List Item) (i j : Item) → IsLater i items
-    → (AreFew (before.handles ++ handles_in (items ++ i ∷ [])) (before.verifiers ++ verifiers_in (items ++ i ∷ []))
-    → j ≡ numbered_item ((before.handles ++ handles_in items) ++ handle_in i) ((before.verifiers ++ verifiers_in items) ++ verifier_in i) i)
+spelled_more : (stage : Stage) (table : List ℕ) (number : ℕ) (old new : Noted) (before : Before)
+    (items : List Item) (i j : Item) → IsLater i items
+    → (AreFew (before.handles ++ handles_in (items ++ i ∷ []))
+    (before.verifiers ++ verifiers_in (items ++ i ∷ []))
+    → j
+    ≡ numbered_item ((before.handles ++ handles_in items) ++ handle_in i)
+    ((before.verifiers ++ verifiers_in items) ++ verifier_in i) i)
     → Notes old new (i ∷ []) (j ∷ [])
-    → IsSpelled stage table number old before items → IsSpelled stage table number new before (items ++ i ∷ [])
+    → IsSpelled stage table number old before items
+    → IsSpelled stage table number new before (items ++ i ∷ [])
 spelled_more stage table number old new before [] (Word name x) j later is notes s = absurd later
 spelled_more stage table number old new before [] _ j later is notes s = tt
 spelled_more stage table number old new before (Word name x ∷ items) i j later is notes s = (
@@ -100,7 +110,9 @@ spelled_more stage table number old new before (Word name x ∷ items) i j later
   λ few fewer.
       let (same, noted) = s.2 (few_before before.handles before.verifiers items i few) fewer in (
         same,
-        subst (λ (l : List Item). IsNotedAs new (items ++ i ∷ []) l) (ap (λ k. items_after before.handles before.verifiers items ++ k ∷ []) (is few) ∙ sym (items_after-push items before.handles before.verifiers i))
+        subst (λ (l : List Item). IsNotedAs new (items ++ i ∷ []) l) (ap
+            (λ k. items_after before.handles before.verifiers items ++ k ∷ []) (is few)
+            ∙ sym (items_after-push items before.handles before.verifiers i))
             (notes items (items_after before.handles before.verifiers items) noted),
       ),
 )
@@ -109,115 +121,206 @@ spelled_more stage table number old new before (_ ∷ items) i j later is notes 
 module _ {S H : Type 0} (old new : MessageWriter S H) (i : Item) where
   -- what a visit keeps, besides its writing
   pub record Follows : Type 0 where
-    pub handles : (hs : List (List ℕ)) → HoldsHandles old.handles hs → HoldsHandles new.handles (hs ++ handle_in i)
-    pub verifiers : (vs : List (List ℕ)) → HoldsDistinct bytes_eq old.verfs vs → HoldsDistinct bytes_eq new.verfs (vs ++ verifier_in i)
+    pub handles : (hs : List (List ℕ)) → HoldsHandles old.handles hs
+        → HoldsHandles new.handles (hs ++ handle_in i)
+    pub verifiers : (vs : List (List ℕ)) → HoldsDistinct bytes_eq old.verfs vs
+        → HoldsDistinct bytes_eq new.verfs (vs ++ verifier_in i)
 
-  after_by : Follows → ((before : Before) (items : List Item) → IsWithinMessage old before items → IsSpelled new.stage new.xids new.xid new.patches before (items ++ i ∷ [])) → (all : List Item) → HasMessageUnderWay old all → HasMessageUnderWay new (all ++ i ∷ [])
+  after_by : Follows
+      → ((before : Before) (items : List Item) → IsWithinMessage old before items
+      → IsSpelled new.stage new.xids new.xid new.patches before (items ++ i ∷ []))
+      → (all : List Item) → HasMessageUnderWay old all → HasMessageUnderWay new (all ++ i ∷ [])
   after_by f spells all b = record {
     before = b.before;
     items = b.items ++ i ∷ [];
-    are = ap (λ (l : List Item). l ++ i ∷ []) b.are ∙ sym (told_after-append b.before b.items (i ∷ []));
+    are =
+        ap (λ (l : List Item). l ++ i ∷ []) b.are
+        ∙ sym (told_after-append b.before b.items (i ∷ []));
     under_way = record {
-      handles = subst (HoldsHandles new.handles) (sym (values-push handle_in b.before.handles b.items i)) (f.handles (b.before.handles ++ handles_in b.items) b.under_way.handles);
-      verifiers = subst (HoldsDistinct bytes_eq new.verfs) (sym (values-push verifier_in b.before.verifiers b.items i)) (f.verifiers (b.before.verifiers ++ verifiers_in b.items) b.under_way.verifiers);
+      handles =
+          subst (HoldsHandles new.handles) (sym (values-push handle_in b.before.handles b.items i))
+          (f.handles (b.before.handles ++ handles_in b.items) b.under_way.handles);
+      verifiers =
+          subst (HoldsDistinct bytes_eq new.verfs)
+          (sym (values-push verifier_in b.before.verifiers b.items i))
+          (f.verifiers (b.before.verifiers ++ verifiers_in b.items) b.under_way.verifiers);
       spelled = spells b.before b.items b.under_way;
     };
   }
 
   -- where each message's writing goes on, so does what the visitor stands for
   pub adds_by : Follows → (new.stage ≢ Failed → old.stage ≢ Failed)
-      → ((before : Before) (items : List Item) → new.stage ≢ Failed → IsWithinMessage old before items → IsSpelled new.stage new.xids new.xid new.patches before (items ++ i ∷ []))
+      → ((before : Before) (items : List Item) → new.stage ≢ Failed
+      → IsWithinMessage old before items
+      → IsSpelled new.stage new.xids new.xid new.patches before (items ++ i ∷ []))
       → Adds WriterStands old new (i ∷ [])
   unfolding Adds
-  adds_by f went spells all stands going = after_by f (λ before items. spells before items going) all (stands (went going))
+  adds_by f went spells all stands going =
+      after_by f (λ before items. spells before items going) all (stands (went going))
 
   -- the item with its number is written
   pub adds : (j : Item) → Follows → new.stage ≡ old.stage → new.xids ≡ old.xids → new.xid ≡ old.xid
-      → ((before : Before) (items : List Item) → old.stage ≢ Failed → IsSpelled old.stage old.xids old.xid old.patches before items → IsLater i items)
-      → ((hs vs : List (List ℕ)) → HoldsHandles old.handles hs → HoldsDistinct bytes_eq old.verfs vs → AreFew (hs ++ handle_in i) (vs ++ verifier_in i) → j ≡ numbered_item (hs ++ handle_in i) (vs ++ verifier_in i) i)
+      → ((before : Before) (items : List Item) → old.stage ≢ Failed
+      → IsSpelled old.stage old.xids old.xid old.patches before items → IsLater i items)
+      → ((hs vs : List (List ℕ)) → HoldsHandles old.handles hs → HoldsDistinct bytes_eq old.verfs vs
+      → AreFew (hs ++ handle_in i) (vs ++ verifier_in i)
+      → j ≡ numbered_item (hs ++ handle_in i) (vs ++ verifier_in i) i)
       → Notes old.patches new.patches (i ∷ []) (j ∷ []) → Adds WriterStands old new (i ∷ [])
   adds j f stage xids xid later is notes =
       adds_by f (λ going e. going (stage ∙ e)) (λ before items going u.
       let hs = before.handles ++ handles_in items in
       let vs = before.verifiers ++ verifiers_in items in
       subst (λ s. IsSpelled s new.xids new.xid new.patches before (items ++ i ∷ [])) (sym stage)
-      (subst (λ (t : List ℕ). IsSpelled old.stage t new.xid new.patches before (items ++ i ∷ [])) (sym xids)
+      (subst (λ (t : List ℕ). IsSpelled old.stage t new.xid new.patches before (items ++ i ∷ []))
+      (sym xids)
       (subst (λ k. IsSpelled old.stage old.xids k new.patches before (items ++ i ∷ [])) (sym xid)
-      (spelled_more old.stage old.xids old.xid old.patches new.patches before items i j (later before items (λ e. going (stage ∙ e)) u.spelled)
+      (spelled_more old.stage old.xids old.xid old.patches new.patches before items i j
+      (later before items (λ e. going (stage ∙ e)) u.spelled)
       (λ few. is hs vs u.handles u.verifiers
-      (subst (λ (l : List (List ℕ)). AreFew l (vs ++ verifier_in i)) (values-push handle_in before.handles items i)
-      (subst (λ (l : List (List ℕ)). AreFew (before.handles ++ handles_in (items ++ i ∷ [])) l) (values-push verifier_in before.verifiers items i) few)))
+      (subst (λ (l : List (List ℕ)). AreFew l (vs ++ verifier_in i))
+      (values-push handle_in before.handles items i)
+      (subst (λ (l : List (List ℕ)). AreFew (before.handles ++ handles_in (items ++ i ∷ [])) l)
+      (values-push verifier_in before.verifiers items i) few)))
       notes u.spelled))))
 
 -- a number of a table that is not full
-uncapped : {K : Type 0} (same : K → K → Bool) → ((x y : K) → Decides (same x y) (x ≡ y)) → (l : List K) (x : K) (n : ℕ) → length (l ++ x ∷ []) < 2 ^ 32 → n ≡ min (rank same x (l ++ x ∷ [])) number_limit → n ≡ rank same x (l ++ x ∷ [])
+uncapped : {K : Type 0} (same : K → K → Bool) → ((x y : K) → Decides (same x y) (x ≡ y))
+    → (l : List K) (x : K) (n : ℕ) → length (l ++ x ∷ []) < 2 ^ 32
+    → n ≡ min (rank same x (l ++ x ∷ [])) number_limit → n ≡ rank same x (l ++ x ∷ [])
 uncapped same decides l x n few e =
-    let within : rank same x (l ++ x ∷ []) ≤ length (l ++ x ∷ []) = rank-le-length same decides (member-append_right l here) in
+    let within : rank same x (l ++ x ∷ []) ≤ length (l ++ x ∷ []) =
+    rank-le-length same decides (member-append_right l here) in
     omega arith
 
 -- ---- items as they are
 
 module _ {S H : Type 0} (n : MessageWriter S H) (noted : Noted) where
   abbrev pub with_patches : MessageWriter S H
-  with_patches = record { handles = n.handles; verfs = n.verfs; xids = n.xids; xid = n.xid; patches = noted; room = n.room; stage = n.stage }
+  with_patches =
+      record {
+        handles = n.handles;
+        verfs = n.verfs;
+        xids = n.xids;
+        xid = n.xid;
+        patches = noted;
+        room = n.room;
+        stage = n.stage;
+      }
 
-  follows_plain : (i : Item) (table : List ℕ) (number : ℕ) (stage : Stage) → IsPlain i → Follows n (record { handles = n.handles; verfs = n.verfs; xids = table; xid = number; patches = noted; room = n.room; stage = stage }) i
+  follows_plain : (i : Item) (table : List ℕ) (number : ℕ) (stage : Stage) → IsPlain i
+      → Follows n
+      (record {
+        handles = n.handles;
+        verfs = n.verfs;
+        xids = table;
+        xid = number;
+        patches = noted;
+        room = n.room;
+        stage = stage;
+      }) i
   follows_plain i table number stage plain = record {
-    handles = λ hs h. subst (HoldsHandles n.handles) (ap (λ (l : List (List ℕ)). hs ++ l) (sym (plain_handle i plain))) (subst (HoldsHandles n.handles) (sym (append-nil hs)) h);
-    verifiers = λ vs h. subst (HoldsDistinct bytes_eq n.verfs) (ap (λ (l : List (List ℕ)). vs ++ l) (sym (plain_verifier i plain))) (subst (HoldsDistinct bytes_eq n.verfs) (sym (append-nil vs)) h);
+    handles =
+        λ hs h.
+        subst (HoldsHandles n.handles)
+        (ap (λ (l : List (List ℕ)). hs ++ l) (sym (plain_handle i plain)))
+        (subst (HoldsHandles n.handles) (sym (append-nil hs)) h);
+    verifiers =
+        λ vs h.
+        subst (HoldsDistinct bytes_eq n.verfs)
+        (ap (λ (l : List (List ℕ)). vs ++ l) (sym (plain_verifier i plain)))
+        (subst (HoldsDistinct bytes_eq n.verfs) (sym (append-nil vs)) h);
   }
 
-  adds_plain : (i : Item) → IsPlain i → ((before : Before) (items : List Item) → n.stage ≢ Failed → IsSpelled n.stage n.xids n.xid n.patches before items → IsLater i items)
+  adds_plain : (i : Item) → IsPlain i
+      → ((before : Before) (items : List Item) → n.stage ≢ Failed
+      → IsSpelled n.stage n.xids n.xid n.patches before items → IsLater i items)
       → Notes n.patches noted (i ∷ []) (i ∷ []) → Adds WriterStands n with_patches (i ∷ [])
   adds_plain i plain later =
-      adds n with_patches i i (follows_plain i n.xids n.xid n.stage plain) refl refl refl later (λ hs vs h g few. sym (plain_numbered (hs ++ handle_in i) (vs ++ verifier_in i) i plain))
+      adds n with_patches i i (follows_plain i n.xids n.xid n.stage plain) refl refl refl later
+      (λ hs vs h g few. sym (plain_numbered (hs ++ handle_in i) (vs ++ verifier_in i) i plain))
 
   pub after_xid : (n.stage ≡ Goes) ⊎ (n.stage ≡ Failed) → n.stage ≢ Begins
   after_xid (inl e) b = absurd cc
   after_xid (inr e) b = absurd cc
 
   -- a word after the xid
-  pub adds_word : (name : List ℕ) (x : ℕ) → n.stage ≢ Begins → KeepsRun n.patches noted 4 → Adds WriterStands n with_patches (Word name x ∷ [])
-  adds_word name x goes keeps = adds_plain (Word name x) tt (λ before items going spelled. is_later before items spelled) (notes_kept n.patches noted (Word name x ∷ []) 4 (word_fixed name x) keeps)
+  pub adds_word : (name : List ℕ) (x : ℕ) → n.stage ≢ Begins → KeepsRun n.patches noted 4
+      → Adds WriterStands n with_patches (Word name x ∷ [])
+  adds_word name x goes keeps =
+      adds_plain (Word name x) tt (λ before items going spelled. is_later before items spelled)
+      (notes_kept n.patches noted (Word name x ∷ []) 4 (word_fixed name x) keeps)
     where
-      is_later : (before : Before) (items : List Item) → IsSpelled n.stage n.xids n.xid n.patches before items → IsLater (Word name x) items
+      is_later : (before : Before) (items : List Item)
+          → IsSpelled n.stage n.xids n.xid n.patches before items → IsLater (Word name x) items
       is_later before [] s = absurd (goes s.0)
       is_later before (i ∷ items) s = tt
 
-  pub adds_hyper : (name : List ℕ) (x : ℕ) → KeepsRun n.patches noted 8 → Adds WriterStands n with_patches (Hyper name x ∷ [])
-  adds_hyper name x keeps = adds_plain (Hyper name x) tt (λ before items going spelled. tt) (notes_kept n.patches noted (Hyper name x ∷ []) 8 (hyper_fixed name x) keeps)
+  pub adds_hyper : (name : List ℕ) (x : ℕ) → KeepsRun n.patches noted 8
+      → Adds WriterStands n with_patches (Hyper name x ∷ [])
+  adds_hyper name x keeps =
+      adds_plain (Hyper name x) tt (λ before items going spelled. tt)
+      (notes_kept n.patches noted (Hyper name x ∷ []) 8 (hyper_fixed name x) keeps)
 
-  pub adds_fixed : (name bytes : List ℕ) → KeepsRun n.patches noted 8 → Adds WriterStands n with_patches (Fixed name bytes ∷ [])
-  adds_fixed name bytes keeps = adds_plain (Fixed name bytes) tt (λ before items going spelled. tt) (notes_kept n.patches noted (Fixed name bytes ∷ []) 8 (bytes_fixed name bytes) keeps)
+  pub adds_fixed : (name bytes : List ℕ) → KeepsRun n.patches noted 8
+      → Adds WriterStands n with_patches (Fixed name bytes ∷ [])
+  adds_fixed name bytes keeps =
+      adds_plain (Fixed name bytes) tt (λ before items going spelled. tt)
+      (notes_kept n.patches noted (Fixed name bytes ∷ []) 8 (bytes_fixed name bytes) keeps)
 
-  pub adds_rest : (name bytes : List ℕ) → KeepsRun n.patches noted (length bytes) → Adds WriterStands n with_patches (Rest name bytes ∷ [])
-  adds_rest name bytes keeps = adds_plain (Rest name bytes) tt (λ before items going spelled. tt) (notes_kept n.patches noted (Rest name bytes ∷ []) (length bytes) (rest_fixed name bytes) keeps)
+  pub adds_rest : (name bytes : List ℕ) → KeepsRun n.patches noted (length bytes)
+      → Adds WriterStands n with_patches (Rest name bytes ∷ [])
+  adds_rest name bytes keeps =
+      adds_plain (Rest name bytes) tt (λ before items going spelled. tt) (notes_kept n.patches noted
+      (Rest name bytes ∷ []) (length bytes) (rest_fixed name bytes) keeps)
 
   -- a run without residual bytes, and one with some
-  pub adds_whole_run : (kind : Kind) (name bytes : List ℕ) (len count : ℕ) → IsPlain (Opaque kind name bytes) → length bytes ≡ len → count ≡ residue len → count ≡ 0 → KeepsRun n.patches noted (4 + len) → Adds WriterStands n with_patches (Opaque kind name bytes ∷ [])
+  pub adds_whole_run : (kind : Kind) (name bytes : List ℕ) (len count : ℕ)
+      → IsPlain (Opaque kind name bytes) → length bytes ≡ len → count ≡ residue len → count ≡ 0
+      → KeepsRun n.patches noted (4 + len)
+      → Adds WriterStands n with_patches (Opaque kind name bytes ∷ [])
   adds_whole_run kind name bytes len count plain size is none keeps =
       adds_plain (Opaque kind name bytes) plain (λ before items going spelled. tt)
-      (notes_kept n.patches noted (Opaque kind name bytes ∷ []) (4 + length bytes) (run_fixed kind name bytes (ap residue size ∙ (sym is ∙ none))) (subst (λ k. KeepsRun n.patches noted (4 + k)) (sym size) keeps))
+      (notes_kept n.patches noted (Opaque kind name bytes ∷ []) (4 + length bytes)
+      (run_fixed kind name bytes (ap residue size ∙ (sym is ∙ none)))
+      (subst (λ k. KeepsRun n.patches noted (4 + k)) (sym size) keeps))
 
-  pub adds_padded_run : (mid : Noted) (kind : Kind) (name bytes : List ℕ) (len count : ℕ) → IsPlain (Opaque kind name bytes) → length bytes ≡ len → count ≡ residue len → KeepsRun n.patches mid (4 + len)
-      → ReplacesRun mid noted count (take count (replicate 8 0)) → Adds WriterStands n with_patches (Opaque kind name bytes ∷ [])
+  pub adds_padded_run : (mid : Noted) (kind : Kind) (name bytes : List ℕ) (len count : ℕ)
+      → IsPlain (Opaque kind name bytes) → length bytes ≡ len → count ≡ residue len
+      → KeepsRun n.patches mid (4 + len)
+      → ReplacesRun mid noted count (take count (replicate 8 0))
+      → Adds WriterStands n with_patches (Opaque kind name bytes ∷ [])
   adds_padded_run mid kind name bytes len count plain size is keeps replaces =
       adds_plain (Opaque kind name bytes) plain (λ before items going spelled. tt)
-      (notes_padded n.patches mid noted kind name bytes (subst (λ k. KeepsRun n.patches mid (4 + k)) (sym size) keeps) (subst (λ k. ReplacesRun mid noted k (take k (replicate 8 0))) (is ∙ ap residue (sym size)) replaces))
+      (notes_padded n.patches mid noted kind name bytes
+      (subst (λ k. KeepsRun n.patches mid (4 + k)) (sym size) keeps) (subst
+      (λ k. ReplacesRun mid noted k (take k (replicate 8 0))) (is ∙ ap residue (sym size))
+      replaces))
 
   -- the empty handle stays
-  pub adds_empty_handle : (name handle : List ℕ) → handle ≡ [] → KeepsRun n.patches noted 4 → Adds WriterStands n with_patches (Opaque Handle name handle ∷ [])
-  adds_empty_handle name [] none keeps = adds_plain (Opaque Handle name []) tt (λ before items going spelled. tt) (notes_kept n.patches noted (Opaque Handle name [] ∷ []) 4 (run_fixed Handle name [] refl) keeps)
+  pub adds_empty_handle : (name handle : List ℕ) → handle ≡ [] → KeepsRun n.patches noted 4
+      → Adds WriterStands n with_patches (Opaque Handle name handle ∷ [])
+  adds_empty_handle name [] none keeps =
+      adds_plain (Opaque Handle name []) tt (λ before items going spelled. tt) (notes_kept n.patches
+      noted (Opaque Handle name [] ∷ []) 4 (run_fixed Handle name [] refl) keeps)
   adds_empty_handle name (b ∷ bs) none keeps = absurd cc
 
 -- ---- the xid
 
 module _ {S H : Type 0} (n : MessageWriter S H) where
-  xid_spelled : (table : List ℕ) (name : List ℕ) (x number : ℕ) (before : Before) (items : List Item) → n.stage ≡ Begins
-      → ((given : List ℕ) → HoldsDistinct nat_eq n.xids given → number ≡ min (rank nat_eq x (given ++ x ∷ [])) number_limit)
-      → ((given : List ℕ) → HoldsDistinct nat_eq n.xids given → HoldsDistinct nat_eq table (given ++ x ∷ []))
-      → IsSpelled n.stage n.xids n.xid n.patches before items → IsSpelled Goes table number n.patches before (items ++ Word name x ∷ [])
-  xid_spelled table name x number before [] begins is given s = (refl, given before.xids s.1, λ few fewer. (uncapped nat_eq Decides-eqb before.xids x number fewer (is before.xids s.1), s.2))
+  xid_spelled : (table : List ℕ) (name : List ℕ) (x number : ℕ) (before : Before)
+      (items : List Item) → n.stage ≡ Begins
+      → ((given : List ℕ) → HoldsDistinct nat_eq n.xids given
+      → number ≡ min (rank nat_eq x (given ++ x ∷ [])) number_limit)
+      → ((given : List ℕ) → HoldsDistinct nat_eq n.xids given
+      → HoldsDistinct nat_eq table (given ++ x ∷ []))
+      → IsSpelled n.stage n.xids n.xid n.patches before items
+      → IsSpelled Goes table number n.patches before (items ++ Word name x ∷ [])
+  xid_spelled table name x number before [] begins is given s = (
+    refl,
+    given before.xids s.1,
+    λ few fewer.
+        (uncapped nat_eq Decides-eqb before.xids x number fewer (is before.xids s.1), s.2),
+  )
   xid_spelled table name x number before (Word other y ∷ items) begins is given s =
       let stage : n.stage ≡ Goes = s.0 in
       absurd cc
@@ -225,91 +328,166 @@ module _ {S H : Type 0} (n : MessageWriter S H) where
 
   -- the xid's number in place of the xid
   pub adds_xid : (table : List ℕ) (x number : ℕ) → n.stage ≡ Begins
-      → ((given : List ℕ) → HoldsDistinct nat_eq n.xids given → number ≡ min (rank nat_eq x (given ++ x ∷ [])) number_limit)
-      → ((given : List ℕ) → HoldsDistinct nat_eq n.xids given → HoldsDistinct nat_eq table (given ++ x ∷ [])) → (name : List ℕ)
-      → Adds WriterStands n (record { handles = n.handles; verfs = n.verfs; xids = table; xid = number; patches = n.patches; room = n.room; stage = Goes }) (Word name x ∷ [])
+      → ((given : List ℕ) → HoldsDistinct nat_eq n.xids given
+      → number ≡ min (rank nat_eq x (given ++ x ∷ [])) number_limit)
+      → ((given : List ℕ) → HoldsDistinct nat_eq n.xids given
+      → HoldsDistinct nat_eq table (given ++ x ∷ [])) → (name : List ℕ)
+      → Adds WriterStands n
+      (record {
+        handles = n.handles;
+        verfs = n.verfs;
+        xids = table;
+        xid = number;
+        patches = n.patches;
+        room = n.room;
+        stage = Goes;
+      }) (Word name x ∷ [])
   adds_xid table x number begins is given name =
-      adds_by n (record { handles = n.handles; verfs = n.verfs; xids = table; xid = number; patches = n.patches; room = n.room; stage = Goes }) (Word name x) (follows_plain n n.patches (Word name x) table number Goes tt) (λ going e. absurd cc)
-      (λ before items going u. xid_spelled table name x number before items begins is given u.spelled)
+      adds_by n
+      (record {
+        handles = n.handles;
+        verfs = n.verfs;
+        xids = table;
+        xid = number;
+        patches = n.patches;
+        room = n.room;
+        stage = Goes;
+      }) (Word name x)
+      (follows_plain n n.patches (Word name x) table number Goes tt) (λ going e. absurd cc)
+      (λ before items going u.
+      xid_spelled table name x number before items begins is given u.spelled)
 
 -- ---- runs of plain fields
 
-items_after-plain : (l more : List Item) (hs vs : List (List ℕ)) → AllByRecursion IsPlain more → items_after hs vs (l ++ more) ≡ items_after hs vs l ++ more
+items_after-plain : (l more : List Item) (hs vs : List (List ℕ)) → AllByRecursion IsPlain more
+    → items_after hs vs (l ++ more) ≡ items_after hs vs l ++ more
 items_after-plain [] [] hs vs all = refl
 items_after-plain [] (i ∷ more) hs vs all =
-    ap₂ (λ (j : Item) (k : List Item). j ∷ k) (plain_numbered (hs ++ handle_in i) (vs ++ verifier_in i) i all.0) (items_after-plain [] more (hs ++ handle_in i) (vs ++ verifier_in i) all.1)
+    ap₂ (λ (j : Item) (k : List Item). j ∷ k)
+    (plain_numbered (hs ++ handle_in i) (vs ++ verifier_in i) i all.0)
+    (items_after-plain [] more (hs ++ handle_in i) (vs ++ verifier_in i) all.1)
 items_after-plain (j ∷ l) more hs vs all =
-    ap (λ (k : List Item). numbered_item (hs ++ handle_in j) (vs ++ verifier_in j) j ∷ k) (items_after-plain l more (hs ++ handle_in j) (vs ++ verifier_in j) all)
+    ap (λ (k : List Item). numbered_item (hs ++ handle_in j) (vs ++ verifier_in j) j ∷ k)
+    (items_after-plain l more (hs ++ handle_in j) (vs ++ verifier_in j) all)
 
-no_values : (f : Item → List (List ℕ)) → ((i : Item) → IsPlain i → f i ≡ []) → (l : List Item) → AllByRecursion IsPlain l → flat_map f l ≡ []
+no_values : (f : Item → List (List ℕ)) → ((i : Item) → IsPlain i → f i ≡ []) → (l : List Item)
+    → AllByRecursion IsPlain l → flat_map f l ≡ []
 no_values f none [] all = refl
 no_values f none (i ∷ l) all = rw (none i all.0) (no_values f none l all.1)
 
-same_values : (f : Item → List (List ℕ)) → ((i : Item) → IsPlain i → f i ≡ []) → (l more : List Item) → AllByRecursion IsPlain more → flat_map f (l ++ more) ≡ flat_map f l
-same_values f none l more all = flat_map-append f l more ∙ (ap (λ (k : List (List ℕ)). flat_map f l ++ k) (no_values f none more all) ∙ append-nil (flat_map f l))
+same_values : (f : Item → List (List ℕ)) → ((i : Item) → IsPlain i → f i ≡ [])
+    → (l more : List Item) → AllByRecursion IsPlain more → flat_map f (l ++ more) ≡ flat_map f l
+same_values f none l more all =
+    flat_map-append f l more
+    ∙ (ap (λ (k : List (List ℕ)). flat_map f l ++ k) (no_values f none more all)
+    ∙ append-nil (flat_map f l))
 
 all_plain : (all : List PlainField) (run : List ℕ) → AllByRecursion IsPlain (run_items all run)
 all_plain [] run = tt
 all_plain (fields.Word name ∷ all) run = (tt, all_plain all (drop 4 run))
 all_plain (fields.Hyper name ∷ all) run = (tt, all_plain all (drop 8 run))
 
-module _ {S H : Type 0} (n : MessageWriter S H) (noted : Noted) (stage : Stage) (more : List Item) (plain : AllByRecursion IsPlain more) where
-  adds_more : (stage ≢ Failed → n.stage ≢ Failed) → ((before : Before) (items : List Item) → IsSpelled n.stage n.xids n.xid n.patches before items → IsSpelled stage n.xids n.xid noted before (items ++ more))
-      → Adds WriterStands n (record { handles = n.handles; verfs = n.verfs; xids = n.xids; xid = n.xid; patches = noted; room = n.room; stage = stage }) more
+module _ {S H : Type 0} (n : MessageWriter S H) (noted : Noted) (stage : Stage) (more : List Item)
+    (plain : AllByRecursion IsPlain more) where
+  adds_more : (stage ≢ Failed → n.stage ≢ Failed)
+      → ((before : Before) (items : List Item)
+      → IsSpelled n.stage n.xids n.xid n.patches before items
+      → IsSpelled stage n.xids n.xid noted before (items ++ more))
+      → Adds WriterStands n
+      (record {
+        handles = n.handles;
+        verfs = n.verfs;
+        xids = n.xids;
+        xid = n.xid;
+        patches = noted;
+        room = n.room;
+        stage = stage;
+      }) more
   unfolding Adds
   adds_more went spells all stands going =
       let b = stands (went going) in
       record {
         before = b.before;
         items = b.items ++ more;
-        are = ap (λ (l : List Item). l ++ more) b.are ∙ sym (told_after-append b.before b.items more);
+        are =
+            ap (λ (l : List Item). l ++ more) b.are ∙ sym (told_after-append b.before b.items more);
         under_way = record {
-          handles = subst (λ (l : List (List ℕ)). HoldsHandles n.handles (b.before.handles ++ l)) (sym (same_values handle_in plain_handle b.items more plain)) b.under_way.handles;
-          verifiers = subst (λ (l : List (List ℕ)). HoldsDistinct bytes_eq n.verfs (b.before.verifiers ++ l)) (sym (same_values verifier_in plain_verifier b.items more plain)) b.under_way.verifiers;
+          handles =
+              subst (λ (l : List (List ℕ)). HoldsHandles n.handles (b.before.handles ++ l))
+              (sym (same_values handle_in plain_handle b.items more plain)) b.under_way.handles;
+          verifiers =
+              subst
+              (λ (l : List (List ℕ)). HoldsDistinct bytes_eq n.verfs (b.before.verifiers ++ l))
+              (sym (same_values verifier_in plain_verifier b.items more plain))
+              b.under_way.verifiers;
           spelled = spells b.before b.items b.under_way.spelled;
         };
       }
 
-  few_before_run : (hs vs : List (List ℕ)) (items : List Item) → AreFew (hs ++ handles_in (items ++ more)) (vs ++ verifiers_in (items ++ more)) → AreFew (hs ++ handles_in items) (vs ++ verifiers_in items)
+  few_before_run : (hs vs : List (List ℕ)) (items : List Item)
+      → AreFew (hs ++ handles_in (items ++ more)) (vs ++ verifiers_in (items ++ more))
+      → AreFew (hs ++ handles_in items) (vs ++ verifiers_in items)
   few_before_run hs vs items few = (
-    subst (λ (l : List (List ℕ)). length (hs ++ l) < 2 ^ 32) (same_values handle_in plain_handle items more plain) few.0,
-    subst (λ (l : List (List ℕ)). length (vs ++ l) < 2 ^ 32) (same_values verifier_in plain_verifier items more plain) few.1,
+    subst (λ (l : List (List ℕ)). length (hs ++ l) < 2 ^ 32)
+        (same_values handle_in plain_handle items more plain) few.0,
+    subst (λ (l : List (List ℕ)). length (vs ++ l) < 2 ^ 32)
+        (same_values verifier_in plain_verifier items more plain) few.1,
   )
 
-  run_spelled : stage ≢ Begins → Notes n.patches noted more more → (before : Before) (items : List Item) → IsSpelled stage n.xids n.xid n.patches before items → IsSpelled stage n.xids n.xid noted before (items ++ more)
+  run_spelled : stage ≢ Begins → Notes n.patches noted more more
+      → (before : Before) (items : List Item) → IsSpelled stage n.xids n.xid n.patches before items
+      → IsSpelled stage n.xids n.xid noted before (items ++ more)
   run_spelled goes notes before [] s = absurd (goes s.0)
   run_spelled goes notes before (Word name x ∷ items) s = (
     s.0,
     s.1,
     λ few fewer.
-        let (same, noted_so_far) = s.2 (few_before_run before.handles before.verifiers items few) fewer in (
+        let (same, noted_so_far) =
+        s.2 (few_before_run before.handles before.verifiers items few) fewer in (
           same,
-          subst (λ (l : List Item). IsNotedAs noted (items ++ more) l) (sym (items_after-plain items more before.handles before.verifiers plain)) (notes items (items_after before.handles before.verifiers items) noted_so_far),
+          subst (λ (l : List Item). IsNotedAs noted (items ++ more) l)
+              (sym (items_after-plain items more before.handles before.verifiers plain))
+              (notes items (items_after before.handles before.verifiers items) noted_so_far),
         ),
   )
   run_spelled goes notes before (_ ∷ items) s = tt
 
 module _ {S H : Type 0} where
   -- a run after the xid stays as it is
-  pub adds_run : (n : MessageWriter S H) (noted : Noted) (all : List PlainField) (run : List ℕ) (count : ℕ) → n.stage ≢ Begins → count ≡ run_size all → KeepsRun n.patches noted count → Adds WriterStands n (with_patches n noted) (run_items all run)
+  pub adds_run : (n : MessageWriter S H) (noted : Noted) (all : List PlainField) (run : List ℕ)
+      (count : ℕ) → n.stage ≢ Begins → count ≡ run_size all → KeepsRun n.patches noted count
+      → Adds WriterStands n (with_patches n noted) (run_items all run)
   adds_run n noted all run count goes size keeps =
       let plain = all_plain all run in
       adds_more n noted n.stage (run_items all run) plain (λ going. going)
-      (run_spelled n noted n.stage (run_items all run) plain goes (notes_kept n.patches noted (run_items all run) (run_size all) (plain_fixed all run) (subst (KeepsRun n.patches noted) size keeps)))
+      (run_spelled n noted n.stage (run_items all run) plain goes (notes_kept n.patches noted
+      (run_items all run) (run_size all) (plain_fixed all run)
+      (subst (KeepsRun n.patches noted) size keeps)))
 
   -- a run of no fields
-  pub adds_nothing : (n : MessageWriter S H) (all : List PlainField) (run : List ℕ) → length all ≡ 0 → Adds WriterStands n n (run_items all run)
+  pub adds_nothing : (n : MessageWriter S H) (all : List PlainField) (run : List ℕ) → length all ≡ 0
+      → Adds WriterStands n n (run_items all run)
   unfolding Adds
-  adds_nothing n [] run none = λ before stands. subst (WriterStands n) (sym (append-nil before)) stands
+  adds_nothing n [] run none =
+      λ before stands. subst (WriterStands n) (sym (append-nil before)) stands
   adds_nothing n (field ∷ all) run none = absurd (omega (arith, none))
 
   -- a run that begins with the xid
-  pub adds_xid_run : (n mid : MessageWriter S H) (noted : Noted) (name : List ℕ) (all : List PlainField) (run : List ℕ) (count : ℕ) → Adds WriterStands n mid (Word name (big_number 4 run) ∷ []) → mid.stage ≡ Goes
-      → count ≡ run_size all → KeepsRun mid.patches noted count → Adds WriterStands n (with_patches mid noted) (Word name (big_number 4 run) ∷ run_items all (drop 4 run))
+  pub adds_xid_run : (n mid : MessageWriter S H) (noted : Noted) (name : List ℕ)
+      (all : List PlainField) (run : List ℕ) (count : ℕ)
+      → Adds WriterStands n mid (Word name (big_number 4 run) ∷ []) → mid.stage ≡ Goes
+      → count ≡ run_size all → KeepsRun mid.patches noted count
+      → Adds WriterStands n (with_patches mid noted)
+      (Word name (big_number 4 run) ∷ run_items all (drop 4 run))
   adds_xid_run n mid noted name all run count first goes size keeps =
-      adds_both WriterStands n mid (with_patches mid noted) (Word name (big_number 4 run) ∷ []) (run_items all (drop 4 run)) first (adds_run mid noted all (drop 4 run) count (after_xid mid noted (inl goes)) size keeps)
+      adds_both WriterStands n mid (with_patches mid noted) (Word name (big_number 4 run) ∷ [])
+      (run_items all (drop 4 run)) first
+      (adds_run mid noted all (drop 4 run) count (after_xid mid noted (inl goes)) size keeps)
 
-  number_spelled : (n : MessageWriter S H) (noted : Noted) (name : List ℕ) (x : ℕ) (more : List Item) (before : Before) (items : List Item) → n.stage ≡ Begins → IsSpelled n.stage n.xids n.xid n.patches before items → IsSpelled Goes n.xids n.xid noted before (items ++ Hyper name x ∷ more)
+  number_spelled : (n : MessageWriter S H) (noted : Noted) (name : List ℕ) (x : ℕ)
+      (more : List Item) (before : Before) (items : List Item) → n.stage ≡ Begins
+      → IsSpelled n.stage n.xids n.xid n.patches before items
+      → IsSpelled Goes n.xids n.xid noted before (items ++ Hyper name x ∷ more)
   number_spelled n noted name x more before [] begins s = tt
   number_spelled n noted name x more before (Word other y ∷ items) begins s =
       let stage : n.stage ≡ Goes = s.0 in
@@ -317,40 +495,109 @@ module _ {S H : Type 0} where
   number_spelled n noted name x more before (_ ∷ items) begins s = tt
 
   -- nothing is said of a message that begins with a number
-  pub adds_number_run : (n : MessageWriter S H) (noted : Noted) (name : List ℕ) (all : List PlainField) (run : List ℕ) → n.stage ≡ Begins
-      → Adds WriterStands n (record { handles = n.handles; verfs = n.verfs; xids = n.xids; xid = n.xid; patches = noted; room = n.room; stage = Goes }) (Hyper name (big_number 8 run) ∷ run_items all (drop 8 run))
+  pub adds_number_run : (n : MessageWriter S H) (noted : Noted) (name : List ℕ)
+      (all : List PlainField) (run : List ℕ) → n.stage ≡ Begins
+      → Adds WriterStands n
+      (record {
+        handles = n.handles;
+        verfs = n.verfs;
+        xids = n.xids;
+        xid = n.xid;
+        patches = noted;
+        room = n.room;
+        stage = Goes;
+      })
+      (Hyper name (big_number 8 run) ∷ run_items all (drop 8 run))
   adds_number_run n noted name all run begins =
       let more = run_items all (drop 8 run) in
-      adds_more n noted Goes (Hyper name (big_number 8 run) ∷ more) (tt, all_plain all (drop 8 run)) (λ going e. absurd cc) (λ before items. number_spelled n noted name (big_number 8 run) more before items begins)
+      adds_more n noted Goes (Hyper name (big_number 8 run) ∷ more) (tt, all_plain all (drop 8 run))
+      (λ going e. absurd cc)
+      (λ before items. number_spelled n noted name (big_number 8 run) more before items begins)
 
 -- ---- numbers in place of values
 
 module _ {S H : Type 0} (n : MessageWriter S H) (noted : Noted) where
   pub adds_handle : (table : List declared.Handle) (handle put : List ℕ) (number : ℕ) → handle ≢ []
-      → ((hs : List (List ℕ)) → HoldsHandles n.handles hs → number ≡ min (rank bytes_eq handle (hs ++ handle ∷ [])) number_limit)
+      → ((hs : List (List ℕ)) → HoldsHandles n.handles hs
+      → number ≡ min (rank bytes_eq handle (hs ++ handle ∷ [])) number_limit)
       → ((hs : List (List ℕ)) → HoldsHandles n.handles hs → HoldsHandles table (hs ++ handle ∷ []))
-      → put ≡ word_bytes 4 ++ word_bytes number → ReplacesRun n.patches noted (4 + (length handle + residue (length handle))) put → (name : List ℕ)
-      → Adds WriterStands n (record { handles = table; verfs = n.verfs; xids = n.xids; xid = n.xid; patches = noted; room = n.room; stage = n.stage }) (Opaque Handle name handle ∷ [])
+      → put ≡ word_bytes 4 ++ word_bytes number
+      → ReplacesRun n.patches noted (4 + (length handle + residue (length handle))) put
+      → (name : List ℕ)
+      → Adds WriterStands n
+      (record {
+        handles = table;
+        verfs = n.verfs;
+        xids = n.xids;
+        xid = n.xid;
+        patches = noted;
+        room = n.room;
+        stage = n.stage;
+      }) (Opaque Handle name handle ∷ [])
   adds_handle table [] put number some is given is_put replaces name = absurd (some refl)
   adds_handle table (b ∷ bs) put number some is given is_put replaces name =
-      adds n (record { handles = table; verfs = n.verfs; xids = n.xids; xid = n.xid; patches = noted; room = n.room; stage = n.stage }) (Opaque Handle name (b ∷ bs)) (Opaque Handle name (word_bytes number))
-      (record { handles = given; verifiers = λ vs h. subst (HoldsDistinct bytes_eq n.verfs) (sym (append-nil vs)) h }) refl refl refl (λ before items going spelled. tt)
-      (λ hs vs h g few. ap (λ k. Opaque Handle name (word_bytes k)) (uncapped bytes_eq bytes_eq-Decides hs (b ∷ bs) number few.0 (is hs h)))
+      adds n
+      (record {
+        handles = table;
+        verfs = n.verfs;
+        xids = n.xids;
+        xid = n.xid;
+        patches = noted;
+        room = n.room;
+        stage = n.stage;
+      }) (Opaque Handle name (b ∷ bs))
+      (Opaque Handle name (word_bytes number))
+      (record {
+        handles = given;
+        verifiers = λ vs h. subst (HoldsDistinct bytes_eq n.verfs) (sym (append-nil vs)) h;
+      })
+      refl refl refl (λ before items going spelled. tt)
+      (λ hs vs h g few.
+      ap (λ k. Opaque Handle name (word_bytes k))
+      (uncapped bytes_eq bytes_eq-Decides hs (b ∷ bs) number few.0 (is hs h)))
       (notes_handle n.patches noted name (b ∷ bs) put (word_bytes number) refl is_put replaces)
 
   pub adds_verifier : (table : List (List ℕ)) (verifier put : List ℕ) (number : ℕ)
-      → ((vs : List (List ℕ)) → HoldsDistinct bytes_eq n.verfs vs → number ≡ min (rank bytes_eq verifier (vs ++ verifier ∷ [])) number_limit)
-      → ((vs : List (List ℕ)) → HoldsDistinct bytes_eq n.verfs vs → HoldsDistinct bytes_eq table (vs ++ verifier ∷ []))
+      → ((vs : List (List ℕ)) → HoldsDistinct bytes_eq n.verfs vs
+      → number ≡ min (rank bytes_eq verifier (vs ++ verifier ∷ [])) number_limit)
+      → ((vs : List (List ℕ)) → HoldsDistinct bytes_eq n.verfs vs
+      → HoldsDistinct bytes_eq table (vs ++ verifier ∷ []))
       → put ≡ big_bytes 8 number → ReplacesRun n.patches noted 8 put → (name : List ℕ)
-      → Adds WriterStands n (record { handles = n.handles; verfs = table; xids = n.xids; xid = n.xid; patches = noted; room = n.room; stage = n.stage }) (WriteVerf name verifier ∷ [])
+      → Adds WriterStands n
+      (record {
+        handles = n.handles;
+        verfs = table;
+        xids = n.xids;
+        xid = n.xid;
+        patches = noted;
+        room = n.room;
+        stage = n.stage;
+      }) (WriteVerf name verifier ∷ [])
   adds_verifier table verifier put number is given is_put replaces name =
-      adds n (record { handles = n.handles; verfs = table; xids = n.xids; xid = n.xid; patches = noted; room = n.room; stage = n.stage }) (WriteVerf name verifier) (WriteVerf name put)
-      (record { handles = λ hs h. subst (HoldsHandles n.handles) (sym (append-nil hs)) h; verifiers = given }) refl refl refl (λ before items going spelled. tt)
-      (λ hs vs h g few. ap (WriteVerf name) (is_put ∙ ap (big_bytes 8) (uncapped bytes_eq bytes_eq-Decides vs verifier number few.1 (is vs g))))
+      adds n
+      (record {
+        handles = n.handles;
+        verfs = table;
+        xids = n.xids;
+        xid = n.xid;
+        patches = noted;
+        room = n.room;
+        stage = n.stage;
+      }) (WriteVerf name verifier) (WriteVerf name put)
+      (record {
+        handles = λ hs h. subst (HoldsHandles n.handles) (sym (append-nil hs)) h;
+        verifiers = given;
+      }) refl refl refl (λ before items going spelled. tt)
+      (λ hs vs h g few.
+      ap (WriteVerf name) (is_put
+      ∙ ap (big_bytes 8)
+      (uncapped bytes_eq bytes_eq-Decides vs verifier number few.1 (is vs g))))
       (notes_verifier n.patches noted name verifier put replaces)
 
 -- ---- after errors
 
-pub settled : {T E V : Type 0} (P : V → Type 0) (written result : Result T E) (between new : V) → result ≡ written → OnOk written (new ≡ between) → OnOk written (P between) → OnOk result (P new)
+pub settled : {T E V : Type 0} (P : V → Type 0) (written result : Result T E) (between new : V)
+    → result ≡ written → OnOk written (new ≡ between) → OnOk written (P between)
+    → OnOk result (P new)
 settled P (Ok x) result between new same stays p = rw same (subst P (sym stays) p)
 settled P (Err e) result between new same stays p = rw same tt

@@ -1,6 +1,4 @@
-use Rattle.std.proofs.Common.{[]}
-use Rattle.capture3.specs.Entries.{source_of}
-use Rattle.capture3.proofs.Lemmas.Reader.PassedOn.{error_is}
+use Rattle.canon3.proofs.Common.{[], source_of, error_is}
 use Rattle.canon3.proofs.Lemmas.Comparison.ComparisonLemmas.{fresh}
 use Rattle.canon3.proofs.Lemmas.Comparison.Reading.{both_passed_on}
 use Rattle.canon3.proofs.comparison.compared.Goals as goal
@@ -9,7 +7,8 @@ pub returns-clause-gave : goal.returns-clause-gave
 returns-clause-gave g c =
     let start = g.A.Source.told (source_of c.args.first.now) in
     let other_start = g.B.Source.told (source_of c.args.second.now) in
-    c.conclude.ensures.gave start other_start (c.in_ok-finding.ensures.found start other_start (record {
+    c.conclude.ensures.gave start other_start
+    (c.in_ok-finding.ensures.found start other_start (record {
       a = [];
       b = [];
       first_given = fresh g.A.Source.told c.args.first.now c.requires.fresh_first;
@@ -21,7 +20,8 @@ pub returns-in_err-finding-clause-gave : goal.returns-in_err-finding-clause-gave
 returns-in_err-finding-clause-gave g c =
     let start = g.A.Source.told (source_of c.args.first.now) in
     let other_start = g.B.Source.told (source_of c.args.second.now) in
-    rw (error_is _ _ c.from_residual.ensures) (c.in_err-finding.ensures.found start other_start (record {
+    rw (error_is _ _ c.from_residual.ensures)
+    (c.in_err-finding.ensures.found start other_start (record {
       a = [];
       b = [];
       first_given = fresh g.A.Source.told c.args.first.now c.requires.fresh_first;
@@ -30,4 +30,5 @@ returns-in_err-finding-clause-gave g c =
     }))
 
 pub returns-in_err-finding-clause-reads : goal.returns-in_err-finding-clause-reads
-returns-in_err-finding-clause-reads g c = rw (error_is _ _ c.from_residual.ensures) (both_passed_on c.in_err-finding.ensures.reads)
+returns-in_err-finding-clause-reads g c =
+    rw (error_is _ _ c.from_residual.ensures) (both_passed_on c.in_err-finding.ensures.reads)

@@ -1,11 +1,13 @@
-use Rattle.std.proofs.Common.{Ok, subst}
-use Rattle.capture3.proofs.Lemmas.Reader.PassedOn.{error_is}
-use Rattle.canon3.specs.machinery.ComparisonSteps.{ReadsOn}
+use Rattle.canon3.proofs.Common.{Ok, subst, error_is, ReadsOn}
 use Rattle.canon3.proofs.comparison.drain.Goals as goal
 
 pub returns-clause-out : goal.returns-clause-out
 returns-clause-out g c start handed h =
-    subst (λ more. ReadsOn g.R.Source.told start c.read_next.new.entries handed (Ok more)) c.if-branch.false (c.in_ok-read_next.ensures.on start handed (c.loop.invariant.given start handed h))
+    subst (λ more. ReadsOn g.R.Source.told start c.read_next.new.entries handed (Ok more))
+    c.if-branch.false
+    (c.in_ok-read_next.ensures.on start handed (c.loop.invariant.given start handed h))
 
 pub returns-in_err-read_next-clause-out : goal.returns-in_err-read_next-clause-out
-returns-in_err-read_next-clause-out g c start handed h = rw (error_is _ _ c.from_residual.ensures) (c.in_err-read_next.ensures.on start handed (c.loop.invariant.given start handed h))
+returns-in_err-read_next-clause-out g c start handed h =
+    rw (error_is _ _ c.from_residual.ensures)
+    (c.in_err-read_next.ensures.on start handed (c.loop.invariant.given start handed h))

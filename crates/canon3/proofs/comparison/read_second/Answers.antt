@@ -3,7 +3,15 @@ use Rattle.canon3.proofs.Lemmas.Comparison.ComparisonLemmas.{given_on}
 use Rattle.canon3.proofs.comparison.read_second.Goals as goal
 
 pub returns-in-Ok-clause-out : goal.returns-in-Ok-clause-out
-returns-in-Ok-clause-out g c start handed h = let (more, typed) = c.in-Ok.ensures.out start handed (given_on g.R.Source.told start c.args.entries.now handed h) in (refl, more, typed)
+returns-in-Ok-clause-out g c start handed h =
+    let (more, typed) =
+    c.in-Ok.ensures.out start handed
+    (given_on g.R.Source.told start c.args.entries.now handed h) in
+    (refl, more, typed)
 
 pub returns-in-Err-clause-out : goal.returns-in-Err-clause-out
-returns-in-Err-clause-out g c start handed h = (refl, c.in-Err.ensures.out start handed (given_on g.R.Source.told start c.args.entries.now handed h))
+returns-in-Err-clause-out g c start handed h = (
+  refl,
+  c.in-Err.ensures.out start handed
+      (given_on g.R.Source.told start c.args.entries.now handed h),
+)

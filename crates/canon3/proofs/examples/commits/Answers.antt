@@ -1,6 +1,4 @@
-use Rattle.std.proofs.Common.{refl, arith}
-use Rattle.capture3.specs.declared.fault.Side.TheVariants.{Server}
-use Rattle.canon3.specs.Parting.{first_message}
+use Rattle.canon3.proofs.Common.{refl, arith, Server, first_message}
 use Rattle.canon3.specs.Examples.{commits, long, zero_verifier, in_server}
 use Rattle.canon3.proofs.Checks.{same_by, parted_by}
 use Rattle.canon3.proofs.Vectors.{worked}
@@ -15,6 +13,8 @@ returns-clause-verifiers c = record {
   later = refl;
   zeros = refl;
   swapped = same_by (commits long zero_verifier) (commits zero_verifier long) refl refl refl;
-  parted = parted_by (commits long long) (commits long zero_verifier) 5 (in_server 1 2) refl refl refl (λ e. grind arith) (first_message Server tt);
+  parted =
+      parted_by (commits long long) (commits long zero_verifier) 5 (in_server 1 2) refl refl refl
+      (λ e. grind arith) (first_message Server tt);
   cookie_stays = refl;
 }

@@ -1,6 +1,4 @@
-use Rattle.std.proofs.Common.{refl, arith}
-use Rattle.capture3.specs.declared.fault.Side.TheVariants.{Client}
-use Rattle.canon3.specs.Parting.{first_message}
+use Rattle.canon3.proofs.Common.{refl, arith, Client, first_message}
 use Rattle.canon3.specs.Examples.{p, q, r, in_client}
 use Rattle.canon3.proofs.Checks.{same_by, parted_by}
 use Rattle.canon3.proofs.Vectors.{worked}
@@ -16,6 +14,8 @@ pub returns-clause-renamed : goal.returns-clause-renamed
 returns-clause-renamed c = record {
   form_of_r = refl;
   p_and_q = same_by p q refl refl refl;
-  p_and_r = parted_by p r 2 (in_client 1 2) refl refl refl (λ e. grind arith) (first_message Client tt);
-  r_and_p = parted_by r p 2 (in_client 1 2) refl refl refl (λ e. grind arith) (first_message Client tt);
+  p_and_r =
+      parted_by p r 2 (in_client 1 2) refl refl refl (λ e. grind arith) (first_message Client tt);
+  r_and_p =
+      parted_by r p 2 (in_client 1 2) refl refl refl (λ e. grind arith) (first_message Client tt);
 }

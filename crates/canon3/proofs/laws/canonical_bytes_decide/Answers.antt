@@ -1,5 +1,4 @@
-use Rattle.std.proofs.Common.{ap}
-use Rattle.canon3.specs.Bytes.{bytes_of}
+use Rattle.canon3.proofs.Common.{ap, bytes_of}
 use Rattle.canon3.proofs.Lemmas.Canonical.OneFormLemmas.{canonical-same}
 use Rattle.canon3.proofs.Lemmas.Order.First.{same_from_bytes}
 use Rattle.canon3.proofs.laws.canonical_bytes_decide.Goals as goal

@@ -10,7 +10,8 @@ pub returns-clause-parts : goal.returns-clause-parts
 returns-clause-parts c = parts_where_forms_do
 
 pub returns-clause-places : goal.returns-clause-places
-returns-clause-places c a b f g i e k s h l = place_from_parting a b i e k (first_in_order a f) (first_in_order b g) s h l
+returns-clause-places c a b f g i e k s h l =
+    place_from_parting a b i e k (first_in_order a f) (first_in_order b g) s h l
 
 pub returns-clause-ends : goal.returns-clause-ends
 returns-clause-ends c = end_together

@@ -1,5 +1,4 @@
-use Rattle.std.specs.Prelude.{bytes_eq}
-use Rattle.std.proofs.lemmas.Slice.Eq.{bytes_eq-Decides}
+use Rattle.canon3.proofs.Common.{bytes_eq, bytes_eq-Decides}
 use Rattle.canon3.proofs.Lemmas.Numbers.RankLemmas.{equivalence, rank-push, distinct-push, rank-append}
 use Rattle.canon3.proofs.laws.tables_number_by_rank.Goals as goal
 

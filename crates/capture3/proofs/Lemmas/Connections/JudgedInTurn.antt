@@ -1,13 +1,6 @@
 -- Judging body by body says the same of a connection as what its messages are together.
-use Rattle.std.proofs.Common.{◌≡◌, ◌⊎◌, ℕ, Bool, true, false, cond, nat_eq, List, [], ◌∷◌, ◌++◌, Some, refl, sym, ap, subst, ◌∙◌, append_assoc, append-nil, inl, inr, eqb-true, eq-eqb}
-use Rattle.xdr3.specs.Item.{Item}
-use Rattle.rpc_head.specs.declared.values.call.ProcId.{ProcId}
-use Rattle.rpc_head.specs.Messages.{procedure_in}
-use Rattle.capture3.specs.Bodies.{ReplyItems, IsCall, IsReply, xid_in, procedure_of, AcceptsCall}
-use Rattle.capture3.specs.SidedChunks.{Streams}
-use Rattle.capture3.specs.Connections.{calls_in_turn, replies_to}
+use Rattle.capture3.proofs.Common.{◌≡◌, ◌⊎◌, ℕ, Bool, true, false, cond, nat_eq, List, [], ◌∷◌, ◌++◌, Some, refl, sym, ap, subst, ◌∙◌, append_assoc, append-nil, inl, inr, eqb-true, eq-eqb, Item, ProcId, procedure_in, ReplyItems, IsCall, IsReply, xid_in, procedure_of, AcceptsCall, Streams, calls_in_turn, replies_to, AreMessages, Holds}
 use Rattle.capture3.specs.Laws.{IsJudgedInTurn}
-use Rattle.capture3.specs.Records.{AreMessages, Holds}
 use Rattle.capture3.specs.Typed.{AreEach, IsIn, HaveOneProcedure, AnswerCalls, Converses}
 
 -- ---- members
@@ -39,40 +32,72 @@ IsIn-right : {X : Type 0} (x : X) (xs ys : List X) → IsIn x ys → IsIn x (xs 
 IsIn-right x xs ys h = (xs ++ h.0, h.1, ap (λ l. xs ++ l) h.2 ∙ sym (append_assoc xs h.0 (x ∷ h.1)))
 
 IsIn-snoc : {X : Type 0} (x y : X) (xs : List X) → IsIn x (xs ++ y ∷ []) → IsIn x xs ⊎ (x ≡ y)
-IsIn-snoc x y [] h = elim (IsIn-cases x y [] h) [ inl same ↦ inr same | inr none ↦ absurd (IsIn-nil x none) ]
+IsIn-snoc x y [] h =
+    elim (IsIn-cases x y [] h) [ inl same ↦ inr same | inr none ↦ absurd (IsIn-nil x none) ]
 IsIn-snoc x y (z ∷ xs) h =
     elim (IsIn-cases x z (xs ++ y ∷ []) h) [
       | inl same ↦ inl (subst (λ w. IsIn w (z ∷ xs)) (sym same) (IsIn-here z xs))
-      | inr more ↦ elim (IsIn-snoc x y xs more) [ inl within ↦ inl (IsIn-there x z xs within) | inr same ↦ inr same ]
+      | inr more ↦ elim (IsIn-snoc x y xs more)
+          [ inl within ↦ inl (IsIn-there x z xs within) | inr same ↦ inr same ]
     ]
 
 -- ---- the procedure of an xid
 
 -- it is that of a call
-pub known_call : (calls : List (List Item)) (xid : ℕ) (id : ProcId) → procedure_of calls xid ≡ Some id → (call : List Item) × IsIn call calls × (xid_in call ≡ xid) × (procedure_in call ≡ id)
+pub known_call : (calls : List (List Item)) (xid : ℕ) (id : ProcId)
+    → procedure_of calls xid ≡ Some id
+    → (call : List Item) × IsIn call calls × (xid_in call ≡ xid) × (procedure_in call ≡ id)
 known_call [] xid id e = absurd (cc)
 known_call (call ∷ calls) xid id e = go (nat_eq (xid_in call) xid) refl (known_call calls xid id)
   where
-    go : (b : Bool) → nat_eq (xid_in call) xid ≡ b → (procedure_of calls xid ≡ Some id → (c : List Item) × IsIn c calls × (xid_in c ≡ xid) × (procedure_in c ≡ id)) → (c : List Item) × IsIn c (call ∷ calls) × (xid_in c ≡ xid) × (procedure_in c ≡ id)
+    go : (b : Bool) → nat_eq (xid_in call) xid ≡ b
+        → (procedure_of calls xid ≡ Some id
+        → (c : List Item) × IsIn c calls × (xid_in c ≡ xid) × (procedure_in c ≡ id))
+        → (c : List Item) × IsIn c (call ∷ calls) × (xid_in c ≡ xid) × (procedure_in c ≡ id)
     go true h later =
-        let same : procedure_in call ≡ id = let f = ap (λ (b : Bool). cond b (Some (procedure_in call)) (procedure_of calls xid)) (sym h) ∙ e in cc in
+        let same : procedure_in call ≡ id =
+        let f =
+        ap (λ (b : Bool). cond b (Some (procedure_in call)) (procedure_of calls xid))
+        (sym h) ∙ e in
+        cc in
         (call, IsIn-here call calls, eqb-true (xid_in call) xid h, same)
     go false h later =
-        let m = later (ap (λ (b : Bool). cond b (Some (procedure_in call)) (procedure_of calls xid)) (sym h) ∙ e) in
+        let m =
+        later
+        (ap (λ (b : Bool). cond b (Some (procedure_in call)) (procedure_of calls xid)) (sym h)
+        ∙ e) in
         (m.0, IsIn-there m.0 call calls m.1, m.2, m.3)
 
 -- a call's xid has the procedure of one of the calls
-pub call_is_known : (calls : List (List Item)) (call : List Item) → IsIn call calls → (id : ProcId) × (procedure_of calls (xid_in call) ≡ Some id)
+pub call_is_known : (calls : List (List Item)) (call : List Item) → IsIn call calls
+    → (id : ProcId) × (procedure_of calls (xid_in call) ≡ Some id)
 call_is_known [] call h = absurd (IsIn-nil call h)
-call_is_known (first ∷ calls) call h = go (nat_eq (xid_in first) (xid_in call)) refl (IsIn-cases call first calls h) (call_is_known calls call)
+call_is_known (first ∷ calls) call h =
+    go (nat_eq (xid_in first) (xid_in call)) refl (IsIn-cases call first calls h)
+    (call_is_known calls call)
   where
-    go : (b : Bool) → nat_eq (xid_in first) (xid_in call) ≡ b → (call ≡ first) ⊎ IsIn call calls → (IsIn call calls → (id : ProcId) × (procedure_of calls (xid_in call) ≡ Some id)) → (id : ProcId) × (procedure_of (first ∷ calls) (xid_in call) ≡ Some id)
-    go true e member later = (procedure_in first, ap (λ (b : Bool). cond b (Some (procedure_in first)) (procedure_of calls (xid_in call))) e)
-    go false e (inl same) later = let t = eq-eqb (xid_in first) (xid_in call) (ap xid_in (sym same)) in absurd (cc)
-    go false e (inr within) later = let k = later within in (k.0, ap (λ (b : Bool). cond b (Some (procedure_in first)) (procedure_of calls (xid_in call))) e ∙ k.1)
+    go : (b : Bool) → nat_eq (xid_in first) (xid_in call) ≡ b → (call ≡ first) ⊎ IsIn call calls
+        → (IsIn call calls → (id : ProcId) × (procedure_of calls (xid_in call) ≡ Some id))
+        → (id : ProcId) × (procedure_of (first ∷ calls) (xid_in call) ≡ Some id)
+    go true e member later = (
+      procedure_in first,
+      ap (λ (b : Bool). cond b (Some (procedure_in first)) (procedure_of calls (xid_in call)))
+          e,
+    )
+    go false e (inl same) later =
+        let t = eq-eqb (xid_in first) (xid_in call) (ap xid_in (sym same)) in absurd (cc)
+    go false e (inr within) later =
+        let k = later within in (
+          k.0,
+          ap
+              (λ (b : Bool).
+              cond b (Some (procedure_in first)) (procedure_of calls (xid_in call))) e
+              ∙ k.1,
+        )
 
 -- where calls with one xid have one procedure, it is that of each
-pub procedure_is : (calls : List (List Item)) (call : List Item) → HaveOneProcedure calls → IsIn call calls → procedure_of calls (xid_in call) ≡ Some (procedure_in call)
+pub procedure_is : (calls : List (List Item)) (call : List Item) → HaveOneProcedure calls
+    → IsIn call calls → procedure_of calls (xid_in call) ≡ Some (procedure_in call)
 procedure_is calls call one h =
     let k = call_is_known calls call h in
     let m = known_call calls (xid_in call) k.0 k.1 in
@@ -80,15 +105,21 @@ procedure_is calls call one h =
 
 -- ---- calls
 
-calls_are : (bodies : List (List ℕ)) (before calls : List (List Item)) → AreMessages calls_in_turn before bodies calls → AreEach IsCall bodies calls
+calls_are : (bodies : List (List ℕ)) (before calls : List (List Item))
+    → AreMessages calls_in_turn before bodies calls → AreEach IsCall bodies calls
 calls_are [] before calls h = h
-calls_are (body ∷ bodies) before calls h = (h.0, h.1, h.2, h.3.0, calls_are bodies (before ++ h.0 ∷ []) h.1 h.4)
+calls_are (body ∷ bodies) before calls h =
+    (h.0, h.1, h.2, h.3.0, calls_are bodies (before ++ h.0 ∷ []) h.1 h.4)
 
-one_more : (before : List (List Item)) (body : List ℕ) (call : List Item) → HaveOneProcedure before → AcceptsCall before body call → HaveOneProcedure (before ++ call ∷ [])
-one_more before body call one h a b in_a in_b same = go (IsIn-snoc a call before in_a) (IsIn-snoc b call before in_b)
+one_more : (before : List (List Item)) (body : List ℕ) (call : List Item) → HaveOneProcedure before
+    → AcceptsCall before body call → HaveOneProcedure (before ++ call ∷ [])
+one_more before body call one h a b in_a in_b same =
+    go (IsIn-snoc a call before in_a) (IsIn-snoc b call before in_b)
   where
-    new : (c : List Item) → IsIn c before → xid_in c ≡ xid_in call → procedure_in c ≡ procedure_in call
-    new c within e = h.1 (procedure_in c) (ap (procedure_of before) (sym e) ∙ procedure_is before c one within)
+    new : (c : List Item) → IsIn c before → xid_in c ≡ xid_in call
+        → procedure_in c ≡ procedure_in call
+    new c within e =
+        h.1 (procedure_in c) (ap (procedure_of before) (sym e) ∙ procedure_is before c one within)
 
     go : IsIn a before ⊎ (a ≡ call) → IsIn b before ⊎ (b ≡ call) → procedure_in a ≡ procedure_in b
     go (inl p) (inl q) = one a b p q same
@@ -96,16 +127,22 @@ one_more before body call one h a b in_a in_b same = go (IsIn-snoc a call before
     go (inr p) (inl q) = ap procedure_in p ∙ sym (new b q (sym same ∙ ap xid_in p))
     go (inr p) (inr q) = ap procedure_in (p ∙ sym q)
 
-calls_have_one : (bodies : List (List ℕ)) (before calls : List (List Item)) → HaveOneProcedure before → AreMessages calls_in_turn before bodies calls → HaveOneProcedure (before ++ calls)
-calls_have_one [] before calls one h = subst HaveOneProcedure (sym (append-nil before) ∙ ap (λ l. before ++ l) (sym h)) one
+calls_have_one : (bodies : List (List ℕ)) (before calls : List (List Item))
+    → HaveOneProcedure before → AreMessages calls_in_turn before bodies calls
+    → HaveOneProcedure (before ++ calls)
+calls_have_one [] before calls one h =
+    subst HaveOneProcedure (sym (append-nil before) ∙ ap (λ l. before ++ l) (sym h)) one
 calls_have_one (body ∷ bodies) before calls one h =
     subst HaveOneProcedure (append_assoc before (h.0 ∷ []) h.1 ∙ ap (λ l. before ++ l) (sym h.2))
     (calls_have_one bodies (before ++ h.0 ∷ []) h.1 (one_more before body h.0 one h.3) h.4)
 
-calls_in_order : (bodies : List (List ℕ)) (before calls : List (List Item)) → HaveOneProcedure (before ++ calls) → AreEach IsCall bodies calls → AreMessages calls_in_turn before bodies calls
+calls_in_order : (bodies : List (List ℕ)) (before calls : List (List Item))
+    → HaveOneProcedure (before ++ calls) → AreEach IsCall bodies calls
+    → AreMessages calls_in_turn before bodies calls
 calls_in_order [] before calls one h = h
 calls_in_order (body ∷ bodies) before calls one h =
-    let all : HaveOneProcedure (before ++ h.0 ∷ h.1) = subst (λ l. HaveOneProcedure (before ++ l)) h.2 one in (
+    let all : HaveOneProcedure (before ++ h.0 ∷ h.1) =
+    subst (λ l. HaveOneProcedure (before ++ l)) h.2 one in (
       h.0,
       h.1,
       h.2,
@@ -113,39 +150,59 @@ calls_in_order (body ∷ bodies) before calls one h =
         h.3,
         λ id known.
             let m = known_call before (xid_in h.0) id known in
-            sym m.3 ∙ all m.0 h.0 (IsIn-left m.0 before (h.0 ∷ h.1) m.1) (IsIn-right h.0 before (h.0 ∷ h.1) (IsIn-here h.0 h.1)) m.2,
+            sym m.3
+            ∙ all m.0 h.0 (IsIn-left m.0 before (h.0 ∷ h.1) m.1)
+            (IsIn-right h.0 before (h.0 ∷ h.1) (IsIn-here h.0 h.1)) m.2,
       ),
-      calls_in_order bodies (before ++ h.0 ∷ []) h.1 (subst HaveOneProcedure (sym (append_assoc before (h.0 ∷ []) h.1)) all) h.4,
+      calls_in_order bodies (before ++ h.0 ∷ []) h.1
+          (subst HaveOneProcedure (sym (append_assoc before (h.0 ∷ []) h.1)) all) h.4,
     )
 
 -- ---- replies
 
-replies_are : (calls : List (List Item)) (bodies : List (List ℕ)) (before replies : List ReplyItems) → AreMessages (replies_to calls) before bodies replies → AreEach IsReply bodies replies
+replies_are : (calls : List (List Item)) (bodies : List (List ℕ)) (before replies : List ReplyItems)
+    → AreMessages (replies_to calls) before bodies replies → AreEach IsReply bodies replies
 replies_are calls [] before replies h = h
-replies_are calls (body ∷ bodies) before replies h = (h.0, h.1, h.2, h.3.0, replies_are calls bodies (before ++ h.0 ∷ []) h.1 h.4)
+replies_are calls (body ∷ bodies) before replies h =
+    (h.0, h.1, h.2, h.3.0, replies_are calls bodies (before ++ h.0 ∷ []) h.1 h.4)
 
-replies_answer : (calls : List (List Item)) (bodies : List (List ℕ)) (before replies : List ReplyItems) → AreMessages (replies_to calls) before bodies replies → AnswerCalls calls replies
-replies_answer calls [] before replies h reply member = absurd (IsIn-nil reply (subst (IsIn reply) h member))
+replies_answer : (calls : List (List Item)) (bodies : List (List ℕ))
+    (before replies : List ReplyItems) → AreMessages (replies_to calls) before bodies replies
+    → AnswerCalls calls replies
+replies_answer calls [] before replies h reply member =
+    absurd (IsIn-nil reply (subst (IsIn reply) h member))
 replies_answer calls (body ∷ bodies) before replies h reply member =
     elim (IsIn-cases reply h.0 h.1 (subst (IsIn reply) h.2 member)) [
-      | inl same ↦ known_call calls (xid_in reply.items) reply.id (subst (λ (r : ReplyItems). procedure_of calls (xid_in r.items) ≡ Some r.id) (sym same) h.3.1)
+      | inl same ↦ known_call calls (xid_in reply.items) reply.id (subst
+          (λ (r : ReplyItems). procedure_of calls (xid_in r.items) ≡ Some r.id) (sym same)
+          h.3.1)
       | inr more ↦ replies_answer calls bodies (before ++ h.0 ∷ []) h.1 h.4 reply more
     ]
 
-replies_in_order : (calls : List (List Item)) (bodies : List (List ℕ)) (before replies : List ReplyItems) → HaveOneProcedure calls → AnswerCalls calls replies → AreEach IsReply bodies replies → AreMessages (replies_to calls) before bodies replies
+replies_in_order : (calls : List (List Item)) (bodies : List (List ℕ))
+    (before replies : List ReplyItems) → HaveOneProcedure calls → AnswerCalls calls replies
+    → AreEach IsReply bodies replies → AreMessages (replies_to calls) before bodies replies
 replies_in_order calls [] before replies one answers h = h
 replies_in_order calls (body ∷ bodies) before replies one answers h =
     let a = answers h.0 (subst (IsIn h.0) (sym h.2) (IsIn-here h.0 h.1)) in (
       h.0,
       h.1,
       h.2,
-      (h.3, ap (procedure_of calls) (sym a.2) ∙ procedure_is calls a.0 one a.1 ∙ ap (λ (id : ProcId). Some id) a.3),
-      replies_in_order calls bodies (before ++ h.0 ∷ []) h.1 one (λ reply member. answers reply (subst (IsIn reply) (sym h.2) (IsIn-there reply h.0 h.1 member))) h.4,
+      (
+        h.3,
+        ap (procedure_of calls) (sym a.2) ∙ procedure_is calls a.0 one a.1
+            ∙ ap (λ (id : ProcId). Some id) a.3,
+      ),
+      replies_in_order calls bodies (before ++ h.0 ∷ []) h.1 one
+          (λ reply member.
+          answers reply (subst (IsIn reply) (sym h.2) (IsIn-there reply h.0 h.1 member))) h.4,
     )
 
 -- ---- both
 
-pub conversed : (streams : Streams) (calls : List (List Item)) (replies : List ReplyItems) → Holds calls_in_turn streams.client calls → Holds (replies_to calls) streams.server replies → Converses streams calls replies
+pub conversed : (streams : Streams) (calls : List (List Item)) (replies : List ReplyItems)
+    → Holds calls_in_turn streams.client calls → Holds (replies_to calls) streams.server replies
+    → Converses streams calls replies
 conversed streams calls replies client server = record {
   client_bodies = client.0;
   server_bodies = server.0;
@@ -153,15 +210,28 @@ conversed streams calls replies client server = record {
   server = server.1;
   are_calls = calls_are client.0 [] calls client.2;
   are_replies = replies_are calls server.0 [] replies server.2;
-  one_procedure = calls_have_one client.0 [] calls (λ a b in_a in_b same. absurd (IsIn-nil a in_a)) client.2;
+  one_procedure =
+      calls_have_one client.0 [] calls (λ a b in_a in_b same. absurd (IsIn-nil a in_a)) client.2;
   answers = replies_answer calls server.0 [] replies server.2;
 }
 
-pub calls_hold : (streams : Streams) (calls : List (List Item)) (replies : List ReplyItems) → Converses streams calls replies → Holds calls_in_turn streams.client calls
-calls_hold streams calls replies h = (h.client_bodies, h.client, calls_in_order h.client_bodies [] calls h.one_procedure h.are_calls)
+pub calls_hold : (streams : Streams) (calls : List (List Item)) (replies : List ReplyItems)
+    → Converses streams calls replies → Holds calls_in_turn streams.client calls
+calls_hold streams calls replies h =
+    (h.client_bodies, h.client, calls_in_order h.client_bodies [] calls h.one_procedure h.are_calls)
 
-pub replies_hold : (streams : Streams) (calls : List (List Item)) (replies : List ReplyItems) → Converses streams calls replies → Holds (replies_to calls) streams.server replies
-replies_hold streams calls replies h = (h.server_bodies, h.server, replies_in_order calls h.server_bodies [] replies h.one_procedure h.answers h.are_replies)
+pub replies_hold : (streams : Streams) (calls : List (List Item)) (replies : List ReplyItems)
+    → Converses streams calls replies → Holds (replies_to calls) streams.server replies
+replies_hold streams calls replies h = (
+  h.server_bodies,
+  h.server,
+  replies_in_order calls h.server_bodies [] replies h.one_procedure h.answers h.are_replies,
+)
 
-pub is_judged_in_turn : (streams : Streams) (calls : List (List Item)) (replies : List ReplyItems) → IsJudgedInTurn streams calls replies
-is_judged_in_turn streams calls replies = ((λ h. (calls_hold streams calls replies h, replies_hold streams calls replies h)), (λ h. conversed streams calls replies h.0 h.1))
+pub is_judged_in_turn : (streams : Streams) (calls : List (List Item)) (replies : List ReplyItems)
+    → IsJudgedInTurn streams calls replies
+is_judged_in_turn streams calls replies = (
+  (λ h.
+      (calls_hold streams calls replies h, replies_hold streams calls replies h)),
+  (λ h. conversed streams calls replies h.0 h.1),
+)

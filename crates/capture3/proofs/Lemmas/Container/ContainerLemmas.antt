@@ -1,40 +1,28 @@
 -- Containers, as the machine has them: chunks' bytes at once, and step after step.
 use Rattle.std.proofs.Common.{◌≡◌, subst, [], false, is_some, take_all, ℕ, zero, suc, ◌<◌, ◌+◌, ◌-◌, ◌≤◌, Option, Some, None, Result, Ok, Err, IfOk, IfErr, List, length, take, drop, refl, sym, ap, ◌∙◌, arith, length-take, length-drop, OnOk, ◌++◌}
 use Rattle.std.proofs.Math.Seq.{take-add, take-take}
-use Rattle.xdr3.specs.declared.reason.Reason.TheVariants.{RecordTooLong}
-use Rattle.record_mark.specs.Joining.{Joining, Between, Whole, TooLong, join_next}
-use Rattle.record_mark.specs.Machine.{Next, Runs, Stops, after, Run}
-use Rattle.record_mark.specs.Taking.{Taking, IsRunning, joining_of, body_of}
-use Rattle.record_mark.proofs.Machines.{after-append, counted_runs, counted_stops}
-use Rattle.capture3.specs.declared.fault.Error.{Error}
+use Rattle.capture3.proofs.Common.{RecordTooLong, Joining, Between, Whole, TooLong, join_next, Next, Runs, Stops, after, Run, Taking, IsRunning, joining_of, body_of, Error, Side, Event, Streams, size, with_more, Cursor, Spot, Version, Two, after-append, counted_runs, counted_stops, Transition, AreStored, unpacking_of, Arrives, ShowsError, Leaves, WordPart, bytes_so_far}
 use Rattle.capture3.specs.declared.fault.Error.TheVariants as errors
 use Rattle.capture3.specs.declared.fault.Place.TheVariants as places
-use Rattle.capture3.specs.declared.fault.Side.{Side}
-use Rattle.capture3.specs.declared.container.position.Event.{Event}
 use Rattle.capture3.specs.declared.container.position.Event.TheVariants.{Begin, Record, Turn, Close}
 use Rattle.capture3.specs.declared.container.position.Event.TheVariants.{Streams as Gathered}
-use Rattle.capture3.specs.SidedChunks.{Streams, size, with_more}
 use Rattle.capture3.proofs.Lemmas.Container.ContainerMachineLemmas.{side_chunk_kept}
 use Rattle.capture3.specs.declared.container.position.Position.{Position}
 use Rattle.capture3.specs.declared.container.position.Spot.TheVariants.{Chunk, SideChunk}
-use Rattle.capture3.specs.declared.container.position.Transition.{Transition}
 use Rattle.capture3.specs.machinery.ContainerMachine.{Unpacking, Has, in_chunk, in_side_chunk, in_record, record_joined, unpack_next}
 use Rattle.capture3.specs.machinery.Position.{AreEmpty, IsBeforeMark, unpacking_at, cost_of, IsOfContainer, StepsFrom, Moves, ShowsFault, StoredAt, StoredWith, version_of}
-use Rattle.capture3.specs.machinery.Container.{AreStored, unpacking_of, Arrives, ShowsError, Leaves}
-use Rattle.capture3.specs.declared.container.Cursor.{Cursor}
 use Rattle.capture3.specs.declared.fault.Side.TheVariants as sides
-use Rattle.capture3.specs.declared.container.position.Spot.{Spot}
 use Rattle.capture3.specs.declared.container.position.Spot.TheVariants as spots
 use Rattle.capture3.specs.declared.container.position.Version as declared
-use Rattle.capture3.specs.Capture.{Version, Two}
-use Rattle.record_mark.specs.declared.word_part.WordPart.{WordPart}
-use Rattle.record_mark.specs.WordPart.{bytes_so_far}
 use Rattle.capture3.proofs.Lemmas.Container.PositionLemmas.{at_spot}
 
 -- ---- one step of the container alone
 
-moved_to : (from : Unpacking) (bytes : List ℕ) (taking : Taking) (streams : Streams) (count : ℕ) (position : Position) (event : Option Event) → IsOfContainer event
-    → Moves from bytes streams (joining_of taking) (Ok (record { count = count; position = position; event = event })) → Arrives from (take count bytes) event position taking streams
+moved_to : (from : Unpacking) (bytes : List ℕ) (taking : Taking) (streams : Streams) (count : ℕ)
+    (position : Position) (event : Option Event) → IsOfContainer event
+    → Moves from bytes streams (joining_of taking)
+    (Ok (record { count = count; position = position; event = event }))
+    → Arrives from (take count bytes) event position taking streams
 moved_to from bytes taking streams count position None h moves = moves
 moved_to from bytes taking streams count position (Some Begin) h moves = moves
 moved_to from bytes taking streams count position (Some (Record side)) h moves = absurd h
@@ -42,12 +30,17 @@ moved_to from bytes taking streams count position (Some Turn) h moves = moves
 moved_to from bytes taking streams count position (Some Close) h moves = moves
 moved_to from bytes taking streams count position (Some Gathered) h moves = moves
 
-pub moved_arrives : (from : Unpacking) (bytes : List ℕ) (before : Position) (taking : Taking) (streams : Streams) (r : Result Transition Error) → IfOk r (StepsFrom before) → Moves from bytes streams (joining_of taking) r
+pub moved_arrives : (from : Unpacking) (bytes : List ℕ) (before : Position) (taking : Taking)
+    (streams : Streams) (r : Result Transition Error) → IfOk r (StepsFrom before)
+    → Moves from bytes streams (joining_of taking) r
     → IfOk r (λ t. Arrives from (take t.count bytes) t.event t.position taking streams)
-moved_arrives from bytes before taking streams (Ok t) h moves = moved_to from bytes taking streams t.count t.position t.event h.event moves
+moved_arrives from bytes before taking streams (Ok t) h moves =
+    moved_to from bytes taking streams t.count t.position t.event h.event moves
 moved_arrives from bytes before taking streams (Err e) h moves = tt
 
-pub moved_fails : (from : Unpacking) (bytes : List ℕ) (streams : Streams) (joining : Joining) (r : Result Transition Error) → Moves from bytes streams joining r → IfErr r (ShowsError from bytes)
+pub moved_fails : (from : Unpacking) (bytes : List ℕ) (streams : Streams) (joining : Joining)
+    (r : Result Transition Error) → Moves from bytes streams joining r
+    → IfErr r (ShowsError from bytes)
 moved_fails from bytes streams joining (Ok t) moves = tt
 moved_fails from bytes streams joining (Err (errors.Refused fault)) moves = moves
 moved_fails from bytes streams joining (Err errors.Read) moves = moves
@@ -56,33 +49,50 @@ moved_fails from bytes streams joining (Err errors.Memory) moves = tt
 
 -- ---- bytes of a chunk
 
-pub chunk_goes_on : (p : Position) (streams : Streams) (side : Side) (left : ℕ) (old new : Joining) (bytes : List ℕ) → p.spot ≡ Chunk side left → length bytes ≤ left
+pub chunk_goes_on : (p : Position) (streams : Streams) (side : Side) (left : ℕ) (old new : Joining)
+    (bytes : List ℕ) → p.spot ≡ Chunk side left → length bytes ≤ left
     → after join_next (Runs old) bytes ≡ Runs new
-    → after unpack_next (Runs (unpacking_at p streams old)) bytes ≡ Runs (in_chunk p.at p.total p.connections p.records side (left - length bytes) new)
+    → after unpack_next (Runs (unpacking_at p streams old)) bytes
+    ≡ Runs (in_chunk p.at p.total p.connections p.records side (left - length bytes) new)
 chunk_goes_on p streams side left old new bytes here fits joins =
     let size : left ≡ length bytes + (left - length bytes) = omega arith in
-    ap (λ (u : Unpacking). after unpack_next (Runs u) bytes) (at_spot p streams old (Chunk side left) here)
-    ∙ counted_runs join_next unpack_next (in_chunk p.at p.total p.connections p.records side) (record_joined p.at p.total p.connections p.records side) (λ n j byte. refl) bytes left (left - length bytes) old new size joins
+    ap (λ (u : Unpacking). after unpack_next (Runs u) bytes)
+    (at_spot p streams old (Chunk side left) here)
+    ∙ counted_runs join_next unpack_next (in_chunk p.at p.total p.connections p.records side)
+    (record_joined p.at p.total p.connections p.records side) (λ n j byte. refl) bytes left
+    (left - length bytes) old new size joins
 
-pub chunk_has_record : (p : Position) (streams : Streams) (side : Side) (left : ℕ) (old : Joining) (bytes body : List ℕ) → p.spot ≡ Chunk side left → length bytes ≤ left
+pub chunk_has_record : (p : Position) (streams : Streams) (side : Side) (left : ℕ) (old : Joining)
+    (bytes body : List ℕ) → p.spot ≡ Chunk side left → length bytes ≤ left
     → after join_next (Runs old) bytes ≡ Stops (Whole body)
-    → after unpack_next (Runs (unpacking_at p streams old)) bytes ≡ Stops (Has (Record side) body (in_chunk p.at p.total p.connections (p.records + 1) side (left - length bytes) Between))
+    → after unpack_next (Runs (unpacking_at p streams old)) bytes
+    ≡ Stops (Has (Record side) body (in_chunk p.at p.total p.connections (p.records + 1) side
+    (left - length bytes) Between))
 chunk_has_record p streams side left old bytes body here fits joins =
     let size : left ≡ length bytes + (left - length bytes) = omega arith in
-    ap (λ (u : Unpacking). after unpack_next (Runs u) bytes) (at_spot p streams old (Chunk side left) here)
-    ∙ counted_stops join_next unpack_next (in_chunk p.at p.total p.connections p.records side) (record_joined p.at p.total p.connections p.records side) (λ n j byte. refl) bytes left (left - length bytes) old (Whole body) size joins
+    ap (λ (u : Unpacking). after unpack_next (Runs u) bytes)
+    (at_spot p streams old (Chunk side left) here)
+    ∙ counted_stops join_next unpack_next (in_chunk p.at p.total p.connections p.records side)
+    (record_joined p.at p.total p.connections p.records side) (λ n j byte. refl) bytes left
+    (left - length bytes) old (Whole body) size joins
 
-pub chunk_too_long : (p : Position) (streams : Streams) (side : Side) (left : ℕ) (old : Joining) (bytes : List ℕ) (at : ℕ) → p.spot ≡ Chunk side left → length bytes ≤ left
+pub chunk_too_long : (p : Position) (streams : Streams) (side : Side) (left : ℕ) (old : Joining)
+    (bytes : List ℕ) (at : ℕ) → p.spot ≡ Chunk side left → length bytes ≤ left
     → after join_next (Runs old) bytes ≡ Stops (TooLong at)
-    → after unpack_next (Runs (unpacking_at p streams old)) bytes ≡ Stops (in_record p.connections side (p.records + 1) at RecordTooLong)
+    → after unpack_next (Runs (unpacking_at p streams old)) bytes
+    ≡ Stops (in_record p.connections side (p.records + 1) at RecordTooLong)
 chunk_too_long p streams side left old bytes at here fits joins =
     let size : left ≡ length bytes + (left - length bytes) = omega arith in
-    ap (λ (u : Unpacking). after unpack_next (Runs u) bytes) (at_spot p streams old (Chunk side left) here)
-    ∙ counted_stops join_next unpack_next (in_chunk p.at p.total p.connections p.records side) (record_joined p.at p.total p.connections p.records side) (λ n j byte. refl) bytes left (left - length bytes) old (TooLong at) size joins
+    ap (λ (u : Unpacking). after unpack_next (Runs u) bytes)
+    (at_spot p streams old (Chunk side left) here)
+    ∙ counted_stops join_next unpack_next (in_chunk p.at p.total p.connections p.records side)
+    (record_joined p.at p.total p.connections p.records side) (λ n j byte. refl) bytes left
+    (left - length bytes) old (TooLong at) size joins
 
 -- the bytes that a joiner takes of a chunk's bytes at hand
 joined_bytes : (rest : List ℕ) (count most left : ℕ) → count ≤ length (take most rest) → most ≤ left
-    → (take count (take most rest) ≡ take count rest) × (length (take count rest) ≡ count) × (length (take count rest) ≤ left)
+    → (take count (take most rest) ≡ take count rest) × (length (take count rest) ≡ count)
+    × (length (take count rest) ≤ left)
 joined_bytes rest count most left within fits =
     let front = length-take most rest in
     let short = length-take count rest in
@@ -91,44 +101,79 @@ joined_bytes rest count most left within fits =
     let bounded : length (take count rest) ≤ left = omega arith in
     (take-take count most rest less, same, bounded)
 
-pub join_goes_on : (p q : Position) (streams : Streams) (side : Side) (left count most : ℕ) (old new : Taking) (rest : List ℕ) → p.spot ≡ Chunk side left → count ≤ length (take most rest) → most ≤ left
+pub join_goes_on : (p q : Position) (streams : Streams) (side : Side) (left count most : ℕ)
+    (old new : Taking) (rest : List ℕ) → p.spot ≡ Chunk side left
+    → count ≤ length (take most rest) → most ≤ left
     → after join_next (Runs (joining_of old)) (take count (take most rest)) ≡ Runs (joining_of new)
-    → ((joining : Joining) → unpacking_at q streams joining ≡ in_chunk p.at p.total p.connections p.records side (left - count) joining)
+    → ((joining : Joining)
+    → unpacking_at q streams joining
+    ≡ in_chunk p.at p.total p.connections p.records side (left - count) joining)
     → Arrives (unpacking_of p old streams) (take count rest) None q new streams
 join_goes_on p q streams side left count most old new rest here within fits joins leads =
     let (same, size, bounded) = joined_bytes rest count most left within fits in
-    chunk_goes_on p streams side left (joining_of old) (joining_of new) (take count rest) here bounded (ap (after join_next (Runs (joining_of old))) (sym same) ∙ joins)
-    ∙ ap (λ (n : ℕ). Runs (in_chunk p.at p.total p.connections p.records side (left - n) (joining_of new))) size
+    chunk_goes_on p streams side left (joining_of old) (joining_of new) (take count rest) here
+    bounded (ap (after join_next (Runs (joining_of old))) (sym same) ∙ joins)
+    ∙ ap
+    (λ (n : ℕ).
+    Runs (in_chunk p.at p.total p.connections p.records side (left - n) (joining_of new)))
+    size
     ∙ ap Runs (sym (leads (joining_of new)))
 
-pub join_has_record : (p q : Position) (streams : Streams) (side : Side) (left count most : ℕ) (old new : Taking) (rest : List ℕ) → p.spot ≡ Chunk side left → count ≤ length (take most rest) → most ≤ left
-    → after join_next (Runs (joining_of old)) (take count (take most rest)) ≡ Stops (Whole (body_of new))
-    → ((joining : Joining) → unpacking_at q streams joining ≡ in_chunk p.at p.total p.connections (p.records + 1) side (left - count) joining)
+pub join_has_record : (p q : Position) (streams : Streams) (side : Side) (left count most : ℕ)
+    (old new : Taking) (rest : List ℕ) → p.spot ≡ Chunk side left
+    → count ≤ length (take most rest) → most ≤ left
+    → after join_next (Runs (joining_of old)) (take count (take most rest))
+    ≡ Stops (Whole (body_of new))
+    → ((joining : Joining)
+    → unpacking_at q streams joining
+    ≡ in_chunk p.at p.total p.connections (p.records + 1) side (left - count) joining)
     → Arrives (unpacking_of p old streams) (take count rest) (Some (Record side)) q new streams
 join_has_record p q streams side left count most old new rest here within fits joins leads =
     let (same, size, bounded) = joined_bytes rest count most left within fits in
-    chunk_has_record p streams side left (joining_of old) (take count rest) (body_of new) here bounded (ap (after join_next (Runs (joining_of old))) (sym same) ∙ joins)
-    ∙ ap (λ (n : ℕ). Stops (Has (Record side) (body_of new) (in_chunk p.at p.total p.connections (p.records + 1) side (left - n) Between))) size
+    chunk_has_record p streams side left (joining_of old) (take count rest) (body_of new) here
+    bounded (ap (after join_next (Runs (joining_of old))) (sym same) ∙ joins)
+    ∙ ap
+    (λ (n : ℕ).
+    Stops (Has (Record side) (body_of new)
+    (in_chunk p.at p.total p.connections (p.records + 1) side (left - n) Between)))
+    size
     ∙ ap (λ (u : Unpacking). Stops (Has (Record side) (body_of new) u)) (sym (leads Between))
 
-pub join_too_long : (p : Position) (streams : Streams) (side : Side) (left most at : ℕ) (old : Taking) (rest : List ℕ) → p.spot ≡ Chunk side left → most ≤ left
-    → (n : ℕ) × (n ≤ length (take most rest)) × (after join_next (Runs (joining_of old)) (take n (take most rest)) ≡ Stops (TooLong at))
-    → ShowsFault (unpacking_of p old streams) rest (errors.Refused (record { place = places.Record p.connections side (p.records + 1) at; reason = RecordTooLong }))
+pub join_too_long : (p : Position) (streams : Streams) (side : Side) (left most at : ℕ)
+    (old : Taking) (rest : List ℕ) → p.spot ≡ Chunk side left → most ≤ left
+    → (n : ℕ) × (n ≤ length (take most rest))
+    × (after join_next (Runs (joining_of old)) (take n (take most rest)) ≡ Stops (TooLong at))
+    → ShowsFault (unpacking_of p old streams) rest (errors.Refused (record {
+      place =
+          places.Record p.connections side (p.records + 1) at;
+      reason = RecordTooLong;
+    }))
 join_too_long p streams side left most at old rest here fits (n, within, joins) =
     let (same, size, bounded) = joined_bytes rest n most left within fits in
     let front = length-take most rest in
-    let all : n ≤ length rest = omega arith in
-    (n, all, chunk_too_long p streams side left (joining_of old) (take n rest) at here bounded (ap (after join_next (Runs (joining_of old))) (sym same) ∙ joins))
+    let all : n ≤ length rest = omega arith in (
+      n,
+      all,
+      chunk_too_long p streams side left (joining_of old) (take n rest) at here bounded
+          (ap (after join_next (Runs (joining_of old))) (sym same) ∙ joins),
+    )
 
 -- bytes of a chunk of version 2
-pub gathers : (p q : Position) (streams : Streams) (side : Side) (left count most : ℕ) (taking : Taking) (rest : List ℕ) → p.spot ≡ SideChunk side left → most ≤ left → count ≡ length (take most rest)
-    → ((streams : Streams) (joining : Joining) → unpacking_at q streams joining ≡ in_side_chunk p.at p.total p.connections p.records streams side (left - count) joining)
-    → Arrives (unpacking_of p taking streams) (take most rest) None q taking (with_more streams side (take most rest))
+pub gathers : (p q : Position) (streams : Streams) (side : Side) (left count most : ℕ)
+    (taking : Taking) (rest : List ℕ) → p.spot ≡ SideChunk side left → most ≤ left
+    → count ≡ length (take most rest)
+    → ((streams : Streams) (joining : Joining)
+    → unpacking_at q streams joining
+    ≡ in_side_chunk p.at p.total p.connections p.records streams side (left - count) joining)
+    → Arrives (unpacking_of p taking streams) (take most rest) None q taking
+    (with_more streams side (take most rest))
 gathers p q streams side left count most taking rest here fits is leads =
     let size = length-take most rest in
     let whole : left ≡ length (take most rest) + (left - count) = omega arith in
-    ap (λ (u : Unpacking). after unpack_next (Runs u) (take most rest)) (at_spot p streams (joining_of taking) (SideChunk side left) here)
-    ∙ side_chunk_kept p.at p.total p.connections p.records streams side (joining_of taking) (take most rest) left (left - count) whole
+    ap (λ (u : Unpacking). after unpack_next (Runs u) (take most rest))
+    (at_spot p streams (joining_of taking) (SideChunk side left) here)
+    ∙ side_chunk_kept p.at p.total p.connections p.records streams side (joining_of taking)
+    (take most rest) left (left - count) whole
     ∙ ap (λ u. Runs u) (sym (leads (with_more streams side (take most rest)) (joining_of taking)))
 
 -- ---- step after step
@@ -141,43 +186,68 @@ rest_is bytes n =
     take_all (length bytes - n) (drop n bytes) all
 
 -- the run after a front of the bytes, and some of the bytes at hand
-pub taken_more : (bytes : List ℕ) (n m : ℕ) → take (n + m) bytes ≡ take n bytes ++ take m (take (length bytes - n) (drop n bytes))
-taken_more bytes n m = take-add n m bytes ∙ ap (λ (rest : List ℕ). take n bytes ++ take m rest) (sym (rest_is bytes n))
+pub taken_more : (bytes : List ℕ) (n m : ℕ)
+    → take (n + m) bytes ≡ take n bytes ++ take m (take (length bytes - n) (drop n bytes))
+taken_more bytes n m =
+    take-add n m bytes ∙ ap (λ (rest : List ℕ). take n bytes ++ take m rest) (sym (rest_is bytes n))
 
 piece_more : {S F : Type 0} (next : S → ℕ → Next S F) (from : Run S F) (bytes : List ℕ) (n m : ℕ)
-    → after next from (take (n + m) bytes) ≡ after next (after next from (take n bytes)) (take m (take (length bytes - n) (drop n bytes)))
-piece_more next from bytes n m = ap (after next from) (taken_more bytes n m) ∙ after-append next from (take n bytes) (take m (take (length bytes - n) (drop n bytes)))
+    → after next from (take (n + m) bytes)
+    ≡ after next (after next from (take n bytes))
+    (take m (take (length bytes - n) (drop n bytes)))
+piece_more next from bytes n m =
+    ap (after next from) (taken_more bytes n m)
+    ∙ after-append next from (take n bytes) (take m (take (length bytes - n) (drop n bytes)))
 
-runs_more : (from u : Unpacking) (bytes : List ℕ) (n m : ℕ) → after unpack_next (Runs from) (take n bytes) ≡ Runs u
-    → after unpack_next (Runs from) (take (n + m) bytes) ≡ after unpack_next (Runs u) (take m (take (length bytes - n) (drop n bytes)))
-runs_more from u bytes n m first = piece_more unpack_next (Runs from) bytes n m ∙ ap (λ r. after unpack_next r (take m (take (length bytes - n) (drop n bytes)))) first
+runs_more : (from u : Unpacking) (bytes : List ℕ) (n m : ℕ)
+    → after unpack_next (Runs from) (take n bytes) ≡ Runs u
+    → after unpack_next (Runs from) (take (n + m) bytes)
+    ≡ after unpack_next (Runs u) (take m (take (length bytes - n) (drop n bytes)))
+runs_more from u bytes n m first =
+    piece_more unpack_next (Runs from) bytes n m
+    ∙ ap (λ r. after unpack_next r (take m (take (length bytes - n) (drop n bytes)))) first
 
-pub arrives_more : (from : Unpacking) (bytes : List ℕ) (n m : ℕ) (p q : Position) (t u : Taking) (before later : Streams) (event : Option Event)
-    → Arrives from (take n bytes) None p t before → Arrives (unpacking_of p t before) (take m (take (length bytes - n) (drop n bytes))) event q u later → Arrives from (take (n + m) bytes) event q u later
-arrives_more from bytes n m p q t u before later event first next = runs_more from (unpacking_of p t before) bytes n m first ∙ next
+pub arrives_more : (from : Unpacking) (bytes : List ℕ) (n m : ℕ) (p q : Position) (t u : Taking)
+    (before later : Streams) (event : Option Event)
+    → Arrives from (take n bytes) None p t before
+    → Arrives (unpacking_of p t before) (take m (take (length bytes - n) (drop n bytes))) event q u
+    later → Arrives from (take (n + m) bytes) event q u later
+arrives_more from bytes n m p q t u before later event first next =
+    runs_more from (unpacking_of p t before) bytes n m first ∙ next
 
 -- the same where nothing is whole
-pub goes_on_more : (from : Unpacking) (bytes : List ℕ) (n m : ℕ) (p q : Position) (t u : Taking) (before later : Streams) (event : Option Event) → is_some event ≡ false
-    → Arrives from (take n bytes) None p t before → Arrives (unpacking_of p t before) (take m (take (length bytes - n) (drop n bytes))) event q u later → Arrives from (take (n + m) bytes) None q u later
-goes_on_more from bytes n m p q t u before later None none first next = arrives_more from bytes n m p q t u before later None first next
+pub goes_on_more : (from : Unpacking) (bytes : List ℕ) (n m : ℕ) (p q : Position) (t u : Taking)
+    (before later : Streams) (event : Option Event) → is_some event ≡ false
+    → Arrives from (take n bytes) None p t before
+    → Arrives (unpacking_of p t before) (take m (take (length bytes - n) (drop n bytes))) event q u
+    later → Arrives from (take (n + m) bytes) None q u later
+goes_on_more from bytes n m p q t u before later None none first next =
+    arrives_more from bytes n m p q t u before later None first next
 goes_on_more from bytes n m p q t u before later (Some event) none first next = absurd (cc)
 
 -- where nothing is whole, the room and the streams go on
-pub room_on : (event : Option Event) (new all : ℕ) (streams : Streams) {old : ℕ} → is_some event ≡ false → new + cost_of event streams ≤ old → old ≤ all → new ≤ all
+pub room_on : (event : Option Event) (new all : ℕ) (streams : Streams) {old : ℕ}
+    → is_some event ≡ false → new + cost_of event streams ≤ old → old ≤ all → new ≤ all
 room_on None new all streams none h more = omega arith
 room_on (Some event) new all streams none h more = absurd (cc)
 
-pub stored_on : (event : Option Event) (position : Position) (streams : Streams) → is_some event ≡ false → StoredWith event position streams → StoredAt position.spot position.total streams
+pub stored_on : (event : Option Event) (position : Position) (streams : Streams)
+    → is_some event ≡ false → StoredWith event position streams
+    → StoredAt position.spot position.total streams
 stored_on None position streams none h = h
 stored_on (Some event) position streams none h = absurd (cc)
 
 -- where nothing is whole, no whole record is left
-pub still_running : (event : Option Event) (taking : Taking) → is_some event ≡ false → Leaves event taking → IsRunning taking
+pub still_running : (event : Option Event) (taking : Taking) → is_some event ≡ false
+    → Leaves event taking → IsRunning taking
 still_running None taking none h = h
 still_running (Some event) taking none h = absurd (cc)
 
-shows_more : (from : Unpacking) (bytes : List ℕ) (n : ℕ) (p : Position) (t : Taking) (before : Streams) (error : Error) → n ≤ length bytes
-    → Arrives from (take n bytes) None p t before → ShowsFault (unpacking_of p t before) (take (length bytes - n) (drop n bytes)) error → ShowsFault from bytes error
+shows_more : (from : Unpacking) (bytes : List ℕ) (n : ℕ) (p : Position) (t : Taking)
+    (before : Streams) (error : Error) → n ≤ length bytes
+    → Arrives from (take n bytes) None p t before
+    → ShowsFault (unpacking_of p t before) (take (length bytes - n) (drop n bytes)) error
+    → ShowsFault from bytes error
 shows_more from bytes n p t before (errors.Refused fault) within first (m, fits, shown) =
     let size = length-take (length bytes - n) (drop n bytes) in
     let all : n + m ≤ length bytes = omega arith in
@@ -186,9 +256,13 @@ shows_more from bytes n p t before errors.Read within first shown = shown
 shows_more from bytes n p t before errors.Write within first shown = shown
 shows_more from bytes n p t before errors.Memory within first shown = shown
 
-pub fails_more : (from : Unpacking) (bytes : List ℕ) (n : ℕ) (p : Position) (t : Taking) (before : Streams) (error : Error) → n ≤ length bytes
-    → Arrives from (take n bytes) None p t before → ShowsError (unpacking_of p t before) (take (length bytes - n) (drop n bytes)) error → ShowsError from bytes error
-fails_more from bytes n p t before (errors.Refused fault) within first shown = shows_more from bytes n p t before (errors.Refused fault) within first shown
+pub fails_more : (from : Unpacking) (bytes : List ℕ) (n : ℕ) (p : Position) (t : Taking)
+    (before : Streams) (error : Error) → n ≤ length bytes
+    → Arrives from (take n bytes) None p t before
+    → ShowsError (unpacking_of p t before) (take (length bytes - n) (drop n bytes)) error
+    → ShowsError from bytes error
+fails_more from bytes n p t before (errors.Refused fault) within first shown =
+    shows_more from bytes n p t before (errors.Refused fault) within first shown
 fails_more from bytes n p t before errors.Read within first shown = shown
 fails_more from bytes n p t before errors.Write within first shown = shown
 fails_more from bytes n p t before errors.Memory within first shown = tt
@@ -196,12 +270,15 @@ fails_more from bytes n p t before errors.Memory within first shown = tt
 -- ---- the streams that are kept
 
 -- a record takes bytes
-pub record_takes : (from : Joining) (piece : List ℕ) (n : ℕ) (body : List ℕ) → after join_next (Runs from) (take n piece) ≡ Stops (Whole body) → 0 < n
+pub record_takes : (from : Joining) (piece : List ℕ) (n : ℕ) (body : List ℕ)
+    → after join_next (Runs from) (take n piece) ≡ Stops (Whole body) → 0 < n
 record_takes from piece zero body e = absurd (cc)
 record_takes from piece (suc n) body e = omega arith
 
 -- where a connection word is open, before its first byte
-pub mark_is : (version : Version) (spot : Spot) → IsBeforeMark version spot → (told : declared.Version) × (part : WordPart) × (spot ≡ spots.Mark told part) × (version_of told ≡ version) × (bytes_so_far part ≡ [])
+pub mark_is : (version : Version) (spot : Spot) → IsBeforeMark version spot
+    → (told : declared.Version) × (part : WordPart) × (spot ≡ spots.Mark told part)
+    × (version_of told ≡ version) × (bytes_so_far part ≡ [])
 mark_is version (spots.Mark told part) before = (told, part, refl, before.0, before.1)
 mark_is version spots.Magic before = absurd before
 mark_is version spots.Digit before = absurd before
@@ -213,16 +290,23 @@ mark_is version (spots.SideChunk side left) before = absurd before
 mark_is version (spots.Ended told) before = absurd before
 
 -- there no stream byte is kept
-stored_before_mark : (version : Version) (spot : Spot) (total : ℕ) (streams : Streams) → IsBeforeMark version spot → AreEmpty streams → StoredAt spot total streams
+stored_before_mark : (version : Version) (spot : Spot) (total : ℕ) (streams : Streams)
+    → IsBeforeMark version spot → AreEmpty streams → StoredAt spot total streams
 stored_before_mark version spot total streams before empty =
     let is = mark_is version spot before in
     subst (λ (s : Spot). StoredAt s total streams) (sym is.2) empty
 
 -- after the end of a stream
-pub stored_end : (cursor : Cursor) (old new : Position) (streams left : Streams) (next : Option Cursor) (r : Result Event Error) → AreStored old (Some cursor) streams
-    → (cursor.side ≡ sides.Client → IfOk r (λ event. (event ≡ Turn) × (new ≡ record old { records = 0 }) × (next ≡ Some (record { side = sides.Server; taken = 0 })) × (left ≡ streams)))
-    → (cursor.side ≡ sides.Server → IfOk r (λ event. (event ≡ Close) × (new ≡ old) × (next ≡ None) × AreEmpty left)) → OnOk r (AreStored new next left)
-stored_end cursor old new streams left next (Ok event) stored client server = by_side cursor.side refl
+pub stored_end : (cursor : Cursor) (old new : Position) (streams left : Streams)
+    (next : Option Cursor) (r : Result Event Error) → AreStored old (Some cursor) streams
+    → (cursor.side ≡ sides.Client
+    → IfOk r (λ event. (event ≡ Turn) × (new ≡ record old { records = 0 })
+    × (next ≡ Some (record { side = sides.Server; taken = 0 })) × (left ≡ streams)))
+    → (cursor.side ≡ sides.Server
+    → IfOk r (λ event. (event ≡ Close) × (new ≡ old) × (next ≡ None) × AreEmpty left))
+    → OnOk r (AreStored new next left)
+stored_end cursor old new streams left next (Ok event) stored client server =
+    by_side cursor.side refl
   where
     by_side : (side : Side) → cursor.side ≡ side → AreStored new next left
     by_side sides.Client is =

@@ -1,34 +1,8 @@
 -- Judging the records of streams that are gathered, one after another.
-use Rattle.std.proofs.Common.{◌≡◌, inl, inr, ℕ, ◌+◌, List, [], ◌∷◌, ◌++◌, length, map, take, drop, take-append-drop, Result, Ok, Err, refl, sym, ap, subst, ◌∙◌, append_assoc, append-nil, arith, length-append}
-use Rattle.std.proofs.lemmas.Grind.{common_steps}
-use Rattle.xdr3.specs.declared.reason.Stop.{Stop}
-use Rattle.xdr3.specs.Item.{Item, AreBytes}
-use Rattle.record_mark.specs.Joining.{Joining, Between, Header, Bytes, Joined, Whole, TooLong, join_next}
-use Rattle.record_mark.specs.Machine.{Next, Goes, Ends, Run, Runs, Stops, Stopped, after, landed, within, last_running}
-use Rattle.record_mark.proofs.Machines.{after-append, last_running-append}
-use Rattle.capture3.specs.declared.message.calls.NumberedCall.{NumberedCall}
-use Rattle.capture3.specs.declared.fault.Fault.{Fault}
-use Rattle.capture3.specs.declared.fault.Side.{Side}
-use Rattle.capture3.specs.declared.fault.Side.TheVariants.{Client, Server}
-use Rattle.capture3.specs.Bodies.{ReplyItems}
-use Rattle.capture3.specs.Capture.{Two}
-use Rattle.capture3.specs.Connections.{ShownFault, client_refusal, server_refusal}
-use Rattle.capture3.specs.Entry.{Entry}
+use Rattle.capture3.proofs.Common.{◌≡◌, inl, inr, ℕ, ◌+◌, List, [], ◌∷◌, ◌++◌, length, map, take, drop, take-append-drop, Result, Ok, Err, refl, sym, ap, subst, ◌∙◌, append_assoc, append-nil, arith, length-append, common_steps, Stop, Item, AreBytes, Joining, Between, Header, Bytes, Joined, Whole, TooLong, join_next, Next, Goes, Ends, Run, Runs, Stops, Stopped, after, landed, within, last_running, after-append, last_running-append, NumberedCall, Fault, Side, Client, Server, ReplyItems, Two, Entry, Shows, FirstFault, judge_call, judge_reply, Opening, Closing, judge_replies, server_said, client_said, Parsing, file_next, file_start, parsed, emitted, verdict, verdict_of, reached, AreFirstReached, Reached, RecordFault, Streams, reply_entry, connection_entries, Unpacking, Mark, ShownFault, client_refusal, server_refusal, IsTableOf, Judge, Reading, judged, StreamEnd, Held, Faulty, left_in, end_of, rest_end, stream_end, stream_next, recorded, Judged, parsing_in, parsing_at, client_entries, server_entries, with_call, with_reply, turned, connection_closed}
 use Rattle.capture3.specs.Entry as entries
-use Rattle.capture3.specs.FirstFault.{Shows, FirstFault}
-use Rattle.capture3.specs.BodyProgram.{judge_call, judge_reply}
-use Rattle.capture3.specs.machinery.Messages.{IsTableOf}
-use Rattle.capture3.specs.ConnectionMachine.{Opening, Closing, judge_replies, server_said, client_said}
 use Rattle.capture3.specs.FileMachine as parsing
-use Rattle.capture3.specs.FileMachine.{Parsing, file_next, file_start, parsed, emitted, verdict, verdict_of, last_entries, reached}
-use Rattle.capture3.specs.Reached.{AreFirstReached, Reached}
-use Rattle.capture3.specs.StreamMachine.{Judge, Reading, judged, StreamEnd, Held, Faulty, left_in, end_of, rest_end, stream_end, stream_next, recorded}
 use Rattle.capture3.specs.machinery.KeptStreams.{between_records, Recalls, ShowsFirst}
-use Rattle.capture3.specs.Records.{RecordFault}
-use Rattle.capture3.specs.machinery.FileStanding.{Judged, parsing_in, parsing_at, client_entries, server_entries, with_call, with_reply, turned, connection_closed}
-use Rattle.capture3.specs.SidedChunks.{Streams}
-use Rattle.capture3.specs.Typed.{reply_entry, connection_entries}
-use Rattle.capture3.specs.machinery.ContainerMachine.{Unpacking, Mark}
 use Rattle.capture3.proofs.Lemmas.Container.BytesOf.{split_bytes}
 use Rattle.capture3.proofs.Lemmas.Reader.WholeEntries.{call_added, reply_added}
 use Rattle.capture3.proofs.Lemmas.Sides.StreamEnds.{rest_accepts, rest_refuses, rest_leaves}
@@ -43,19 +17,30 @@ drop_more : (n count : ℕ) (stream : List ℕ) → drop count (drop n stream) �
 drop_more n count stream = grind (arith, common_steps)
 
 -- the rest, cut after the bytes that were taken of it
-cut_rest : {M : Type 0} (judge : Judge M) (s : Reading M) (n count : ℕ) (stream : List ℕ) → rest_end judge s (drop n stream) ≡ rest_end judge s (take count (drop n stream) ++ drop (n + count) stream)
+cut_rest : {M : Type 0} (judge : Judge M) (s : Reading M) (n count : ℕ) (stream : List ℕ)
+    → rest_end judge s (drop n stream)
+    ≡ rest_end judge s (take count (drop n stream) ++ drop (n + count) stream)
 cut_rest judge s n count stream =
-    ap (rest_end judge s) (sym (take-append-drop count (drop n stream)) ∙ ap (λ (b : List ℕ). take count (drop n stream) ++ b) (drop_more n count stream))
+    ap (rest_end judge s) (sym (take-append-drop count (drop n stream))
+    ∙ ap (λ (b : List ℕ). take count (drop n stream) ++ b) (drop_more n count stream))
 
 -- ---- the client stream
 
 -- its fault is the file's
 abbrev pub said : Unpacking → Judged → Next Opening Closing → Next Parsing ShownFault
-said u j n = within (λ p. parsing_in Two j.start j.before u.connections j.entries (parsing.Inside p)) (parsing.closed Two u.connections j.entries) n
+said u j n =
+    within (λ p. parsing_in Two j.start j.before u.connections j.entries (parsing.Inside p))
+    (parsing.closed Two u.connections j.entries) n
 
-module _ (u : Unpacking) (streams : Streams) (taken records : ℕ) (table : List NumberedCall) (bytes : List ℕ) (handed : List Entry) (r : Recalls u streams Client taken records table bytes handed) where
-  pub call_recalled : (count : ℕ) (body : List ℕ) (call : List Item) (new : List NumberedCall) → after join_next (Runs Between) (take count (drop taken streams.client)) ≡ Stops (Whole body) → judge_call r.so_far.calls body ≡ Ok call
-      → IsTableOf new (r.so_far.calls ++ call ∷ []) → Recalls u streams Client (taken + count) (records + 1) new bytes (handed ++ entries.Call call ∷ [])
+module _ (u : Unpacking) (streams : Streams) (taken records : ℕ) (table : List NumberedCall)
+    (bytes : List ℕ) (handed : List Entry)
+    (r : Recalls u streams Client taken records table bytes handed) where
+  pub call_recalled : (count : ℕ) (body : List ℕ) (call : List Item) (new : List NumberedCall)
+      → after join_next (Runs Between) (take count (drop taken streams.client)) ≡ Stops (Whole body)
+      → judge_call r.so_far.calls body ≡ Ok call
+      → IsTableOf new (r.so_far.calls ++ call ∷ [])
+      → Recalls u streams Client (taken + count) (records + 1) new bytes
+      (handed ++ entries.Call call ∷ [])
   call_recalled count body call new whole ok table_is =
       let h = r.here in
       record {
@@ -69,13 +54,18 @@ module _ (u : Unpacking) (streams : Streams) (taken records : ℕ) (table : List
         emits = r.emits;
         calls = table_is;
         here = (
-          h.0 ∙ cut_rest judge_call (between_records r.so_far.calls) taken count streams.client ∙ rest_accepts judge_call r.so_far.calls (take count (drop taken streams.client)) (drop (taken + count) streams.client) body call whole ok,
+          h.0 ∙ cut_rest judge_call (between_records r.so_far.calls) taken count streams.client
+              ∙ rest_accepts judge_call r.so_far.calls (take count (drop taken streams.client))
+              (drop (taken + count) streams.client) body call whole ok,
           omega (arith, h.1, length-append r.so_far.calls (call ∷ [])),
-          ap (λ (l : List Entry). l ++ entries.Call call ∷ []) h.2 ∙ sym (call_added r.so_far.entries r.so_far.calls call),
+          ap (λ (l : List Entry). l ++ entries.Call call ∷ []) h.2
+              ∙ sym (call_added r.so_far.entries r.so_far.calls call),
         );
       }
 
-  client_shows : (fault : RecordFault) → stream_end judge_call streams.client ≡ Faulty r.so_far.calls fault → ShowsFirst bytes handed (client_refusal u.connections r.so_far.calls fault).fault
+  client_shows : (fault : RecordFault)
+      → stream_end judge_call streams.client ≡ Faulty r.so_far.calls fault
+      → ShowsFirst bytes handed (client_refusal u.connections r.so_far.calls fault).fault
   client_shows fault faulty = record {
     front = r.front;
     byte = r.byte;
@@ -84,24 +74,41 @@ module _ (u : Unpacking) (streams : Streams) (taken records : ℕ) (table : List
     shown = client_refusal u.connections r.so_far.calls fault;
     split = r.split;
     runs = r.runs;
-    ends = r.ends ∙ ap (λ x. said u r.so_far (client_said u.connections u.at u.total streams.server x)) faulty;
+    ends =
+        r.ends
+        ∙ ap (λ x. said u r.so_far (client_said u.connections u.at u.total streams.server x))
+        faulty;
     is = refl;
-    emits = r.here.2 ∙ sym (append_assoc r.so_far.entries (entries.Begin ∷ []) (map entries.Call r.so_far.calls)) ∙ ap (λ (l : List Entry). l ++ map entries.Call r.so_far.calls) (sym r.emits);
+    emits =
+        r.here.2
+        ∙ sym (append_assoc r.so_far.entries (entries.Begin ∷ [])
+        (map entries.Call r.so_far.calls))
+        ∙ ap (λ (l : List Entry). l ++ map entries.Call r.so_far.calls) (sym r.emits);
   }
 
   -- the next record is refused, or too long
-  pub call_refused : (count : ℕ) (x : Joined) (fault : RecordFault) → after join_next (Runs Between) (take count (drop taken streams.client)) ≡ Stops x → recorded judge_call r.so_far.calls x ≡ Ends fault
+  pub call_refused : (count : ℕ) (x : Joined) (fault : RecordFault)
+      → after join_next (Runs Between) (take count (drop taken streams.client)) ≡ Stops x
+      → recorded judge_call r.so_far.calls x ≡ Ends fault
       → ShowsFirst bytes handed (client_refusal u.connections r.so_far.calls fault).fault
   call_refused count x fault stops ends =
       client_shows fault
-      (r.here.0 ∙ cut_rest judge_call (between_records r.so_far.calls) taken count streams.client ∙ rest_refuses judge_call r.so_far.calls (take count (drop taken streams.client)) (drop (taken + count) streams.client) x fault stops ends)
+      (r.here.0 ∙ cut_rest judge_call (between_records r.so_far.calls) taken count streams.client
+      ∙ rest_refuses judge_call r.so_far.calls (take count (drop taken streams.client))
+      (drop (taken + count) streams.client) x fault stops ends)
 
   -- a record is open where the stream ends
-  pub call_cut : (j : Joining) (fault : RecordFault) → after join_next (Runs Between) (drop taken streams.client) ≡ Runs j → left_in r.so_far.calls j ≡ Faulty r.so_far.calls fault → ShowsFirst bytes handed (client_refusal u.connections r.so_far.calls fault).fault
-  call_cut j fault runs cut = client_shows fault (r.here.0 ∙ rest_leaves judge_call r.so_far.calls (drop taken streams.client) j runs ∙ cut)
+  pub call_cut : (j : Joining) (fault : RecordFault)
+      → after join_next (Runs Between) (drop taken streams.client) ≡ Runs j
+      → left_in r.so_far.calls j ≡ Faulty r.so_far.calls fault
+      → ShowsFirst bytes handed (client_refusal u.connections r.so_far.calls fault).fault
+  call_cut j fault runs cut =
+      client_shows fault (r.here.0
+      ∙ rest_leaves judge_call r.so_far.calls (drop taken streams.client) j runs ∙ cut)
 
   -- the stream ends
-  pub turn_recalled : after join_next (Runs Between) (drop taken streams.client) ≡ Runs Between → Recalls u streams Server 0 0 table bytes (handed ++ entries.Turn ∷ [])
+  pub turn_recalled : after join_next (Runs Between) (drop taken streams.client) ≡ Runs Between
+      → Recalls u streams Server 0 0 table bytes (handed ++ entries.Turn ∷ [])
   turn_recalled runs =
       let h = r.here in
       record {
@@ -118,15 +125,21 @@ module _ (u : Unpacking) (streams : Streams) (taken records : ℕ) (table : List
           h.0 ∙ rest_leaves judge_call r.so_far.calls (drop taken streams.client) Between runs,
           refl,
           refl,
-          ap (λ (l : List Entry). l ++ entries.Turn ∷ []) h.2 ∙ append_assoc r.so_far.entries (client_entries r.so_far.calls) (entries.Turn ∷ []),
+          ap (λ (l : List Entry). l ++ entries.Turn ∷ []) h.2
+              ∙ append_assoc r.so_far.entries (client_entries r.so_far.calls) (entries.Turn ∷ []),
         );
       }
 
 -- ---- the server stream
 
-module _ (u : Unpacking) (streams : Streams) (taken records : ℕ) (table : List NumberedCall) (bytes : List ℕ) (handed : List Entry) (r : Recalls u streams Server taken records table bytes handed) where
-  pub reply_recalled : (count : ℕ) (body : List ℕ) (reply : ReplyItems) → after join_next (Runs Between) (take count (drop taken streams.server)) ≡ Stops (Whole body) → judge_reply r.so_far.calls body ≡ Ok reply
-      → Recalls u streams Server (taken + count) (records + 1) table bytes (handed ++ reply_entry reply ∷ [])
+module _ (u : Unpacking) (streams : Streams) (taken records : ℕ) (table : List NumberedCall)
+    (bytes : List ℕ) (handed : List Entry)
+    (r : Recalls u streams Server taken records table bytes handed) where
+  pub reply_recalled : (count : ℕ) (body : List ℕ) (reply : ReplyItems)
+      → after join_next (Runs Between) (take count (drop taken streams.server)) ≡ Stops (Whole body)
+      → judge_reply r.so_far.calls body ≡ Ok reply
+      → Recalls u streams Server (taken + count) (records + 1) table bytes
+      (handed ++ reply_entry reply ∷ [])
   reply_recalled count body reply whole ok =
       let h = r.here in
       record {
@@ -141,20 +154,33 @@ module _ (u : Unpacking) (streams : Streams) (taken records : ℕ) (table : List
         calls = r.calls;
         here = (
           h.0,
-          h.1 ∙ cut_rest (judge_replies r.so_far.calls) (between_records r.so_far.replies) taken count streams.server
-              ∙ rest_accepts (judge_replies r.so_far.calls) r.so_far.replies (take count (drop taken streams.server)) (drop (taken + count) streams.server) body reply whole ok,
+          h.1
+              ∙ cut_rest (judge_replies r.so_far.calls) (between_records r.so_far.replies) taken
+              count streams.server
+              ∙ rest_accepts (judge_replies r.so_far.calls) r.so_far.replies
+              (take count (drop taken streams.server)) (drop (taken + count) streams.server)
+              body reply whole ok,
           omega (arith, h.2, length-append r.so_far.replies (reply ∷ [])),
-          ap (λ (l : List Entry). l ++ reply_entry reply ∷ []) h.3 ∙ sym (reply_added r.so_far.entries r.so_far.calls r.so_far.replies reply),
+          ap (λ (l : List Entry). l ++ reply_entry reply ∷ []) h.3
+              ∙ sym (reply_added r.so_far.entries r.so_far.calls r.so_far.replies reply),
         );
       }
 
   -- what is said of both streams
-  both_said : (x : StreamEnd ReplyItems) → stream_end (judge_replies r.so_far.calls) streams.server ≡ x → file_next r.state r.byte ≡ said u r.so_far (server_said u.connections u.at u.total r.so_far.calls x)
+  both_said : (x : StreamEnd ReplyItems)
+      → stream_end (judge_replies r.so_far.calls) streams.server ≡ x
+      → file_next r.state r.byte
+      ≡ said u r.so_far (server_said u.connections u.at u.total r.so_far.calls x)
   both_said x e =
-      r.ends ∙ ap (λ y. said u r.so_far (client_said u.connections u.at u.total streams.server y)) r.here.0
+      r.ends
+      ∙ ap (λ y. said u r.so_far (client_said u.connections u.at u.total streams.server y))
+      r.here.0
       ∙ ap (λ y. said u r.so_far (server_said u.connections u.at u.total r.so_far.calls y)) e
 
-  server_shows : (fault : RecordFault) → stream_end (judge_replies r.so_far.calls) streams.server ≡ Faulty r.so_far.replies fault → ShowsFirst bytes handed (server_refusal u.connections r.so_far.calls r.so_far.replies fault).fault
+  server_shows : (fault : RecordFault)
+      → stream_end (judge_replies r.so_far.calls) streams.server ≡ Faulty r.so_far.replies fault
+      → ShowsFirst bytes handed
+      (server_refusal u.connections r.so_far.calls r.so_far.replies fault).fault
   server_shows fault faulty = record {
     front = r.front;
     byte = r.byte;
@@ -166,34 +192,63 @@ module _ (u : Unpacking) (streams : Streams) (taken records : ℕ) (table : List
     ends = both_said (Faulty r.so_far.replies fault) faulty;
     is = refl;
     emits =
-        r.here.3 ∙ sym (append_assoc r.so_far.entries (entries.Begin ∷ []) (map entries.Call r.so_far.calls ++ server_entries r.so_far.replies))
-        ∙ ap (λ (l : List Entry). l ++ (map entries.Call r.so_far.calls ++ server_entries r.so_far.replies)) (sym r.emits);
+        r.here.3
+        ∙ sym (append_assoc r.so_far.entries (entries.Begin ∷ [])
+        (map entries.Call r.so_far.calls ++ server_entries r.so_far.replies))
+        ∙ ap
+        (λ (l : List Entry).
+        l ++ (map entries.Call r.so_far.calls ++ server_entries r.so_far.replies))
+        (sym r.emits);
   }
 
-  pub reply_refused : (count : ℕ) (x : Joined) (fault : RecordFault) → after join_next (Runs Between) (take count (drop taken streams.server)) ≡ Stops x → recorded (judge_replies r.so_far.calls) r.so_far.replies x ≡ Ends fault
-      → ShowsFirst bytes handed (server_refusal u.connections r.so_far.calls r.so_far.replies fault).fault
+  pub reply_refused : (count : ℕ) (x : Joined) (fault : RecordFault)
+      → after join_next (Runs Between) (take count (drop taken streams.server)) ≡ Stops x
+      → recorded (judge_replies r.so_far.calls) r.so_far.replies x ≡ Ends fault
+      → ShowsFirst bytes handed
+      (server_refusal u.connections r.so_far.calls r.so_far.replies fault).fault
   reply_refused count x fault stops ends =
       server_shows fault
-      (r.here.1 ∙ cut_rest (judge_replies r.so_far.calls) (between_records r.so_far.replies) taken count streams.server
-      ∙ rest_refuses (judge_replies r.so_far.calls) r.so_far.replies (take count (drop taken streams.server)) (drop (taken + count) streams.server) x fault stops ends)
+      (r.here.1
+      ∙ cut_rest (judge_replies r.so_far.calls) (between_records r.so_far.replies) taken count
+      streams.server
+      ∙ rest_refuses (judge_replies r.so_far.calls) r.so_far.replies
+      (take count (drop taken streams.server)) (drop (taken + count) streams.server) x fault
+      stops ends)
 
-  pub reply_cut : (j : Joining) (fault : RecordFault) → after join_next (Runs Between) (drop taken streams.server) ≡ Runs j → left_in r.so_far.replies j ≡ Faulty r.so_far.replies fault
-      → ShowsFirst bytes handed (server_refusal u.connections r.so_far.calls r.so_far.replies fault).fault
-  reply_cut j fault runs cut = server_shows fault (r.here.1 ∙ rest_leaves (judge_replies r.so_far.calls) r.so_far.replies (drop taken streams.server) j runs ∙ cut)
+  pub reply_cut : (j : Joining) (fault : RecordFault)
+      → after join_next (Runs Between) (drop taken streams.server) ≡ Runs j
+      → left_in r.so_far.replies j ≡ Faulty r.so_far.replies fault
+      → ShowsFirst bytes handed
+      (server_refusal u.connections r.so_far.calls r.so_far.replies fault).fault
+  reply_cut j fault runs cut =
+      server_shows fault (r.here.1
+      ∙ rest_leaves (judge_replies r.so_far.calls) r.so_far.replies
+      (drop taken streams.server) j runs ∙ cut)
 
   -- the connection ends: the machine runs on, at a connection word
   pub close_recalled : after join_next (Runs Between) (drop taken streams.server) ≡ Runs Between
-      → (parsed bytes ≡ Runs (parsing_in Two u.at u.total u.connections (connection_closed r.so_far).entries (parsing.Mark []))) × (handed ++ entries.Close ∷ [] ≡ (connection_closed r.so_far).entries)
+      → (parsed bytes
+      ≡ Runs (parsing_in Two u.at u.total u.connections (connection_closed r.so_far).entries
+      (parsing.Mark [])))
+      × (handed ++ entries.Close ∷ [] ≡ (connection_closed r.so_far).entries)
   close_recalled runs = (
-    ap parsed r.split ∙ after-append file_next (Runs file_start) r.front (r.byte ∷ []) ∙ ap (λ run. after file_next run (r.byte ∷ [])) r.runs
-        ∙ ap landed (both_said (Held r.so_far.replies) (r.here.1 ∙ rest_leaves (judge_replies r.so_far.calls) r.so_far.replies (drop taken streams.server) Between runs)),
-    ap (λ (l : List Entry). l ++ entries.Close ∷ []) r.here.3 ∙ append_assoc r.so_far.entries (client_entries r.so_far.calls ++ server_entries r.so_far.replies) (entries.Close ∷ []),
+    ap parsed r.split ∙ after-append file_next (Runs file_start) r.front (r.byte ∷ [])
+        ∙ ap (λ run. after file_next run (r.byte ∷ [])) r.runs
+        ∙ ap landed (both_said (Held r.so_far.replies) (r.here.1
+        ∙ rest_leaves (judge_replies r.so_far.calls) r.so_far.replies
+        (drop taken streams.server) Between runs)),
+    ap (λ (l : List Entry). l ++ entries.Close ∷ []) r.here.3
+        ∙ append_assoc r.so_far.entries
+        (client_entries r.so_far.calls ++ server_entries r.so_far.replies) (entries.Close ∷ []),
   )
 
 -- ---- a fault
 
--- whatever comes after the bytes, the fault is the first, and what was handed out is what they reach
-pub first_of : (bytes rest : List ℕ) (handed : List Entry) (fault : Fault) → AreBytes bytes → ShowsFirst bytes handed fault → FirstFault (bytes ++ rest) fault × Reached (bytes ++ rest) handed
+-- whatever comes after the bytes, the fault is the first, and what was handed out is what they
+-- reach
+pub first_of : (bytes rest : List ℕ) (handed : List Entry) (fault : Fault) → AreBytes bytes
+    → ShowsFirst bytes handed fault
+    → FirstFault (bytes ++ rest) fault × Reached (bytes ++ rest) handed
 first_of bytes rest handed fault are s = (
   inl (s.front ++ s.byte ∷ [], s.back ++ rest, s.shown, split, shows, s.is),
   inr (
@@ -207,7 +262,8 @@ first_of bytes rest handed fault are s = (
       clean = clean_from_runs s.front s.state s.runs;
       longest = inr (s.byte, s.back ++ rest, s.shown, refl, shows, refl);
     },
-    stands_whole s.front s.state (told s.front (Runs s.state) (split_bytes bytes s.front (s.byte ∷ s.back) s.split are).0 s.runs),
+    stands_whole s.front s.state (told s.front (Runs s.state)
+        (split_bytes bytes s.front (s.byte ∷ s.back) s.split are).0 s.runs),
     s.emits,
   ),
 )
@@ -222,14 +278,21 @@ first_of bytes rest handed fault are s = (
     split = cut ∙ sym (append_assoc s.front (s.byte ∷ []) (s.back ++ rest))
 
     stops : parsed (s.front ++ s.byte ∷ []) ≡ Stops s.shown
-    stops = after-append file_next (Runs file_start) s.front (s.byte ∷ []) ∙ ap (λ r. after file_next r (s.byte ∷ [])) s.runs ∙ ap landed s.ends
+    stops =
+        after-append file_next (Runs file_start) s.front (s.byte ∷ [])
+        ∙ ap (λ r. after file_next r (s.byte ∷ [])) s.runs ∙ ap landed s.ends
 
     shows : Shows (s.front ++ s.byte ∷ []) s.shown
-    shows = shows_from_stops (s.front ++ s.byte ∷ []) s.shown (split_bytes bytes (s.front ++ s.byte ∷ []) s.back (s.split ∙ sym (append_assoc s.front (s.byte ∷ []) s.back)) are).0 stops
+    shows =
+        shows_from_stops (s.front ++ s.byte ∷ []) s.shown
+        (split_bytes bytes (s.front ++ s.byte ∷ []) s.back
+        (s.split ∙ sym (append_assoc s.front (s.byte ∷ []) s.back)) are).0 stops
 
     is_refused : verdict (bytes ++ rest) ≡ Err s.shown.fault
     is_refused =
-        ap (verdict_of (length (bytes ++ rest))) (ap parsed split ∙ after-append file_next (Runs file_start) (s.front ++ s.byte ∷ []) (s.back ++ rest) ∙ ap (λ r. after file_next r (s.back ++ rest)) stops)
+        ap (verdict_of (length (bytes ++ rest))) (ap parsed split
+        ∙ after-append file_next (Runs file_start) (s.front ++ s.byte ∷ []) (s.back ++ rest)
+        ∙ ap (λ r. after file_next r (s.back ++ rest)) stops)
         ∙ stays (length (bytes ++ rest)) s.shown (s.back ++ rest)
 
 -- ---- what was handed out is a front of what is reached
@@ -242,24 +305,39 @@ messages_in (Faulty messages fault) = messages
 abbrev Extends : {M : Type 0} → List M → Reading M → Type 0
 Extends {M} messages s = (more : List M) × (s.messages ≡ messages ++ more)
 
-extends_more : {M : Type 0} (before messages more : List M) (s : Reading M) → messages ≡ before ++ more → Extends messages s → Extends before s
-extends_more {M} before messages more s first (rest, is) = (more ++ rest, is ∙ ap (λ (l : List M). l ++ rest) first ∙ append_assoc before more rest)
+extends_more : {M : Type 0} (before messages more : List M) (s : Reading M)
+    → messages ≡ before ++ more → Extends messages s → Extends before s
+extends_more {M} before messages more s first (rest, is) =
+    (more ++ rest, is ∙ ap (λ (l : List M). l ++ rest) first ∙ append_assoc before more rest)
 
-stream_extends : {M : Type 0} (judge : Judge M) (bytes : List ℕ) (s : Reading M) → Extends s.messages (last_running (stream_next judge) s bytes)
+stream_extends : {M : Type 0} (judge : Judge M) (bytes : List ℕ) (s : Reading M)
+    → Extends s.messages (last_running (stream_next judge) s bytes)
 stream_extends judge [] s = ([], sym (append-nil s.messages))
-stream_extends {M} judge (byte ∷ bytes) s = by_join (join_next s.joining byte) (stream_extends judge bytes)
+stream_extends {M} judge (byte ∷ bytes) s =
+    by_join (join_next s.joining byte) (stream_extends judge bytes)
   where
-    by_judge : (x : Result M Stop) → ((t : Reading M) → Extends t.messages (last_running (stream_next judge) t bytes)) → Extends s.messages (elim (judged s.messages x) [ Goes t ↦ last_running (stream_next judge) t bytes | Ends f ↦ s ])
-    by_judge (Ok m) on = extends_more s.messages (s.messages ++ m ∷ []) (m ∷ []) (last_running (stream_next judge) (between_records (s.messages ++ m ∷ [])) bytes) refl (on (between_records (s.messages ++ m ∷ [])))
+    by_judge : (x : Result M Stop)
+        → ((t : Reading M) → Extends t.messages (last_running (stream_next judge) t bytes))
+        → Extends s.messages (elim (judged s.messages x)
+        [ Goes t ↦ last_running (stream_next judge) t bytes | Ends f ↦ s ])
+    by_judge (Ok m) on =
+        extends_more s.messages (s.messages ++ m ∷ []) (m ∷ [])
+        (last_running (stream_next judge) (between_records (s.messages ++ m ∷ [])) bytes) refl
+        (on (between_records (s.messages ++ m ∷ [])))
     by_judge (Err stop) on = ([], sym (append-nil s.messages))
 
-    by_join : (n : Next Joining Joined) → ((t : Reading M) → Extends t.messages (last_running (stream_next judge) t bytes))
-        → Extends s.messages (elim (within (λ j. record { messages = s.messages; joining = j }) (recorded judge s.messages) n) [ Goes t ↦ last_running (stream_next judge) t bytes | Ends f ↦ s ])
+    by_join : (n : Next Joining Joined)
+        → ((t : Reading M) → Extends t.messages (last_running (stream_next judge) t bytes))
+        → Extends s.messages (elim
+        (within (λ j. record { messages = s.messages; joining = j })
+        (recorded judge s.messages) n)
+        [ Goes t ↦ last_running (stream_next judge) t bytes | Ends f ↦ s ])
     by_join (Goes j) on = on (record { messages = s.messages; joining = j })
     by_join (Ends (Whole body)) on = by_judge (judge s.messages body) on
     by_join (Ends (TooLong at)) on = ([], sym (append-nil s.messages))
 
-pub rest_extends : {M : Type 0} (judge : Judge M) (s : Reading M) (rest : List ℕ) → (more : List M) × (messages_in (rest_end judge s rest) ≡ s.messages ++ more)
+pub rest_extends : {M : Type 0} (judge : Judge M) (s : Reading M) (rest : List ℕ)
+    → (more : List M) × (messages_in (rest_end judge s rest) ≡ s.messages ++ more)
 rest_extends {M} judge s rest = by_run (after (stream_next judge) (Runs s) rest) refl
   where
     last : Reading M
@@ -270,79 +348,159 @@ rest_extends {M} judge s rest = by_run (after (stream_next judge) (Runs s) rest)
     left_messages messages (Header body part) = refl
     left_messages messages (Bytes body l left) = refl
 
-    by_run : (run : Run (Reading M) RecordFault) → after (stream_next judge) (Runs s) rest ≡ run → (more : List M) × (messages_in (end_of last.messages run) ≡ s.messages ++ more)
+    by_run : (run : Run (Reading M) RecordFault) → after (stream_next judge) (Runs s) rest ≡ run
+        → (more : List M) × (messages_in (end_of last.messages run) ≡ s.messages ++ more)
     by_run (Runs t) e =
-        let same : last ≡ t = ap (last_running (stream_next judge) s) (sym (append-nil rest)) ∙ last_running-append (stream_next judge) s t rest [] e in
-        let more = stream_extends judge rest s in
-        (more.0, left_messages t.messages t.joining ∙ ap (λ (u : Reading M). u.messages) (sym same) ∙ more.1)
+        let same : last ≡ t =
+        ap (last_running (stream_next judge) s) (sym (append-nil rest))
+        ∙ last_running-append (stream_next judge) s t rest [] e in
+        let more = stream_extends judge rest s in (
+          more.0,
+          left_messages t.messages t.joining ∙ ap (λ (u : Reading M). u.messages) (sym same)
+              ∙ more.1,
+        )
     by_run (Stops fault) e = stream_extends judge rest s
     by_run (Stopped fault) e = stream_extends judge rest s
 
 -- ---- the machine runs on after a state
 
 -- whatever bytes come, what was handed out are the first entries that all reach
-module _ (u : Unpacking) (streams : Streams) (side : Side) (taken records : ℕ) (table : List NumberedCall) (bytes rest : List ℕ) (handed : List Entry) (are : AreBytes (bytes ++ rest)) (r : Recalls u streams side taken records table bytes handed) where
+module _ (u : Unpacking) (streams : Streams) (side : Side) (taken records : ℕ)
+    (table : List NumberedCall) (bytes rest : List ℕ) (handed : List Entry)
+    (are : AreBytes (bytes ++ rest))
+    (r : Recalls u streams side taken records table bytes handed) where
   -- a refusal reaches them
-  by_refusal : (shown : ShownFault) (more : List Entry) → file_next r.state r.byte ≡ Ends shown → emitted r.state ++ shown.more ≡ handed ++ more → AreFirstReached (bytes ++ rest) handed
+  by_refusal : (shown : ShownFault) (more : List Entry) → file_next r.state r.byte ≡ Ends shown
+      → emitted r.state ++ shown.more ≡ handed ++ more → AreFirstReached (bytes ++ rest) handed
   by_refusal shown more ends is = (
     more,
-    subst (Reached (bytes ++ rest)) is (first_of bytes rest (emitted r.state ++ shown.more) shown.fault (split_bytes (bytes ++ rest) bytes rest refl are).0
-        (record { front = r.front; byte = r.byte; back = []; state = r.state; shown = shown; split = r.split; runs = r.runs; ends = ends; is = refl; emits = refl })).1,
+    subst (Reached (bytes ++ rest)) is (first_of bytes rest (emitted r.state ++ shown.more)
+        shown.fault (split_bytes (bytes ++ rest) bytes rest refl are).0
+        (record {
+          front = r.front;
+          byte = r.byte;
+          back = [];
+          state = r.state;
+          shown = shown;
+          split = r.split;
+          runs = r.runs;
+          ends = ends;
+          is = refl;
+          emits = refl;
+        })).1,
   )
 
   -- and so does the end of the connection
-  by_close : (calls : List (List Item)) (replies : List ReplyItems) (more : List Entry) → file_next r.state r.byte ≡ said u r.so_far (server_said u.connections u.at u.total calls (Held replies))
-      → r.so_far.entries ++ connection_entries calls replies ≡ handed ++ more → AreFirstReached (bytes ++ rest) handed
+  by_close : (calls : List (List Item)) (replies : List ReplyItems) (more : List Entry)
+      → file_next r.state r.byte
+      ≡ said u r.so_far (server_said u.connections u.at u.total calls (Held replies))
+      → r.so_far.entries ++ connection_entries calls replies ≡ handed ++ more
+      → AreFirstReached (bytes ++ rest) handed
   by_close calls replies more ends is =
-      let v : Unpacking = record { at = u.at; total = u.total; connections = u.connections; records = 0; opened = Mark Two []; joining = Between } in
-      let k : Judged = record { start = 0; before = 0; entries = r.so_far.entries ++ connection_entries calls replies; calls = []; replies = [] } in
+      let v : Unpacking =
+      record {
+        at = u.at;
+        total = u.total;
+        connections = u.connections;
+        records = 0;
+        opened = Mark Two [];
+        joining = Between;
+      } in
+      let k : Judged =
+      record {
+        start = 0;
+        before = 0;
+        entries = r.so_far.entries ++ connection_entries calls replies;
+        calls = [];
+        replies = [];
+      } in
       let runs : parsed bytes ≡ Runs (parsing_at v k) =
-      ap parsed r.split ∙ after-append file_next (Runs file_start) r.front (r.byte ∷ []) ∙ ap (λ run. after file_next run (r.byte ∷ [])) r.runs ∙ ap landed ends in
-      let first = first_reached_at bytes rest v k are refl runs in
-      (more ++ first.0, subst (Reached (bytes ++ rest)) (ap (λ (l : List Entry). l ++ first.0) is ∙ append_assoc handed more first.0) first.1)
+      ap parsed r.split ∙ after-append file_next (Runs file_start) r.front (r.byte ∷ [])
+      ∙ ap (λ run. after file_next run (r.byte ∷ [])) r.runs ∙ ap landed ends in
+      let first = first_reached_at bytes rest v k are refl runs in (
+        more ++ first.0,
+        subst (Reached (bytes ++ rest))
+            (ap (λ (l : List Entry). l ++ first.0) is ∙ append_assoc handed more first.0) first.1,
+      )
 
-  by_server : (calls : List (List Item)) (before : List Entry) (more : List Entry) (x : StreamEnd ReplyItems) → file_next r.state r.byte ≡ said u r.so_far (server_said u.connections u.at u.total calls x)
-      → r.so_far.entries ++ (client_entries calls ++ server_entries (messages_in x)) ≡ handed ++ more → AreFirstReached (bytes ++ rest) handed
+  by_server : (calls : List (List Item)) (before : List Entry) (more : List Entry)
+      (x : StreamEnd ReplyItems)
+      → file_next r.state r.byte ≡ said u r.so_far (server_said u.connections u.at u.total calls x)
+      → r.so_far.entries ++ (client_entries calls ++ server_entries (messages_in x))
+      ≡ handed ++ more → AreFirstReached (bytes ++ rest) handed
   by_server calls before more (Held replies) ends is =
       by_close calls replies (more ++ entries.Close ∷ []) ends
-      (sym (append_assoc r.so_far.entries (client_entries calls ++ server_entries replies) (entries.Close ∷ [])) ∙ ap (λ (l : List Entry). l ++ entries.Close ∷ []) is ∙ append_assoc handed more (entries.Close ∷ []))
+      (sym (append_assoc r.so_far.entries (client_entries calls ++ server_entries replies)
+      (entries.Close ∷ [])) ∙ ap (λ (l : List Entry). l ++ entries.Close ∷ []) is
+      ∙ append_assoc handed more (entries.Close ∷ []))
   by_server calls before more (Faulty replies fault) ends is =
       by_refusal (server_refusal u.connections calls replies fault) more ends
-      (ap (λ (l : List Entry). l ++ (map entries.Call calls ++ server_entries replies)) r.emits ∙ append_assoc r.so_far.entries (entries.Begin ∷ []) (map entries.Call calls ++ server_entries replies) ∙ is)
+      (ap (λ (l : List Entry). l ++ (map entries.Call calls ++ server_entries replies)) r.emits
+      ∙ append_assoc r.so_far.entries (entries.Begin ∷ [])
+      (map entries.Call calls ++ server_entries replies) ∙ is)
 
-  by_client : (x : StreamEnd (List Item)) → stream_end judge_call streams.client ≡ x → (more : List Entry) → r.so_far.entries ++ client_entries (messages_in x) ≡ handed ++ more → AreFirstReached (bytes ++ rest) handed
+  by_client : (x : StreamEnd (List Item)) → stream_end judge_call streams.client ≡ x
+      → (more : List Entry) → r.so_far.entries ++ client_entries (messages_in x) ≡ handed ++ more
+      → AreFirstReached (bytes ++ rest) handed
   by_client (Held calls) e more is =
       let x = stream_end (judge_replies calls) streams.server in
-      by_server calls [] (more ++ server_entries (messages_in x)) x (r.ends ∙ ap (λ y. said u r.so_far (client_said u.connections u.at u.total streams.server y)) e)
-      (sym (append_assoc r.so_far.entries (client_entries calls) (server_entries (messages_in x))) ∙ ap (λ (l : List Entry). l ++ server_entries (messages_in x)) is ∙ append_assoc handed more (server_entries (messages_in x)))
+      by_server calls [] (more ++ server_entries (messages_in x)) x (r.ends
+      ∙ ap (λ y. said u r.so_far (client_said u.connections u.at u.total streams.server y))
+      e)
+      (sym (append_assoc r.so_far.entries (client_entries calls) (server_entries (messages_in x)))
+      ∙ ap (λ (l : List Entry). l ++ server_entries (messages_in x)) is
+      ∙ append_assoc handed more (server_entries (messages_in x)))
   by_client (Faulty calls fault) e more is =
-      by_refusal (client_refusal u.connections calls fault) more (r.ends ∙ ap (λ y. said u r.so_far (client_said u.connections u.at u.total streams.server y)) e)
-      (ap (λ (l : List Entry). l ++ map entries.Call calls) r.emits ∙ append_assoc r.so_far.entries (entries.Begin ∷ []) (map entries.Call calls) ∙ is)
+      by_refusal (client_refusal u.connections calls fault) more (r.ends
+      ∙ ap (λ y. said u r.so_far (client_said u.connections u.at u.total streams.server y))
+      e)
+      (ap (λ (l : List Entry). l ++ map entries.Call calls) r.emits
+      ∙ append_assoc r.so_far.entries (entries.Begin ∷ []) (map entries.Call calls) ∙ is)
 
 -- with more calls, more entries
-more_calls : (before : List Entry) (calls all more : List (List Item)) → all ≡ calls ++ more → before ++ client_entries all ≡ (before ++ client_entries calls) ++ map entries.Call more
+more_calls : (before : List Entry) (calls all more : List (List Item)) → all ≡ calls ++ more
+    → before ++ client_entries all ≡ (before ++ client_entries calls) ++ map entries.Call more
 more_calls before calls all more is =
-    ap (λ (l : List (List Item)). before ++ client_entries l) is ∙ ap (λ (l : List Entry). before ++ (entries.Begin ∷ l)) (map-append entries.Call calls more) ∙ sym (append_assoc before (client_entries calls) (map entries.Call more))
+    ap (λ (l : List (List Item)). before ++ client_entries l) is
+    ∙ ap (λ (l : List Entry). before ++ (entries.Begin ∷ l))
+    (map-append entries.Call calls more)
+    ∙ sym (append_assoc before (client_entries calls) (map entries.Call more))
 
-more_replies : (before : List Entry) (calls : List (List Item)) (replies all more : List ReplyItems) → all ≡ replies ++ more
-    → before ++ (client_entries calls ++ server_entries all) ≡ (before ++ (client_entries calls ++ server_entries replies)) ++ map reply_entry more
+more_replies : (before : List Entry) (calls : List (List Item)) (replies all more : List ReplyItems)
+    → all ≡ replies ++ more
+    → before ++ (client_entries calls ++ server_entries all)
+    ≡ (before ++ (client_entries calls ++ server_entries replies)) ++ map reply_entry more
 more_replies before calls replies all more is =
     ap (λ (l : List ReplyItems). before ++ (client_entries calls ++ server_entries l)) is
-    ∙ ap (λ (l : List Entry). before ++ (client_entries calls ++ (entries.Turn ∷ l))) (map-append reply_entry replies more)
-    ∙ ap (λ (l : List Entry). before ++ l) (sym (append_assoc (client_entries calls) (server_entries replies) (map reply_entry more)))
-    ∙ sym (append_assoc before (client_entries calls ++ server_entries replies) (map reply_entry more))
+    ∙ ap (λ (l : List Entry). before ++ (client_entries calls ++ (entries.Turn ∷ l)))
+    (map-append reply_entry replies more)
+    ∙ ap (λ (l : List Entry). before ++ l)
+    (sym (append_assoc (client_entries calls) (server_entries replies) (map reply_entry more)))
+    ∙ sym (append_assoc before (client_entries calls ++ server_entries replies)
+    (map reply_entry more))
 
-pub recalled_first : (u : Unpacking) (streams : Streams) (side : Side) (taken records : ℕ) (table : List NumberedCall) (bytes rest : List ℕ) (handed : List Entry) → AreBytes (bytes ++ rest) → Recalls u streams side taken records table bytes handed
+pub recalled_first : (u : Unpacking) (streams : Streams) (side : Side) (taken records : ℕ)
+    (table : List NumberedCall) (bytes rest : List ℕ) (handed : List Entry)
+    → AreBytes (bytes ++ rest) → Recalls u streams side taken records table bytes handed
     → AreFirstReached (bytes ++ rest) handed
 recalled_first u streams Client taken records table bytes rest handed are r =
     let j = r.so_far in
     let more = rest_extends judge_call (between_records j.calls) (drop taken streams.client) in
-    by_client u streams Client taken records table bytes rest handed are r (rest_end judge_call (between_records j.calls) (drop taken streams.client)) r.here.0 (map entries.Call more.0)
-    (more_calls j.entries j.calls (messages_in (rest_end judge_call (between_records j.calls) (drop taken streams.client))) more.0 more.1 ∙ ap (λ (l : List Entry). l ++ map entries.Call more.0) (sym r.here.2))
+    by_client u streams Client taken records table bytes rest handed are r
+    (rest_end judge_call (between_records j.calls) (drop taken streams.client)) r.here.0
+    (map entries.Call more.0)
+    (more_calls j.entries j.calls
+    (messages_in
+    (rest_end judge_call (between_records j.calls) (drop taken streams.client))) more.0
+    more.1 ∙ ap (λ (l : List Entry). l ++ map entries.Call more.0) (sym r.here.2))
 recalled_first u streams Server taken records table bytes rest handed are r =
     let j = r.so_far in
-    let x = rest_end (judge_replies j.calls) (between_records j.replies) (drop taken streams.server) in
-    let more = rest_extends (judge_replies j.calls) (between_records j.replies) (drop taken streams.server) in
-    by_server u streams Server taken records table bytes rest handed are r j.calls [] (map reply_entry more.0) x
+    let x =
+    rest_end (judge_replies j.calls) (between_records j.replies) (drop taken streams.server) in
+    let more =
+    rest_extends (judge_replies j.calls) (between_records j.replies) (drop taken streams.server) in
+    by_server u streams Server taken records table bytes rest handed are r j.calls []
+    (map reply_entry more.0) x
     (both_said u streams taken records table bytes handed r x r.here.1)
-    (more_replies j.entries j.calls j.replies (messages_in x) more.0 more.1 ∙ ap (λ (l : List Entry). l ++ map reply_entry more.0) (sym r.here.3))
+    (more_replies j.entries j.calls j.replies (messages_in x) more.0 more.1
+    ∙ ap (λ (l : List Entry). l ++ map reply_entry more.0) (sym r.here.3))

@@ -1,30 +1,16 @@
 -- Positions, as the machine has them: a word's bytes at once.
 use Rattle.std.proofs.Math.Seq.{drop-cons, take-suc}
 use Rattle.std.proofs.lemmas.Bool.{ne_eqb}
-use Rattle.record_mark.proofs.Machines.{after-append}
-use Rattle.std.proofs.Common.{◌≢◌, drop, get_or, add-one, eq-eqb, Result, Ok, Err, IfOk, ◌≡◌, ℕ, zero, suc, ◌+◌, ◌<◌, ◌≤◌, List, [], ◌∷◌, length, take, refl, ap, ◌∙◌, arith, cond, lt-ltb, le-ltb}
-use Rattle.xdr3.specs.declared.reason.Reason.TheVariants.{BadMagic, BadMark, TooManyBytes, TooManyConnections}
-use Rattle.record_mark.specs.Machine.{Next, Goes, Ends, Runs, after, landed}
-use Rattle.record_mark.specs.Joining.{Joining}
-use Rattle.capture3.specs.declared.fault.Error.{Error}
+use Rattle.capture3.proofs.Common.{after-append, BadMagic, BadMark, TooManyBytes, TooManyConnections, Next, Goes, Ends, Runs, after, landed, Joining, Error, Side, Begin, Spot, Version, One, Two, Streams, ◌≢◌, drop, get_or, add-one, eq-eqb, Result, Ok, Err, IfOk, ◌≡◌, ℕ, zero, suc, ◌+◌, ◌<◌, ◌≤◌, List, [], ◌∷◌, length, take, refl, ap, ◌∙◌, arith, cond, lt-ltb, le-ltb, Transition, File, MAGIC, WordPart}
 use Rattle.capture3.specs.declared.fault.Error.TheVariants.{Refused}
 use Rattle.capture3.specs.declared.fault.Error.TheVariants as errors
-use Rattle.capture3.specs.declared.fault.Side.{Side}
-use Rattle.capture3.specs.declared.container.position.Event.TheVariants.{Begin}
-use Rattle.capture3.specs.declared.container.position.Transition.{Transition}
 use Rattle.capture3.specs.declared.container.position.Position.{Position}
-use Rattle.capture3.specs.declared.container.position.Spot.{Spot}
 use Rattle.capture3.specs.declared.container.position.Spot.TheVariants.{Magic, Digit, Mark, Length, Side as SideSpot, SideLength}
-use Rattle.capture3.specs.declared.fault.Place.TheVariants.{File}
-use Rattle.capture3.specs.declared.container.position.TheConstants.{MAGIC}
-use Rattle.record_mark.specs.declared.word_part.WordPart.{WordPart}
 use Rattle.record_mark.specs.declared.word_part.Word.TheVariants.{Part, Whole}
 use Rattle.record_mark.specs.WordPart.{bytes_so_far, TakesWord}
 use Rattle.record_mark.proofs.WordParts.{short_part}
 use Rattle.capture3.specs.declared.container.position.Version as declared
 use Rattle.capture3.specs.machinery.ContainerMachine.{Unpacking, Unpacked, Has, at_byte, before_mark, begun_at, chunk_counted, in_chunk, left_of_magic, connection_marked, sides_counted, sides_marked, unpack_next}
-use Rattle.capture3.specs.Capture.{Version, One, Two}
-use Rattle.capture3.specs.SidedChunks.{Streams}
 use Rattle.capture3.specs.machinery.Position.{unpacking_at, version_of, Lands, Moves, ShowsFault}
 use Rattle.capture3.proofs.Lemmas.Container.ContainerMachineLemmas.{mark_goes_on, mark_ends, length_goes_on, length_ends, side_goes_on, side_ends, side_length_goes_on, side_length_ends}
 
@@ -32,95 +18,167 @@ use Rattle.capture3.proofs.Lemmas.Container.ContainerMachineLemmas.{mark_goes_on
 abbrev pub with_spot : Position → Spot → Position
 with_spot p spot = record p { spot = spot }
 
-pub at_spot : (p : Position) (streams : Streams) (joining : Joining) (spot : Spot) → p.spot ≡ spot → unpacking_at p streams joining ≡ unpacking_at (with_spot p spot) streams joining
+pub at_spot : (p : Position) (streams : Streams) (joining : Joining) (spot : Spot) → p.spot ≡ spot
+    → unpacking_at p streams joining ≡ unpacking_at (with_spot p spot) streams joining
 at_spot p streams joining spot is =
     ap (λ (s : Spot). unpacking_at (with_spot p s) streams joining) is
 
-pub mark_part : (p : Position) (streams : Streams) (joining : Joining) (version : declared.Version) (part longer : WordPart) (bytes : List ℕ) (count : ℕ) → p.spot ≡ Mark version part → TakesWord part bytes count (Part longer)
-    → after unpack_next (Runs (unpacking_at p streams joining)) (take count bytes) ≡ Runs (unpacking_at (with_spot p (Mark version longer)) streams joining)
+pub mark_part : (p : Position) (streams : Streams) (joining : Joining) (version : declared.Version)
+    (part longer : WordPart) (bytes : List ℕ) (count : ℕ) → p.spot ≡ Mark version part
+    → TakesWord part bytes count (Part longer)
+    → after unpack_next (Runs (unpacking_at p streams joining)) (take count bytes)
+    ≡ Runs (unpacking_at (with_spot p (Mark version longer)) streams joining)
 mark_part p streams joining version part longer bytes count is word =
-    ap (λ (u : Unpacking). after unpack_next (Runs u) (take count bytes)) (at_spot p streams joining (Mark version part) is)
-    ∙ mark_goes_on (version_of version) p.at p.total p.connections p.records joining (bytes_so_far part) (take count bytes) (bytes_so_far longer) word.0 (short_part part) (short_part longer)
+    ap (λ (u : Unpacking). after unpack_next (Runs u) (take count bytes))
+    (at_spot p streams joining (Mark version part) is)
+    ∙ mark_goes_on (version_of version) p.at p.total p.connections p.records joining
+    (bytes_so_far part) (take count bytes) (bytes_so_far longer) word.0 (short_part part)
+    (short_part longer)
 
-pub mark_whole : (p : Position) (streams : Streams) (joining : Joining) (version : declared.Version) (part : WordPart) (bytes : List ℕ) (count n : ℕ) → p.spot ≡ Mark version part → TakesWord part bytes count (Whole n)
-    → after unpack_next (Runs (unpacking_at p streams joining)) (take count bytes) ≡ landed (connection_marked (version_of version) p.at p.total p.connections p.records joining n)
+pub mark_whole : (p : Position) (streams : Streams) (joining : Joining) (version : declared.Version)
+    (part : WordPart) (bytes : List ℕ) (count n : ℕ) → p.spot ≡ Mark version part
+    → TakesWord part bytes count (Whole n)
+    → after unpack_next (Runs (unpacking_at p streams joining)) (take count bytes)
+    ≡ landed
+    (connection_marked (version_of version) p.at p.total p.connections p.records joining n)
 mark_whole p streams joining version part bytes count n is word =
-    ap (λ (u : Unpacking). after unpack_next (Runs u) (take count bytes)) (at_spot p streams joining (Mark version part) is)
-    ∙ mark_ends (version_of version) p.at p.total p.connections p.records joining (bytes_so_far part) (take count bytes) n (short_part part) word
+    ap (λ (u : Unpacking). after unpack_next (Runs u) (take count bytes))
+    (at_spot p streams joining (Mark version part) is)
+    ∙ mark_ends (version_of version) p.at p.total p.connections p.records joining
+    (bytes_so_far part) (take count bytes) n (short_part part) word
 
-pub length_part : (p : Position) (streams : Streams) (joining : Joining) (side : Side) (part longer : WordPart) (bytes : List ℕ) (count : ℕ) → p.spot ≡ Length side part → TakesWord part bytes count (Part longer)
-    → after unpack_next (Runs (unpacking_at p streams joining)) (take count bytes) ≡ Runs (unpacking_at (with_spot p (Length side longer)) streams joining)
+pub length_part : (p : Position) (streams : Streams) (joining : Joining) (side : Side)
+    (part longer : WordPart) (bytes : List ℕ) (count : ℕ) → p.spot ≡ Length side part
+    → TakesWord part bytes count (Part longer)
+    → after unpack_next (Runs (unpacking_at p streams joining)) (take count bytes)
+    ≡ Runs (unpacking_at (with_spot p (Length side longer)) streams joining)
 length_part p streams joining side part longer bytes count is word =
-    ap (λ (u : Unpacking). after unpack_next (Runs u) (take count bytes)) (at_spot p streams joining (Length side part) is)
-    ∙ length_goes_on p.at p.total p.connections p.records side joining (bytes_so_far part) (take count bytes) (bytes_so_far longer) word.0 (short_part part) (short_part longer)
+    ap (λ (u : Unpacking). after unpack_next (Runs u) (take count bytes))
+    (at_spot p streams joining (Length side part) is)
+    ∙ length_goes_on p.at p.total p.connections p.records side joining (bytes_so_far part)
+    (take count bytes) (bytes_so_far longer) word.0 (short_part part) (short_part longer)
 
-pub length_whole : (p : Position) (streams : Streams) (joining : Joining) (side : Side) (part : WordPart) (bytes : List ℕ) (count n : ℕ) → p.spot ≡ Length side part → TakesWord part bytes count (Whole n)
-    → after unpack_next (Runs (unpacking_at p streams joining)) (take count bytes) ≡ landed (chunk_counted p.at p.total p.connections p.records side joining n)
+pub length_whole : (p : Position) (streams : Streams) (joining : Joining) (side : Side)
+    (part : WordPart) (bytes : List ℕ) (count n : ℕ) → p.spot ≡ Length side part
+    → TakesWord part bytes count (Whole n)
+    → after unpack_next (Runs (unpacking_at p streams joining)) (take count bytes)
+    ≡ landed (chunk_counted p.at p.total p.connections p.records side joining n)
 length_whole p streams joining side part bytes count n is word =
-    ap (λ (u : Unpacking). after unpack_next (Runs u) (take count bytes)) (at_spot p streams joining (Length side part) is)
-    ∙ length_ends p.at p.total p.connections p.records side joining (bytes_so_far part) (take count bytes) n (short_part part) word
+    ap (λ (u : Unpacking). after unpack_next (Runs u) (take count bytes))
+    (at_spot p streams joining (Length side part) is)
+    ∙ length_ends p.at p.total p.connections p.records side joining (bytes_so_far part)
+    (take count bytes) n (short_part part) word
 
-pub side_part : (p : Position) (streams : Streams) (joining : Joining) (part longer : WordPart) (bytes : List ℕ) (count : ℕ) → p.spot ≡ SideSpot part → TakesWord part bytes count (Part longer)
-    → after unpack_next (Runs (unpacking_at p streams joining)) (take count bytes) ≡ Runs (unpacking_at (with_spot p (SideSpot longer)) streams joining)
+pub side_part : (p : Position) (streams : Streams) (joining : Joining) (part longer : WordPart)
+    (bytes : List ℕ) (count : ℕ) → p.spot ≡ SideSpot part
+    → TakesWord part bytes count (Part longer)
+    → after unpack_next (Runs (unpacking_at p streams joining)) (take count bytes)
+    ≡ Runs (unpacking_at (with_spot p (SideSpot longer)) streams joining)
 side_part p streams joining part longer bytes count is word =
-    ap (λ (u : Unpacking). after unpack_next (Runs u) (take count bytes)) (at_spot p streams joining (SideSpot part) is)
-    ∙ side_goes_on p.at p.total p.connections p.records streams joining (bytes_so_far part) (take count bytes) (bytes_so_far longer) word.0 (short_part part) (short_part longer)
+    ap (λ (u : Unpacking). after unpack_next (Runs u) (take count bytes))
+    (at_spot p streams joining (SideSpot part) is)
+    ∙ side_goes_on p.at p.total p.connections p.records streams joining (bytes_so_far part)
+    (take count bytes) (bytes_so_far longer) word.0 (short_part part) (short_part longer)
 
-pub side_whole : (p : Position) (streams : Streams) (joining : Joining) (part : WordPart) (bytes : List ℕ) (count n : ℕ) → p.spot ≡ SideSpot part → TakesWord part bytes count (Whole n)
-    → after unpack_next (Runs (unpacking_at p streams joining)) (take count bytes) ≡ landed (sides_marked p.at p.total p.connections p.records streams joining n)
+pub side_whole : (p : Position) (streams : Streams) (joining : Joining) (part : WordPart)
+    (bytes : List ℕ) (count n : ℕ) → p.spot ≡ SideSpot part
+    → TakesWord part bytes count (Whole n)
+    → after unpack_next (Runs (unpacking_at p streams joining)) (take count bytes)
+    ≡ landed (sides_marked p.at p.total p.connections p.records streams joining n)
 side_whole p streams joining part bytes count n is word =
-    ap (λ (u : Unpacking). after unpack_next (Runs u) (take count bytes)) (at_spot p streams joining (SideSpot part) is)
-    ∙ side_ends p.at p.total p.connections p.records streams joining (bytes_so_far part) (take count bytes) n (short_part part) word
+    ap (λ (u : Unpacking). after unpack_next (Runs u) (take count bytes))
+    (at_spot p streams joining (SideSpot part) is)
+    ∙ side_ends p.at p.total p.connections p.records streams joining (bytes_so_far part)
+    (take count bytes) n (short_part part) word
 
-pub side_length_part : (p : Position) (streams : Streams) (joining : Joining) (side : Side) (part longer : WordPart) (bytes : List ℕ) (count : ℕ) → p.spot ≡ SideLength side part → TakesWord part bytes count (Part longer)
-    → after unpack_next (Runs (unpacking_at p streams joining)) (take count bytes) ≡ Runs (unpacking_at (with_spot p (SideLength side longer)) streams joining)
+pub side_length_part : (p : Position) (streams : Streams) (joining : Joining) (side : Side)
+    (part longer : WordPart) (bytes : List ℕ) (count : ℕ) → p.spot ≡ SideLength side part
+    → TakesWord part bytes count (Part longer)
+    → after unpack_next (Runs (unpacking_at p streams joining)) (take count bytes)
+    ≡ Runs (unpacking_at (with_spot p (SideLength side longer)) streams joining)
 side_length_part p streams joining side part longer bytes count is word =
-    ap (λ (u : Unpacking). after unpack_next (Runs u) (take count bytes)) (at_spot p streams joining (SideLength side part) is)
-    ∙ side_length_goes_on p.at p.total p.connections p.records streams side joining (bytes_so_far part) (take count bytes) (bytes_so_far longer) word.0 (short_part part) (short_part longer)
+    ap (λ (u : Unpacking). after unpack_next (Runs u) (take count bytes))
+    (at_spot p streams joining (SideLength side part) is)
+    ∙ side_length_goes_on p.at p.total p.connections p.records streams side joining
+    (bytes_so_far part) (take count bytes) (bytes_so_far longer) word.0 (short_part part)
+    (short_part longer)
 
-pub side_length_whole : (p : Position) (streams : Streams) (joining : Joining) (side : Side) (part : WordPart) (bytes : List ℕ) (count n : ℕ) → p.spot ≡ SideLength side part → TakesWord part bytes count (Whole n)
-    → after unpack_next (Runs (unpacking_at p streams joining)) (take count bytes) ≡ landed (sides_counted p.at p.total p.connections p.records streams side joining n)
+pub side_length_whole : (p : Position) (streams : Streams) (joining : Joining) (side : Side)
+    (part : WordPart) (bytes : List ℕ) (count n : ℕ) → p.spot ≡ SideLength side part
+    → TakesWord part bytes count (Whole n)
+    → after unpack_next (Runs (unpacking_at p streams joining)) (take count bytes)
+    ≡ landed (sides_counted p.at p.total p.connections p.records streams side joining n)
 side_length_whole p streams joining side part bytes count n is word =
-    ap (λ (u : Unpacking). after unpack_next (Runs u) (take count bytes)) (at_spot p streams joining (SideLength side part) is)
-    ∙ side_length_ends p.at p.total p.connections p.records streams side joining (bytes_so_far part) (take count bytes) n (short_part part) word
+    ap (λ (u : Unpacking). after unpack_next (Runs u) (take count bytes))
+    (at_spot p streams joining (SideLength side part) is)
+    ∙ side_length_ends p.at p.total p.connections p.records streams side joining (bytes_so_far part)
+    (take count bytes) n (short_part part) word
 
 -- what a whole word leads to, the bytes taken lead to
-pub lands_moves : (from : Unpacking) (bytes : List ℕ) (streams : Streams) (joining : Joining) (count : ℕ) (next : Next Unpacking Unpacked) (r : Result Transition Error) → count ≤ length bytes
-    → after unpack_next (Runs from) (take count bytes) ≡ landed next → IfOk r (λ t. t.count ≡ count) → Lands next streams joining r → Moves from bytes streams joining r
-lands_moves from bytes streams joining count next (Ok t) fits led same lands = ap (λ (n : ℕ). after unpack_next (Runs from) (take n bytes)) same ∙ led ∙ lands
-lands_moves from bytes streams joining count next (Err (Refused fault)) fits led same lands = (count, fits, led ∙ ap landed lands)
+pub lands_moves : (from : Unpacking) (bytes : List ℕ) (streams : Streams) (joining : Joining)
+    (count : ℕ) (next : Next Unpacking Unpacked) (r : Result Transition Error)
+    → count ≤ length bytes
+    → after unpack_next (Runs from) (take count bytes) ≡ landed next → IfOk r (λ t. t.count ≡ count)
+    → Lands next streams joining r → Moves from bytes streams joining r
+lands_moves from bytes streams joining count next (Ok t) fits led same lands =
+    ap (λ (n : ℕ). after unpack_next (Runs from) (take n bytes)) same ∙ led ∙ lands
+lands_moves from bytes streams joining count next (Err (Refused fault)) fits led same lands =
+    (count, fits, led ∙ ap landed lands)
 lands_moves from bytes streams joining count next (Err errors.Read) fits led same lands = lands
 lands_moves from bytes streams joining count next (Err errors.Write) fits led same lands = lands
 lands_moves from bytes streams joining count next (Err errors.Memory) fits led same lands = lands
 
 -- ---- what whole words lead to
 
-pub marked_bad : (version : Version) (at total connections records : ℕ) (joining : Joining) (n : ℕ) → 1 < n → connection_marked version at total connections records joining n ≡ Ends (at_byte at BadMark)
+pub marked_bad : (version : Version) (at total connections records : ℕ) (joining : Joining) (n : ℕ)
+    → 1 < n
+    → connection_marked version at total connections records joining n ≡ Ends (at_byte at BadMark)
 marked_bad version at total connections records joining zero h = absurd (omega arith)
 marked_bad version at total connections records joining (suc zero) h = absurd (omega arith)
 marked_bad version at total connections records joining (suc (suc n)) h = refl
 
-pub marked_one : (version : Version) (at total connections records : ℕ) (joining : Joining) → connections < 65535
-    → connection_marked version at total connections records joining 1 ≡ Ends (Has Begin [] (begun_at version at total (connections + 1) joining))
+pub marked_one : (version : Version) (at total connections records : ℕ) (joining : Joining)
+    → connections < 65535
+    → connection_marked version at total connections records joining 1
+    ≡ Ends (Has Begin [] (begun_at version at total (connections + 1) joining))
 marked_one version at total connections records joining few =
-    ap (λ b. cond b (Ends (Has Begin [] (begun_at version at total (connections + 1) joining))) (Ends (at_byte at TooManyConnections))) (lt-ltb connections 65535 few)
+    ap
+    (λ b.
+    cond b (Ends (Has Begin [] (begun_at version at total (connections + 1) joining)))
+    (Ends (at_byte at TooManyConnections))) (lt-ltb connections 65535 few)
 
-pub marked_many : (version : Version) (at total connections records : ℕ) (joining : Joining) → 65535 ≤ connections
-    → connection_marked version at total connections records joining 1 ≡ Ends (at_byte at TooManyConnections)
+pub marked_many : (version : Version) (at total connections records : ℕ) (joining : Joining)
+    → 65535 ≤ connections
+    → connection_marked version at total connections records joining 1
+    ≡ Ends (at_byte at TooManyConnections)
 marked_many version at total connections records joining many =
-    ap (λ b. cond b (Ends (Has Begin [] (begun_at version at total (connections + 1) joining))) (Ends (at_byte at TooManyConnections))) (le-ltb connections 65535 many)
+    ap
+    (λ b.
+    cond b (Ends (Has Begin [] (begun_at version at total (connections + 1) joining)))
+    (Ends (at_byte at TooManyConnections))) (le-ltb connections 65535 many)
 
-pub counted_over : (at total connections records : ℕ) (side : Side) (joining : Joining) (n : ℕ) → 0 < n → 1073741824 < total + n
+pub counted_over : (at total connections records : ℕ) (side : Side) (joining : Joining) (n : ℕ)
+    → 0 < n → 1073741824 < total + n
     → chunk_counted at total connections records side joining n ≡ Ends (at_byte at TooManyBytes)
 counted_over at total connections records side joining zero some over = absurd (omega arith)
 counted_over at total connections records side joining (suc left) some over =
-    ap (λ b. cond b (Ends (at_byte at TooManyBytes)) (Goes (in_chunk (at + 4 + suc left) (total + suc left) connections records side (suc left) joining))) (lt-ltb 1073741824 (total + suc left) over)
+    ap
+    (λ b.
+    cond b (Ends (at_byte at TooManyBytes)) (Goes (in_chunk (at + 4 + suc left)
+    (total + suc left) connections records side (suc left) joining)))
+    (lt-ltb 1073741824 (total + suc left) over)
 
-pub counted_fits : (at total connections records : ℕ) (side : Side) (joining : Joining) (n : ℕ) → 0 < n → total + n ≤ 1073741824
-    → chunk_counted at total connections records side joining n ≡ Goes (in_chunk (at + 4 + n) (total + n) connections records side n joining)
+pub counted_fits : (at total connections records : ℕ) (side : Side) (joining : Joining) (n : ℕ)
+    → 0 < n → total + n ≤ 1073741824
+    → chunk_counted at total connections records side joining n
+    ≡ Goes (in_chunk (at + 4 + n) (total + n) connections records side n joining)
 counted_fits at total connections records side joining zero some fits = absurd (omega arith)
 counted_fits at total connections records side joining (suc left) some fits =
-    ap (λ b. cond b (Ends (at_byte at TooManyBytes)) (Goes (in_chunk (at + 4 + suc left) (total + suc left) connections records side (suc left) joining))) (le-ltb 1073741824 (total + suc left) fits)
+    ap
+    (λ b.
+    cond b (Ends (at_byte at TooManyBytes)) (Goes (in_chunk (at + 4 + suc left)
+    (total + suc left) connections records side (suc left) joining)))
+    (le-ltb 1073741824 (total + suc left) fits)
 
 pub ruleset words_lead = (marked_bad, marked_one, marked_many, counted_over, counted_fits)
 
@@ -128,31 +186,70 @@ pub ruleset words_lead = (marked_bad, marked_one, marked_many, counted_over, cou
 
 -- after so many bytes of the magic
 abbrev pub in_magic : Position → Joining → ℕ → Unpacking
-in_magic p joining n = record { at = n; total = p.total; connections = p.connections; records = p.records; opened = left_of_magic (drop n MAGIC); joining = joining }
+in_magic p joining n =
+    record {
+      at = n;
+      total = p.total;
+      connections = p.connections;
+      records = p.records;
+      opened = left_of_magic (drop n MAGIC);
+      joining = joining;
+    }
 
 magic_due : (p : Position) (joining : Joining) (n : ℕ) → n < 7
-    → in_magic p joining n ≡ record { at = n; total = p.total; connections = p.connections; records = p.records; opened = left_of_magic (get_or MAGIC n 0 ∷ drop (suc n) MAGIC); joining = joining }
+    → in_magic p joining n
+    ≡ record {
+      at = n;
+      total = p.total;
+      connections = p.connections;
+      records = p.records;
+      opened = left_of_magic (get_or MAGIC n 0 ∷ drop (suc n) MAGIC);
+      joining = joining;
+    }
 magic_due p joining n within =
-    ap (λ due. record { at = n; total = p.total; connections = p.connections; records = p.records; opened = left_of_magic due; joining = joining }) (drop-cons MAGIC n 0 within)
+    ap
+    (λ due.
+    record {
+      at = n;
+      total = p.total;
+      connections = p.connections;
+      records = p.records;
+      opened = left_of_magic due;
+      joining = joining;
+    }) (drop-cons MAGIC n 0 within)
 
 -- the next place, with so many bytes of the magic taken
 abbrev pub moved_on : Position → Joining → (at n : ℕ) → Unpacking
-moved_on p joining at n = record { at = at; total = p.total; connections = p.connections; records = p.records; opened = left_of_magic (drop n MAGIC); joining = joining }
+moved_on p joining at n =
+    record {
+      at = at;
+      total = p.total;
+      connections = p.connections;
+      records = p.records;
+      opened = left_of_magic (drop n MAGIC);
+      joining = joining;
+    }
 
-magic_byte : (p : Position) (joining : Joining) (n byte : ℕ) → n < 7 → byte ≡ get_or MAGIC n 0 → unpack_next (in_magic p joining n) byte ≡ Goes (in_magic p joining (suc n))
+magic_byte : (p : Position) (joining : Joining) (n byte : ℕ) → n < 7 → byte ≡ get_or MAGIC n 0
+    → unpack_next (in_magic p joining n) byte ≡ Goes (in_magic p joining (suc n))
 magic_byte p joining n byte within is =
     ap (λ u. unpack_next u byte) (magic_due p joining n within)
-    ∙ ap (λ b. cond b (Goes (moved_on p joining (n + 1) (suc n))) (Ends (at_byte n BadMagic))) (eq-eqb byte (get_or MAGIC n 0) is)
+    ∙ ap (λ b. cond b (Goes (moved_on p joining (n + 1) (suc n))) (Ends (at_byte n BadMagic)))
+    (eq-eqb byte (get_or MAGIC n 0) is)
     ∙ ap (λ at. Goes (moved_on p joining at (suc n))) (add-one n)
 
-wrong_byte : (p : Position) (joining : Joining) (n byte : ℕ) → n < 7 → byte ≢ get_or MAGIC n 0 → unpack_next (in_magic p joining n) byte ≡ Ends (at_byte n BadMagic)
+wrong_byte : (p : Position) (joining : Joining) (n byte : ℕ) → n < 7 → byte ≢ get_or MAGIC n 0
+    → unpack_next (in_magic p joining n) byte ≡ Ends (at_byte n BadMagic)
 wrong_byte p joining n byte within other =
     ap (λ u. unpack_next u byte) (magic_due p joining n within)
-    ∙ ap (λ b. cond b (Goes (moved_on p joining (n + 1) (suc n))) (Ends (at_byte n BadMagic))) (ne_eqb byte (get_or MAGIC n 0) other)
+    ∙ ap (λ b. cond b (Goes (moved_on p joining (n + 1) (suc n))) (Ends (at_byte n BadMagic)))
+    (ne_eqb byte (get_or MAGIC n 0) other)
 
 -- one byte more of these
-taken_one_more : (from : Unpacking) (bytes : List ℕ) (i : ℕ) (u : Unpacking) (n : Next Unpacking Unpacked) → i < length bytes
-    → after unpack_next (Runs from) (take i bytes) ≡ Runs u → unpack_next u (get_or bytes i 0) ≡ n → after unpack_next (Runs from) (take (i + 1) bytes) ≡ landed n
+taken_one_more : (from : Unpacking) (bytes : List ℕ) (i : ℕ) (u : Unpacking)
+    (n : Next Unpacking Unpacked) → i < length bytes
+    → after unpack_next (Runs from) (take i bytes) ≡ Runs u → unpack_next u (get_or bytes i 0) ≡ n
+    → after unpack_next (Runs from) (take (i + 1) bytes) ≡ landed n
 taken_one_more from bytes i u n within so_far next =
     ap (λ (k : ℕ). after unpack_next (Runs from) (take k bytes)) (add-one i)
     ∙ ap (after unpack_next (Runs from)) (take-suc bytes i 0 within)
@@ -162,38 +259,57 @@ taken_one_more from bytes i u n within so_far next =
 
 -- so far the bytes are those of the magic
 abbrev pub AgreeWithMagic : Position → List ℕ → ℕ → Type 0
-AgreeWithMagic p bytes i = (joining : Joining) → after unpack_next (Runs (in_magic p joining p.at)) (take i bytes) ≡ Runs (in_magic p joining (p.at + i))
+AgreeWithMagic p bytes i = (joining : Joining)
+    → after unpack_next (Runs (in_magic p joining p.at)) (take i bytes)
+    ≡ Runs (in_magic p joining (p.at + i))
 
-pub agree_more : (p : Position) (bytes : List ℕ) (i : ℕ) → p.at + i < 7 → i < length bytes → get_or bytes i 0 ≡ get_or MAGIC (p.at + i) 0 → AgreeWithMagic p bytes i → AgreeWithMagic p bytes (i + 1)
+pub agree_more : (p : Position) (bytes : List ℕ) (i : ℕ) → p.at + i < 7 → i < length bytes
+    → get_or bytes i 0 ≡ get_or MAGIC (p.at + i) 0 → AgreeWithMagic p bytes i
+    → AgreeWithMagic p bytes (i + 1)
 agree_more p bytes i due within is so_far joining =
     let next : suc (p.at + i) ≡ p.at + (i + 1) = omega arith in
-    taken_one_more (in_magic p joining p.at) bytes i (in_magic p joining (p.at + i)) (Goes (in_magic p joining (suc (p.at + i)))) within (so_far joining)
+    taken_one_more (in_magic p joining p.at) bytes i (in_magic p joining (p.at + i))
+    (Goes (in_magic p joining (suc (p.at + i)))) within (so_far joining)
     (magic_byte p joining (p.at + i) (get_or bytes i 0) due is)
     ∙ ap (λ (k : ℕ). Runs (in_magic p joining k)) next
 
-pub magic_fault : (p : Position) (streams : Streams) (joining : Joining) (bytes : List ℕ) (i : ℕ) → p.spot ≡ Magic → p.at + i < 7 → i < length bytes → get_or bytes i 0 ≢ get_or MAGIC (p.at + i) 0 → AgreeWithMagic p bytes i
-    → ShowsFault (unpacking_at p streams joining) bytes (Refused (record { place = File (p.at + i); reason = BadMagic }))
+pub magic_fault : (p : Position) (streams : Streams) (joining : Joining) (bytes : List ℕ) (i : ℕ)
+    → p.spot ≡ Magic → p.at + i < 7 → i < length bytes
+    → get_or bytes i 0 ≢ get_or MAGIC (p.at + i) 0 → AgreeWithMagic p bytes i
+    → ShowsFault (unpacking_at p streams joining) bytes
+    (Refused (record { place = File (p.at + i); reason = BadMagic }))
 magic_fault p streams joining bytes i here due within other so_far =
     let one_more : i + 1 ≤ length bytes = omega arith in (
       i + 1,
       one_more,
-      ap (λ (u : Unpacking). after unpack_next (Runs u) (take (i + 1) bytes)) (at_spot p streams joining Magic here)
-          ∙ taken_one_more (in_magic p joining p.at) bytes i (in_magic p joining (p.at + i)) (Ends (at_byte (p.at + i) BadMagic)) within (so_far joining)
+      ap (λ (u : Unpacking). after unpack_next (Runs u) (take (i + 1) bytes))
+          (at_spot p streams joining Magic here)
+          ∙ taken_one_more (in_magic p joining p.at) bytes i (in_magic p joining (p.at + i))
+          (Ends (at_byte (p.at + i) BadMagic)) within (so_far joining)
           (wrong_byte p joining (p.at + i) (get_or bytes i 0) due other),
     )
 
 -- ---- the version
 
-in_digit : (p : Position) (streams : Streams) (joining : Joining) (bytes : List ℕ) (n : ℕ) → p.spot ≡ Digit → 0 < length bytes → get_or bytes 0 0 ≡ n
-    → after unpack_next (Runs (unpacking_at p streams joining)) (take 1 bytes) ≡ landed (unpack_next (unpacking_at (with_spot p Digit) streams joining) n)
+in_digit : (p : Position) (streams : Streams) (joining : Joining) (bytes : List ℕ) (n : ℕ)
+    → p.spot ≡ Digit → 0 < length bytes → get_or bytes 0 0 ≡ n
+    → after unpack_next (Runs (unpacking_at p streams joining)) (take 1 bytes)
+    ≡ landed (unpack_next (unpacking_at (with_spot p Digit) streams joining) n)
 in_digit p streams joining [] n here some is = absurd (omega arith)
 in_digit p streams joining (byte ∷ bytes) n here some is =
-    ap (λ (u : Unpacking). after unpack_next (Runs u) (byte ∷ [])) (at_spot p streams joining Digit here) ∙ ap (λ (b : ℕ). landed (unpack_next (unpacking_at (with_spot p Digit) streams joining) b)) is
+    ap (λ (u : Unpacking). after unpack_next (Runs u) (byte ∷ []))
+    (at_spot p streams joining Digit here)
+    ∙ ap (λ (b : ℕ). landed (unpack_next (unpacking_at (with_spot p Digit) streams joining) b))
+    is
 
-pub digit_one : (p : Position) (streams : Streams) (joining : Joining) (bytes : List ℕ) → p.spot ≡ Digit → 0 < length bytes → get_or bytes 0 0 ≡ 49
-    → after unpack_next (Runs (unpacking_at p streams joining)) (take 1 bytes) ≡ Runs (before_mark One (p.at + 1) p.total p.connections p.records joining)
+pub digit_one : (p : Position) (streams : Streams) (joining : Joining) (bytes : List ℕ)
+    → p.spot ≡ Digit → 0 < length bytes → get_or bytes 0 0 ≡ 49
+    → after unpack_next (Runs (unpacking_at p streams joining)) (take 1 bytes)
+    ≡ Runs (before_mark One (p.at + 1) p.total p.connections p.records joining)
 digit_one p streams joining bytes here some is = in_digit p streams joining bytes 49 here some is
 
-pub digit_two : (p : Position) (streams : Streams) (joining : Joining) (bytes : List ℕ) → p.spot ≡ Digit → 0 < length bytes → get_or bytes 0 0 ≡ 50
-    → after unpack_next (Runs (unpacking_at p streams joining)) (take 1 bytes) ≡ Runs (before_mark Two (p.at + 1) p.total p.connections p.records joining)
+pub digit_two : (p : Position) (streams : Streams) (joining : Joining) (bytes : List ℕ)
+    → p.spot ≡ Digit → 0 < length bytes → get_or bytes 0 0 ≡ 50
+    → after unpack_next (Runs (unpacking_at p streams joining)) (take 1 bytes)
+    ≡ Runs (before_mark Two (p.at + 1) p.total p.connections p.records joining)
 digit_two p streams joining bytes here some is = in_digit p streams joining bytes 50 here some is

@@ -1,25 +1,14 @@
 -- How long a capture file can be.
 use Rattle.std.proofs.Common.{◌≡◌, ◌⊎◌, inl, inr, ℕ, ◌+◌, ◌*◌, ◌<◌, ◌≤◌, List, [], ◌∷◌, ◌++◌, length, refl, sym, ap, ◌∙◌, append_assoc, append-nil, arith, length-append}
-use Rattle.std.specs.List.{concat}
-use Rattle.record_mark.specs.Machine.{Run, Runs, Stops, Stopped}
-use Rattle.record_mark.specs.Word.{IsWord, Joins}
-use Rattle.xdr3.specs.Item.{AreBytes}
-use Rattle.capture3.specs.Capture.{Version, One, Two, max_connections, total_size, magic, IsConnection, IsCapture}
-use Rattle.capture3.specs.SidedChunks.{Streams, size, SidedChunk, IsSidedChunk, of_side, carried_by, gathered, AreMixed, BeginsMixed}
-use Rattle.capture3.specs.Chunks.{max_bytes, IsChunk, AreChunks, IsStream, BeginsStream}
-use Rattle.capture3.specs.Connections.{ShownFault}
-use Rattle.capture3.specs.Entry.{Entry}
-use Rattle.capture3.specs.FirstFault.{IsClean}
+use Rattle.capture3.proofs.Common.{concat, Run, Runs, Stops, Stopped, IsWord, Joins, AreBytes, Streams, size, SidedChunk, IsSidedChunk, of_side, carried_by, gathered, AreMixed, BeginsMixed, max_bytes, IsChunk, AreChunks, IsStream, BeginsStream, ShownFault, Entry, IsClean, Parsing, parsed, Client, Server, Version, One, Two, max_connections, total_size, magic, IsConnection, IsCapture, Opens, ReachesInside, AreWhole, InMagic, BetweenConnections, InConnection}
 use Rattle.capture3.specs.Laws.{most_bytes, IsWithinVersion}
-use Rattle.capture3.specs.FileMachine.{Parsing, parsed}
-use Rattle.capture3.specs.declared.fault.Side.TheVariants.{Client, Server}
-use Rattle.capture3.specs.Reached.{Opens, ReachesInside, AreWhole, InMagic, BetweenConnections, InConnection}
 use Rattle.capture3.proofs.Lemmas.Container.SidedChunksMachineLemmas.{size_of}
 use Rattle.capture3.proofs.Lemmas.Reached.ReachedLemmas.{stands_whole}
 use Rattle.capture3.proofs.Lemmas.Files.Verdicts.{told, shows_from_stops, shown_before}
 
 -- each byte of a stream comes with at most four of a length word
-chunks_size : (chunks : List (List ℕ)) (bytes : List ℕ) → Joins IsChunk bytes chunks → length bytes ≤ 5 * length (concat chunks)
+chunks_size : (chunks : List (List ℕ)) (bytes : List ℕ) → Joins IsChunk bytes chunks
+    → length bytes ≤ 5 * length (concat chunks)
 chunks_size [] bytes h = omega (arith, ap length h)
 chunks_size (chunk ∷ chunks) bytes (front, rest, split, is, joined) =
     omega (
@@ -35,13 +24,30 @@ chunks_size (chunk ∷ chunks) bytes (front, rest, split, is, joined) =
     )
 
 carried_size : (bytes stream : List ℕ) → AreChunks bytes stream → length bytes ≤ 5 * length stream
-carried_size bytes stream h = omega (arith, chunks_size h.chunks bytes h.joined, ap length h.carried)
+carried_size bytes stream h =
+    omega (arith, chunks_size h.chunks bytes h.joined, ap length h.carried)
 
 stream_size : (bytes stream : List ℕ) → IsStream bytes stream → length bytes ≤ 5 * length stream + 4
-stream_size bytes stream h = omega (arith, carried_size h.front stream h.chunks, ap length h.split, length-append h.front h.last, h.closes.0)
+stream_size bytes stream h =
+    omega (
+      arith,
+      carried_size h.front stream h.chunks,
+      ap length h.split,
+      length-append h.front h.last,
+      h.closes.0,
+    )
 
-begun_size : (before : ℕ) (bytes stream : List ℕ) → BeginsStream before bytes stream → 5 * before + length bytes ≤ 5 * max_bytes + 4
-begun_size before bytes stream (inl b) = omega (arith, carried_size b.front stream b.chunks, ap length b.split, length-append b.front b.part, b.short, b.fits)
+begun_size : (before : ℕ) (bytes stream : List ℕ) → BeginsStream before bytes stream
+    → 5 * before + length bytes ≤ 5 * max_bytes + 4
+begun_size before bytes stream (inl b) =
+    omega (
+      arith,
+      carried_size b.front stream b.chunks,
+      ap length b.split,
+      length-append b.front b.part,
+      b.short,
+      b.fits,
+    )
 begun_size before bytes stream (inr b) =
     omega (
       arith,
@@ -56,7 +62,8 @@ begun_size before bytes stream (inr b) =
     )
 
 -- each byte of a stream comes with at most four of a side word and four of a length word
-sided_size : (chunks : List SidedChunk) (bytes : List ℕ) → Joins IsSidedChunk bytes chunks → length bytes ≤ 9 * size (gathered chunks)
+sided_size : (chunks : List SidedChunk) (bytes : List ℕ) → Joins IsSidedChunk bytes chunks
+    → length bytes ≤ 9 * size (gathered chunks)
 sided_size [] bytes h = omega (arith, ap length h)
 sided_size (chunk ∷ chunks) bytes (front, rest, split, is, joined) =
     omega (
@@ -76,13 +83,40 @@ sided_size (chunk ∷ chunks) bytes (front, rest, split, is, joined) =
       size_of chunk.side chunk.bytes,
     )
 
-mixed_size : (bytes : List ℕ) (streams : Streams) → AreMixed bytes streams → length bytes ≤ 9 * size streams + 4
-mixed_size bytes streams h = omega (arith, sided_size h.chunks h.front h.joined, ap size h.carried, ap length h.split, length-append h.front h.last, h.closes.0)
+mixed_size : (bytes : List ℕ) (streams : Streams) → AreMixed bytes streams
+    → length bytes ≤ 9 * size streams + 4
+mixed_size bytes streams h =
+    omega (
+      arith,
+      sided_size h.chunks h.front h.joined,
+      ap size h.carried,
+      ap length h.split,
+      length-append h.front h.last,
+      h.closes.0,
+    )
 
-mixed_begun_size : (before : ℕ) (bytes : List ℕ) → BeginsMixed before bytes → 9 * before + length bytes ≤ 9 * max_bytes + 8
-mixed_begun_size before bytes (inl b) = omega (arith, sided_size b.chunks b.front b.joined, ap length b.split, length-append b.front b.part, b.short, b.fits)
+mixed_begun_size : (before : ℕ) (bytes : List ℕ) → BeginsMixed before bytes
+    → 9 * before + length bytes ≤ 9 * max_bytes + 8
+mixed_begun_size before bytes (inl b) =
+    omega (
+      arith,
+      sided_size b.chunks b.front b.joined,
+      ap length b.split,
+      length-append b.front b.part,
+      b.short,
+      b.fits,
+    )
 mixed_begun_size before bytes (inr (inl b)) =
-    omega (arith, sided_size b.chunks b.front b.joined, ap length b.split, length-append (b.front ++ b.word) b.part, length-append b.front b.word, b.sided.0, b.short, b.fits)
+    omega (
+      arith,
+      sided_size b.chunks b.front b.joined,
+      ap length b.split,
+      length-append (b.front ++ b.word) b.part,
+      length-append b.front b.word,
+      b.sided.0,
+      b.short,
+      b.fits,
+    )
 mixed_begun_size before bytes (inr (inr b)) =
     omega (
       arith,
@@ -106,7 +140,9 @@ abbrev chunk_size : Version → ℕ
 chunk_size One = 5
 chunk_size Two = 9
 
-connection_size : (version : Version) (bytes : List ℕ) (streams : Streams) → IsConnection version bytes streams → length bytes ≤ words_size version + chunk_size version * size streams
+connection_size : (version : Version) (bytes : List ℕ) (streams : Streams)
+    → IsConnection version bytes streams
+    → length bytes ≤ words_size version + chunk_size version * size streams
 connection_size One bytes streams h =
     let both = h.both in
     omega (
@@ -119,43 +155,123 @@ connection_size One bytes streams h =
       stream_size both.front streams.client both.client,
       stream_size both.last streams.server both.server,
     )
-connection_size Two bytes streams h = omega (arith, ap length h.split, length-append h.mark h.rest, h.one.0, mixed_size h.rest streams h.both)
+connection_size Two bytes streams h =
+    omega (
+      arith,
+      ap length h.split,
+      length-append h.mark h.rest,
+      h.one.0,
+      mixed_size h.rest streams h.both,
+    )
 
-connections_size : (version : Version) (connections : List Streams) (bytes : List ℕ) → Joins (IsConnection version) bytes connections → length bytes ≤ words_size version * length connections + chunk_size version * total_size connections
+connections_size : (version : Version) (connections : List Streams) (bytes : List ℕ)
+    → Joins (IsConnection version) bytes connections
+    → length bytes
+    ≤ words_size version * length connections + chunk_size version * total_size connections
 connections_size One [] bytes h = omega (arith, ap length h)
 connections_size Two [] bytes h = omega (arith, ap length h)
 connections_size One (streams ∷ connections) bytes (front, rest, split, is, joined) =
-    omega (arith, connections_size One connections rest joined, connection_size One front streams is, ap length split, length-append front rest)
+    omega (
+      arith,
+      connections_size One connections rest joined,
+      connection_size One front streams is,
+      ap length split,
+      length-append front rest,
+    )
 connections_size Two (streams ∷ connections) bytes (front, rest, split, is, joined) =
-    omega (arith, connections_size Two connections rest joined, connection_size Two front streams is, ap length split, length-append front rest)
+    omega (
+      arith,
+      connections_size Two connections rest joined,
+      connection_size Two front streams is,
+      ap length split,
+      length-append front rest,
+    )
 
 magic_size : (version : Version) → length (magic version) ≡ 8
 magic_size One = refl
 magic_size Two = refl
 
-opened_size : (version : Version) (front rest : List ℕ) (connections : List Streams) → front ≡ magic version ++ rest → Joins (IsConnection version) rest connections → length front ≤ 8 + (words_size version * length connections + chunk_size version * total_size connections)
+opened_size : (version : Version) (front rest : List ℕ) (connections : List Streams)
+    → front ≡ magic version ++ rest → Joins (IsConnection version) rest connections
+    → length front
+    ≤ 8
+    + (words_size version * length connections + chunk_size version
+    * total_size connections)
 opened_size version front rest connections split joined =
-    omega (arith, ap length split, length-append (magic version) rest, magic_size version, connections_size version connections rest joined)
+    omega (
+      arith,
+      ap length split,
+      length-append (magic version) rest,
+      magic_size version,
+      connections_size version connections rest joined,
+    )
 
-pub capture_size : (version : Version) (file : List ℕ) (connections : List Streams) → IsCapture version file connections → length file ≤ most_bytes version
+pub capture_size : (version : Version) (file : List ℕ) (connections : List Streams)
+    → IsCapture version file connections → length file ≤ most_bytes version
 capture_size One file connections c =
-    omega (arith, ap length c.split, length-append (magic One) (c.bytes ++ c.last), length-append c.bytes c.last, connections_size One connections c.bytes c.joined, c.closes.0, c.few, c.small)
+    omega (
+      arith,
+      ap length c.split,
+      length-append (magic One) (c.bytes ++ c.last),
+      length-append c.bytes c.last,
+      connections_size One connections c.bytes c.joined,
+      c.closes.0,
+      c.few,
+      c.small,
+    )
 capture_size Two file connections c =
-    omega (arith, ap length c.split, length-append (magic Two) (c.bytes ++ c.last), length-append c.bytes c.last, connections_size Two connections c.bytes c.joined, c.closes.0, c.few, c.small)
+    omega (
+      arith,
+      ap length c.split,
+      length-append (magic Two) (c.bytes ++ c.last),
+      length-append c.bytes c.last,
+      connections_size Two connections c.bytes c.joined,
+      c.closes.0,
+      c.few,
+      c.small,
+    )
 
-inside_size : (version : Version) (before : ℕ) (bytes : List ℕ) (more : List Entry) → ReachesInside version before bytes more → chunk_size version * before + length bytes ≤ chunk_size version * max_bytes + 8
+inside_size : (version : Version) (before : ℕ) (bytes : List ℕ) (more : List Entry)
+    → ReachesInside version before bytes more
+    → chunk_size version * before + length bytes ≤ chunk_size version * max_bytes + 8
 inside_size One before bytes more (inl r) = omega (arith, begun_size before bytes r.stream r.begins)
 inside_size One before bytes more (inr r) =
-    omega (arith, stream_size r.front r.client r.first, begun_size (before + length r.client) r.last r.server r.begins, ap length r.split, length-append r.front r.last)
+    omega (
+      arith,
+      stream_size r.front r.client r.first,
+      begun_size (before + length r.client) r.last r.server r.begins,
+      ap length r.split,
+      length-append r.front r.last,
+    )
 inside_size Two before bytes more r = mixed_begun_size before bytes r.0
 
-short_size : (version : Version) (bytes front part : List ℕ) (connections : List Streams) (entries : List Entry) → bytes ≡ front ++ part → Opens version front connections entries → length part ≤ 4 → length bytes ≤ most_bytes version
+short_size : (version : Version) (bytes front part : List ℕ) (connections : List Streams)
+    (entries : List Entry) → bytes ≡ front ++ part → Opens version front connections entries
+    → length part ≤ 4 → length bytes ≤ most_bytes version
 short_size One bytes front part connections entries split opens short =
-    omega (arith, opened_size One front opens.rest connections opens.split opens.joined, ap length split, length-append front part, short, opens.few, opens.small)
+    omega (
+      arith,
+      opened_size One front opens.rest connections opens.split opens.joined,
+      ap length split,
+      length-append front part,
+      short,
+      opens.few,
+      opens.small,
+    )
 short_size Two bytes front part connections entries split opens short =
-    omega (arith, opened_size Two front opens.rest connections opens.split opens.joined, ap length split, length-append front part, short, opens.few, opens.small)
+    omega (
+      arith,
+      opened_size Two front opens.rest connections opens.split opens.joined,
+      ap length split,
+      length-append front part,
+      short,
+      opens.few,
+      opens.small,
+    )
 
-within_size : (version : Version) (bytes front mark rest : List ℕ) (connections : List Streams) (before more : List Entry) → bytes ≡ front ++ mark ++ rest → Opens version front connections before → IsWord mark 1 → length connections < max_connections
+within_size : (version : Version) (bytes front mark rest : List ℕ) (connections : List Streams)
+    (before more : List Entry) → bytes ≡ front ++ mark ++ rest
+    → Opens version front connections before → IsWord mark 1 → length connections < max_connections
     → ReachesInside version (total_size connections) rest more → length bytes ≤ most_bytes version
 within_size One bytes front mark rest connections before more split opens one few inside =
     omega (
@@ -180,31 +296,47 @@ within_size Two bytes front mark rest connections before more split opens one fe
       few,
     )
 
-magic_short : (version : Version) (bytes more : List ℕ) → magic version ≡ bytes ++ more → length bytes ≤ most_bytes version
+magic_short : (version : Version) (bytes more : List ℕ) → magic version ≡ bytes ++ more
+    → length bytes ≤ most_bytes version
 magic_short One bytes more e = omega (arith, ap length e, length-append bytes more)
 magic_short Two bytes more e = omega (arith, ap length e, length-append bytes more)
 
 -- the bytes have the version, and its limit
-whole_size : (bytes : List ℕ) (entries : List Entry) → AreWhole bytes entries → IsWithinVersion bytes
-whole_size bytes entries (InMagic version more e none) = (version, inl (more, e), magic_short version bytes more e)
+whole_size : (bytes : List ℕ) (entries : List Entry) → AreWhole bytes entries
+    → IsWithinVersion bytes
+whole_size bytes entries (InMagic version more e none) =
+    (version, inl (more, e), magic_short version bytes more e)
 whole_size bytes entries (BetweenConnections version front part connections split opens ends) = (
   version,
-  inr (opens.rest ++ part, split ∙ ap (λ (b : List ℕ). b ++ part) opens.split ∙ append_assoc (magic version) opens.rest part),
+  inr (
+    opens.rest ++ part,
+    split ∙ ap (λ (b : List ℕ). b ++ part) opens.split
+        ∙ append_assoc (magic version) opens.rest part,
+  ),
   short_size version bytes front part connections entries split opens (part_size ends),
 )
   where
     part_size : (length part < 4) ⊎ IsWord part 0 → length part ≤ 4
     part_size (inl short) = omega (arith, short)
     part_size (inr word) = omega (arith, word.0)
-whole_size bytes entries (InConnection version front mark rest connections before more split opens one few inside are) = (
-  version,
-  inr (opens.rest ++ mark ++ rest, split ∙ ap (λ (b : List ℕ). b ++ mark ++ rest) opens.split ∙ ap (λ (b : List ℕ). b ++ rest) (append_assoc (magic version) opens.rest mark) ∙ append_assoc (magic version) (opens.rest ++ mark) rest),
-  within_size version bytes front mark rest connections before more split opens one few inside,
-)
+whole_size bytes entries (InConnection version front mark rest connections before more split opens
+    one few inside are) = (
+      version,
+      inr (
+        opens.rest ++ mark ++ rest,
+        split ∙ ap (λ (b : List ℕ). b ++ mark ++ rest) opens.split
+            ∙ ap (λ (b : List ℕ). b ++ rest) (append_assoc (magic version) opens.rest mark)
+            ∙ append_assoc (magic version) (opens.rest ++ mark) rest,
+      ),
+      within_size version bytes front mark rest connections before more split opens one few inside,
+    )
 
-run_size : (file : List ℕ) (run : Run Parsing ShownFault) → AreBytes file → parsed file ≡ run → IsClean file → IsWithinVersion file
-run_size file (Runs s) are e clean = whole_size file _ (stands_whole file s (told file (Runs s) are e))
-run_size file (Stops fault) are e clean = absurd (clean file [] fault (sym (append-nil file)) (shows_from_stops file fault are e))
+run_size : (file : List ℕ) (run : Run Parsing ShownFault) → AreBytes file → parsed file ≡ run
+    → IsClean file → IsWithinVersion file
+run_size file (Runs s) are e clean =
+    whole_size file _ (stands_whole file s (told file (Runs s) are e))
+run_size file (Stops fault) are e clean =
+    absurd (clean file [] fault (sym (append-nil file)) (shows_from_stops file fault are e))
 run_size file (Stopped fault) are e clean =
     let before = shown_before file fault are e in
     absurd (clean before.front (before.byte ∷ before.back) fault before.split before.ending)

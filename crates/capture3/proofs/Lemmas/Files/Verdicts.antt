@@ -1,49 +1,53 @@
 -- A file is well formed with its entries, or has one first fault, as the machine says.
-use Rattle.std.proofs.Common.{◌≡◌, inl, inr, ℕ, List, [], ◌∷◌, ◌++◌, length, refl, sym, ap, subst, ◌∙◌, append-nil, Result, Ok, Err}
-use Rattle.record_mark.specs.Machine.{Run, Runs, Stops, Stopped, after}
+use Rattle.capture3.proofs.Common.{◌≡◌, inl, inr, ℕ, List, [], ◌∷◌, ◌++◌, length, refl, sym, ap, subst, ◌∙◌, append-nil, Result, Ok, Err, Run, Runs, Stops, Stopped, after, AreBytes, CaptureCut, AfterEnd, Fault, Version, total_size, magic, ShownFault, refusal, Entry, End, Rule, Shows, IsClean, FirstFault, file_fault, Typed, IsWellFormed}
 use Rattle.record_mark.proofs.Machines.{ran_before, Earlier, Tells, after-append, after_stopped, ran_to, not_runs}
-use Rattle.xdr3.specs.Item.{AreBytes}
-use Rattle.xdr3.specs.declared.reason.Reason.TheVariants.{CaptureCut, AfterEnd}
-use Rattle.capture3.specs.declared.fault.Fault.{Fault}
-use Rattle.capture3.specs.Capture.{Version, total_size, magic}
-use Rattle.capture3.specs.Connections.{ShownFault, refusal}
-use Rattle.capture3.specs.Entry.{Entry, End}
-use Rattle.capture3.specs.FirstFault.{Rule, Shows, IsClean, FirstFault}
 use Rattle.capture3.specs.Laws.{HasOneVerdict, IsCutShort}
 use Rattle.capture3.specs.FileMachine.{Spot, Magic, Digit, Mark, Inside, Ended, Parsing, file_next, file_start, parsed, concluded, verdict_of, verdict}
-use Rattle.capture3.specs.Sides.{file_fault}
-use Rattle.capture3.specs.Typed.{Typed, IsWellFormed}
 use Rattle.capture3.proofs.Lemmas.Files.FileRules.{AnyRefusal, rule_over}
 use Rattle.capture3.proofs.Lemmas.Container.BytesOf.{split_bytes}
 use Rattle.capture3.proofs.Lemmas.Files.EndedMachines.{Over, stopped_at}
 use Rattle.capture3.proofs.Lemmas.Files.FileMachineLemmas.{HasSpot, Stands, file_tells, file_runs}
 
 -- the machine's runs, told of their bytes
-pub told : (bytes : List ℕ) (run : Run Parsing ShownFault) → AreBytes bytes → parsed bytes ≡ run → Tells Stands Rule bytes run
+pub told : (bytes : List ℕ) (run : Run Parsing ShownFault) → AreBytes bytes → parsed bytes ≡ run
+    → Tells Stands Rule bytes run
 told bytes run are e = subst (λ r. Tells Stands Rule bytes r) e (file_tells bytes are)
 
 -- where a rule holds, the machine has stopped
-over_not_runs : (run : Run Parsing ShownFault) (s : Parsing) (shown : ShownFault) → run ≡ Runs s → Over AnyRefusal run shown → ⊥
+over_not_runs : (run : Run Parsing ShownFault) (s : Parsing) (shown : ShownFault) → run ≡ Runs s
+    → Over AnyRefusal run shown → ⊥
 over_not_runs run s shown e (inl f) = cc
 over_not_runs run s shown e (inr past) = let f = past.2 in cc
 
 -- a fault is shown by the last byte exactly where the machine stops at it
-pub shows_from_stops : (bytes : List ℕ) (shown : ShownFault) → AreBytes bytes → parsed bytes ≡ Stops shown → Shows bytes shown
+pub shows_from_stops : (bytes : List ℕ) (shown : ShownFault) → AreBytes bytes
+    → parsed bytes ≡ Stops shown → Shows bytes shown
 shows_from_stops bytes shown are e =
     record {
       rule = told bytes (Stops shown) are e;
       first = λ front more byte other split rule.
-          let before = ran_before file_next (Runs file_start) front byte more shown (ap parsed (sym split) ∙ e) in
+          let before =
+          ran_before file_next (Runs file_start) front byte more shown (ap parsed (sym split) ∙ e)
+          in
           over_not_runs (parsed front) before.0 other before.1 (rule_over front other rule);
     }
 
 -- where it had stopped before, an earlier byte shows the fault
-pub shown_before : (file : List ℕ) (shown : ShownFault) → AreBytes file → parsed file ≡ Stopped shown → Earlier ShownFault Shows file shown
+pub shown_before : (file : List ℕ) (shown : ShownFault) → AreBytes file
+    → parsed file ≡ Stopped shown → Earlier ShownFault Shows file shown
 shown_before file shown are e =
     let (front, byte, back, split, stops) = stopped_at file_next file file_start shown e in
-    record { front = front; byte = byte; back = back; split = split; ending = shows_from_stops front shown (split_bytes file front (byte ∷ back) split are).0 stops }
+    record {
+      front = front;
+      byte = byte;
+      back = back;
+      split = split;
+      ending =
+          shows_from_stops front shown (split_bytes file front (byte ∷ back) split are).0 stops;
+    }
 
-pub stops_from_shows : (bytes : List ℕ) (shown : ShownFault) → AreBytes bytes → Shows bytes shown → parsed bytes ≡ Stops shown
+pub stops_from_shows : (bytes : List ℕ) (shown : ShownFault) → AreBytes bytes → Shows bytes shown
+    → parsed bytes ≡ Stops shown
 stops_from_shows bytes shown are h = go (rule_over bytes shown h.rule)
   where
     go : Over AnyRefusal (parsed bytes) shown → parsed bytes ≡ Stops shown
@@ -59,7 +63,9 @@ clean_from_runs bytes s e front rest fault split shows =
     over_not_runs (parsed front) ran.0 fault ran.1 (rule_over front fault shows.rule)
 
 -- well formed
-typed_from_spot : (version : Version) (file : List ℕ) (at total number size : ℕ) (entries all : List Entry) (spot : Spot) → HasSpot version file at total number entries spot → concluded size entries spot ≡ Ok all → Typed file all
+typed_from_spot : (version : Version) (file : List ℕ) (at total number size : ℕ)
+    (entries all : List Entry) (spot : Spot) → HasSpot version file at total number entries spot
+    → concluded size entries spot ≡ Ok all → Typed file all
 typed_from_spot version file at total number size entries all (Magic due more) h e = absurd (cc)
 typed_from_spot version file at total number size entries all Digit h e = absurd (cc)
 typed_from_spot version file at total number size entries all (Mark part) h e = absurd (cc)
@@ -71,22 +77,50 @@ typed_from_spot version file at total number size entries all Ended h e =
       front = entries;
       messages = h.opens.messages;
       ends = cc;
-      capture = record { bytes = h.opens.rest; last = h.last; split = h.split ∙ ap (λ (b : List ℕ). b ++ h.last) h.opens.split; joined = h.opens.joined; closes = h.closes; few = h.opens.few; small = h.opens.small };
+      capture =
+          record {
+            bytes = h.opens.rest;
+            last = h.last;
+            split = h.split ∙ ap (λ (b : List ℕ). b ++ h.last) h.opens.split;
+            joined = h.opens.joined;
+            closes = h.closes;
+            few = h.opens.few;
+            small = h.opens.small;
+          };
     }
 
-typed_from_run : (file : List ℕ) (all : List Entry) (run : Run Parsing ShownFault) → AreBytes file → parsed file ≡ run → verdict_of (length file) run ≡ Ok all → Typed file all
-typed_from_run file all (Runs s) are e v = typed_from_spot s.version file s.at s.total s.number (length file) s.entries all s.spot (told file (Runs s) are e) v
+typed_from_run : (file : List ℕ) (all : List Entry) (run : Run Parsing ShownFault) → AreBytes file
+    → parsed file ≡ run → verdict_of (length file) run ≡ Ok all → Typed file all
+typed_from_run file all (Runs s) are e v =
+    typed_from_spot s.version file s.at s.total s.number (length file) s.entries all s.spot
+    (told file (Runs s) are e) v
 typed_from_run file all (Stops fault) are e v = absurd (cc)
 typed_from_run file all (Stopped fault) are e v = absurd (cc)
 
-pub typed_from_verdict : (file : List ℕ) (entries : List Entry) → AreBytes file → verdict file ≡ Ok entries → Typed file entries
+pub typed_from_verdict : (file : List ℕ) (entries : List Entry) → AreBytes file
+    → verdict file ≡ Ok entries → Typed file entries
 typed_from_verdict file entries are = typed_from_run file entries (parsed file) are refl
 
 typed_runs : (file : List ℕ) (entries : List Entry) (h : Typed file entries)
-    → parsed file ≡ Runs (record { version = h.version; at = length file; total = total_size h.connections; number = length h.connections; entries = h.front; spot = Ended })
+    → parsed file
+    ≡ Runs (record {
+      version = h.version;
+      at = length file;
+      total = total_size h.connections;
+      number = length h.connections;
+      entries = h.front;
+      spot = Ended;
+    })
 typed_runs file entries h =
     let c = h.capture in
-    file_runs file (record { version = h.version; at = length file; total = total_size h.connections; number = length h.connections; entries = h.front; spot = Ended })
+    file_runs file (record {
+      version = h.version;
+      at = length file;
+      total = total_size h.connections;
+      number = length h.connections;
+      entries = h.front;
+      spot = Ended;
+    })
     (record {
       front = magic h.version ++ c.bytes;
       last = c.last;
@@ -96,59 +130,91 @@ typed_runs file entries h =
       at_is = refl;
       total_is = refl;
       number_is = refl;
-      opens = record { rest = c.bytes; split = refl; joined = c.joined; messages = h.messages; few = c.few; small = c.small };
+      opens =
+          record {
+            rest = c.bytes;
+            split = refl;
+            joined = c.joined;
+            messages = h.messages;
+            few = c.few;
+            small = c.small;
+          };
     })
 
-pub verdict_from_typed : (file : List ℕ) (entries : List Entry) → Typed file entries → verdict file ≡ Ok entries
-verdict_from_typed file entries h = ap (verdict_of (length file)) (typed_runs file entries h) ∙ ap (λ es. Ok es) (sym h.ends)
+pub verdict_from_typed : (file : List ℕ) (entries : List Entry) → Typed file entries
+    → verdict file ≡ Ok entries
+verdict_from_typed file entries h =
+    ap (verdict_of (length file)) (typed_runs file entries h) ∙ ap (λ es. Ok es) (sym h.ends)
 
 -- a first fault
-fault_from_spot : (entries : List Entry) (size : ℕ) (fault : Fault) (spot : Spot) → concluded size entries spot ≡ Err fault → fault ≡ file_fault size CaptureCut
+fault_from_spot : (entries : List Entry) (size : ℕ) (fault : Fault) (spot : Spot)
+    → concluded size entries spot ≡ Err fault → fault ≡ file_fault size CaptureCut
 fault_from_spot entries size fault (Magic due more) e = cc
 fault_from_spot entries size fault Digit e = cc
 fault_from_spot entries size fault (Mark part) e = cc
 fault_from_spot entries size fault (Inside o) e = cc
 fault_from_spot entries size fault Ended e = absurd (cc)
 
-fault_from_run : (file : List ℕ) (fault : Fault) (run : Run Parsing ShownFault) → AreBytes file → parsed file ≡ run → verdict_of (length file) run ≡ Err fault → FirstFault file fault
+fault_from_run : (file : List ℕ) (fault : Fault) (run : Run Parsing ShownFault) → AreBytes file
+    → parsed file ≡ run → verdict_of (length file) run ≡ Err fault → FirstFault file fault
 fault_from_run file fault (Runs s) are e v =
-    inr (clean_from_runs file s e, (λ w. let typed = verdict_from_typed file w.0 w.1 in let same = ap (verdict_of (length file)) e in cc), fault_from_spot s.entries (length file) fault s.spot v)
-fault_from_run file fault (Stops shown) are e v = inl (file, [], shown, sym (append-nil file), shows_from_stops file shown are e, cc)
+    inr (
+      clean_from_runs file s e,
+      (λ w. let typed = verdict_from_typed file w.0 w.1 in
+          let same = ap (verdict_of (length file)) e in
+          cc),
+      fault_from_spot s.entries (length file) fault s.spot v,
+    )
+fault_from_run file fault (Stops shown) are e v =
+    inl (file, [], shown, sym (append-nil file), shows_from_stops file shown are e, cc)
 fault_from_run file fault (Stopped shown) are e v =
     let before = shown_before file shown are e in
     inl (before.front, before.byte ∷ before.back, shown, before.split, before.ending, cc)
 
-pub fault_from_verdict : (file : List ℕ) (fault : Fault) → AreBytes file → verdict file ≡ Err fault → FirstFault file fault
+pub fault_from_verdict : (file : List ℕ) (fault : Fault) → AreBytes file → verdict file ≡ Err fault
+    → FirstFault file fault
 fault_from_verdict file fault are = fault_from_run file fault (parsed file) are refl
 
-pub stays : (size : ℕ) (shown : ShownFault) (rest : List ℕ) → verdict_of size (after file_next (Stops shown) rest) ≡ Err shown.fault
+pub stays : (size : ℕ) (shown : ShownFault) (rest : List ℕ)
+    → verdict_of size (after file_next (Stops shown) rest) ≡ Err shown.fault
 stays size shown [] = refl
 stays size shown (byte ∷ rest) = ap (verdict_of size) (after_stopped file_next shown rest)
 
 -- where the machine runs, the file is well formed or cut
-cut_from_spot : (entries : List Entry) (size : ℕ) (spot : Spot) → ((all : List Entry) → concluded size entries spot ≡ Ok all → ⊥) → concluded size entries spot ≡ Err (file_fault size CaptureCut)
+cut_from_spot : (entries : List Entry) (size : ℕ) (spot : Spot)
+    → ((all : List Entry) → concluded size entries spot ≡ Ok all → ⊥)
+    → concluded size entries spot ≡ Err (file_fault size CaptureCut)
 cut_from_spot entries size (Magic due more) h = refl
 cut_from_spot entries size Digit h = refl
 cut_from_spot entries size (Mark part) h = refl
 cut_from_spot entries size (Inside o) h = refl
 cut_from_spot entries size Ended h = absurd (h (entries ++ End ∷ []) refl)
 
-cut_from_run : (file : List ℕ) (run : Run Parsing ShownFault) → AreBytes file → parsed file ≡ run → IsClean file → (IsWellFormed file → ⊥) → verdict_of (length file) run ≡ Err (file_fault (length file) CaptureCut)
+cut_from_run : (file : List ℕ) (run : Run Parsing ShownFault) → AreBytes file → parsed file ≡ run
+    → IsClean file → (IsWellFormed file → ⊥)
+    → verdict_of (length file) run ≡ Err (file_fault (length file) CaptureCut)
 cut_from_run file (Runs s) are e clean bad =
-    cut_from_spot s.entries (length file) s.spot (λ all v. bad (all, typed_from_run file all (Runs s) are e v))
-cut_from_run file (Stops fault) are e clean bad = absurd (clean file [] fault (sym (append-nil file)) (shows_from_stops file fault are e))
+    cut_from_spot s.entries (length file) s.spot
+    (λ all v. bad (all, typed_from_run file all (Runs s) are e v))
+cut_from_run file (Stops fault) are e clean bad =
+    absurd (clean file [] fault (sym (append-nil file)) (shows_from_stops file fault are e))
 cut_from_run file (Stopped fault) are e clean bad =
     let before = shown_before file fault are e in
     absurd (clean before.front (before.byte ∷ before.back) fault before.split before.ending)
 
-pub verdict_from_fault : (file : List ℕ) (fault : Fault) → AreBytes file → FirstFault file fault → verdict file ≡ Err fault
+pub verdict_from_fault : (file : List ℕ) (fault : Fault) → AreBytes file → FirstFault file fault
+    → verdict file ≡ Err fault
 verdict_from_fault file fault are (inl h) =
-    ap (verdict_of (length file)) (ap parsed h.3 ∙ after-append file_next (Runs file_start) h.0 h.1 ∙ ap (λ r. after file_next r h.1) (stops_from_shows h.0 h.2 (split_bytes file h.0 h.1 h.3 are).0 h.4))
+    ap (verdict_of (length file)) (ap parsed h.3 ∙ after-append file_next (Runs file_start) h.0 h.1
+    ∙ ap (λ r. after file_next r h.1)
+    (stops_from_shows h.0 h.2 (split_bytes file h.0 h.1 h.3 are).0 h.4))
     ∙ stays (length file) h.2 h.1 ∙ ap (λ f. Err f) (sym h.5)
-verdict_from_fault file fault are (inr h) = cut_from_run file (parsed file) are refl h.0 h.1 ∙ ap (λ f. Err f) (sym h.2)
+verdict_from_fault file fault are (inr h) =
+    cut_from_run file (parsed file) are refl h.0 h.1 ∙ ap (λ f. Err f) (sym h.2)
 
 -- each file has one verdict
-verdict_cases : (file : List ℕ) (v : Result (List Entry) Fault) → AreBytes file → verdict file ≡ v → HasOneVerdict file
+verdict_cases : (file : List ℕ) (v : Result (List Entry) Fault) → AreBytes file → verdict file ≡ v
+    → HasOneVerdict file
 verdict_cases file (Ok entries) are e =
     inl (record {
       entries = entries;
@@ -168,21 +234,64 @@ pub one_verdict : (file : List ℕ) → AreBytes file → HasOneVerdict file
 one_verdict file are = verdict_cases file (verdict file) are refl
 
 -- after the last word 0 no byte stands
-not_ended : (version ending : Version) (front more : List ℕ) (byte at total count n m k : ℕ) (entries others : List Entry) (spot : Spot) → parsed front ≡ Runs (record { version = version; at = at; total = total; number = count; entries = entries; spot = spot })
-    → parsed (front ++ byte ∷ more) ≡ Runs (record { version = ending; at = n; total = m; number = k; entries = others; spot = Ended }) → concluded (length front) entries spot ≡ Err (file_fault (length front) CaptureCut)
-not_ended version ending front more byte at total count n m k entries others (Magic due left) e h = refl
+not_ended : (version ending : Version) (front more : List ℕ) (byte at total count n m k : ℕ)
+    (entries others : List Entry) (spot : Spot)
+    → parsed front
+    ≡ Runs (record {
+      version = version;
+      at = at;
+      total = total;
+      number = count;
+      entries = entries;
+      spot = spot;
+    })
+    → parsed (front ++ byte ∷ more)
+    ≡ Runs (record {
+      version = ending;
+      at = n;
+      total = m;
+      number = k;
+      entries = others;
+      spot = Ended;
+    })
+    → concluded (length front) entries spot ≡ Err (file_fault (length front) CaptureCut)
+not_ended version ending front more byte at total count n m k entries others (Magic due left) e h =
+    refl
 not_ended version ending front more byte at total count n m k entries others (Mark part) e h = refl
 not_ended version ending front more byte at total count n m k entries others Digit e h = refl
 not_ended version ending front more byte at total count n m k entries others (Inside o) e h = refl
 not_ended version ending front more byte at total count n m k entries others Ended e h =
-    let after_end = after-append file_next (Runs file_start) front (byte ∷ more) ∙ ap (λ r. after file_next r (byte ∷ more)) e in
-    absurd (not_runs file_next (refusal (file_fault at AfterEnd)) (record { version = ending; at = n; total = m; number = k; entries = others; spot = Ended }) more (sym after_end ∙ h))
+    let after_end =
+    after-append file_next (Runs file_start) front (byte ∷ more)
+    ∙ ap (λ r. after file_next r (byte ∷ more)) e in
+    absurd (not_runs file_next (refusal (file_fault at AfterEnd))
+    (record {
+      version = ending;
+      at = n;
+      total = m;
+      number = k;
+      entries = others;
+      spot = Ended;
+    }) more (sym after_end ∙ h))
 
 pub is_cut_short : (file : List ℕ) → AreBytes file → IsCutShort file
 is_cut_short file are entries front more byte typed split =
     let whole = typed_runs file entries typed in
-    let ran = ran_to file_next (Runs file_start) front (byte ∷ more) (record { version = typed.version; at = length file; total = total_size typed.connections; number = length typed.connections; entries = typed.front; spot = Ended }) (ap parsed (sym split) ∙ whole) in
+    let ran =
+    ran_to file_next (Runs file_start) front (byte ∷ more)
+    (record {
+      version = typed.version;
+      at = length file;
+      total = total_size typed.connections;
+      number = length typed.connections;
+      entries = typed.front;
+      spot = Ended;
+    })
+    (ap parsed (sym split) ∙ whole) in
     let s = ran.0 in
-    fault_from_verdict front (file_fault (length front) CaptureCut) (split_bytes file front (byte ∷ more) split are).0
+    fault_from_verdict front (file_fault (length front) CaptureCut)
+    (split_bytes file front (byte ∷ more) split are).0
     (ap (verdict_of (length front)) ran.1
-    ∙ not_ended s.version typed.version front more byte s.at s.total s.number (length file) (total_size typed.connections) (length typed.connections) s.entries typed.front s.spot ran.1 (ap parsed (sym split) ∙ whole))
+    ∙ not_ended s.version typed.version front more byte s.at s.total s.number (length file)
+    (total_size typed.connections) (length typed.connections) s.entries typed.front s.spot ran.1
+    (ap parsed (sym split) ∙ whole))

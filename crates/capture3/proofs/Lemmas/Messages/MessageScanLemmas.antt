@@ -1,58 +1,52 @@
 -- Whole messages that are read and told at once: judging them by the scans of their parts.
 use Rattle.std.specs.Prelude.{IfErr}
-use Rattle.std.specs.Result.{IsErrAnd}
-use Rattle.std.proofs.Common.{◌≡◌, ℕ, Bool, true, false, cond, List, [], ◌∷◌, ◌++◌, length, Some, None, Result, Ok, Err, refl, sym, ap, subst, ◌∙◌, eq-eqb}
-use Rattle.xdr3.specs.declared.reason.GetError.{GetError}
+use Rattle.capture3.proofs.Common.{IsErrAnd, ◌≡◌, ℕ, Bool, true, false, cond, List, [], ◌∷◌, ◌++◌, length, Some, None, Result, Ok, Err, refl, sym, ap, subst, ◌∙◌, eq-eqb, XidConflict, Stop, reading_layout, reading, refused, ProcId, MessageStart, call_head, message_start, reply_head, start_items, arguments_of, NumberedCall, procedure_of, found, agrees, judge_call, judge_reply, GetError, AreBytes, Item, followed_by, Adds, results_after}
 use Rattle.xdr3.specs.declared.reason.GetError.TheVariants as errors
-use Rattle.xdr3.specs.declared.reason.Reason.TheVariants.{XidConflict}
-use Rattle.xdr3.specs.declared.reason.Stop.{Stop}
-use Rattle.xdr3.specs.Item.{AreBytes, Item, followed_by}
-use Rattle.xdr3.specs.Layout.{reading_layout}
-use Rattle.xdr3.specs.Reading.{reading, refused}
 use Rattle.xdr3.specs.Scan.{ScansLayout, Stops, StopsLayout}
 use Rattle.xdr3.specs.View.{View}
-use Rattle.xdr3.specs.Visit.{Adds}
 use Rattle.xdr3.proofs.Lemmas.Shapes.Walks.{adds_both}
-use Rattle.rpc_head.specs.declared.values.call.ProcId.{ProcId}
-use Rattle.rpc_head.specs.declared.values.message_start.MessageStart.{MessageStart}
 use Rattle.rpc_head.specs.HeadScan.{ScansCallHead, ScansReplyHead}
-use Rattle.rpc_head.specs.Shapes.{call_head, message_start, reply_head}
-use Rattle.rpc_head.specs.MessageStart.{start_items}
-use Rattle.procs3.specs.Table.{arguments_of}
-use Rattle.capture3.specs.declared.message.calls.NumberedCall.{NumberedCall}
-use Rattle.capture3.specs.Bodies.{procedure_of}
-use Rattle.capture3.specs.machinery.Calls.{found}
-use Rattle.capture3.specs.BodyProgram.{agrees, judge_call, judge_reply}
 use Rattle.capture3.specs.machinery.ScannedMessages.{ScansCall, ScansReply, StopsMessage}
-use Rattle.capture3.specs.machinery.Messages.{results_after}
 use Rattle.capture3.proofs.Lemmas.Messages.BodiesLemmas.{the_calls, the_replies}
 use Rattle.capture3.proofs.Lemmas.Messages.BodySteps.{CallBegins, ReplyBegins, call_accepted, call_bad_arguments, call_bad_head, call_procedure, call_whole, call_xid, refusal_judged, reply_accepted, reply_bad_head, reply_bad_results, reply_xid, whole_call, whole_reply}
 use Rattle.capture3.proofs.Lemmas.Messages.SpelledLemmas.{asking}
 
 -- ---- what the code hands on
 
-pub stop_stops : {M X : Type 0} (r : Result M GetError) (judged : Result X Stop) (refusal : Stop) → IsErrAnd r (λ e. e ≡ errors.Stop refusal) → judged ≡ Err refusal → IfErr r (λ e. StopsMessage e judged)
+pub stop_stops : {M X : Type 0} (r : Result M GetError) (judged : Result X Stop) (refusal : Stop)
+    → IsErrAnd r (λ e. e ≡ errors.Stop refusal) → judged ≡ Err refusal
+    → IfErr r (λ e. StopsMessage e judged)
 stop_stops (Ok m) judged refusal h answers = absurd h
 stop_stops (Err e) judged refusal h answers = refusal_judged e judged refusal h answers
 
-pub error_stops : {M X : Type 0} (r : Result M GetError) (judged : Result X Stop) (error : GetError) → IsErrAnd r (λ e. e ≡ error) → StopsMessage error judged → IfErr r (λ e. StopsMessage e judged)
+pub error_stops : {M X : Type 0} (r : Result M GetError) (judged : Result X Stop) (error : GetError)
+    → IsErrAnd r (λ e. e ≡ error) → StopsMessage error judged → IfErr r (λ e. StopsMessage e judged)
 error_stops (Ok m) judged error h answers = absurd h
 error_stops (Err e) judged error h answers = λ stop same. answers stop (sym h ∙ same)
 
 -- the start of a message of this side was read, up to this view
-pub record StartRead (body : List ℕ) (s : MessageStart) (is_reply : Bool) (view : View) : Type 0 where
+pub record StartRead (body : List ℕ) (s : MessageStart) (is_reply : Bool) (view : View) : Type
+    0 where
   pub start : reading message_start body 0 ≡ Ok (start_items s, view.at)
   pub side : s.is_reply ≡ is_reply
   pub same_body : view.body ≡ body
 
 -- ---- calls
 
-pub call_head_stops : (before : List (List Item)) (body : List ℕ) (s : MessageStart) (v1 : View) (e : GetError) → StartRead body s false v1 → Stops call_head v1 e → StopsMessage e (judge_call before body)
+pub call_head_stops : (before : List (List Item)) (body : List ℕ) (s : MessageStart) (v1 : View)
+    (e : GetError) → StartRead body s false v1 → Stops call_head v1 e
+    → StopsMessage e (judge_call before body)
 unfolding Stops
-call_head_stops before body s v1 e b h = λ stop is. call_bad_head before body s stop v1.at b.start b.side (subst (λ (l : List ℕ). reading call_head l v1.at ≡ Err stop) b.same_body (h stop is))
+call_head_stops before body s v1 e b h =
+    λ stop is.
+    call_bad_head before body s stop v1.at b.start b.side
+    (subst (λ (l : List ℕ). reading call_head l v1.at ≡ Err stop) b.same_body (h stop is))
 
-call_begun : {V : Type 0} (stands : V → List Item → Type 0) (body : List ℕ) (s : MessageStart) (id : ProcId) (v1 v2 : View) (n1 n2 : V) → StartRead body s false v1 → ScansCallHead stands id v1 v2 n1 n2
-    → (front : List Item) × CallBegins body s id front v1.at v2.at × (v2.body ≡ body) × Adds stands n1 n2 front
+call_begun : {V : Type 0} (stands : V → List Item → Type 0) (body : List ℕ) (s : MessageStart)
+    (id : ProcId) (v1 v2 : View) (n1 n2 : V) → StartRead body s false v1
+    → ScansCallHead stands id v1 v2 n1 n2
+    → (front : List Item) × CallBegins body s id front v1.at v2.at × (v2.body ≡ body)
+    × Adds stands n1 n2 front
 unfolding ScansCallHead
 call_begun stands body s id v1 v2 n1 n2 b h = (
   h.0,
@@ -66,15 +60,20 @@ call_begun stands body s id v1 v2 n1 n2 b h = (
   h.4,
 )
 
-pub arguments_stop : {V : Type 0} (stands : V → List Item → Type 0) (before : List (List Item)) (body : List ℕ) (s : MessageStart) (id : ProcId) (v1 v2 : View) (n1 n2 : V) (e : GetError) → StartRead body s false v1
-    → ScansCallHead stands id v1 v2 n1 n2 → StopsLayout (arguments_of id) v2 e → StopsMessage e (judge_call before body)
+pub arguments_stop : {V : Type 0} (stands : V → List Item → Type 0) (before : List (List Item))
+    (body : List ℕ) (s : MessageStart) (id : ProcId) (v1 v2 : View) (n1 n2 : V) (e : GetError)
+    → StartRead body s false v1
+    → ScansCallHead stands id v1 v2 n1 n2 → StopsLayout (arguments_of id) v2 e
+    → StopsMessage e (judge_call before body)
 unfolding StopsLayout
 arguments_stop stands before body s id v1 v2 n1 n2 e b h x = λ stop is.
     let c = call_begun stands body s id v1 v2 n1 n2 b h in
-    call_bad_arguments before body s id c.0 v1.at v2.at stop c.1 (subst (λ (l : List ℕ). reading_layout (arguments_of id) l v2.at ≡ Err stop) c.2 (x stop is))
+    call_bad_arguments before body s id c.0 v1.at v2.at stop c.1 (subst
+    (λ (l : List ℕ). reading_layout (arguments_of id) l v2.at ≡ Err stop) c.2 (x stop is))
 
 -- a call was read up to the last view, and a visitor was told its items
-pub record CallRead {V : Type 0} (stands : V → List Item → Type 0) (body : List ℕ) (s : MessageStart) (id : ProcId) (head end : ℕ) (last : View) (old new : V) : Type 0 where
+pub record CallRead {V : Type 0} (stands : V → List Item → Type 0) (body : List ℕ)
+    (s : MessageStart) (id : ProcId) (head end : ℕ) (last : View) (old new : V) : Type 0 where
   pub front : List Item
   pub more : List Item
   pub begins : CallBegins body s id front head end
@@ -82,8 +81,11 @@ pub record CallRead {V : Type 0} (stands : V → List Item → Type 0) (body : L
   pub same_body : last.body ≡ body
   pub adds : Adds stands old new (whole_call s front more)
 
-pub call_told : {V : Type 0} (stands : V → List Item → Type 0) (body : List ℕ) (s : MessageStart) (id : ProcId) (v1 v2 v3 : View) (n0 n1 n2 n3 : V) → StartRead body s false v1 → Adds stands n0 n1 (start_items s)
-    → ScansCallHead stands id v1 v2 n1 n2 → ScansLayout stands (arguments_of id) v2 v3 n2 n3 → CallRead stands body s id v1.at v2.at v3 n0 n3
+pub call_told : {V : Type 0} (stands : V → List Item → Type 0) (body : List ℕ) (s : MessageStart)
+    (id : ProcId) (v1 v2 v3 : View) (n0 n1 n2 n3 : V) → StartRead body s false v1
+    → Adds stands n0 n1 (start_items s)
+    → ScansCallHead stands id v1 v2 n1 n2 → ScansLayout stands (arguments_of id) v2 v3 n2 n3
+    → CallRead stands body s id v1.at v2.at v3 n0 n3
 unfolding ScansLayout followed_by
 call_told stands body s id v1 v2 v3 n0 n1 n2 n3 b a h x =
     let c = call_begun stands body s id v1 v2 n1 n2 b h in
@@ -91,16 +93,23 @@ call_told stands body s id v1 v2 v3 n0 n1 n2 n3 b a h x =
       front = c.0;
       more = x.0;
       begins = c.1;
-      read = subst (λ (l : List ℕ). reading_layout (arguments_of id) l v2.at ≡ Ok (x.0, v3.at)) c.2 x.1;
+      read =
+          subst (λ (l : List ℕ). reading_layout (arguments_of id) l v2.at ≡ Ok (x.0, v3.at)) c.2
+          x.1;
       same_body = x.2.same_body ∙ c.2;
-      adds = adds_both stands n0 n1 n3 (start_items s) (c.0 ++ x.0) a (adds_both stands n1 n2 n3 c.0 x.0 c.3 x.3);
+      adds =
+          adds_both stands n0 n1 n3 (start_items s) (c.0 ++ x.0) a
+          (adds_both stands n1 n2 n3 c.0 x.0 c.3 x.3);
     }
 
-pub call_scans : {V : Type 0} (stands : V → List Item → Type 0) (body : List ℕ) (s : MessageStart) (id : ProcId) (head end : ℕ) (last : View) (old new : V) → AreBytes body
-    → CallRead stands body s id head end last old new → last.at ≡ length body → ScansCall stands body (record { xid = s.xid; id = id }) old new
+pub call_scans : {V : Type 0} (stands : V → List Item → Type 0) (body : List ℕ) (s : MessageStart)
+    (id : ProcId) (head end : ℕ) (last : View) (old new : V) → AreBytes body
+    → CallRead stands body s id head end last old new → last.at ≡ length body
+    → ScansCall stands body (record { xid = s.xid; id = id }) old new
 call_scans stands body s id head end last old new are r is = record {
   items = whole_call s r.front r.more;
-  is_call = (the_calls.accepted [] body (whole_call s r.front r.more) are (call_accepted [] body s id r.front head end last.at r.more r.begins r.read is refl)).0;
+  is_call = (the_calls.accepted [] body (whole_call s r.front r.more) are
+      (call_accepted [] body s id r.front head end last.at r.more r.begins r.read is refl)).0;
   xid_is = call_xid s r.front r.more;
   procedure_is = call_procedure body s id r.front r.more head end r.begins;
   judged = λ before. call_whole before body s id r.front head end last.at r.more r.begins r.read is;
@@ -108,21 +117,31 @@ call_scans stands body s id head end last old new are r is = record {
 }
 
 -- a call that agrees with those before it is accepted
-pub call_agrees : {V : Type 0} (stands : V → List Item → Type 0) (before : List (List Item)) (body : List ℕ) (call : NumberedCall) (old new : V) → (s : ScansCall stands body call old new) → agrees (procedure_of before call.xid) call.id ≡ true
+pub call_agrees : {V : Type 0} (stands : V → List Item → Type 0) (before : List (List Item))
+    (body : List ℕ) (call : NumberedCall) (old new : V)
+    → (s : ScansCall stands body call old new)
+    → agrees (procedure_of before call.xid) call.id ≡ true
     → judge_call before body ≡ Ok s.items
-call_agrees stands before body call old new s agree = s.judged before ∙ ap (λ (b : Bool). cond b (Ok s.items) (refused 0 XidConflict)) agree
+call_agrees stands before body call old new s agree =
+    s.judged before ∙ ap (λ (b : Bool). cond b (Ok s.items) (refused 0 XidConflict)) agree
 
 -- ---- replies
 
-pub reply_head_stops : (calls : List (List Item)) (body : List ℕ) (s : MessageStart) (id : ProcId) (v1 : View) (e : GetError) → StartRead body s true v1 → procedure_of calls s.xid ≡ Some id → Stops reply_head v1 e
+pub reply_head_stops : (calls : List (List Item)) (body : List ℕ) (s : MessageStart) (id : ProcId)
+    (v1 : View) (e : GetError) → StartRead body s true v1 → procedure_of calls s.xid ≡ Some id
+    → Stops reply_head v1 e
     → StopsMessage e (judge_reply calls body)
 unfolding Stops
 reply_head_stops calls body s id v1 e b asked h = λ stop is.
-    reply_bad_head calls body s id stop v1.at b.start b.side asked (subst (λ (l : List ℕ). reading reply_head l v1.at ≡ Err stop) b.same_body (h stop is))
+    reply_bad_head calls body s id stop v1.at b.start b.side asked
+    (subst (λ (l : List ℕ). reading reply_head l v1.at ≡ Err stop) b.same_body (h stop is))
 
-reply_begun : {V : Type 0} (stands : V → List Item → Type 0) (calls : List (List Item)) (body : List ℕ) (s : MessageStart) (id : ProcId) (success : Bool) (v1 v2 : View) (n1 n2 : V) → StartRead body s true v1
+reply_begun : {V : Type 0} (stands : V → List Item → Type 0) (calls : List (List Item))
+    (body : List ℕ) (s : MessageStart) (id : ProcId) (success : Bool) (v1 v2 : View) (n1 n2 : V)
+    → StartRead body s true v1
     → procedure_of calls s.xid ≡ Some id → ScansReplyHead stands success v1 v2 n1 n2
-    → (front : List Item) × ReplyBegins calls body s id success front v1.at v2.at × (v2.body ≡ body) × Adds stands n1 n2 front
+    → (front : List Item) × ReplyBegins calls body s id success front v1.at v2.at × (v2.body ≡ body)
+    × Adds stands n1 n2 front
 unfolding ScansReplyHead
 reply_begun stands calls body s id success v1 v2 n1 n2 b asked h = (
   h.0,
@@ -137,18 +156,27 @@ reply_begun stands calls body s id success v1 v2 n1 n2 b asked h = (
   h.4,
 )
 
-pub results_stop : {V : Type 0} (stands : V → List Item → Type 0) (calls : List (List Item)) (body : List ℕ) (s : MessageStart) (id : ProcId) (success : Bool) (v1 v2 : View) (n1 n2 : V) (e : GetError)
-    → StartRead body s true v1 → procedure_of calls s.xid ≡ Some id → ScansReplyHead stands success v1 v2 n1 n2 → StopsLayout (results_after success id) v2 e → StopsMessage e (judge_reply calls body)
+pub results_stop : {V : Type 0} (stands : V → List Item → Type 0) (calls : List (List Item))
+    (body : List ℕ) (s : MessageStart) (id : ProcId) (success : Bool) (v1 v2 : View) (n1 n2 : V)
+    (e : GetError)
+    → StartRead body s true v1 → procedure_of calls s.xid ≡ Some id
+    → ScansReplyHead stands success v1 v2 n1 n2 → StopsLayout (results_after success id) v2 e
+    → StopsMessage e (judge_reply calls body)
 unfolding StopsLayout
 results_stop stands calls body s id success v1 v2 n1 n2 e b asked h x = λ stop is.
     let c = reply_begun stands calls body s id success v1 v2 n1 n2 b asked h in
-    reply_bad_results calls body s id success c.0 v1.at v2.at stop c.1 (subst (λ (l : List ℕ). reading_layout (results_after success id) l v2.at ≡ Err stop) c.2 (x stop is))
+    reply_bad_results calls body s id success c.0 v1.at v2.at stop c.1 (subst
+    (λ (l : List ℕ). reading_layout (results_after success id) l v2.at ≡ Err stop) c.2
+    (x stop is))
 
 -- a reply was read up to the last view, and a visitor was told its items
-pub record ReplyRead {V : Type 0} (stands : V → List Item → Type 0) (body : List ℕ) (s : MessageStart) (id : ProcId) (success : Bool) (head end : ℕ) (last : View) (old new : V) : Type 0 where
+pub record ReplyRead {V : Type 0} (stands : V → List Item → Type 0) (body : List ℕ)
+    (s : MessageStart) (id : ProcId) (success : Bool) (head end : ℕ) (last : View) (old new : V) :
+    Type 0 where
   pub front : List Item
   pub more : List Item
-  pub begins : (calls : List (List Item)) → procedure_of calls s.xid ≡ Some id → ReplyBegins calls body s id success front head end
+  pub begins : (calls : List (List Item)) → procedure_of calls s.xid ≡ Some id
+      → ReplyBegins calls body s id success front head end
   pub read : reading_layout (results_after success id) body end ≡ Ok (more, last.at)
   pub same_body : last.body ≡ body
   pub adds : Adds stands old new (whole_reply s front more)
@@ -157,8 +185,12 @@ pub record ReplyRead {V : Type 0} (stands : V → List Item → Type 0) (body : 
 asked_by : (xid : ℕ) (id : ProcId) → procedure_of (asking xid id ∷ []) xid ≡ Some id
 asked_by xid id = ap (λ (b : Bool). cond b (Some id) None) (eq-eqb xid xid refl)
 
-pub reply_told : {V : Type 0} (stands : V → List Item → Type 0) (body : List ℕ) (s : MessageStart) (id : ProcId) (success : Bool) (v1 v2 v3 : View) (n0 n1 n2 n3 : V) → StartRead body s true v1
-    → Adds stands n0 n1 (start_items s) → ScansReplyHead stands success v1 v2 n1 n2 → ScansLayout stands (results_after success id) v2 v3 n2 n3 → ReplyRead stands body s id success v1.at v2.at v3 n0 n3
+pub reply_told : {V : Type 0} (stands : V → List Item → Type 0) (body : List ℕ) (s : MessageStart)
+    (id : ProcId) (success : Bool) (v1 v2 v3 : View) (n0 n1 n2 n3 : V)
+    → StartRead body s true v1
+    → Adds stands n0 n1 (start_items s) → ScansReplyHead stands success v1 v2 n1 n2
+    → ScansLayout stands (results_after success id) v2 v3 n2 n3
+    → ReplyRead stands body s id success v1.at v2.at v3 n0 n3
 unfolding ScansReplyHead ScansLayout followed_by
 reply_told stands body s id success v1 v2 v3 n0 n1 n2 n3 b a h x =
     let same : v2.body ≡ body = h.3.same_body ∙ b.same_body in
@@ -172,16 +204,26 @@ reply_told stands body s id success v1 v2 v3 n0 n1 n2 n3 b a h x =
         read = subst (λ (l : List ℕ). reading reply_head l v1.at ≡ Ok (h.0, v2.at)) b.same_body h.1;
         told = h.2;
       };
-      read = subst (λ (l : List ℕ). reading_layout (results_after success id) l v2.at ≡ Ok (x.0, v3.at)) same x.1;
+      read =
+          subst
+          (λ (l : List ℕ). reading_layout (results_after success id) l v2.at ≡ Ok (x.0, v3.at))
+          same x.1;
       same_body = x.2.same_body ∙ same;
-      adds = adds_both stands n0 n1 n3 (start_items s) (h.0 ++ x.0) a (adds_both stands n1 n2 n3 h.0 x.0 h.4 x.3);
+      adds =
+          adds_both stands n0 n1 n3 (start_items s) (h.0 ++ x.0) a
+          (adds_both stands n1 n2 n3 h.0 x.0 h.4 x.3);
     }
 
-pub reply_scans : {V : Type 0} (stands : V → List Item → Type 0) (table : List NumberedCall) (body : List ℕ) (s : MessageStart) (id : ProcId) (success : Bool) (head end : ℕ) (last : View) (old new : V) → AreBytes body
-    → ReplyRead stands body s id success head end last old new → last.at ≡ length body → found table s.xid ≡ Some id → ScansReply stands table body id old new
+pub reply_scans : {V : Type 0} (stands : V → List Item → Type 0) (table : List NumberedCall)
+    (body : List ℕ) (s : MessageStart) (id : ProcId) (success : Bool) (head end : ℕ)
+    (last : View) (old new : V) → AreBytes body
+    → ReplyRead stands body s id success head end last old new → last.at ≡ length body
+    → found table s.xid ≡ Some id → ScansReply stands table body id old new
 reply_scans stands table body s id success head end last old new are r is asked = record {
   items = whole_reply s r.front r.more;
-  is_reply = ((the_replies calls).accepted [] body (record { id = id; items = whole_reply s r.front r.more }) are (answers calls (asked_by s.xid id))).0;
+  is_reply = ((the_replies calls).accepted [] body
+      (record { id = id; items = whole_reply s r.front r.more }) are
+      (answers calls (asked_by s.xid id))).0;
   asked = ap (found table) (reply_xid s r.front r.more) ∙ asked;
   accepted = λ known table. answers known (sym (table s.xid) ∙ asked);
   adds = r.adds;
@@ -190,5 +232,8 @@ reply_scans stands table body s id success head end last old new are r is asked 
     calls : List (List Item)
     calls = asking s.xid id ∷ []
 
-    answers : (known : List (List Item)) → procedure_of known s.xid ≡ Some id → judge_reply known body ≡ Ok (record { id = id; items = whole_reply s r.front r.more })
-    answers known by = reply_accepted known body s id success r.front head end last.at r.more (r.begins known by) r.read is
+    answers : (known : List (List Item)) → procedure_of known s.xid ≡ Some id
+        → judge_reply known body ≡ Ok (record { id = id; items = whole_reply s r.front r.more })
+    answers known by =
+        reply_accepted known body s id success r.front head end last.at r.more (r.begins known by)
+        r.read is

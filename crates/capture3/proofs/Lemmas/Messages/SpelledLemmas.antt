@@ -1,20 +1,5 @@
 -- A body that spells a message is read without a stop, and as a message of that procedure.
-use Rattle.std.proofs.Common.{◌≡◌, ℕ, Bool, true, false, cond, List, [], ◌∷◌, Some, None, Result, Ok, Err, ap, ◌∙◌, eq-eqb}
-use Rattle.xdr3.specs.declared.reason.Stop.{Stop}
-use Rattle.xdr3.specs.Item.{Item, Word}
-use Rattle.xdr3.specs.Reading.{reading}
-use Rattle.xdr3.proofs.Lemmas.Shapes.Layouts.{reads_whole}
-use Rattle.rpc_head.specs.declared.values.call.ProcId.{ProcId}
-use Rattle.rpc_head.specs.declared.values.message_start.MessageStart.{MessageStart}
-use Rattle.rpc_head.specs.Messages.{call_layout, reply_layout, procedure_in}
-use Rattle.rpc_head.specs.Names.{head_names}
-use Rattle.rpc_head.specs.Shapes.{message_start}
-use Rattle.rpc_head.specs.MessageStart.{start_items}
-use Rattle.procs3.specs.Table.{arguments_of, results_of}
-use Rattle.capture3.specs.declared.message.calls.NumberedCall.{NumberedCall}
-use Rattle.capture3.specs.Bodies.{IsCall, IsReply, Starts, xid_in, procedure_of}
-use Rattle.capture3.specs.BodyProgram.{judge_call, judge_reply, read_whole}
-use Rattle.capture3.specs.machinery.Spelled.{SpellsCall, SpellsReply}
+use Rattle.capture3.proofs.Common.{◌≡◌, ℕ, Bool, true, false, cond, List, [], ◌∷◌, Some, None, Result, Ok, Err, ap, ◌∙◌, eq-eqb, Stop, reading, reads_whole, ProcId, MessageStart, call_layout, reply_layout, procedure_in, message_start, start_items, arguments_of, results_of, NumberedCall, judge_call, judge_reply, read_whole, SpellsCall, SpellsReply, Item, Word, head_names, IsCall, IsReply, Starts, xid_in, procedure_of}
 use Rattle.capture3.proofs.Lemmas.Messages.BodiesLemmas.{call_accepts, call_starts, reply_accepts, reply_starts, start_of, start_read}
 use Rattle.capture3.proofs.Lemmas.Messages.Layouts.{whole_read}
 
@@ -27,26 +12,36 @@ same_ok r a b x y = cc
 -- ---- calls
 
 -- the start of what begins with one is read, with its xid
-xid_read : (body : List ℕ) (xid mtype : ℕ) (start : MessageStart) (to : ℕ) → Starts body xid mtype → reading message_start body 0 ≡ Ok (start_items start, to) → start.xid ≡ xid
+xid_read : (body : List ℕ) (xid mtype : ℕ) (start : MessageStart) (to : ℕ) → Starts body xid mtype
+    → reading message_start body 0 ≡ Ok (start_items start, to) → start.xid ≡ xid
 xid_read body xid mtype start to starts read =
     let r = start_read body xid mtype starts in
-    ap (λ (x : List Item × ℕ). xid_in x.0) (same_ok (reading message_start body 0) (start_items start, to) (start_of xid mtype, r.0) read r.1)
+    ap (λ (x : List Item × ℕ). xid_in x.0) (same_ok (reading message_start body 0)
+    (start_items start, to) (start_of xid mtype, r.0) read r.1)
 
-start_is_whole : (body : List ℕ) (xid mtype : ℕ) (stop : Stop) → Starts body xid mtype → reading message_start body 0 ≡ Err stop → ⊥
+start_is_whole : (body : List ℕ) (xid mtype : ℕ) (stop : Stop) → Starts body xid mtype
+    → reading message_start body 0 ≡ Err stop → ⊥
 start_is_whole body xid mtype stop starts e =
     let r = start_read body xid mtype starts in
     ok_err (reading message_start body 0) (start_of xid mtype, r.0) stop r.1 e
 
 call_start : (body : List ℕ) (items : List Item) → IsCall body items → Starts body (xid_in items) 0
-call_start body items is = call_starts body items [] ((reads_whole (call_layout arguments_of) body items).1 is)
+call_start body items is =
+    call_starts body items [] ((reads_whole (call_layout arguments_of) body items).1 is)
 
-pub call_start_is_whole : (id : ProcId) (body : List ℕ) (stop : Stop) → SpellsCall id body → reading message_start body 0 ≡ Err stop → ⊥
-call_start_is_whole id body stop s e = start_is_whole body (xid_in s.0) 0 stop (call_start body s.0 s.1) e
+pub call_start_is_whole : (id : ProcId) (body : List ℕ) (stop : Stop) → SpellsCall id body
+    → reading message_start body 0 ≡ Err stop → ⊥
+call_start_is_whole id body stop s e =
+    start_is_whole body (xid_in s.0) 0 stop (call_start body s.0 s.1) e
 
-pub call_has_xid : (body : List ℕ) (items : List Item) (start : MessageStart) (to : ℕ) → IsCall body items → reading message_start body 0 ≡ Ok (start_items start, to) → start.xid ≡ xid_in items
-call_has_xid body items start to is read = xid_read body (xid_in items) 0 start to (call_start body items is) read
+pub call_has_xid : (body : List ℕ) (items : List Item) (start : MessageStart) (to : ℕ)
+    → IsCall body items → reading message_start body 0 ≡ Ok (start_items start, to)
+    → start.xid ≡ xid_in items
+call_has_xid body items start to is read =
+    xid_read body (xid_in items) 0 start to (call_start body items is) read
 
-call_judged : (body : List ℕ) (items : List Item) → IsCall body items → judge_call [] body ≡ Ok items
+call_judged : (body : List ℕ) (items : List Item) → IsCall body items
+    → judge_call [] body ≡ Ok items
 call_judged body items is = call_accepts [] body items (is, none_known)
   where
     none_known : (id : ProcId) → None ≡ Some id → id ≡ procedure_in items
@@ -54,37 +49,61 @@ call_judged body items is = call_accepts [] body items (is, none_known)
 
 -- a body spells one call
 pub one_call : (body : List ℕ) (a b : List Item) → IsCall body a → IsCall body b → a ≡ b
-one_call body a b p q = same_ok (judge_call [] body) a b (call_judged body a p) (call_judged body b q)
+one_call body a b p q =
+    same_ok (judge_call [] body) a b (call_judged body a p) (call_judged body b q)
 
-pub call_never_stops : (id : ProcId) (body : List ℕ) (stop : Stop) → SpellsCall id body → judge_call [] body ≡ Err stop → ⊥
-call_never_stops id body stop s e = ok_err (judge_call [] body) s.0 stop (call_judged body s.0 s.1) e
+pub call_never_stops : (id : ProcId) (body : List ℕ) (stop : Stop) → SpellsCall id body
+    → judge_call [] body ≡ Err stop → ⊥
+call_never_stops id body stop s e =
+    ok_err (judge_call [] body) s.0 stop (call_judged body s.0 s.1) e
 
 -- ---- replies
 
-reply_start : (id : ProcId) (body : List ℕ) (items : List Item) → IsReply body (record { id = id; items = items }) → Starts body (xid_in items) 1
-reply_start id body items is = reply_starts (results_of id) body items [] ((reads_whole (reply_layout (results_of id)) body items).1 is)
+reply_start : (id : ProcId) (body : List ℕ) (items : List Item)
+    → IsReply body (record { id = id; items = items }) → Starts body (xid_in items) 1
+reply_start id body items is =
+    reply_starts (results_of id) body items []
+    ((reads_whole (reply_layout (results_of id)) body items).1 is)
 
-pub reply_start_is_whole : (id : ProcId) (body : List ℕ) (stop : Stop) → SpellsReply id body → reading message_start body 0 ≡ Err stop → ⊥
-reply_start_is_whole id body stop s e = start_is_whole body (xid_in s.0) 1 stop (reply_start id body s.0 s.1) e
+pub reply_start_is_whole : (id : ProcId) (body : List ℕ) (stop : Stop) → SpellsReply id body
+    → reading message_start body 0 ≡ Err stop → ⊥
+reply_start_is_whole id body stop s e =
+    start_is_whole body (xid_in s.0) 1 stop (reply_start id body s.0 s.1) e
 
-pub reply_has_xid : (id : ProcId) (body : List ℕ) (items : List Item) (start : MessageStart) (to : ℕ) → IsReply body (record { id = id; items = items }) → reading message_start body 0 ≡ Ok (start_items start, to) → start.xid ≡ xid_in items
-reply_has_xid id body items start to is read = xid_read body (xid_in items) 1 start to (reply_start id body items is) read
+pub reply_has_xid : (id : ProcId) (body : List ℕ) (items : List Item) (start : MessageStart)
+    (to : ℕ) → IsReply body (record { id = id; items = items })
+    → reading message_start body 0 ≡ Ok (start_items start, to) → start.xid ≡ xid_in items
+reply_has_xid id body items start to is read =
+    xid_read body (xid_in items) 1 start to (reply_start id body items is) read
 
 -- and one reply of each procedure
-pub one_reply : (id : ProcId) (body : List ℕ) (a b : List Item) → IsReply body (record { id = id; items = a }) → IsReply body (record { id = id; items = b }) → a ≡ b
-one_reply id body a b p q = same_ok (read_whole (reply_layout (results_of id)) body) a b (whole_read (reply_layout (results_of id)) body a p.0 p.1) (whole_read (reply_layout (results_of id)) body b q.0 q.1)
+pub one_reply : (id : ProcId) (body : List ℕ) (a b : List Item)
+    → IsReply body (record { id = id; items = a }) → IsReply body (record { id = id; items = b })
+    → a ≡ b
+one_reply id body a b p q =
+    same_ok (read_whole (reply_layout (results_of id)) body) a b
+    (whole_read (reply_layout (results_of id)) body a p.0 p.1)
+    (whole_read (reply_layout (results_of id)) body b q.0 q.1)
 
 -- the items of some call with this xid and procedure
 abbrev pub asking : ℕ → ProcId → List Item
 asking xid id =
-    Word head_names.xid xid ∷ Word head_names.mtype 0 ∷ Word head_names.rpcvers 2 ∷ Word head_names.prog id.prog ∷ Word head_names.vers id.vers ∷ Word head_names.proc id.proc_no ∷ []
+    Word head_names.xid xid ∷ Word head_names.mtype 0 ∷ Word head_names.rpcvers 2
+    ∷ Word head_names.prog id.prog ∷ Word head_names.vers id.vers
+    ∷ Word head_names.proc id.proc_no ∷ []
 
-pub reply_never_stops : (id : ProcId) (body : List ℕ) (call : NumberedCall) (stop : Stop) → call.id ≡ id → ((items : List Item) → IsReply body (record { id = id; items = items }) → call.xid ≡ xid_in items)
+pub reply_never_stops : (id : ProcId) (body : List ℕ) (call : NumberedCall) (stop : Stop)
+    → call.id ≡ id
+    → ((items : List Item) → IsReply body (record { id = id; items = items })
+    → call.xid ≡ xid_in items)
     → SpellsReply id body → judge_reply (asking call.xid call.id ∷ []) body ≡ Err stop → ⊥
 reply_never_stops id body call stop same has_xid s e =
     let calls = asking call.xid call.id ∷ [] in
-    let asked : procedure_of calls (xid_in s.0) ≡ Some id = ap (λ (b : Bool). cond b (Some call.id) None) (eq-eqb call.xid (xid_in s.0) (has_xid s.0 s.1)) ∙ ap (λ (p : ProcId). Some p) same in
-    ok_err (judge_reply calls body) (record { id = id; items = s.0 }) stop (reply_accepts calls body (record { id = id; items = s.0 }) (s.1, asked)) e
+    let asked : procedure_of calls (xid_in s.0) ≡ Some id =
+    ap (λ (b : Bool). cond b (Some call.id) None) (eq-eqb call.xid (xid_in s.0) (has_xid s.0 s.1))
+    ∙ ap (λ (p : ProcId). Some p) same in
+    ok_err (judge_reply calls body) (record { id = id; items = s.0 }) stop
+    (reply_accepts calls body (record { id = id; items = s.0 }) (s.1, asked)) e
 
 pub only_one : (b : Bool) (id other : ProcId) → cond b (Some id) None ≡ Some other → other ≡ id
 only_one true id other e = cc

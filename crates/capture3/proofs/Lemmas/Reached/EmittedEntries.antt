@@ -1,61 +1,87 @@
 -- What the machine emits along bytes is what they reach.
-use Rattle.std.proofs.Common.{◌≡◌, ◌⊎◌, inl, inr, ℕ, List, [], ◌∷◌, ◌++◌, refl, sym, ap, ap₂, ◌∙◌, append_assoc, append-nil, Result, Ok, Err}
-use Rattle.std.specs.Prelude.{unwrap_or}
-use Rattle.std.specs.Result.{result_ok}
-use Rattle.record_mark.specs.Machine.{Next, Goes, Ends, Runs, Stops, landed, after, last_running}
+use Rattle.capture3.proofs.Common.{◌≡◌, ◌⊎◌, inl, inr, ℕ, List, [], ◌∷◌, ◌++◌, refl, sym, ap, ap₂, ◌∙◌, append_assoc, append-nil, Result, Ok, Err, Next, Goes, Ends, Runs, Stops, landed, after, last_running, AreBytes, Fault, ShownFault, Entry, Shows, IsWellFormed, unwrap_or, result_ok, Parsing, file_next, file_start, parsed, verdict, emitted, last_entries, reached, IsLongestClean, Reached}
 use Rattle.record_mark.proofs.Machines.{after-append, after_stopped, runs_along, last_running-append}
-use Rattle.xdr3.specs.Item.{AreBytes}
-use Rattle.capture3.specs.declared.fault.Fault.{Fault}
-use Rattle.capture3.specs.Connections.{ShownFault}
-use Rattle.capture3.specs.Entry.{Entry}
-use Rattle.capture3.specs.FirstFault.{Shows}
-use Rattle.capture3.specs.FileMachine.{Parsing, file_next, file_start, parsed, verdict, emitted, last_entries, reached}
-use Rattle.capture3.specs.Reached.{IsLongestClean, Reached}
-use Rattle.capture3.specs.Typed.{IsWellFormed}
 use Rattle.capture3.proofs.Lemmas.Container.BytesOf.{split_bytes}
 use Rattle.capture3.proofs.Lemmas.Files.FileMachineLemmas.{file_runs}
 use Rattle.capture3.proofs.Lemmas.Reached.ReachedLemmas.{whole_stands, stands_whole}
 use Rattle.capture3.proofs.Lemmas.Files.Verdicts.{told, shows_from_stops, stops_from_shows, clean_from_runs, typed_from_verdict, verdict_from_typed}
 
 -- what the machine emits is what the bytes reach
-pub landed_ends : (shown : ShownFault) (n : Next Parsing ShownFault) → landed n ≡ Stops shown → n ≡ Ends shown
+pub landed_ends : (shown : ShownFault) (n : Next Parsing ShownFault) → landed n ≡ Stops shown
+    → n ≡ Ends shown
 landed_ends shown (Goes t) e = absurd (cc)
 landed_ends shown (Ends x) e = cc
 
-one_more : (front : List ℕ) (s : Parsing) (byte : ℕ) → parsed front ≡ Runs s → parsed (front ++ byte ∷ []) ≡ landed (file_next s byte)
-one_more front s byte e = after-append file_next (Runs file_start) front (byte ∷ []) ∙ ap (λ r. after file_next r (byte ∷ [])) e
+one_more : (front : List ℕ) (s : Parsing) (byte : ℕ) → parsed front ≡ Runs s
+    → parsed (front ++ byte ∷ []) ≡ landed (file_next s byte)
+one_more front s byte e =
+    after-append file_next (Runs file_start) front (byte ∷ [])
+    ∙ ap (λ r. after file_next r (byte ∷ [])) e
 
-stopped_entries : (shown : ShownFault) (back : List ℕ) → last_entries (after file_next (Stops shown) back) ≡ shown.more
+stopped_entries : (shown : ShownFault) (back : List ℕ)
+    → last_entries (after file_next (Stops shown) back) ≡ shown.more
 stopped_entries shown [] = refl
 stopped_entries shown (byte ∷ back) = ap last_entries (after_stopped file_next shown back)
 
-after_entries : (bytes front : List ℕ) (s : Parsing) (byte : ℕ) (back : List ℕ) (shown : ShownFault) → bytes ≡ front ++ byte ∷ back → parsed front ≡ Runs s → file_next s byte ≡ Ends shown → last_entries (parsed bytes) ≡ shown.more
+after_entries : (bytes front : List ℕ) (s : Parsing) (byte : ℕ) (back : List ℕ) (shown : ShownFault)
+    → bytes ≡ front ++ byte ∷ back → parsed front ≡ Runs s → file_next s byte ≡ Ends shown
+    → last_entries (parsed bytes) ≡ shown.more
 after_entries bytes front s byte back shown split e ends =
-    ap last_entries (ap parsed split ∙ after-append file_next (Runs file_start) front (byte ∷ back) ∙ ap (λ r. after file_next r (byte ∷ back)) e ∙ ap (λ n. after file_next (landed n) back) ends)
+    ap last_entries (ap parsed split ∙ after-append file_next (Runs file_start) front (byte ∷ back)
+    ∙ ap (λ r. after file_next r (byte ∷ back)) e
+    ∙ ap (λ n. after file_next (landed n) back) ends)
     ∙ stopped_entries shown back
 
-reached_without : (bytes : List ℕ) (v : Result (List Entry) Fault) → verdict bytes ≡ v → AreBytes bytes → (IsWellFormed bytes → ⊥) → reached bytes ≡ emitted (last_running file_next file_start bytes) ++ last_entries (parsed bytes)
-reached_without bytes (Ok entries) e are bad = absurd (bad (entries, typed_from_verdict bytes entries are e))
-reached_without bytes (Err fault) e are bad = ap (λ v. unwrap_or (result_ok v) (emitted (last_running file_next file_start bytes) ++ last_entries (parsed bytes))) e
+reached_without : (bytes : List ℕ) (v : Result (List Entry) Fault) → verdict bytes ≡ v
+    → AreBytes bytes → (IsWellFormed bytes → ⊥)
+    → reached bytes
+    ≡ emitted (last_running file_next file_start bytes) ++ last_entries (parsed bytes)
+reached_without bytes (Ok entries) e are bad =
+    absurd (bad (entries, typed_from_verdict bytes entries are e))
+reached_without bytes (Err fault) e are bad =
+    ap
+    (λ v.
+    unwrap_or (result_ok v)
+    (emitted (last_running file_next file_start bytes) ++ last_entries (parsed bytes)))
+    e
 
 -- after the longest clean prefix
-longest_is : (bytes front : List ℕ) (s : Parsing) (more : List Entry) → (h : IsLongestClean bytes front more) → AreBytes bytes → parsed front ≡ Runs s
+longest_is : (bytes front : List ℕ) (s : Parsing) (more : List Entry)
+    → (h : IsLongestClean bytes front more) → AreBytes bytes → parsed front ≡ Runs s
     → (last_running file_next s h.rest ≡ s) × (last_entries (parsed bytes) ≡ more)
 longest_is bytes front s more h are e = go h.longest
   where
-    go : ((h.rest ≡ []) × (more ≡ [])) ⊎ ((byte : ℕ) × (back : List ℕ) × (shown : ShownFault) × (h.rest ≡ byte ∷ back) × Shows (front ++ byte ∷ []) shown × (more ≡ shown.more)) → (last_running file_next s h.rest ≡ s) × (last_entries (parsed bytes) ≡ more)
+    go : ((h.rest ≡ []) × (more ≡ []))
+        ⊎ ((byte : ℕ) × (back : List ℕ) × (shown : ShownFault) × (h.rest ≡ byte ∷ back)
+        × Shows (front ++ byte ∷ []) shown × (more ≡ shown.more))
+        → (last_running file_next s h.rest ≡ s) × (last_entries (parsed bytes) ≡ more)
     go (inl l) = (
       ap (last_running file_next s) l.0,
-      ap last_entries (ap parsed (h.split ∙ ap (λ (b : List ℕ). front ++ b) l.0 ∙ append-nil front) ∙ e) ∙ sym l.1,
+      ap last_entries
+          (ap parsed (h.split ∙ ap (λ (b : List ℕ). front ++ b) l.0 ∙ append-nil front) ∙ e)
+          ∙ sym l.1,
     )
     go (inr r) =
-        let ends = landed_ends r.2 (file_next s r.0) (sym (one_more front s r.0 e) ∙ stops_from_shows (front ++ r.0 ∷ []) r.2 (split_bytes bytes (front ++ r.0 ∷ []) r.1 (h.split ∙ ap (λ (b : List ℕ). front ++ b) r.3 ∙ sym (append_assoc front (r.0 ∷ []) r.1)) are).0 r.4) in (
-          ap (last_running file_next s) r.3 ∙ ap (λ n. elim n [ Goes t ↦ last_running file_next t r.1 | Ends x ↦ s ]) ends,
-          after_entries bytes front s r.0 r.1 r.2 (h.split ∙ ap (λ (b : List ℕ). front ++ b) r.3) e ends ∙ sym r.5,
+        let ends =
+        landed_ends r.2 (file_next s r.0)
+        (sym (one_more front s r.0 e)
+        ∙ stops_from_shows (front ++ r.0 ∷ []) r.2
+        (split_bytes bytes (front ++ r.0 ∷ []) r.1
+        (h.split ∙ ap (λ (b : List ℕ). front ++ b) r.3
+        ∙ sym (append_assoc front (r.0 ∷ []) r.1)) are).0 r.4) in (
+          ap (last_running file_next s) r.3
+              ∙ ap (λ n. elim n [ Goes t ↦ last_running file_next t r.1 | Ends x ↦ s ]) ends,
+          after_entries bytes front s r.0 r.1 r.2 (h.split ∙ ap (λ (b : List ℕ). front ++ b) r.3) e
+              ends ∙ sym r.5,
         )
 
-pub machine_reaches : (bytes : List ℕ) (entries : List Entry) → AreBytes bytes → Reached bytes entries → entries ≡ reached bytes
-machine_reaches bytes entries are (inl h) = sym (ap (λ v. unwrap_or (result_ok v) (emitted (last_running file_next file_start bytes) ++ last_entries (parsed bytes))) (verdict_from_typed bytes entries h))
+pub machine_reaches : (bytes : List ℕ) (entries : List Entry) → AreBytes bytes
+    → Reached bytes entries → entries ≡ reached bytes
+machine_reaches bytes entries are (inl h) =
+    sym (ap
+    (λ v.
+    unwrap_or (result_ok v) (emitted (last_running file_next file_start bytes)
+    ++ last_entries (parsed bytes))) (verdict_from_typed bytes entries h))
 machine_reaches bytes entries are (inr h) =
     let (bad, front, whole, more, longest, is_whole, is) = h in
     let at = whole_stands front whole is_whole in
@@ -63,17 +89,39 @@ machine_reaches bytes entries are (inr h) =
     let last = longest_is bytes front at.state more longest are runs in
     is
     ∙ ap (λ l. l ++ more) (sym at.emits)
-    ∙ ap₂ (λ t es. emitted t ++ es) (sym (ap (last_running file_next file_start) longest.split ∙ last_running-append file_next file_start at.state front longest.rest runs ∙ last.0)) (sym last.1)
+    ∙ ap₂ (λ t es. emitted t ++ es)
+    (sym (ap (last_running file_next file_start) longest.split
+    ∙ last_running-append file_next file_start at.state front longest.rest runs
+    ∙ last.0)) (sym last.1)
     ∙ sym (reached_without bytes (verdict bytes) refl are bad)
 
-longest_cases : (bytes front : List ℕ) (s : Parsing) (rest : List ℕ) → AreBytes bytes → bytes ≡ front ++ rest → parsed front ≡ Runs s → ((byte : ℕ) (back : List ℕ) → rest ≡ byte ∷ back → (x : ShownFault) × (file_next s byte ≡ Ends x))
-    → ((rest ≡ []) × (last_entries (parsed bytes) ≡ [])) ⊎ ((byte : ℕ) × (back : List ℕ) × (shown : ShownFault) × (rest ≡ byte ∷ back) × Shows (front ++ byte ∷ []) shown × (last_entries (parsed bytes) ≡ shown.more))
-longest_cases bytes front s [] are split e stops = inl (refl, ap last_entries (ap parsed (split ∙ append-nil front) ∙ e))
+longest_cases : (bytes front : List ℕ) (s : Parsing) (rest : List ℕ) → AreBytes bytes
+    → bytes ≡ front ++ rest → parsed front ≡ Runs s
+    → ((byte : ℕ) (back : List ℕ) → rest ≡ byte ∷ back
+    → (x : ShownFault) × (file_next s byte ≡ Ends x))
+    → ((rest ≡ []) × (last_entries (parsed bytes) ≡ []))
+    ⊎ ((byte : ℕ) × (back : List ℕ) × (shown : ShownFault) × (rest ≡ byte ∷ back)
+    × Shows (front ++ byte ∷ []) shown × (last_entries (parsed bytes) ≡ shown.more))
+longest_cases bytes front s [] are split e stops =
+    inl (refl, ap last_entries (ap parsed (split ∙ append-nil front) ∙ e))
 longest_cases bytes front s (byte ∷ back) are split e stops =
     let stop = stops byte back refl in
-    inr (byte, back, stop.0, refl, shows_from_stops (front ++ byte ∷ []) stop.0 (split_bytes bytes (front ++ byte ∷ []) back (split ∙ sym (append_assoc front (byte ∷ []) back)) are).0 (one_more front s byte e ∙ ap landed stop.1), after_entries bytes front s byte back stop.0 split e stop.1)
+    inr (
+      byte,
+      back,
+      stop.0,
+      refl,
+      shows_from_stops (front ++ byte ∷ []) stop.0
+          (split_bytes bytes (front ++ byte ∷ []) back
+          (split ∙ sym (append_assoc front (byte ∷ []) back)) are).0
+          (one_more front s byte e ∙ ap landed stop.1),
+      after_entries bytes front s byte back stop.0 split e stop.1,
+    )
 
-reached_cases : (bytes : List ℕ) (v : Result (List Entry) Fault) → AreBytes bytes → verdict bytes ≡ v → Reached bytes (unwrap_or (result_ok v) (emitted (last_running file_next file_start bytes) ++ last_entries (parsed bytes)))
+reached_cases : (bytes : List ℕ) (v : Result (List Entry) Fault) → AreBytes bytes
+    → verdict bytes ≡ v
+    → Reached bytes (unwrap_or (result_ok v)
+    (emitted (last_running file_next file_start bytes) ++ last_entries (parsed bytes)))
 reached_cases bytes (Ok entries) are e = inl (typed_from_verdict bytes entries are e)
 reached_cases bytes (Err fault) are e =
     let s : Parsing = last_running file_next file_start bytes in
@@ -83,8 +131,14 @@ reached_cases bytes (Err fault) are e =
       r.front,
       emitted s,
       last_entries (parsed bytes),
-      record { rest = r.rest; split = r.split; clean = clean_from_runs r.front s r.runs; longest = longest_cases bytes r.front s r.rest are r.split r.runs r.stops },
-      stands_whole r.front s (told r.front (Runs s) (split_bytes bytes r.front r.rest r.split are).0 r.runs),
+      record {
+        rest = r.rest;
+        split = r.split;
+        clean = clean_from_runs r.front s r.runs;
+        longest = longest_cases bytes r.front s r.rest are r.split r.runs r.stops;
+      },
+      stands_whole r.front s
+          (told r.front (Runs s) (split_bytes bytes r.front r.rest r.split are).0 r.runs),
       refl,
     )
 

@@ -1,25 +1,14 @@
 -- What the bytes reach: in front of a fault, and from entries on that are whole.
-use Rattle.std.proofs.Common.{◌≡◌, inl, ℕ, List, [], ◌∷◌, ◌++◌, length, Result, Ok, Err, refl, sym, ap, subst, ◌∙◌, append_assoc, append-nil}
-use Rattle.std.specs.Prelude.{unwrap_or}
-use Rattle.std.specs.Result.{result_ok}
-use Rattle.xdr3.specs.Item.{AreBytes}
-use Rattle.record_mark.specs.Machine.{Run, Runs, Stops, Stopped, last_running}
-use Rattle.record_mark.proofs.Machines.{last_running-append}
-use Rattle.capture3.specs.declared.fault.Fault.{Fault}
-use Rattle.capture3.specs.Connections.{ShownFault}
-use Rattle.capture3.specs.Reached.{AreFirstReached}
-use Rattle.capture3.specs.Entry.{Entry, End}
+use Rattle.capture3.proofs.Common.{◌≡◌, inl, ℕ, List, [], ◌∷◌, ◌++◌, length, Result, Ok, Err, refl, sym, ap, subst, ◌∙◌, append_assoc, append-nil, AreBytes, Run, Runs, Stops, Stopped, last_running, last_running-append, Fault, ShownFault, AreFirstReached, Reached, Entry, End, Judged, Agrees, emitted_at, parsing_at, Unpacking, unwrap_or, result_ok}
 use Rattle.capture3.specs.FileMachine.{Parsing, Spot, Magic, Digit, Mark, Inside, Ended, file_next, file_start, parsed, concluded, verdict, verdict_of, spot_entries, emitted, last_entries, reached}
-use Rattle.capture3.specs.Reached.{Reached}
-use Rattle.capture3.specs.machinery.FileStanding.{Judged, Agrees, emitted_at, parsing_at}
-use Rattle.capture3.specs.machinery.ContainerMachine.{Unpacking}
 use Rattle.capture3.proofs.Lemmas.Reached.EmittedEntries.{reached_by_machine}
 use Rattle.capture3.proofs.Lemmas.Reached.Growing.{Adds, grows}
 use Rattle.capture3.proofs.Lemmas.Files.Verdicts.{typed_from_verdict}
 
 -- ---- entries that are whole
 
-ended_after : (entries : List Entry) (size : ℕ) (spot : Spot) (all : List Entry) → concluded size entries spot ≡ Ok all → all ≡ (entries ++ spot_entries spot) ++ End ∷ []
+ended_after : (entries : List Entry) (size : ℕ) (spot : Spot) (all : List Entry)
+    → concluded size entries spot ≡ Ok all → all ≡ (entries ++ spot_entries spot) ++ End ∷ []
 ended_after entries size (Magic due more) all e = absurd (cc)
 ended_after entries size Digit all e = absurd (cc)
 ended_after entries size (Mark part) all e = absurd (cc)
@@ -28,34 +17,59 @@ ended_after entries size Ended all e =
     let same : entries ++ End ∷ [] ≡ all = cc in
     sym same ∙ ap (λ (l : List Entry). l ++ End ∷ []) (sym (append-nil entries))
 
-last_is : (bytes : List ℕ) (s : Parsing) → parsed bytes ≡ Runs s → last_running file_next file_start bytes ≡ s
-last_is bytes s runs = ap (last_running file_next file_start) (sym (append-nil bytes)) ∙ last_running-append file_next file_start s bytes [] runs
+last_is : (bytes : List ℕ) (s : Parsing) → parsed bytes ≡ Runs s
+    → last_running file_next file_start bytes ≡ s
+last_is bytes s runs =
+    ap (last_running file_next file_start) (sym (append-nil bytes))
+    ∙ last_running-append file_next file_start s bytes [] runs
 
--- whatever bytes come after those that it has taken, what the machine has emitted are the first entries that all reach
-module _ (front back : List ℕ) (u : Unpacking) (j : Judged) (are : AreBytes (front ++ back)) (agrees : Agrees u j) (stands : parsed front ≡ Runs (parsing_at u j)) where
+-- whatever bytes come after those that it has taken, what the machine has emitted are the first
+-- entries that all reach
+module _ (front back : List ℕ) (u : Unpacking) (j : Judged) (are : AreBytes (front ++ back))
+    (agrees : Agrees u j) (stands : parsed front ≡ Runs (parsing_at u j)) where
   last_state : Parsing
   last_state = last_running file_next file_start (front ++ back)
 
   added : Adds (emitted_at u.opened j) last_state
   unfolding last_state
   added =
-      let g = grows back u j agrees in
-      (g.0, ap emitted (last_running-append file_next file_start (parsing_at u j) front back stands) ∙ g.1)
+      let g = grows back u j agrees in (
+        g.0,
+        ap emitted (last_running-append file_next file_start (parsing_at u j) front back stands)
+            ∙ g.1,
+      )
 
-  first_of : (all tail : List Entry) → all ≡ emitted last_state ++ tail → Reached (front ++ back) all → AreFirstReached (front ++ back) (emitted_at u.opened j)
-  first_of all tail is reaches = (added.0 ++ tail, subst (Reached (front ++ back)) (is ∙ ap (λ (l : List Entry). l ++ tail) added.1 ∙ append_assoc (emitted_at u.opened j) added.0 tail) reaches)
+  first_of : (all tail : List Entry) → all ≡ emitted last_state ++ tail
+      → Reached (front ++ back) all → AreFirstReached (front ++ back) (emitted_at u.opened j)
+  first_of all tail is reaches = (
+    added.0 ++ tail,
+    subst (Reached (front ++ back))
+        (is ∙ ap (λ (l : List Entry). l ++ tail) added.1
+        ∙ append_assoc (emitted_at u.opened j) added.0 tail) reaches,
+  )
 
-  ended_run : (all : List Entry) (run : Run Parsing ShownFault) → parsed (front ++ back) ≡ run → verdict_of (length (front ++ back)) run ≡ Ok all → all ≡ emitted last_state ++ End ∷ []
+  ended_run : (all : List Entry) (run : Run Parsing ShownFault) → parsed (front ++ back) ≡ run
+      → verdict_of (length (front ++ back)) run ≡ Ok all → all ≡ emitted last_state ++ End ∷ []
   unfolding last_state
-  ended_run all (Runs s) runs e = ended_after s.entries (length (front ++ back)) s.spot all e ∙ ap (λ (z : Parsing). emitted z ++ End ∷ []) (sym (last_is (front ++ back) s runs))
+  ended_run all (Runs s) runs e =
+      ended_after s.entries (length (front ++ back)) s.spot all e
+      ∙ ap (λ (z : Parsing). emitted z ++ End ∷ []) (sym (last_is (front ++ back) s runs))
   ended_run all (Stops shown) runs e = absurd (cc)
   ended_run all (Stopped shown) runs e = absurd (cc)
 
-  by_verdict : (v : Result (List Entry) Fault) → verdict (front ++ back) ≡ v → AreFirstReached (front ++ back) (emitted_at u.opened j)
+  by_verdict : (v : Result (List Entry) Fault) → verdict (front ++ back) ≡ v
+      → AreFirstReached (front ++ back) (emitted_at u.opened j)
   unfolding last_state
-  by_verdict (Ok all) e = first_of all (End ∷ []) (ended_run all (parsed (front ++ back)) refl e) (inl (typed_from_verdict (front ++ back) all are e))
+  by_verdict (Ok all) e =
+      first_of all (End ∷ []) (ended_run all (parsed (front ++ back)) refl e)
+      (inl (typed_from_verdict (front ++ back) all are e))
   by_verdict (Err fault) e =
-      first_of (reached (front ++ back)) (last_entries (parsed (front ++ back))) (ap (λ v. unwrap_or (result_ok v) (emitted last_state ++ last_entries (parsed (front ++ back)))) e) (reached_by_machine (front ++ back) are)
+      first_of (reached (front ++ back)) (last_entries (parsed (front ++ back)))
+      (ap
+      (λ v.
+      unwrap_or (result_ok v)
+      (emitted last_state ++ last_entries (parsed (front ++ back)))) e)
+      (reached_by_machine (front ++ back) are)
 
   pub first_reached_at : AreFirstReached (front ++ back) (emitted_at u.opened j)
   first_reached_at = by_verdict (verdict (front ++ back)) refl

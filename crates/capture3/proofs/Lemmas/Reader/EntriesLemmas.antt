@@ -1,51 +1,27 @@
 -- What a reader of entries makes of its histories, step by step.
 use Rattle.std.proofs.Common.{◌≡◌, ◌≢◌, inl, inr, ℕ, ◌+◌, ◌-◌, ◌≤◌, ◌<◌, Option, Some, None, Result, Ok, Err, IsSome, List, [], ◌∷◌, ◌++◌, length, take, drop, slice_range, refl, sym, ap, subst, ◌∙◌, append_assoc, append-nil, length-append, arith, take-append-drop, length-take, length-drop, vec_len}
-use Rattle.std.proofs.lemmas.Grind.{common_steps}
+use Rattle.capture3.proofs.Common.{common_steps, ∥∥₁_elim, CaptureCut, AreBytes, Item, Runs, Stops, Stopped, Taking, Led, OutOfMemory, IsRunning, released, NumberedCall, Kind, Error, Spot, Container, Cursor, Two, max_connections, Entry, End, FirstFault, IsClean, begins, most_bytes, Parsing, parsed, emitted, AreFirstReached, AreWhole, Reached, parsing_at, Streams, file_fault, IsWellFormed, Typed, props, Told, Gave, IsSpent, AreStored, IsReady, IsStored, room_in, unpacking_of}
 use Rattle.std.proofs.lemmas.List.{drop-take}
-use Rattle.std.proofs.Math.Logic.{∥∥₁_elim}
-use Rattle.std.proofs.Props.{props}
-use Rattle.capture3.specs.Told.{Told, Gave, IsSpent}
 use Rattle.capture3.proofs.Lemmas.Reader.ToldLemmas.{gave_both, gave_none, gave_none_as}
-use Rattle.xdr3.specs.declared.reason.Reason.TheVariants.{CaptureCut}
-use Rattle.xdr3.specs.Item.{AreBytes, Item}
-use Rattle.record_mark.specs.Machine.{Runs, Stops, Stopped}
-use Rattle.record_mark.specs.Taking.{Taking, Led, OutOfMemory, IsRunning, released}
 use Rattle.std.specs.declared.hash.BuildHasher as BuildHasher
 use Rattle.std.specs.declared.hash.Hasher as Hasher
 use Rattle.std.proofs.lemmas.List.{same_from_push}
-use Rattle.capture3.specs.declared.message.calls.NumberedCall.{NumberedCall}
 use Rattle.capture3.specs.declared.reader.entries.Entries.{Entries}
 use Rattle.capture3.specs.declared.reader.entries.Stage.{Stage}
 use Rattle.capture3.specs.declared.reader.entries.Stage.TheVariants.{Reading, Over, Failed}
-use Rattle.capture3.specs.declared.reader.entry.Kind.{Kind}
 use Rattle.capture3.specs.declared.reader.entry.Kind.TheVariants as kinds
-use Rattle.capture3.specs.declared.fault.Error.{Error}
 use Rattle.capture3.specs.declared.fault.Error.TheVariants as errors
 use Rattle.capture3.specs.declared.fault.Noted.{Noted}
 use Rattle.capture3.specs.declared.reader.entry_parser.EntryParser.{EntryParser}
 use Rattle.capture3.specs.declared.container.position.Position.{Position}
-use Rattle.capture3.specs.declared.container.position.Spot.{Spot}
 use Rattle.capture3.specs.declared.container.position.Spot.TheVariants as spots
-use Rattle.capture3.specs.declared.container.Container.{Container}
-use Rattle.capture3.specs.declared.container.Cursor.{Cursor}
-use Rattle.capture3.specs.Capture.{Two, max_connections}
-use Rattle.capture3.specs.machinery.Container.{AreStored, IsReady, IsStored, room_in, unpacking_of}
 use Rattle.capture3.specs.Entries.{AreAllBeforeEnd, IsMetBy, failure_in, failure_of}
 use Rattle.capture3.specs.machinery.EntriesHistory.{entries_left_in, entries_left, unjudged, IsReading, StandsIn, StandsFor, HoldsLast, HasRead, HandsOutOrGoesOn, Turns}
 use Rattle.capture3.specs.Handing.{HandsOut, HandsOutGiven}
-use Rattle.capture3.specs.Entry.{Entry, End}
-use Rattle.capture3.specs.FirstFault.{FirstFault, IsClean}
 use Rattle.capture3.specs.machinery.EntryParser.{StandsAt, StandsOrRecalls, HasCome, after_side_word, GoesTo, FailsAt, IsHeld, IsOfBytes, entry_cost}
 use Rattle.capture3.specs.Kept.{IsOfKind}
-use Rattle.capture3.specs.Laws.{begins, most_bytes}
-use Rattle.capture3.specs.FileMachine.{Parsing, parsed, emitted}
 use Rattle.capture3.specs.machinery.Position.{AreEmpty, IsBeforeMark, IsEndSpot, IsSoundPosition, IsSoundSpot, StoredAt, opened_at}
 use Rattle.capture3.specs.Laws.{most_entries}
-use Rattle.capture3.specs.Reached.{AreFirstReached, AreWhole, Reached}
-use Rattle.capture3.specs.machinery.FileStanding.{parsing_at}
-use Rattle.capture3.specs.SidedChunks.{Streams}
-use Rattle.capture3.specs.Sides.{file_fault}
-use Rattle.capture3.specs.Typed.{IsWellFormed, Typed}
 use Rattle.capture3.proofs.Lemmas.Reached.ReachedMore.{reached_within}
 use Rattle.capture3.proofs.Lemmas.Container.BytesOf.{AreBytes-append, split_bytes}
 use Rattle.capture3.proofs.Lemmas.Reader.EntryParserLemmas.{untold}
@@ -60,7 +36,8 @@ use Rattle.capture3.proofs.Lemmas.Files.Verdicts.{clean_from_runs, told, verdict
 
 -- ---- what is kept truncated
 
-sound_at-prop : (spot : Spot) (at total connections records : ℕ) → IsProp (IsSoundSpot spot at total connections records)
+sound_at-prop : (spot : Spot) (at total connections records : ℕ)
+    → IsProp (IsSoundSpot spot at total connections records)
 sound_at-prop spots.Magic at total connections records = hlevel props
 sound_at-prop (spots.Mark version part) at total connections records = hlevel props
 sound_at-prop (spots.Length side part) at total connections records = hlevel props
@@ -91,7 +68,8 @@ before_mark-prop (spots.Ended version) = hlevel props
 empty-prop : (streams : Streams) → IsProp (AreEmpty streams)
 empty-prop streams = hlevel props
 
-stored_at-prop : (spot : Spot) (total : ℕ) (streams : Streams) → IsProp (StoredAt spot total streams)
+stored_at-prop : (spot : Spot) (total : ℕ) (streams : Streams)
+    → IsProp (StoredAt spot total streams)
 stored_at-prop (spots.Side part) total streams = hlevel props
 stored_at-prop (spots.SideLength side part) total streams = hlevel props
 stored_at-prop (spots.SideChunk side left) total streams = hlevel props
@@ -102,7 +80,8 @@ stored_at-prop (spots.Length side part) total streams = empty-prop streams
 stored_at-prop (spots.Chunk side left) total streams = empty-prop streams
 stored_at-prop (spots.Ended version) total streams = empty-prop streams
 
-stored-prop : (p : Position) (cursor : Option Cursor) (streams : Streams) → IsProp (AreStored p cursor streams)
+stored-prop : (p : Position) (cursor : Option Cursor) (streams : Streams)
+    → IsProp (AreStored p cursor streams)
 stored-prop p None streams = stored_at-prop p.spot p.total streams
 stored-prop p (Some cursor) streams = hlevel (props, before_mark-prop)
 
@@ -132,50 +111,89 @@ kind_held kinds.End t entry is = is
 
 -- ---- after bytes that the machine has taken
 
-module _ (bytes : List ℕ) (p : Position) (t : Taking) (streams : Streams) (table : List NumberedCall) (model : List Entry) (are : AreBytes bytes) (s : StandsAt p t streams table bytes model) where
+module _ (bytes : List ℕ) (p : Position) (t : Taking) (streams : Streams)
+    (table : List NumberedCall) (model : List Entry) (are : AreBytes bytes)
+    (s : StandsAt p t streams table bytes model) where
   state : Parsing
   state = parsing_at (unpacking_of p t streams) s.so_far
 
   model_is : emitted state ≡ model
   unfolding state
-  model_is = emitted_is p.at p.total p.connections (unpacking_of p t streams).joining (opened_at streams p.spot p.at) s.so_far ∙ sym s.emitted
+  model_is =
+      emitted_is p.at p.total p.connections (unpacking_of p t streams).joining
+      (opened_at streams p.spot p.at) s.so_far ∙ sym s.emitted
 
   runs_is : parsed bytes ≡ Runs state
   unfolding state
   runs_is = s.stands
 
   pub whole_here : AreWhole bytes model
-  whole_here = subst (λ (entries : List Entry). AreWhole bytes entries) model_is (stands_whole bytes state (told bytes (Runs state) are runs_is))
+  whole_here =
+      subst (λ (entries : List Entry). AreWhole bytes entries) model_is
+      (stands_whole bytes state (told bytes (Runs state) are runs_is))
 
   pub clean_here : IsClean bytes
   clean_here = clean_from_runs bytes state runs_is
 
 -- where streams that were kept are judged, the last byte may show a fault
-come_length : (c : Container) (table : List NumberedCall) (bytes : List ℕ) (handed : List Entry) → AreBytes bytes → HasCome c table bytes handed → length bytes ≤ most_bytes Two + 1
+come_length : (c : Container) (table : List NumberedCall) (bytes : List ℕ) (handed : List Entry)
+    → AreBytes bytes → HasCome c table bytes handed → length bytes ≤ most_bytes Two + 1
 come_length c table bytes handed are h = by_cursor c.cursor h
   where
-    by_cursor : (cursor : Option Cursor) → StandsOrRecalls cursor c.position (released c.joiner.taking) c.streams.kept table bytes handed → length bytes ≤ most_bytes Two + 1
-    by_cursor None s = omega (arith, clean_most bytes are (clean_here bytes c.position (released c.joiner.taking) c.streams.kept table handed are s))
-    by_cursor (Some cursor) r = omega (arith, clean_most r.front (split_bytes bytes r.front (r.byte ∷ []) r.split are).0 (clean_from_runs r.front r.state r.runs), ap length r.split, length-append r.front (r.byte ∷ []))
+    by_cursor : (cursor : Option Cursor)
+        → StandsOrRecalls cursor c.position (released c.joiner.taking) c.streams.kept table bytes
+        handed → length bytes ≤ most_bytes Two + 1
+    by_cursor None s =
+        omega (
+          arith,
+          clean_most bytes are (clean_here bytes c.position (released c.joiner.taking)
+              c.streams.kept table handed are s),
+        )
+    by_cursor (Some cursor) r =
+        omega (
+          arith,
+          clean_most r.front (split_bytes bytes r.front (r.byte ∷ []) r.split are).0
+              (clean_from_runs r.front r.state r.runs),
+          ap length r.split,
+          length-append r.front (r.byte ∷ []),
+        )
 
 -- what was handed out are the first entries that the bytes reach, whatever comes after
-come_first : (c : Container) (table : List NumberedCall) (bytes rest : List ℕ) (handed : List Entry) → AreBytes (bytes ++ rest) → HasCome c table bytes handed → AreFirstReached (bytes ++ rest) handed
+come_first : (c : Container) (table : List NumberedCall) (bytes rest : List ℕ) (handed : List Entry)
+    → AreBytes (bytes ++ rest) → HasCome c table bytes handed
+    → AreFirstReached (bytes ++ rest) handed
 come_first c table bytes rest handed are h = by_cursor c.cursor h
   where
-    by_cursor : (cursor : Option Cursor) → StandsOrRecalls cursor c.position (released c.joiner.taking) c.streams.kept table bytes handed → AreFirstReached (bytes ++ rest) handed
-    by_cursor None s = subst (AreFirstReached (bytes ++ rest)) (sym s.emitted) (first_reached_at bytes rest (unpacking_of c.position (released c.joiner.taking) c.streams.kept) s.so_far are s.agrees s.stands)
-    by_cursor (Some cursor) r = recalled_first (after_side_word c.position) c.streams.kept cursor.side cursor.taken c.position.records table bytes rest handed are r
+    by_cursor : (cursor : Option Cursor)
+        → StandsOrRecalls cursor c.position (released c.joiner.taking) c.streams.kept table bytes
+        handed → AreFirstReached (bytes ++ rest) handed
+    by_cursor None s =
+        subst (AreFirstReached (bytes ++ rest)) (sym s.emitted) (first_reached_at bytes rest
+        (unpacking_of c.position (released c.joiner.taking) c.streams.kept) s.so_far are
+        s.agrees s.stands)
+    by_cursor (Some cursor) r =
+        recalled_first (after_side_word c.position) c.streams.kept cursor.side cursor.taken
+        c.position.records table bytes rest handed are r
 
 -- no streams are judged
-stands_unopened : (c : Container) (table : List NumberedCall) (bytes : List ℕ) (handed : List Entry) → c.cursor ≡ None → HasCome c table bytes handed → StandsAt c.position (released c.joiner.taking) c.streams.kept table bytes handed
-stands_unopened c table bytes handed none h = subst (λ (cursor : Option Cursor). StandsOrRecalls cursor c.position (released c.joiner.taking) c.streams.kept table bytes handed) none h
+stands_unopened : (c : Container) (table : List NumberedCall) (bytes : List ℕ) (handed : List Entry)
+    → c.cursor ≡ None → HasCome c table bytes handed
+    → StandsAt c.position (released c.joiner.taking) c.streams.kept table bytes handed
+stands_unopened c table bytes handed none h =
+    subst
+    (λ (cursor : Option Cursor).
+    StandsOrRecalls cursor c.position (released c.joiner.taking) c.streams.kept table bytes
+    handed) none h
 
-few_first : (bytes : List ℕ) (handed : List Entry) → AreFirstReached bytes handed → begins handed ≤ max_connections
-few_first bytes handed (more, reached) = omega (arith, (reached_within bytes (handed ++ more) reached).few, begins-append handed more)
+few_first : (bytes : List ℕ) (handed : List Entry) → AreFirstReached bytes handed
+    → begins handed ≤ max_connections
+few_first bytes handed (more, reached) =
+    omega (arith, (reached_within bytes (handed ++ more) reached).few, begins-append handed more)
 
 -- ---- the block
 
-pub empty_range : {X : Type 0} (xs : List X) (start end : ℕ) → start ≡ end → slice_range xs start end ≡ []
+pub empty_range : {X : Type 0} (xs : List X) (start end : ℕ) → start ≡ end
+    → slice_range xs start end ≡ []
 empty_range {X} xs start end same =
     let none : end - start ≡ 0 = omega (arith, same) in
     ap (λ (n : ℕ). take n (drop start xs)) none
@@ -186,25 +204,40 @@ front_range {X} xs n =
     ap (λ (m : ℕ). take m xs) same
 
 pub split_range : (block : List ℕ) (start end count : ℕ) → start + count ≤ end
-    → take count (slice_range block start end) ++ slice_range block (start + count) end ≡ slice_range block start end
+    → take count (slice_range block start end) ++ slice_range block (start + count) end
+    ≡ slice_range block start end
 split_range block start end count fits =
     let whole : end - start ≡ count + (end - (start + count)) = omega arith in
-    let rest : drop count (take (end - start) (drop start block)) ≡ take (end - (start + count)) (drop (start + count) block) =
-    rw whole (drop-take count (end - (start + count)) (drop start block) ∙ ap (take (end - (start + count))) (grind (arith, common_steps))) in
+    let rest : drop count (take (end - start) (drop start block))
+    ≡ take (end - (start + count)) (drop (start + count) block) =
+    rw whole
+    (drop-take count (end - (start + count)) (drop start block)
+    ∙ ap (take (end - (start + count))) (grind (arith, common_steps))) in
     rw (← rest) (take-append-drop count (slice_range block start end))
 
 -- ---- the end, and a fault
 
-pub typed_here : (bytes : List ℕ) (p : Position) (t : Taking) (streams : Streams) (table : List NumberedCall) (model : List Entry) → AreBytes bytes → StandsAt p t streams table bytes model → IsEndSpot p.spot → Typed bytes (model ++ End ∷ [])
-typed_here bytes p t streams table model are s ended = typed_at bytes p t streams table model are s ended
+pub typed_here : (bytes : List ℕ) (p : Position) (t : Taking) (streams : Streams)
+    (table : List NumberedCall) (model : List Entry) → AreBytes bytes
+    → StandsAt p t streams table bytes model → IsEndSpot p.spot → Typed bytes (model ++ End ∷ [])
+typed_here bytes p t streams table model are s ended =
+    typed_at bytes p t streams table model are s ended
 
-pub cut_here : (bytes : List ℕ) (p : Position) (t : Taking) (streams : Streams) (table : List NumberedCall) (model : List Entry) → AreBytes bytes → StandsAt p t streams table bytes model → (IsEndSpot p.spot → ⊥) → FirstFault bytes (file_fault (length bytes) CaptureCut)
+pub cut_here : (bytes : List ℕ) (p : Position) (t : Taking) (streams : Streams)
+    (table : List NumberedCall) (model : List Entry) → AreBytes bytes
+    → StandsAt p t streams table bytes model → (IsEndSpot p.spot → ⊥)
+    → FirstFault bytes (file_fault (length bytes) CaptureCut)
 cut_here bytes p t streams table model are s not = cut_at bytes p t streams table model are s not
 
 -- short of the end, what was emitted is what the bytes reach
-pub not_ended : (bytes : List ℕ) (p : Position) (t : Taking) (streams : Streams) (table : List NumberedCall) (model : List Entry) → AreBytes bytes → StandsAt p t streams table bytes model → (IsEndSpot p.spot → ⊥) → (IsWellFormed bytes → ⊥) × Reached bytes model
+pub not_ended : (bytes : List ℕ) (p : Position) (t : Taking) (streams : Streams)
+    (table : List NumberedCall) (model : List Entry) → AreBytes bytes
+    → StandsAt p t streams table bytes model → (IsEndSpot p.spot → ⊥)
+    → (IsWellFormed bytes → ⊥) × Reached bytes model
 not_ended bytes p t streams table model are s not =
-    let cut = verdict_from_fault bytes (file_fault (length bytes) CaptureCut) are (cut_here bytes p t streams table model are s not) in
+    let cut =
+    verdict_from_fault bytes (file_fault (length bytes) CaptureCut) are
+    (cut_here bytes p t streams table model are s not) in
     let bad : IsWellFormed bytes → ⊥ = λ w. let typed = verdict_from_typed bytes w.0 w.1 in cc in (
       bad,
       inr (
@@ -212,138 +245,237 @@ not_ended bytes p t streams table model are s not =
         bytes,
         model,
         [],
-        record { rest = []; split = sym (append-nil bytes); clean = clean_here bytes p t streams table model are s; longest = inl (refl, refl) },
+        record {
+          rest = [];
+          split = sym (append-nil bytes);
+          clean = clean_here bytes p t streams table model are s;
+          longest = inl (refl, refl);
+        },
         whole_here bytes p t streams table model are s,
         sym (append-nil model),
       ),
     )
 
-pub all_before_end : (bytes : List ℕ) (p : Position) (t : Taking) (streams : Streams) (table : List NumberedCall) (model : List Entry) → AreBytes bytes → StandsAt p t streams table bytes model → AreAllBeforeEnd bytes model
+pub all_before_end : (bytes : List ℕ) (p : Position) (t : Taking) (streams : Streams)
+    (table : List NumberedCall) (model : List Entry) → AreBytes bytes
+    → StandsAt p t streams table bytes model → AreAllBeforeEnd bytes model
 all_before_end bytes p t streams table model are s = by_spot p.spot refl
   where
     by_spot : (spot : Spot) → p.spot ≡ spot → AreAllBeforeEnd bytes model
-    by_spot spots.Magic is = inr (not_ended bytes p t streams table model are s (λ e. subst IsEndSpot is e))
-    by_spot spots.Digit is = inr (not_ended bytes p t streams table model are s (λ e. subst IsEndSpot is e))
-    by_spot (spots.Mark version part) is = inr (not_ended bytes p t streams table model are s (λ e. subst IsEndSpot is e))
-    by_spot (spots.Length side part) is = inr (not_ended bytes p t streams table model are s (λ e. subst IsEndSpot is e))
-    by_spot (spots.Chunk side left) is = inr (not_ended bytes p t streams table model are s (λ e. subst IsEndSpot is e))
-    by_spot (spots.Side part) is = inr (not_ended bytes p t streams table model are s (λ e. subst IsEndSpot is e))
-    by_spot (spots.SideLength side part) is = inr (not_ended bytes p t streams table model are s (λ e. subst IsEndSpot is e))
-    by_spot (spots.SideChunk side left) is = inr (not_ended bytes p t streams table model are s (λ e. subst IsEndSpot is e))
-    by_spot (spots.Ended version) is = inl (typed_here bytes p t streams table model are s (subst IsEndSpot (sym is) tt))
+    by_spot spots.Magic is =
+        inr (not_ended bytes p t streams table model are s (λ e. subst IsEndSpot is e))
+    by_spot spots.Digit is =
+        inr (not_ended bytes p t streams table model are s (λ e. subst IsEndSpot is e))
+    by_spot (spots.Mark version part) is =
+        inr (not_ended bytes p t streams table model are s (λ e. subst IsEndSpot is e))
+    by_spot (spots.Length side part) is =
+        inr (not_ended bytes p t streams table model are s (λ e. subst IsEndSpot is e))
+    by_spot (spots.Chunk side left) is =
+        inr (not_ended bytes p t streams table model are s (λ e. subst IsEndSpot is e))
+    by_spot (spots.Side part) is =
+        inr (not_ended bytes p t streams table model are s (λ e. subst IsEndSpot is e))
+    by_spot (spots.SideLength side part) is =
+        inr (not_ended bytes p t streams table model are s (λ e. subst IsEndSpot is e))
+    by_spot (spots.SideChunk side left) is =
+        inr (not_ended bytes p t streams table model are s (λ e. subst IsEndSpot is e))
+    by_spot (spots.Ended version) is =
+        inl (typed_here bytes p t streams table model are s (subst IsEndSpot (sym is) tt))
 
 -- ---- the reader
 
-failed_stage : (stage : Stage) (error : Error) → failure_in stage ≡ Some error → stage ≡ Failed error
+failed_stage : (stage : Stage) (error : Error) → failure_in stage ≡ Some error
+    → stage ≡ Failed error
 failed_stage Reading error is = absurd (cc)
 failed_stage Over error is = absurd (cc)
-failed_stage (Failed other) error is = let same : other ≡ error = cc in ap (λ (e : Error). Failed e) same
+failed_stage (Failed other) error is =
+    let same : other ≡ error = cc in ap (λ (e : Error). Failed e) same
 
-module _ {R S H : Type 0} {builds : BuildHasher.Ghosts S H} {hashes : Hasher.Ghosts H} (told : R → Told) where
-  pub reading_of : (e : Entries R S H builds hashes) (given : List ℕ) (handed : List Entry) → e.stage ≡ Reading → StandsFor told e given handed → IsReading e given handed
+module _ {R S H : Type 0} {builds : BuildHasher.Ghosts S H} {hashes : Hasher.Ghosts H}
+    (told : R → Told) where
+  pub reading_of : (e : Entries R S H builds hashes) (given : List ℕ) (handed : List Entry)
+      → e.stage ≡ Reading → StandsFor told e given handed → IsReading e given handed
   reading_of e given handed is s = by_stage e.stage is s.here
     where
-      by_stage : (stage : Stage) → stage ≡ Reading → StandsIn stage (told e.source.now) e given handed → IsReading e given handed
+      by_stage : (stage : Stage) → stage ≡ Reading
+          → StandsIn stage (told e.source.now) e given handed → IsReading e given handed
       by_stage Reading is h = h
       by_stage Over is h = absurd (cc)
       by_stage (Failed error) is h = absurd (cc)
 
-  left_is : (e : Entries R S H builds hashes) → e.stage ≡ Reading → entries_left e ≡ room_in e.parser.container + 1
+  left_is : (e : Entries R S H builds hashes) → e.stage ≡ Reading
+      → entries_left e ≡ room_in e.parser.container + 1
   left_is e is = ap (λ (stage : Stage). entries_left_in stage e.parser.container) is
 
   -- ---- the entry that was handed out last
 
-  none_last : (e : Entries R S H builds hashes) (handed : List Entry) → e.last ≡ None → HoldsLast e handed
+  none_last : (e : Entries R S H builds hashes) (handed : List Entry) → e.last ≡ None
+      → HoldsLast e handed
   none_last e handed none front entry ends kind is = absurd (cc)
 
-  same_last : (old new : Entries R S H builds hashes) (handed : List Entry) → new.last ≡ old.last → new.parser ≡ old.parser → HoldsLast old handed → HoldsLast new handed
+  same_last : (old new : Entries R S H builds hashes) (handed : List Entry) → new.last ≡ old.last
+      → new.parser ≡ old.parser → HoldsLast old handed → HoldsLast new handed
   same_last old new handed last same h front entry ends kind is =
-      subst (λ (c : EntryParser (List NumberedCall)). IsHeld kind c.container.joiner.taking entry) (sym same) (h front entry ends kind (sym last ∙ is))
+      subst (λ (c : EntryParser (List NumberedCall)). IsHeld kind c.container.joiner.taking entry)
+      (sym same) (h front entry ends kind (sym last ∙ is))
 
-  now_last : (e : Entries R S H builds hashes) (handed : List Entry) (came : Kind) (entry : Entry) → e.last ≡ Some came → IsHeld came e.parser.container.joiner.taking entry → HoldsLast e (handed ++ entry ∷ [])
+  now_last : (e : Entries R S H builds hashes) (handed : List Entry) (came : Kind) (entry : Entry)
+      → e.last ≡ Some came → IsHeld came e.parser.container.joiner.taking entry
+      → HoldsLast e (handed ++ entry ∷ [])
   now_last e handed came entry last held front other ends kind is =
-      let one : Some other ≡ Some entry = ap (λ (e : Entry). Some e) (sym (same_from_push handed front entry other ends).1) in
+      let one : Some other ≡ Some entry =
+      ap (λ (e : Entry). Some e) (sym (same_from_push handed front entry other ends).1) in
       let entries : entry ≡ other = cc in
       let kinds : came ≡ kind = cc in
-      subst (λ (one : Entry). IsHeld kind e.parser.container.joiner.taking one) entries (subst (λ (k : Kind). IsHeld k e.parser.container.joiner.taking entry) kinds held)
+      subst (λ (one : Entry). IsHeld kind e.parser.container.joiner.taking one) entries
+      (subst (λ (k : Kind). IsHeld k e.parser.container.joiner.taking entry) kinds held)
 
   -- what was handed out are the first entries that the bytes reach
-  first_in : (e : Entries R S H builds hashes) (given : List ℕ) (handed : List Entry) → AreBytes given → IsReading e given handed → AreFirstReached given handed
+  first_in : (e : Entries R S H builds hashes) (given : List ℕ) (handed : List Entry)
+      → AreBytes given → IsReading e given handed → AreFirstReached given handed
   first_in e given handed are r =
-      subst (λ (b : List ℕ). AreFirstReached b handed) (sym r.split) (come_first e.parser.container e.parser.calls r.judged (unjudged e) handed (subst AreBytes r.split are) r.machine)
+      subst (λ (b : List ℕ). AreFirstReached b handed) (sym r.split) (come_first e.parser.container
+      e.parser.calls r.judged (unjudged e) handed (subst AreBytes r.split are) r.machine)
 
   -- it reads on
-  pub stands_reading : (e : Entries R S H builds hashes) (given : List ℕ) (handed : List Entry) → e.stage ≡ Reading → AreBytes given → length handed + (room_in e.parser.container + 1) ≤ most_entries → length given ≤ most_bytes Two + vec_len e.block → HoldsLast e handed → IsReading e given handed → StandsFor told e given handed
+  pub stands_reading : (e : Entries R S H builds hashes) (given : List ℕ) (handed : List Entry)
+      → e.stage ≡ Reading → AreBytes given
+      → length handed + (room_in e.parser.container + 1) ≤ most_entries
+      → length given ≤ most_bytes Two + vec_len e.block → HoldsLast e handed
+      → IsReading e given handed → StandsFor told e given handed
   stands_reading e given handed is are few most holds r = record {
     bytes = are;
     few = omega (arith, few, left_is e is);
-    limits = record { few = omega (arith, few); connections = few_first given handed (first_in e given handed are r); most = most };
+    limits =
+        record {
+          few = omega (arith, few);
+          connections = few_first given handed (first_in e given handed are r);
+          most = most;
+        };
     holds = holds;
     here = subst (λ (stage : Stage). StandsIn stage (told e.source.now) e given handed) (sym is) r;
   }
 
   -- it has failed
-  pub stands_failed : (old new : Entries R S H builds hashes) (error : Error) (given : List ℕ) (handed : List Entry) → new.stage ≡ Failed error → new.last ≡ None → vec_len new.block ≡ vec_len old.block → StandsFor told old given handed → IsMetBy error (told new.source.now) given handed → StandsFor told new given handed
+  pub stands_failed : (old new : Entries R S H builds hashes) (error : Error) (given : List ℕ)
+      (handed : List Entry) → new.stage ≡ Failed error → new.last ≡ None
+      → vec_len new.block ≡ vec_len old.block → StandsFor told old given handed
+      → IsMetBy error (told new.source.now) given handed → StandsFor told new given handed
   stands_failed old new error given handed is none block s met = record {
     bytes = s.bytes;
-    few = omega (arith, s.limits.few, ap (λ (stage : Stage). entries_left_in stage new.parser.container) is);
-    limits = record { few = s.limits.few; connections = s.limits.connections; most = omega (arith, s.limits.most, block) };
+    few =
+        omega (
+          arith,
+          s.limits.few,
+          ap (λ (stage : Stage). entries_left_in stage new.parser.container) is,
+        );
+    limits =
+        record {
+          few = s.limits.few;
+          connections = s.limits.connections;
+          most = omega (arith, s.limits.most, block);
+        };
     holds = none_last new handed none;
-    here = subst (λ (stage : Stage). StandsIn stage (told new.source.now) new given handed) (sym is) met;
+    here =
+        subst (λ (stage : Stage). StandsIn stage (told new.source.now) new given handed) (sym is)
+        met;
   }
 
-  room_before : (e : Entries R S H builds hashes) (given : List ℕ) (handed : List Entry) → e.stage ≡ Reading → StandsFor told e given handed → length handed + (room_in e.parser.container + 1) ≤ most_entries
+  room_before : (e : Entries R S H builds hashes) (given : List ℕ) (handed : List Entry)
+      → e.stage ≡ Reading → StandsFor told e given handed
+      → length handed + (room_in e.parser.container + 1) ≤ most_entries
   room_before e given handed is s = omega (arith, s.few, left_is e is)
 
-  pub stands_first : (e : Entries R S H builds hashes) (given : List ℕ) (handed : List Entry) → failure_of e ≡ None → StandsFor told e given handed → AreFirstReached given handed
+  pub stands_first : (e : Entries R S H builds hashes) (given : List ℕ) (handed : List Entry)
+      → failure_of e ≡ None → StandsFor told e given handed → AreFirstReached given handed
   stands_first e given handed goes s = by_stage e.stage refl s.here
     where
-      by_stage : (stage : Stage) → e.stage ≡ stage → StandsIn stage (told e.source.now) e given handed → AreFirstReached given handed
+      by_stage : (stage : Stage) → e.stage ≡ stage
+          → StandsIn stage (told e.source.now) e given handed → AreFirstReached given handed
       by_stage Reading is h = first_in e given handed s.bytes h
       by_stage Over is h = ([], subst (Reached given) (sym (append-nil handed)) (inl h.0))
-      by_stage (Failed error) is h = let failed : failure_of e ≡ Some error = ap failure_in is in absurd (cc)
+      by_stage (Failed error) is h =
+          let failed : failure_of e ≡ Some error = ap failure_in is in absurd (cc)
 
   -- ---- a read
 
-  all_judged : (e : Entries R S H builds hashes) (given : List ℕ) (handed : List Entry) → e.start ≡ e.end → (r : IsReading e given handed) → given ≡ r.judged
-  all_judged e given handed empty r = r.split ∙ ap (λ (b : List ℕ). r.judged ++ b) (empty_range e.block.items e.start e.end empty) ∙ append-nil r.judged
+  all_judged : (e : Entries R S H builds hashes) (given : List ℕ) (handed : List Entry)
+      → e.start ≡ e.end → (r : IsReading e given handed) → given ≡ r.judged
+  all_judged e given handed empty r =
+      r.split ∙ ap (λ (b : List ℕ). r.judged ++ b) (empty_range e.block.items e.start e.end empty)
+      ∙ append-nil r.judged
 
-  machine_at : (e : Entries R S H builds hashes) (given : List ℕ) (handed : List Entry) → e.start ≡ e.end → e.parser.container.cursor ≡ None → IsReading e given handed
-      → StandsAt e.parser.container.position (released e.parser.container.joiner.taking) e.parser.container.streams.kept e.parser.calls given handed
+  machine_at : (e : Entries R S H builds hashes) (given : List ℕ) (handed : List Entry)
+      → e.start ≡ e.end → e.parser.container.cursor ≡ None → IsReading e given handed
+      → StandsAt e.parser.container.position (released e.parser.container.joiner.taking)
+      e.parser.container.streams.kept e.parser.calls given handed
   machine_at e given handed empty none r =
-      stands_unopened e.parser.container e.parser.calls given handed none (subst (λ (b : List ℕ). HasCome e.parser.container e.parser.calls b handed) (sym (all_judged e given handed empty r)) r.machine)
+      stands_unopened e.parser.container e.parser.calls given handed none (subst
+      (λ (b : List ℕ). HasCome e.parser.container e.parser.calls b handed)
+      (sym (all_judged e given handed empty r)) r.machine)
 
-  pub has_read : (old new : Entries R S H builds hashes) (given more : List ℕ) (handed : List Entry) → old.stage ≡ Reading → new.stage ≡ Reading → old.start ≡ old.end → old.parser.container.cursor ≡ None → new.parser ≡ old.parser → new.last ≡ old.last → new.judged ≡ old.judged → unjudged new ≡ more → AreBytes more → length more ≤ vec_len new.block
-      → Gave (told old.source.now) (told new.source.now) more → StandsFor told old given handed → HasRead told old new given handed
-  has_read old new given more handed is goes empty none same last count block are within consumed s =
+  pub has_read : (old new : Entries R S H builds hashes) (given more : List ℕ) (handed : List Entry)
+      → old.stage ≡ Reading → new.stage ≡ Reading → old.start ≡ old.end
+      → old.parser.container.cursor ≡ None → new.parser ≡ old.parser → new.last ≡ old.last
+      → new.judged ≡ old.judged → unjudged new ≡ more → AreBytes more
+      → length more ≤ vec_len new.block
+      → Gave (told old.source.now) (told new.source.now) more → StandsFor told old given handed
+      → HasRead told old new given handed
+  has_read old new given more handed is goes empty none same last count block are within consumed
+      s =
       let r = reading_of old given handed is s in
       let at = machine_at old given handed empty none r in
       let bounded = clean_most given s.bytes (clean_here given _ _ _ _ handed s.bytes at) in
-      let split : given ++ more ≡ r.judged ++ unjudged new = ap (λ (b : List ℕ). b ++ more) (all_judged old given handed empty r) ∙ ap (λ (b : List ℕ). r.judged ++ b) (sym block) in
+      let split : given ++ more ≡ r.judged ++ unjudged new =
+      ap (λ (b : List ℕ). b ++ more) (all_judged old given handed empty r)
+      ∙ ap (λ (b : List ℕ). r.judged ++ b) (sym block) in
       record {
         more = more;
         consumed = consumed;
-        stands = stands_reading new (given ++ more) handed goes (AreBytes-append given more s.bytes are)
-            (omega (arith, room_before old given handed is s, ap (λ (c : EntryParser (List NumberedCall)). room_in c.container) same))
+        stands =
+            stands_reading new (given ++ more) handed goes (AreBytes-append given more s.bytes are)
+            (omega (
+              arith,
+              room_before old given handed is s,
+              ap (λ (c : EntryParser (List NumberedCall)). room_in c.container) same,
+            ))
             (omega (arith, length-append given more, bounded, within))
             (same_last old new handed last same s.holds)
-            (record { judged = r.judged; split = split; counted = count ∙ r.counted; machine = subst (λ (c : EntryParser (List NumberedCall)). HasCome c.container c.calls r.judged handed) (sym same) r.machine });
+            (record {
+              judged = r.judged;
+              split = split;
+              counted = count ∙ r.counted;
+              machine =
+                  subst
+                  (λ (c : EntryParser (List NumberedCall)).
+                  HasCome c.container c.calls r.judged handed) (sym same) r.machine;
+            });
       }
 
-  pub has_failed : (old new : Entries R S H builds hashes) (given : List ℕ) (handed : List Entry) → old.stage ≡ Reading → new.stage ≡ Failed errors.Read → new.last ≡ None → vec_len new.block ≡ vec_len old.block → old.start ≡ old.end → old.parser.container.cursor ≡ None
-      → Gave (told old.source.now) (told new.source.now) [] → StandsFor told old given handed → HasRead told old new given handed
+  pub has_failed : (old new : Entries R S H builds hashes) (given : List ℕ) (handed : List Entry)
+      → old.stage ≡ Reading → new.stage ≡ Failed errors.Read → new.last ≡ None
+      → vec_len new.block ≡ vec_len old.block → old.start ≡ old.end
+      → old.parser.container.cursor ≡ None
+      → Gave (told old.source.now) (told new.source.now) [] → StandsFor told old given handed
+      → HasRead told old new given handed
   has_failed old new given handed is fails none block empty unopened kept s =
       record {
         more = [];
         consumed = kept;
         stands = subst (λ (b : List ℕ). StandsFor told new b handed) (sym (append-nil given))
-            (stands_failed old new errors.Read given handed fails none block s (all_before_end given _ _ _ _ handed s.bytes (machine_at old given handed empty unopened (reading_of old given handed is s))));
+            (stands_failed old new errors.Read given handed fails none block s (all_before_end given
+            _ _ _ _ handed s.bytes (machine_at old given handed empty unopened
+            (reading_of old given handed is s))));
       }
 
   -- ---- judging the block
 
-  pub moves_on : (old new : Entries R S H builds hashes) (count : ℕ) (given : List ℕ) (handed all : List Entry) → new.judged ≡ old.judged + count → unjudged new ≡ slice_range old.block.items (old.start + count) old.end → old.start + count ≤ old.end → old.end ≤ length old.block.items
-      → (r : IsReading old given handed) → HasCome new.parser.container new.parser.calls (r.judged ++ take count (unjudged old)) all → IsReading new given all
+  pub moves_on : (old new : Entries R S H builds hashes) (count : ℕ) (given : List ℕ)
+      (handed all : List Entry) → new.judged ≡ old.judged + count
+      → unjudged new ≡ slice_range old.block.items (old.start + count) old.end
+      → old.start + count ≤ old.end → old.end ≤ length old.block.items
+      → (r : IsReading old given handed)
+      → HasCome new.parser.container new.parser.calls (r.judged ++ take count (unjudged old)) all
+      → IsReading new given all
   moves_on old new count given handed all judged block fits within r machine =
       let piece : List ℕ = take count (unjudged old) in
       let inner = length-take (old.end - old.start) (drop old.start old.block.items) in
@@ -351,73 +483,140 @@ module _ {R S H : Type 0} {builds : BuildHasher.Ghosts S H} {hashes : Hasher.Gho
       let size = length-drop old.start old.block.items in
       record {
         judged = r.judged ++ piece;
-        split = r.split ∙ ap (λ (b : List ℕ). r.judged ++ b) (sym (split_range old.block.items old.start old.end count fits)) ∙ ap (λ (b : List ℕ). r.judged ++ (piece ++ b)) (sym block) ∙ sym (append_assoc r.judged piece (unjudged new));
-        counted = omega (arith, judged, r.counted, length-append r.judged piece, inner, outer, size, fits, within);
+        split =
+            r.split
+            ∙ ap (λ (b : List ℕ). r.judged ++ b)
+            (sym (split_range old.block.items old.start old.end count fits))
+            ∙ ap (λ (b : List ℕ). r.judged ++ (piece ++ b)) (sym block)
+            ∙ sym (append_assoc r.judged piece (unjudged new));
+        counted =
+            omega (
+              arith,
+              judged,
+              r.counted,
+              length-append r.judged piece,
+              inner,
+              outer,
+              size,
+              fits,
+              within,
+            );
         machine = machine;
       }
 
   -- with the entry that is whole, if one is
-  pub judged_on : {V : Type 0} (stands : V → List Item → Type 0) (was now : V) (old new : Entries R S H builds hashes) (count : ℕ) (given : List ℕ) (handed : List Entry) (came : Option Kind) → old.stage ≡ Reading → new.stage ≡ Reading → new.last ≡ came → vec_len new.block ≡ vec_len old.block
-      → new.judged ≡ old.judged + count → unjudged new ≡ slice_range old.block.items (old.start + count) old.end → old.start + count ≤ old.end → old.end ≤ length old.block.items
-      → room_in new.parser.container + entry_cost came ≤ room_in old.parser.container → (s : StandsFor told old given handed)
-      → ((judged : List ℕ) → HasCome old.parser.container old.parser.calls judged handed → GoesTo stands was now came new.parser.container new.parser.calls (judged ++ take count (unjudged old)) handed) → HandsOutOrGoesOn told stands new was now given handed (Ok came)
-  judged_on stands was now old new count given handed None is goes last size judged block fits within room s leads =
+  pub judged_on : {V : Type 0} (stands : V → List Item → Type 0) (was now : V)
+      (old new : Entries R S H builds hashes) (count : ℕ) (given : List ℕ) (handed : List Entry)
+      (came : Option Kind) → old.stage ≡ Reading → new.stage ≡ Reading → new.last ≡ came
+      → vec_len new.block ≡ vec_len old.block
+      → new.judged ≡ old.judged + count
+      → unjudged new ≡ slice_range old.block.items (old.start + count) old.end
+      → old.start + count ≤ old.end → old.end ≤ length old.block.items
+      → room_in new.parser.container + entry_cost came ≤ room_in old.parser.container
+      → (s : StandsFor told old given handed)
+      → ((judged : List ℕ) → HasCome old.parser.container old.parser.calls judged handed
+      → GoesTo stands was now came new.parser.container new.parser.calls
+      (judged ++ take count (unjudged old)) handed)
+      → HandsOutOrGoesOn told stands new was now given handed (Ok came)
+  judged_on stands was now old new count given handed None is goes last size judged block fits
+      within room s leads =
       let r = reading_of old given handed is s in
-      stands_reading new given handed goes s.bytes (omega (arith, room_before old given handed is s, room)) (omega (arith, s.limits.most, size)) (none_last new handed last) (moves_on old new count given handed handed judged block fits within r (leads r.judged r.machine))
-  judged_on stands was now old new count given handed (Some kind) is goes last size judged block fits within room s leads =
+      stands_reading new given handed goes s.bytes
+      (omega (arith, room_before old given handed is s, room))
+      (omega (arith, s.limits.most, size)) (none_last new handed last) (moves_on old new count
+      given handed handed judged block fits within r (leads r.judged r.machine))
+  judged_on stands was now old new count given handed (Some kind) is goes last size judged block
+      fits within room s leads =
       let r = reading_of old given handed is s in
       let (entry, held, adds, machine) = leads r.judged r.machine in (
         entry,
         kind_held kind new.parser.container.joiner.taking entry held,
         adds,
-        stands_reading new given (handed ++ entry ∷ []) goes s.bytes (omega (arith, room_before old given handed is s, room, length-append handed (entry ∷ []))) (omega (arith, s.limits.most, size)) (now_last new handed kind entry last held) (moves_on old new count given handed (handed ++ entry ∷ []) judged block fits within r machine),
+        stands_reading new given (handed ++ entry ∷ []) goes s.bytes
+            (omega
+            (arith, room_before old given handed is s, room, length-append handed (entry ∷ [])))
+            (omega (arith, s.limits.most, size)) (now_last new handed kind entry last held)
+            (moves_on old new count given handed (handed ++ entry ∷ []) judged block fits within r
+            machine),
       )
 
-  fails_by : (e : Entries R S H builds hashes) (error : Error) (given : List ℕ) (handed : List Entry) (known : Told) → AreBytes given → IsReading e given handed → FailsAt given handed error → IsMetBy error known given handed
-  fails_by e (errors.Refused fault) given handed known are r f = inl (λ rest. first_of given rest handed fault are f)
+  fails_by : (e : Entries R S H builds hashes) (error : Error) (given : List ℕ)
+      (handed : List Entry) (known : Told) → AreBytes given → IsReading e given handed
+      → FailsAt given handed error → IsMetBy error known given handed
+  fails_by e (errors.Refused fault) given handed known are r f =
+      inl (λ rest. first_of given rest handed fault are f)
   fails_by e errors.Read given handed known are r f = absurd f
   fails_by e errors.Write given handed known are r f = absurd f
   fails_by e errors.Memory given handed known are r f = first_in e given handed are r
 
-  pub judged_failed : (old new : Entries R S H builds hashes) (error : Error) (given : List ℕ) (handed : List Entry) → old.stage ≡ Reading → new.stage ≡ Failed error → new.last ≡ None → vec_len new.block ≡ vec_len old.block → (s : StandsFor told old given handed)
-      → ((judged : List ℕ) → HasCome old.parser.container old.parser.calls judged handed → FailsAt (judged ++ unjudged old) handed error) → StandsFor told new given handed
+  pub judged_failed : (old new : Entries R S H builds hashes) (error : Error) (given : List ℕ)
+      (handed : List Entry) → old.stage ≡ Reading → new.stage ≡ Failed error → new.last ≡ None
+      → vec_len new.block ≡ vec_len old.block → (s : StandsFor told old given handed)
+      → ((judged : List ℕ) → HasCome old.parser.container old.parser.calls judged handed
+      → FailsAt (judged ++ unjudged old) handed error) → StandsFor told new given handed
   judged_failed old new error given handed is fails none block s shows =
       let r = reading_of old given handed is s in
       stands_failed old new error given handed fails none block s
-      (fails_by old error given handed (told new.source.now) s.bytes r (subst (λ (b : List ℕ). FailsAt b handed error) (sym r.split) (shows r.judged r.machine)))
+      (fails_by old error given handed (told new.source.now) s.bytes r
+      (subst (λ (b : List ℕ). FailsAt b handed error) (sym r.split) (shows r.judged r.machine)))
 
   -- ---- the end
 
-  pub finished : (old new : Entries R S H builds hashes) (given : List ℕ) (handed : List Entry) → old.stage ≡ Reading → new.stage ≡ Over → new.last ≡ Some kinds.End → vec_len new.block ≡ vec_len old.block → old.start ≡ old.end → old.parser.container.cursor ≡ None → IsEndSpot old.parser.container.position.spot → IsSpent (told new.source.now)
+  pub finished : (old new : Entries R S H builds hashes) (given : List ℕ) (handed : List Entry)
+      → old.stage ≡ Reading → new.stage ≡ Over → new.last ≡ Some kinds.End
+      → vec_len new.block ≡ vec_len old.block → old.start ≡ old.end
+      → old.parser.container.cursor ≡ None → IsEndSpot old.parser.container.position.spot
+      → IsSpent (told new.source.now)
       → StandsFor told old given handed → StandsFor told new given (handed ++ End ∷ [])
   finished old new given handed is over last block empty none ended end s =
-      let typed = typed_here given _ _ _ _ handed s.bytes (machine_at old given handed empty none (reading_of old given handed is s)) ended in
+      let typed =
+      typed_here given _ _ _ _ handed s.bytes
+      (machine_at old given handed empty none (reading_of old given handed is s)) ended in
       record {
         bytes = s.bytes;
-        few = omega (arith, room_before old given handed is s, length-append handed (End ∷ []), ap (λ (stage : Stage). entries_left_in stage new.parser.container) over);
+        few =
+            omega (
+              arith,
+              room_before old given handed is s,
+              length-append handed (End ∷ []),
+              ap (λ (stage : Stage). entries_left_in stage new.parser.container) over,
+            );
         limits = record {
           few = omega (arith, room_before old given handed is s, length-append handed (End ∷ []));
           connections = (typed_within given (handed ++ End ∷ []) typed).few;
           most = omega (arith, s.limits.most, block);
         };
         holds = now_last new handed kinds.End End last refl;
-        here = subst (λ (stage : Stage). StandsIn stage (told new.source.now) new given (handed ++ End ∷ [])) (sym over) (typed, end);
+        here =
+            subst
+            (λ (stage : Stage).
+            StandsIn stage (told new.source.now) new given (handed ++ End ∷ [])) (sym over)
+            (typed, end);
       }
 
-  pub cut_short : (old new : Entries R S H builds hashes) (error : Error) (given : List ℕ) (handed : List Entry) → old.stage ≡ Reading → new.stage ≡ Failed error → new.last ≡ None → vec_len new.block ≡ vec_len old.block → old.start ≡ old.end → old.parser.container.cursor ≡ None → (IsEndSpot old.parser.container.position.spot → ⊥)
-      → error ≡ errors.Refused (file_fault old.judged CaptureCut) → IsSpent (told new.source.now) → StandsFor told old given handed → StandsFor told new given handed
+  pub cut_short : (old new : Entries R S H builds hashes) (error : Error) (given : List ℕ)
+      (handed : List Entry) → old.stage ≡ Reading → new.stage ≡ Failed error → new.last ≡ None
+      → vec_len new.block ≡ vec_len old.block → old.start ≡ old.end
+      → old.parser.container.cursor ≡ None → (IsEndSpot old.parser.container.position.spot → ⊥)
+      → error ≡ errors.Refused (file_fault old.judged CaptureCut) → IsSpent (told new.source.now)
+      → StandsFor told old given handed → StandsFor told new given handed
   cut_short old new error given handed is fails none block empty unopened not cut end s =
       let r = reading_of old given handed is s in
-      let size : old.judged ≡ length given = r.counted ∙ ap length (sym (all_judged old given handed empty r)) in
+      let size : old.judged ≡ length given =
+      r.counted ∙ ap length (sym (all_judged old given handed empty r)) in
       let at = machine_at old given handed empty unopened r in
-      let first : FirstFault given (file_fault old.judged CaptureCut) = subst (λ (n : ℕ). FirstFault given (file_fault n CaptureCut)) (sym size) (cut_here given _ _ _ _ handed s.bytes at not) in
+      let first : FirstFault given (file_fault old.judged CaptureCut) =
+      subst (λ (n : ℕ). FirstFault given (file_fault n CaptureCut)) (sym size)
+      (cut_here given _ _ _ _ handed s.bytes at not) in
       let reached = (not_ended given _ _ _ _ handed s.bytes at not).1 in
       stands_failed old new error given handed fails none block s
-      (subst (λ (e : Error). IsMetBy e (told new.source.now) given handed) (sym cut) (inr (end, first, reached)))
+      (subst (λ (e : Error). IsMetBy e (told new.source.now) given handed) (sym cut)
+      (inr (end, first, reached)))
 
   -- ---- one after another
 
-  pub nothing_read : (e : Entries R S H builds hashes) (given : List ℕ) (handed : List Entry) → StandsFor told e given handed → HasRead told e e given handed
+  pub nothing_read : (e : Entries R S H builds hashes) (given : List ℕ) (handed : List Entry)
+      → StandsFor told e given handed → HasRead told e e given handed
   nothing_read e given handed s = record {
     more = [];
     consumed = gave_none (told e.source.now);
@@ -425,75 +624,149 @@ module _ {R S H : Type 0} {builds : BuildHasher.Ghosts S H} {hashes : Hasher.Gho
   }
 
   -- the end is handed out, of which a visitor is told nothing
-  pub ended_on : {V : Type 0} (stands : V → List Item → Type 0) (v : V) (new : Entries R S H builds hashes) (given : List ℕ) (handed : List Entry) → StandsFor told new given (handed ++ End ∷ []) → HandsOutOrGoesOn told stands new v v given handed (Ok (Some kinds.End))
+  pub ended_on : {V : Type 0} (stands : V → List Item → Type 0) (v : V)
+      (new : Entries R S H builds hashes) (given : List ℕ) (handed : List Entry)
+      → StandsFor told new given (handed ++ End ∷ [])
+      → HandsOutOrGoesOn told stands new v v given handed (Ok (Some kinds.End))
   ended_on stands v new given handed s = (End, refl, untold stands v, s)
 
-  abbrev pub Goes : {V : Type 0} → (V → List Item → Type 0) → Entries R S H builds hashes → Entries R S H builds hashes → (was now : V) → Result (Option Kind) Noted → Type 0
-  Goes stands mid new was now result = (given : List ℕ) (handed : List Entry) → StandsFor told mid given handed → HandsOutOrGoesOn told stands new was now given handed result
+  abbrev pub Goes : {V : Type 0} → (V → List Item → Type 0) → Entries R S H builds hashes
+      → Entries R S H builds hashes → (was now : V) → Result (Option Kind) Noted → Type 0
+  Goes stands mid new was now result = (given : List ℕ) (handed : List Entry)
+      → StandsFor told mid given handed
+      → HandsOutOrGoesOn told stands new was now given handed result
 
   -- a read, and then the block is judged
-  pub turned : {V : Type 0} (stands : V → List Item → Type 0) (was now : V) (old mid new : Entries R S H builds hashes) (given : List ℕ) (handed : List Entry) (result : Result (Option Kind) Noted) → HasRead told old mid given handed → Goes stands mid new was now result
+  pub turned : {V : Type 0} (stands : V → List Item → Type 0) (was now : V)
+      (old mid new : Entries R S H builds hashes) (given : List ℕ) (handed : List Entry)
+      (result : Result (Option Kind) Noted) → HasRead told old mid given handed
+      → Goes stands mid new was now result
       → new.source.now ≡ mid.source.now → Turns told stands old new was now given handed result
   turned stands was now old mid new given handed result read goes same = record {
     more = read.more;
-    consumed = subst (λ (b : List ℕ). Gave (told old.source.now) (told new.source.now) b) (append-nil read.more) (gave_both (told old.source.now) (told mid.source.now) (told new.source.now) read.more [] read.consumed (gave_none_as (told mid.source.now) (told new.source.now) (ap told same)));
+    consumed =
+        subst (λ (b : List ℕ). Gave (told old.source.now) (told new.source.now) b)
+        (append-nil read.more) (gave_both (told old.source.now) (told mid.source.now)
+        (told new.source.now) read.more [] read.consumed
+        (gave_none_as (told mid.source.now) (told new.source.now) (ap told same)));
     goes_on = goes (given ++ read.more) handed read.stands;
   }
 
-  pub turned_more : {V : Type 0} (stands : V → List Item → Type 0) (was now : V) (old mid new : Entries R S H builds hashes) (given : List ℕ) (handed : List Entry) (result : Result (Option Kind) Noted) → HasRead told old mid given handed
-      → ((given : List ℕ) (handed : List Entry) → StandsFor told mid given handed → Turns told stands mid new was now given handed result) → Turns told stands old new was now given handed result
+  pub turned_more : {V : Type 0} (stands : V → List Item → Type 0) (was now : V)
+      (old mid new : Entries R S H builds hashes) (given : List ℕ) (handed : List Entry)
+      (result : Result (Option Kind) Noted) → HasRead told old mid given handed
+      → ((given : List ℕ) (handed : List Entry) → StandsFor told mid given handed
+      → Turns told stands mid new was now given handed result)
+      → Turns told stands old new was now given handed result
   turned_more stands was now old mid new given handed result read turns =
       let t = turns (given ++ read.more) handed read.stands in
       record {
         more = read.more ++ t.more;
-        consumed = gave_both (told old.source.now) (told mid.source.now) (told new.source.now) read.more t.more read.consumed t.consumed;
-        goes_on = subst (λ (b : List ℕ). HandsOutOrGoesOn told stands new was now b handed result) (append_assoc given read.more t.more) t.goes_on;
+        consumed =
+            gave_both (told old.source.now) (told mid.source.now) (told new.source.now) read.more
+            t.more read.consumed t.consumed;
+        goes_on =
+            subst (λ (b : List ℕ). HandsOutOrGoesOn told stands new was now b handed result)
+            (append_assoc given read.more t.more) t.goes_on;
       }
 
-  pub read_more : {V : Type 0} (stands : V → List Item → Type 0) (was now : V) (old mid new : Entries R S H builds hashes) (given : List ℕ) (handed : List Entry) (result : Result (Option Kind) Noted) → result ≡ Ok None → HasRead told old mid given handed
-      → ((given : List ℕ) (handed : List Entry) → StandsFor told mid given handed → Turns told stands mid new was now given handed result) → HasRead told old new given handed
+  pub read_more : {V : Type 0} (stands : V → List Item → Type 0) (was now : V)
+      (old mid new : Entries R S H builds hashes) (given : List ℕ) (handed : List Entry)
+      (result : Result (Option Kind) Noted) → result ≡ Ok None
+      → HasRead told old mid given handed
+      → ((given : List ℕ) (handed : List Entry) → StandsFor told mid given handed
+      → Turns told stands mid new was now given handed result) → HasRead told old new given handed
   read_more stands was now old mid new given handed result is read turns =
-      let t = subst (λ (r : Result (Option Kind) Noted). Turns told stands old new was now given handed r) is (turned_more stands was now old mid new given handed result read turns) in
+      let t =
+      subst (λ (r : Result (Option Kind) Noted). Turns told stands old new was now given handed r)
+      is (turned_more stands was now old mid new given handed result read turns) in
       record { more = t.more; consumed = t.consumed; stands = t.goes_on }
 
   -- no capture is so long
-  pub too_long : {V : Type 0} (stands : V → List Item → Type 0) (was now : V) (old mid new : Entries R S H builds hashes) (given : List ℕ) (handed : List Entry) (result : Result (Option Kind) Noted) → HasRead told old mid given handed → mid.stage ≡ Reading
+  pub too_long : {V : Type 0} (stands : V → List Item → Type 0) (was now : V)
+      (old mid new : Entries R S H builds hashes) (given : List ℕ) (handed : List Entry)
+      (result : Result (Option Kind) Noted) → HasRead told old mid given handed
+      → mid.stage ≡ Reading
       → most_bytes Two + 1 < mid.judged → Turns told stands old new was now given handed result
   too_long stands was now old mid new given handed result read is far =
       let r = reading_of mid (given ++ read.more) handed is read.stands in
-      absurd (omega (arith, far, r.counted, come_length mid.parser.container _ r.judged handed (split_bytes (given ++ read.more) r.judged (unjudged mid) r.split read.stands.bytes).0 r.machine))
+      absurd (omega (
+        arith,
+        far,
+        r.counted,
+        come_length mid.parser.container _ r.judged handed
+            (split_bytes (given ++ read.more) r.judged (unjudged mid) r.split
+            read.stands.bytes).0 r.machine,
+      ))
 
   -- ---- the answers
 
-  met_by : (e : Entries R S H builds hashes) (error : Error) (given : List ℕ) (handed : List Entry) → e.stage ≡ Failed error → StandsFor told e given handed → IsMetBy error (told e.source.now) given handed
-  met_by e error given handed is s = subst (λ (stage : Stage). StandsIn stage (told e.source.now) e given handed) is s.here
+  met_by : (e : Entries R S H builds hashes) (error : Error) (given : List ℕ) (handed : List Entry)
+      → e.stage ≡ Failed error → StandsFor told e given handed
+      → IsMetBy error (told e.source.now) given handed
+  met_by e error given handed is s =
+      subst (λ (stage : Stage). StandsIn stage (told e.source.now) e given handed) is s.here
 
-  pub answers_kind : {V : Type 0} (stands : V → List Item → Type 0) (was now : V) (old new : Entries R S H builds hashes) (given : List ℕ) (handed : List Entry) (next : Option Kind) → IsSome next → failure_of new ≡ None
-      → Turns told stands old new was now given handed (Ok next) → HandsOutGiven told stands old new was now given handed (Ok next)
+  pub answers_kind : {V : Type 0} (stands : V → List Item → Type 0) (was now : V)
+      (old new : Entries R S H builds hashes) (given : List ℕ) (handed : List Entry)
+      (next : Option Kind) → IsSome next → failure_of new ≡ None
+      → Turns told stands old new was now given handed (Ok next)
+      → HandsOutGiven told stands old new was now given handed (Ok next)
   answers_kind stands was now old new given handed None some goes t = absurd (cc)
   answers_kind stands was now old new given handed (Some kind) some goes t =
       let (entry, is, adds, s) = t.goes_on in
-      record { more = t.more; consumed = t.consumed; hands_out = (entry, is, stands_first new (given ++ t.more) (handed ++ entry ∷ []) goes s, adds, s) }
+      record {
+        more = t.more;
+        consumed = t.consumed;
+        hands_out = (
+          entry,
+          is,
+          stands_first new (given ++ t.more) (handed ++ entry ∷ []) goes s,
+          adds,
+          s,
+        );
+      }
 
-  pub answers_failure : {V : Type 0} (stands : V → List Item → Type 0) (was now : V) (old new : Entries R S H builds hashes) (given : List ℕ) (handed : List Entry) (noted : Noted) (error : Error) → failure_of new ≡ Some error
-      → Turns told stands old new was now given handed (Err noted) → HandsOutGiven told stands old new was now given handed (Err error)
+  pub answers_failure : {V : Type 0} (stands : V → List Item → Type 0) (was now : V)
+      (old new : Entries R S H builds hashes) (given : List ℕ) (handed : List Entry)
+      (noted : Noted) (error : Error) → failure_of new ≡ Some error
+      → Turns told stands old new was now given handed (Err noted)
+      → HandsOutGiven told stands old new was now given handed (Err error)
   answers_failure stands was now old new given handed noted error failed t =
-      record { more = t.more; consumed = t.consumed; hands_out = (met_by new error (given ++ t.more) handed (failed_stage new.stage error failed) t.goes_on, t.goes_on) }
+      record {
+        more = t.more;
+        consumed = t.consumed;
+        hands_out = (
+          met_by new error (given ++ t.more) handed
+              (failed_stage new.stage error failed) t.goes_on,
+          t.goes_on,
+        );
+      }
 
-  pub answers_none : {V : Type 0} (stands : V → List Item → Type 0) (v : V) (e : Entries R S H builds hashes) (given : List ℕ) (handed : List Entry) → e.stage ≡ Over → StandsFor told e given handed → HandsOutGiven told stands e e v v given handed (Ok None)
+  pub answers_none : {V : Type 0} (stands : V → List Item → Type 0) (v : V)
+      (e : Entries R S H builds hashes) (given : List ℕ) (handed : List Entry) → e.stage ≡ Over
+      → StandsFor told e given handed → HandsOutGiven told stands e e v v given handed (Ok None)
   answers_none stands v e given handed is s =
-      let here : StandsIn Over (told e.source.now) e given handed = subst (λ (stage : Stage). StandsIn stage (told e.source.now) e given handed) is s.here in
+      let here : StandsIn Over (told e.source.now) e given handed =
+      subst (λ (stage : Stage). StandsIn stage (told e.source.now) e given handed) is s.here in
       record {
         more = [];
         consumed = gave_none (told e.source.now);
-        hands_out = subst (λ (b : List ℕ). HandsOut told stands e v v b handed (Ok None)) (sym (append-nil given)) (here.0, here.1, s);
+        hands_out =
+            subst (λ (b : List ℕ). HandsOut told stands e v v b handed (Ok None))
+            (sym (append-nil given)) (here.0, here.1, s);
       }
 
-  pub answers_again : {V : Type 0} (stands : V → List Item → Type 0) (v : V) (e : Entries R S H builds hashes) (error : Error) (given : List ℕ) (handed : List Entry) → e.stage ≡ Failed error → StandsFor told e given handed → HandsOutGiven told stands e e v v given handed (Err error)
+  pub answers_again : {V : Type 0} (stands : V → List Item → Type 0) (v : V)
+      (e : Entries R S H builds hashes) (error : Error) (given : List ℕ) (handed : List Entry)
+      → e.stage ≡ Failed error → StandsFor told e given handed
+      → HandsOutGiven told stands e e v v given handed (Err error)
   answers_again stands v e error given handed is s = record {
     more = [];
     consumed = gave_none (told e.source.now);
-    hands_out = subst (λ (b : List ℕ). HandsOut told stands e v v b handed (Err error)) (sym (append-nil given)) (met_by e error given handed is s, s);
+    hands_out =
+        subst (λ (b : List ℕ). HandsOut told stands e v v b handed (Err error))
+        (sym (append-nil given)) (met_by e error given handed is s, s);
   }
 
 -- ---- no device failed

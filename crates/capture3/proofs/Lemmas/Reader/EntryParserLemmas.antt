@@ -1,49 +1,19 @@
 -- A capture whose records are judged as they come: step after step.
-use Rattle.std.proofs.Common.{ap₂, ◌≡◌, inl, inr, suc, ◌+◌, length, arith, append-nil, ℕ, Bool, true, false, cond, nat_eq, is_some, Option, Some, None, List, [], ◌∷◌, ◌++◌, take, drop, refl, sym, ap, ◌∙◌, subst, append_assoc, take-append-drop}
+use Rattle.capture3.proofs.Common.{ap₂, ◌≡◌, inl, inr, suc, ◌+◌, length, arith, append-nil, ℕ, Bool, true, false, cond, nat_eq, is_some, Option, Some, None, List, [], ◌∷◌, ◌++◌, take, drop, refl, sym, ap, ◌∙◌, subst, append_assoc, take-append-drop, Item, RecordCut, RecordTooLong, Joining, Between, Header, Bytes, Whole, TooLong, join_next, Ends, Runs, Stops, Stopped, after, landed, ProcId, procedure_in, NumberedCall, Container, Error, Fault, Side, Client, Server, Event, Spot, ReplyItems, procedure_of, xid_in, refusal, Entry, fault_at, Streams, Cursor, after-append, agrees, judge_call, judge_reply, Parsing, file_next, file_start, parsed, emitted, IsBeforeMark, opened_at, unpacking_at, StoredWith, Two, Adds, found, with_numbered_call, Recalls, ShowsFirst, IsTableOf, Judged, parsing_at, resumed, call_judged, reply_judged, emitted_at, connection_begun, turned, connection_closed}
 use Rattle.std.proofs.lemmas.Bool.{eqb-true}
-use Rattle.xdr3.specs.Item.{Item}
-use Rattle.xdr3.specs.Visit.{Adds}
-use Rattle.xdr3.specs.declared.reason.Reason.TheVariants.{RecordCut, RecordTooLong}
-use Rattle.record_mark.specs.Joining.{Joining, Between, Header, Bytes, Whole, TooLong, join_next}
-use Rattle.record_mark.specs.Machine.{Ends, Runs, Stops, Stopped, after, landed}
 use Rattle.record_mark.specs.Taking.{Taking, Led, OutOfMemory, IsRunning, IsWhole, body_of, joined_body, joining_of, released, unbegun}
-use Rattle.rpc_head.specs.declared.values.call.ProcId.{ProcId}
-use Rattle.rpc_head.specs.Messages.{procedure_in}
-use Rattle.capture3.specs.declared.message.calls.NumberedCall.{NumberedCall}
-use Rattle.capture3.specs.declared.container.Container.{Container}
 use Rattle.capture3.specs.declared.reader.entry.Kind.TheVariants as kinds
-use Rattle.capture3.specs.declared.fault.Error.{Error}
 use Rattle.capture3.specs.declared.fault.Error.TheVariants as errors
-use Rattle.capture3.specs.declared.fault.Fault.{Fault}
 use Rattle.capture3.specs.declared.fault.Place.TheVariants as places
-use Rattle.capture3.specs.declared.fault.Side.{Side}
-use Rattle.capture3.specs.declared.fault.Side.TheVariants.{Client, Server}
-use Rattle.capture3.specs.declared.container.position.Event.{Event}
 use Rattle.capture3.specs.declared.container.position.Event.TheVariants.{Begin, Record, Turn, Close}
 use Rattle.capture3.specs.declared.container.position.Position.{Position}
-use Rattle.capture3.specs.declared.container.position.Spot.{Spot}
-use Rattle.capture3.specs.Bodies.{ReplyItems, procedure_of, xid_in}
-use Rattle.capture3.specs.machinery.Calls.{found, with_numbered_call}
-use Rattle.capture3.specs.Connections.{refusal}
 use Rattle.capture3.specs.machinery.Container.{AreStored, Comes, ComesToFault, FirstKept, FromFile, InFile, InFirstKept, InNextKept, IsStored, Leaves, NextKept, Recalled, first_cursor, RecallFails, stream_of, unpacking_of, arrived, Arrives, ShowsError}
-use Rattle.capture3.specs.Entry.{Entry}
 use Rattle.capture3.specs.Entry as entries
 use Rattle.capture3.specs.machinery.EntryParser.{StandsAt, StandsOrRecalls, HasCome, after_side_word, HasMet, MeetsEvent, met, met_in, GoesTo, FailsAt, JudgesCall, JudgesReply, RefusesBody}
 use Rattle.capture3.specs.StreamMachine as reading
-use Rattle.capture3.specs.machinery.KeptStreams.{Recalls, ShowsFirst}
-use Rattle.capture3.specs.Records.{fault_at}
-use Rattle.capture3.specs.SidedChunks.{Streams}
-use Rattle.capture3.specs.declared.container.Cursor.{Cursor}
 use Rattle.capture3.specs.declared.container.position.Event.TheVariants as events
 use Rattle.capture3.proofs.Lemmas.Container.KeptStreamsLemmas.{call_cut, call_recalled, call_refused, close_recalled, reply_cut, reply_recalled, reply_refused, turn_recalled}
-use Rattle.record_mark.proofs.Machines.{after-append}
-use Rattle.capture3.specs.BodyProgram.{agrees, judge_call, judge_reply}
-use Rattle.capture3.specs.machinery.Messages.{IsTableOf}
-use Rattle.capture3.specs.FileMachine.{Parsing, file_next, file_start, parsed, emitted}
-use Rattle.capture3.specs.machinery.Position.{IsBeforeMark, opened_at, unpacking_at, StoredWith}
 use Rattle.capture3.proofs.Lemmas.Container.ContainerLemmas.{mark_is}
-use Rattle.capture3.specs.Capture.{Two}
-use Rattle.capture3.specs.machinery.FileStanding.{Judged, parsing_at, resumed, call_judged, reply_judged, emitted_at, connection_begun, turned, connection_closed}
 use Rattle.capture3.specs.machinery.FileStanding as resuming
 use Rattle.capture3.specs.machinery.ContainerMachine.{Mark, Unpacking, Refuses, unpack_next, unpacking_start}
 use Rattle.capture3.proofs.Lemmas.Reader.FileStandingLemmas.{runs_follow, stops_follow}
@@ -60,28 +30,40 @@ or_else None other = other
 abbrev pub if_same : ℕ → ProcId → ℕ → Option ProcId
 if_same xid id q = cond (nat_eq xid q) (Some id) None
 
-chosen_or_else : (b : Bool) (id : ProcId) (x y : Option ProcId) (z : Option ProcId) → x ≡ or_else y z → cond b (Some id) x ≡ or_else (cond b (Some id) y) z
+chosen_or_else : (b : Bool) (id : ProcId) (x y : Option ProcId) (z : Option ProcId)
+    → x ≡ or_else y z → cond b (Some id) x ≡ or_else (cond b (Some id) y) z
 unfolding or_else
 chosen_or_else true id x y z e = refl
 chosen_or_else false id x y z e = e
 
-found_more : (table : List NumberedCall) (xid : ℕ) (id : ProcId) (q : ℕ) → found (table ++ record { xid = xid; id = id } ∷ []) q ≡ or_else (found table q) (if_same xid id q)
+found_more : (table : List NumberedCall) (xid : ℕ) (id : ProcId) (q : ℕ)
+    → found (table ++ record { xid = xid; id = id } ∷ []) q
+    ≡ or_else (found table q) (if_same xid id q)
 unfolding or_else
 found_more [] xid id q = refl
-found_more (call ∷ table) xid id q = chosen_or_else (nat_eq call.xid q) call.id (found (table ++ record { xid = xid; id = id } ∷ []) q) (found table q) (if_same xid id q) (found_more table xid id q)
+found_more (call ∷ table) xid id q =
+    chosen_or_else (nat_eq call.xid q) call.id
+    (found (table ++ record { xid = xid; id = id } ∷ []) q) (found table q) (if_same xid id q)
+    (found_more table xid id q)
 
-procedure_more : (calls : List (List Item)) (call : List Item) (q : ℕ) → procedure_of (calls ++ call ∷ []) q ≡ or_else (procedure_of calls q) (if_same (xid_in call) (procedure_in call) q)
+procedure_more : (calls : List (List Item)) (call : List Item) (q : ℕ)
+    → procedure_of (calls ++ call ∷ []) q
+    ≡ or_else (procedure_of calls q) (if_same (xid_in call) (procedure_in call) q)
 unfolding or_else
 procedure_more [] call q = refl
 procedure_more (one ∷ calls) call q =
-    chosen_or_else (nat_eq (xid_in one) q) (procedure_in one) (procedure_of (calls ++ call ∷ []) q) (procedure_of calls q) (if_same (xid_in call) (procedure_in call) q) (procedure_more calls call q)
+    chosen_or_else (nat_eq (xid_in one) q) (procedure_in one) (procedure_of (calls ++ call ∷ []) q)
+    (procedure_of calls q) (if_same (xid_in call) (procedure_in call) q)
+    (procedure_more calls call q)
 
 -- where the xid has a procedure, another call with it changes nothing
-or_else_known : (f : ℕ → Option ProcId) (xid : ℕ) (id : ProcId) (q : ℕ) → is_some (f xid) ≡ true → or_else (f q) (if_same xid id q) ≡ f q
+or_else_known : (f : ℕ → Option ProcId) (xid : ℕ) (id : ProcId) (q : ℕ) → is_some (f xid) ≡ true
+    → or_else (f q) (if_same xid id q) ≡ f q
 unfolding or_else
 or_else_known f xid id q known = by_value (f q) refl (nat_eq xid q) refl
   where
-    by_value : (y : Option ProcId) → f q ≡ y → (b : Bool) → nat_eq xid q ≡ b → or_else y (cond b (Some id) None) ≡ y
+    by_value : (y : Option ProcId) → f q ≡ y → (b : Bool) → nat_eq xid q ≡ b
+        → or_else y (cond b (Some id) None) ≡ y
     by_value (Some y) e b same = refl
     by_value None e false same = refl
     by_value None e true same =
@@ -89,32 +71,43 @@ or_else_known f xid id q known = by_value (f q) refl (nat_eq xid q) refl
         let none : f xid ≡ None = ap f equal ∙ e in
         absurd (cc)
 
-pub table_added : (table : List NumberedCall) (calls : List (List Item)) (call : List Item) (xid : ℕ) (id : ProcId) → xid_in call ≡ xid → procedure_in call ≡ id
+pub table_added : (table : List NumberedCall) (calls : List (List Item)) (call : List Item)
+    (xid : ℕ) (id : ProcId) → xid_in call ≡ xid → procedure_in call ≡ id
     → IsTableOf table calls → IsTableOf (with_numbered_call table xid id) (calls ++ call ∷ [])
 table_added table calls call xid id xid_is id_is same q = by_test (is_some (found table xid)) refl
   where
-    by_test : (b : Bool) → is_some (found table xid) ≡ b → found (cond b table (table ++ record { xid = xid; id = id } ∷ [])) q ≡ procedure_of (calls ++ call ∷ []) q
+    by_test : (b : Bool) → is_some (found table xid) ≡ b
+        → found (cond b table (table ++ record { xid = xid; id = id } ∷ [])) q
+        ≡ procedure_of (calls ++ call ∷ []) q
     by_test true known =
         same q
-        ∙ sym (or_else_known (procedure_of calls) (xid_in call) (procedure_in call) q (ap (λ (x : ℕ). is_some (procedure_of calls x)) xid_is ∙ ap is_some (sym (same xid)) ∙ known))
+        ∙ sym (or_else_known (procedure_of calls) (xid_in call) (procedure_in call) q
+        (ap (λ (x : ℕ). is_some (procedure_of calls x)) xid_is ∙ ap is_some (sym (same xid))
+        ∙ known))
         ∙ sym (procedure_more calls call q)
     by_test false known =
         found_more table xid id q
         ∙ ap (λ p. or_else p (if_same xid id q)) (same q)
         ∙ ap (λ (x : ℕ). or_else (procedure_of calls q) (if_same x id q)) (sym xid_is)
-        ∙ ap (λ (i : ProcId). or_else (procedure_of calls q) (if_same (xid_in call) i q)) (sym id_is)
+        ∙ ap (λ (i : ProcId). or_else (procedure_of calls q) (if_same (xid_in call) i q))
+        (sym id_is)
         ∙ sym (procedure_more calls call q)
 
 -- what the table answers holds of its calls
-pub table_agrees : (table : List NumberedCall) (calls : List (List Item)) (xid : ℕ) (id : ProcId) (answer : Bool) → IsTableOf table calls → answer ≡ agrees (found table xid) id → answer ≡ true → agrees (procedure_of calls xid) id ≡ true
-table_agrees table calls xid id answer same is agree = ap (λ (p : Option ProcId). agrees p id) (sym (same xid)) ∙ sym is ∙ agree
+pub table_agrees : (table : List NumberedCall) (calls : List (List Item)) (xid : ℕ) (id : ProcId)
+    (answer : Bool) → IsTableOf table calls → answer ≡ agrees (found table xid) id
+    → answer ≡ true → agrees (procedure_of calls xid) id ≡ true
+table_agrees table calls xid id answer same is agree =
+    ap (λ (p : Option ProcId). agrees p id) (sym (same xid)) ∙ sym is ∙ agree
 
 -- ---- the first byte
 
 abbrev pub nothing_judged : Judged
 nothing_judged = record { start = 0; before = 0; entries = []; calls = []; replies = [] }
 
-stands_at_start : (position : Position) (taking : Taking) (streams : Streams) (table : List NumberedCall) → unpacking_of position taking streams ≡ unpacking_start → table ≡ [] → StandsAt position taking streams table [] []
+stands_at_start : (position : Position) (taking : Taking) (streams : Streams)
+    (table : List NumberedCall) → unpacking_of position taking streams ≡ unpacking_start
+    → table ≡ [] → StandsAt position taking streams table [] []
 stands_at_start position taking streams table at none = record {
   so_far = nothing_judged;
   agrees = subst (λ (u : Unpacking). resuming.Agrees u nothing_judged) (sym at) refl;
@@ -126,35 +119,56 @@ stands_at_start position taking streams table at none = record {
 -- ---- bytes of the container
 
 -- after bytes that lead to a state
-led_on : (bytes piece : List ℕ) (s : Parsing) → parsed bytes ≡ Runs s → parsed (bytes ++ piece) ≡ after file_next (Runs s) piece
-led_on bytes piece s e = after-append file_next (Runs file_start) bytes piece ∙ ap (λ r. after file_next r piece) e
+led_on : (bytes piece : List ℕ) (s : Parsing) → parsed bytes ≡ Runs s
+    → parsed (bytes ++ piece) ≡ after file_next (Runs s) piece
+led_on bytes piece s e =
+    after-append file_next (Runs file_start) bytes piece ∙ ap (λ r. after file_next r piece) e
 
-pub stands_on : (p q : Position) (t u : Taking) (old new : Streams) (table : List NumberedCall) (bytes : List ℕ) (all : List Entry) (piece : List ℕ) (event : Option Event)
-    → StandsAt p t old table bytes all → event ≡ None → Arrives (unpacking_of p t old) piece event q u new → StandsAt q u new table (bytes ++ piece) all
+pub stands_on : (p q : Position) (t u : Taking) (old new : Streams) (table : List NumberedCall)
+    (bytes : List ℕ) (all : List Entry) (piece : List ℕ) (event : Option Event)
+    → StandsAt p t old table bytes all → event ≡ None
+    → Arrives (unpacking_of p t old) piece event q u new
+    → StandsAt q u new table (bytes ++ piece) all
 stands_on p q t u old new table bytes all piece event s is came =
-    let arrives = subst (λ (e : Option Event). Arrives (unpacking_of p t old) piece e q u new) is came in
-    let next = runs_follow piece (unpacking_of p t old) (unpacking_of q u new) s.so_far s.agrees arrives in
+    let arrives =
+    subst (λ (e : Option Event). Arrives (unpacking_of p t old) piece e q u new) is came in
+    let next =
+    runs_follow piece (unpacking_of p t old) (unpacking_of q u new) s.so_far s.agrees arrives in
     record {
       so_far = s.so_far;
       agrees = next.1;
       calls = s.calls;
       stands = led_on bytes piece (parsing_at (unpacking_of p t old) s.so_far) s.stands ∙ next.0;
-      emitted = s.emitted ∙ sym (runs_emit piece (unpacking_of p t old) (unpacking_of q u new) s.so_far arrives);
+      emitted =
+          s.emitted
+          ∙ sym
+          (runs_emit piece (unpacking_of p t old) (unpacking_of q u new) s.so_far arrives);
     }
 
-met_is : (event : Event) (q : Position) (u : Taking) (streams : Streams) → arrived (Some event) q u streams ≡ Stops (met event q u streams)
+met_is : (event : Event) (q : Position) (u : Taking) (streams : Streams)
+    → arrived (Some event) q u streams ≡ Stops (met event q u streams)
 met_is Begin q u streams = refl
 met_is (Record side) q u streams = refl
 met_is Turn q u streams = refl
 met_is Close q u streams = refl
 met_is events.Streams q u streams = refl
 
-pub stands_met : (p : Position) (t : Taking) (old : Streams) (new : Container) (table : List NumberedCall) (bytes : List ℕ) (all : List Entry) (piece : List ℕ) (event : Event) (came : Option Event)
-    → StandsAt p t old table bytes all → came ≡ Some event → Arrives (unpacking_of p t old) piece came new.position new.joiner.taking new.streams.kept → HasMet new table event (bytes ++ piece) all
+pub stands_met : (p : Position) (t : Taking) (old : Streams) (new : Container)
+    (table : List NumberedCall) (bytes : List ℕ) (all : List Entry) (piece : List ℕ) (event : Event)
+    (came : Option Event)
+    → StandsAt p t old table bytes all → came ≡ Some event
+    → Arrives (unpacking_of p t old) piece came new.position new.joiner.taking new.streams.kept
+    → HasMet new table event (bytes ++ piece) all
 stands_met p t old new table bytes all piece event came s is arrives_at =
-    let arrives = subst (λ (e : Option Event). Arrives (unpacking_of p t old) piece e new.position new.joiner.taking new.streams.kept) is arrives_at in
-    let stops : after unpack_next (Runs (unpacking_of p t old)) piece ≡ Stops (met_in event new) = arrives ∙ met_is event new.position new.joiner.taking new.streams.kept in
-    let next = stops_follow piece (unpacking_of p t old) (met_in event new) s.so_far s.agrees stops in
+    let arrives =
+    subst
+    (λ (e : Option Event).
+    Arrives (unpacking_of p t old) piece e new.position new.joiner.taking new.streams.kept)
+    is arrives_at in
+    let stops : after unpack_next (Runs (unpacking_of p t old)) piece ≡ Stops (met_in event new) =
+    arrives ∙ met_is event new.position new.joiner.taking new.streams.kept in
+    let next =
+    stops_follow piece (unpacking_of p t old) (met_in event new) s.so_far s.agrees stops in
     let m = stops_at_last piece (unpacking_of p t old) (met_in event new) s.so_far s.agrees stops in
     record {
       so_far = s.so_far;
@@ -163,31 +177,46 @@ stands_met p t old new table bytes all piece event came s is arrives_at =
       state = m.state;
       agrees = next.1;
       calls = s.calls;
-      split = ap (λ (b : List ℕ). bytes ++ b) m.split ∙ sym (append_assoc bytes m.front (m.byte ∷ []));
+      split =
+          ap (λ (b : List ℕ). bytes ++ b) m.split ∙ sym (append_assoc bytes m.front (m.byte ∷ []));
       runs = led_on bytes m.front (parsing_at (unpacking_of p t old) s.so_far) s.stands ∙ m.runs;
       before = m.emits ∙ sym s.emitted;
       ends = m.ends;
-      emits = subst (λ (base : List Entry). resuming.EmitsOn s.so_far base (Ends (met_in event new))) (sym s.emitted) (stops_emit piece (unpacking_of p t old) (met_in event new) s.so_far stops);
+      emits =
+          subst (λ (base : List Entry). resuming.EmitsOn s.so_far base (Ends (met_in event new)))
+          (sym s.emitted)
+          (stops_emit piece (unpacking_of p t old) (met_in event new) s.so_far stops);
     }
 
 -- where the bytes with the last lead
-met_leads : (c : Container) (table : List NumberedCall) (event : Event) (bytes : List ℕ) (all : List Entry) → (m : HasMet c table event bytes all) → parsed bytes ≡ landed (resumed m.so_far (Ends (met_in event c)))
-met_leads c table event bytes all m = ap parsed m.split ∙ led_on m.front (m.byte ∷ []) m.state m.runs ∙ ap landed m.ends
+met_leads : (c : Container) (table : List NumberedCall) (event : Event) (bytes : List ℕ)
+    (all : List Entry) → (m : HasMet c table event bytes all)
+    → parsed bytes ≡ landed (resumed m.so_far (Ends (met_in event c)))
+met_leads c table event bytes all m =
+    ap parsed m.split ∙ led_on m.front (m.byte ∷ []) m.state m.runs ∙ ap landed m.ends
 
 -- a fault of the container
-pub stands_fails : (p : Position) (t : Taking) (streams : Streams) (table : List NumberedCall) (bytes : List ℕ) (all : List Entry) (piece : List ℕ) (error : Error)
-    → StandsAt p t streams table bytes all → ShowsError (unpacking_of p t streams) piece error → FailsAt (bytes ++ piece) all error
+pub stands_fails : (p : Position) (t : Taking) (streams : Streams) (table : List NumberedCall)
+    (bytes : List ℕ) (all : List Entry) (piece : List ℕ) (error : Error)
+    → StandsAt p t streams table bytes all → ShowsError (unpacking_of p t streams) piece error
+    → FailsAt (bytes ++ piece) all error
 stands_fails p t streams table bytes all piece (errors.Refused fault) s (n, within, stops) =
-    let m = stops_at_last (take n piece) (unpacking_of p t streams) (Refuses fault) s.so_far s.agrees stops in
+    let m =
+    stops_at_last (take n piece) (unpacking_of p t streams) (Refuses fault) s.so_far s.agrees stops
+    in
     record {
       front = bytes ++ m.front;
       byte = m.byte;
       back = drop n piece;
       state = m.state;
       shown = refusal fault;
-      split = ap (λ (b : List ℕ). bytes ++ b) (sym (take-append-drop n piece) ∙ ap (λ (b : List ℕ). b ++ drop n piece) m.split ∙ append_assoc m.front (m.byte ∷ []) (drop n piece))
+      split =
+          ap (λ (b : List ℕ). bytes ++ b) (sym (take-append-drop n piece)
+          ∙ ap (λ (b : List ℕ). b ++ drop n piece) m.split
+          ∙ append_assoc m.front (m.byte ∷ []) (drop n piece))
           ∙ sym (append_assoc bytes m.front (m.byte ∷ drop n piece));
-      runs = led_on bytes m.front (parsing_at (unpacking_of p t streams) s.so_far) s.stands ∙ m.runs;
+      runs =
+          led_on bytes m.front (parsing_at (unpacking_of p t streams) s.so_far) s.stands ∙ m.runs;
       ends = m.ends;
       is = refl;
       emits = s.emitted ∙ sym m.emits ∙ sym (append-nil (emitted m.state));
@@ -197,16 +226,21 @@ stands_fails p t streams table bytes all piece errors.Write s fails = fails
 stands_fails p t streams table bytes all piece errors.Memory s fails = tt
 
 -- what the first bytes fail at, all fail at
-pub fails_longer : (bytes piece : List ℕ) (n : ℕ) (all : List Entry) (error : Error) → FailsAt (bytes ++ take n piece) all error → FailsAt (bytes ++ piece) all error
+pub fails_longer : (bytes piece : List ℕ) (n : ℕ) (all : List Entry) (error : Error)
+    → FailsAt (bytes ++ take n piece) all error → FailsAt (bytes ++ piece) all error
 fails_longer bytes piece n all (errors.Refused fault) s =
-    let whole : bytes ++ piece ≡ (bytes ++ take n piece) ++ drop n piece = ap (λ (b : List ℕ). bytes ++ b) (sym (take-append-drop n piece)) ∙ sym (append_assoc bytes (take n piece) (drop n piece)) in
+    let whole : bytes ++ piece ≡ (bytes ++ take n piece) ++ drop n piece =
+    ap (λ (b : List ℕ). bytes ++ b) (sym (take-append-drop n piece))
+    ∙ sym (append_assoc bytes (take n piece) (drop n piece)) in
     record {
       front = s.front;
       byte = s.byte;
       back = s.back ++ drop n piece;
       state = s.state;
       shown = s.shown;
-      split = whole ∙ ap (λ (b : List ℕ). b ++ drop n piece) s.split ∙ append_assoc s.front (s.byte ∷ s.back) (drop n piece);
+      split =
+          whole ∙ ap (λ (b : List ℕ). b ++ drop n piece) s.split
+          ∙ append_assoc s.front (s.byte ∷ s.back) (drop n piece);
       runs = s.runs;
       ends = s.ends;
       is = s.is;
@@ -217,11 +251,16 @@ fails_longer bytes piece n all errors.Write f = f
 fails_longer bytes piece n all errors.Memory f = tt
 
 -- a whole record was let go
-pub let_released : (old new : Container) (table : List NumberedCall) (bytes : List ℕ) (all : List Entry) → new.position ≡ old.position → new.joiner.taking ≡ released old.joiner.taking → new.streams.kept ≡ old.streams.kept → new.cursor ≡ old.cursor
-    → HasCome old table bytes all → StandsOrRecalls new.cursor new.position new.joiner.taking new.streams.kept table bytes all
+pub let_released : (old new : Container) (table : List NumberedCall) (bytes : List ℕ)
+    (all : List Entry) → new.position ≡ old.position
+    → new.joiner.taking ≡ released old.joiner.taking → new.streams.kept ≡ old.streams.kept
+    → new.cursor ≡ old.cursor
+    → HasCome old table bytes all
+    → StandsOrRecalls new.cursor new.position new.joiner.taking new.streams.kept table bytes all
 let_released old new table bytes all same is kept here s = rw (same, is, kept, here) s
 
-pub stored_still : (old new : Container) → new.position ≡ old.position → new.streams.kept ≡ old.streams.kept → new.cursor ≡ old.cursor → IsStored old → IsStored new
+pub stored_still : (old new : Container) → new.position ≡ old.position
+    → new.streams.kept ≡ old.streams.kept → new.cursor ≡ old.cursor → IsStored old → IsStored new
 stored_still old new same kept here stored = rw (same, kept, here) stored
 
 -- ---- what is whole
@@ -258,16 +297,29 @@ leaves_running (Some Close) t h = at_rest_runs t h
 leaves_running (Some events.Streams) t h = at_rest_runs t h
 leaves_running None t h = at_rest_runs t h
 
-come_at_rest : (c : Container) (table : List NumberedCall) (bytes : List ℕ) (all : List Entry) → c.cursor ≡ None → IsRunning c.joiner.taking → StandsAt c.position c.joiner.taking c.streams.kept table bytes all → HasCome c table bytes all
+come_at_rest : (c : Container) (table : List NumberedCall) (bytes : List ℕ) (all : List Entry)
+    → c.cursor ≡ None → IsRunning c.joiner.taking
+    → StandsAt c.position c.joiner.taking c.streams.kept table bytes all → HasCome c table bytes all
 come_at_rest c table bytes all none runs s =
-    subst (λ (n : Option Cursor). StandsOrRecalls n c.position (released c.joiner.taking) c.streams.kept table bytes all) (sym none)
-    (subst (λ (u : Taking). StandsAt c.position u c.streams.kept table bytes all) (sym (at_rest c.joiner.taking runs)) s)
+    subst
+    (λ (n : Option Cursor).
+    StandsOrRecalls n c.position (released c.joiner.taking) c.streams.kept table bytes all)
+    (sym none)
+    (subst (λ (u : Taking). StandsAt c.position u c.streams.kept table bytes all)
+    (sym (at_rest c.joiner.taking runs)) s)
 
-pub come_at_start : (c : Container) (table : List NumberedCall) → c.cursor ≡ None → IsRunning c.joiner.taking → unpacking_of c.position c.joiner.taking c.streams.kept ≡ unpacking_start → table ≡ [] → HasCome c table [] []
-come_at_start c table none runs at empty = come_at_rest c table [] [] none runs (stands_at_start c.position c.joiner.taking c.streams.kept table at empty)
+pub come_at_start : (c : Container) (table : List NumberedCall) → c.cursor ≡ None
+    → IsRunning c.joiner.taking
+    → unpacking_of c.position c.joiner.taking c.streams.kept ≡ unpacking_start → table ≡ []
+    → HasCome c table [] []
+come_at_start c table none runs at empty =
+    come_at_rest c table [] [] none runs
+    (stands_at_start c.position c.joiner.taking c.streams.kept table at empty)
 
 module _ {V : Type 0} (stands : V → List Item → Type 0) where
-  pub begin_goes : (v : V) (c : Container) (table none : List NumberedCall) (bytes : List ℕ) (all : List Entry) → none ≡ [] → IsRunning c.joiner.taking → MeetsEvent c table Begin bytes all → GoesTo stands v v (Some kinds.Begin) c none bytes all
+  pub begin_goes : (v : V) (c : Container) (table none : List NumberedCall) (bytes : List ℕ)
+      (all : List Entry) → none ≡ [] → IsRunning c.joiner.taking
+      → MeetsEvent c table Begin bytes all → GoesTo stands v v (Some kinds.Begin) c none bytes all
   begin_goes v c table none bytes all empty runs (inl (unopened, m)) = (
     entries.Begin,
     refl,
@@ -282,43 +334,74 @@ module _ {V : Type 0} (stands : V → List Item → Type 0) where
   )
   begin_goes v c table none bytes all empty runs (inr m) = absurd m
 
-  pub turn_goes : (v : V) (c : Container) (table : List NumberedCall) (bytes : List ℕ) (all : List Entry) → IsRunning c.joiner.taking → MeetsEvent c table Turn bytes all → GoesTo stands v v (Some kinds.Turn) c table bytes all
+  pub turn_goes : (v : V) (c : Container) (table : List NumberedCall) (bytes : List ℕ)
+      (all : List Entry) → IsRunning c.joiner.taking → MeetsEvent c table Turn bytes all
+      → GoesTo stands v v (Some kinds.Turn) c table bytes all
   turn_goes v c table bytes all runs (inl (unopened, m)) = (
     entries.Turn,
     refl,
     untold stands v,
-    come_at_rest c table bytes (all ++ entries.Turn ∷ []) unopened runs (record { so_far = turned m.so_far; agrees = m.agrees; calls = m.calls; stands = met_leads c table Turn bytes all m; emitted = sym m.emits }),
+    come_at_rest c table bytes (all ++ entries.Turn ∷ []) unopened runs (record {
+      so_far =
+          turned m.so_far;
+      agrees = m.agrees;
+      calls = m.calls;
+      stands = met_leads c table Turn bytes all m;
+      emitted = sym m.emits;
+    }),
   )
   turn_goes v c table bytes all runs (inr come) = (entries.Turn, refl, untold stands v, come)
 
-  pub close_goes : (v : V) (c : Container) (table : List NumberedCall) (bytes : List ℕ) (all : List Entry) → IsRunning c.joiner.taking → MeetsEvent c table Close bytes all → GoesTo stands v v (Some kinds.Close) c table bytes all
+  pub close_goes : (v : V) (c : Container) (table : List NumberedCall) (bytes : List ℕ)
+      (all : List Entry) → IsRunning c.joiner.taking → MeetsEvent c table Close bytes all
+      → GoesTo stands v v (Some kinds.Close) c table bytes all
   close_goes v c table bytes all runs (inl (unopened, m)) = (
     entries.Close,
     refl,
     untold stands v,
-    come_at_rest c table bytes (all ++ entries.Close ∷ []) unopened runs (record { so_far = connection_closed m.so_far; agrees = m.agrees; calls = m.calls; stands = met_leads c table Close bytes all m; emitted = sym m.emits }),
+    come_at_rest c table bytes (all ++ entries.Close ∷ []) unopened runs (record {
+      so_far =
+          connection_closed m.so_far;
+      agrees = m.agrees;
+      calls = m.calls;
+      stands = met_leads c table Close bytes all m;
+      emitted = sym m.emits;
+    }),
   )
   close_goes v c table bytes all runs (inr come) = (entries.Close, refl, untold stands v, come)
 
   -- ---- a call, from the file or from streams
 
-  call_goes : (was now : V) (c : Container) (table new : List NumberedCall) (bytes : List ℕ) (all : List Entry) (id : ProcId) → IsWhole c.joiner.taking → MeetsEvent c table (Record Client) bytes all
-      → ((calls : List (List Item)) → IsTableOf table calls → JudgesCall stands was now calls (body_of c.joiner.taking) new id) → GoesTo stands was now (Some (kinds.Call id)) c new bytes all
+  call_goes : (was now : V) (c : Container) (table new : List NumberedCall) (bytes : List ℕ)
+      (all : List Entry) (id : ProcId) → IsWhole c.joiner.taking
+      → MeetsEvent c table (Record Client) bytes all
+      → ((calls : List (List Item)) → IsTableOf table calls
+      → JudgesCall stands was now calls (body_of c.joiner.taking) new id)
+      → GoesTo stands was now (Some (kinds.Call id)) c new bytes all
   call_goes was now c table new bytes all id whole (inl (none, m)) tells =
       let k = tells m.so_far.calls m.calls in
       let v : Unpacking = unpacking_at c.position c.streams.kept Between in
-      let at : unpacking_of c.position (released c.joiner.taking) c.streams.kept ≡ v = ap (λ (t : Taking). unpacking_of c.position t c.streams.kept) (let_go c.joiner.taking whole) in
+      let at : unpacking_of c.position (released c.joiner.taking) c.streams.kept ≡ v =
+      ap (λ (t : Taking). unpacking_of c.position t c.streams.kept) (let_go c.joiner.taking whole)
+      in
       let j : Judged = resuming.with_call m.so_far k.items in (
         entries.Call k.items,
         (k.items, whole, k.is_call, k.id_is, refl),
         k.adds,
-        subst (λ (n : Option Cursor). StandsOrRecalls n c.position (released c.joiner.taking) c.streams.kept new bytes (all ++ entries.Call k.items ∷ [])) (sym none)
+        subst
+            (λ (n : Option Cursor).
+            StandsOrRecalls n c.position (released c.joiner.taking) c.streams.kept new bytes
+            (all ++ entries.Call k.items ∷ [])) (sym none)
             (record {
               so_far = j;
               agrees = subst (λ (w : Unpacking). resuming.Agrees w j) (sym at) (m.agrees.0 k.items);
               calls = k.added;
-              stands = met_leads c table (Record Client) bytes all m ∙ ap (λ r. landed (call_judged v m.so_far r)) k.judged ∙ ap (λ (w : Unpacking). Runs (parsing_at w j)) (sym at);
-              emitted = sym (m.emits k.items) ∙ ap (λ (w : Unpacking). emitted_at w.opened j) (sym at);
+              stands =
+                  met_leads c table (Record Client) bytes all m
+                  ∙ ap (λ r. landed (call_judged v m.so_far r)) k.judged
+                  ∙ ap (λ (w : Unpacking). Runs (parsing_at w j)) (sym at);
+              emitted =
+                  sym (m.emits k.items) ∙ ap (λ (w : Unpacking). emitted_at w.opened j) (sym at);
             }),
       )
   call_goes was now c table new bytes all id whole (inr m) tells =
@@ -327,31 +410,51 @@ module _ {V : Type 0} (stands : V → List Item → Type 0) where
         entries.Call k.items,
         (k.items, whole, k.is_call, k.id_is, refl),
         k.adds,
-        subst (λ (n : Option Cursor). StandsOrRecalls n c.position (released c.joiner.taking) c.streams.kept new bytes (all ++ entries.Call k.items ∷ [])) (sym m.next_is)
-            (subst (λ (n : ℕ). Recalls u c.streams.kept Client (m.taken + m.count) n new bytes (all ++ entries.Call k.items ∷ [])) (sym m.records_are)
-            (call_recalled u c.streams.kept m.taken m.records table bytes all m.stood m.count (body_of c.joiner.taking) k.items new m.joins k.judged k.added)),
+        subst
+            (λ (n : Option Cursor).
+            StandsOrRecalls n c.position (released c.joiner.taking) c.streams.kept new bytes
+            (all ++ entries.Call k.items ∷ [])) (sym m.next_is)
+            (subst
+            (λ (n : ℕ).
+            Recalls u c.streams.kept Client (m.taken + m.count) n new bytes
+            (all ++ entries.Call k.items ∷ [])) (sym m.records_are)
+            (call_recalled u c.streams.kept m.taken m.records table bytes all m.stood m.count
+            (body_of c.joiner.taking) k.items new m.joins k.judged k.added)),
       )
 
   -- ---- a reply
 
-  reply_goes : (was now : V) (c : Container) (table : List NumberedCall) (bytes : List ℕ) (all : List Entry) (id : ProcId) → IsWhole c.joiner.taking → MeetsEvent c table (Record Server) bytes all
-      → ((calls : List (List Item)) → IsTableOf table calls → JudgesReply stands was now calls (body_of c.joiner.taking) id) → GoesTo stands was now (Some (kinds.Reply id)) c table bytes all
+  reply_goes : (was now : V) (c : Container) (table : List NumberedCall) (bytes : List ℕ)
+      (all : List Entry) (id : ProcId) → IsWhole c.joiner.taking
+      → MeetsEvent c table (Record Server) bytes all
+      → ((calls : List (List Item)) → IsTableOf table calls
+      → JudgesReply stands was now calls (body_of c.joiner.taking) id)
+      → GoesTo stands was now (Some (kinds.Reply id)) c table bytes all
   reply_goes was now c table bytes all id whole (inl (none, m)) tells =
       let k = tells m.so_far.calls m.calls in
       let v : Unpacking = unpacking_at c.position c.streams.kept Between in
-      let at : unpacking_of c.position (released c.joiner.taking) c.streams.kept ≡ v = ap (λ (t : Taking). unpacking_of c.position t c.streams.kept) (let_go c.joiner.taking whole) in
+      let at : unpacking_of c.position (released c.joiner.taking) c.streams.kept ≡ v =
+      ap (λ (t : Taking). unpacking_of c.position t c.streams.kept) (let_go c.joiner.taking whole)
+      in
       let answer : ReplyItems = record { id = id; items = k.items } in
       let j : Judged = resuming.with_reply m.so_far answer in (
         entries.Reply id k.items,
         (k.items, whole, k.is_reply, refl),
         k.adds,
-        subst (λ (n : Option Cursor). StandsOrRecalls n c.position (released c.joiner.taking) c.streams.kept table bytes (all ++ entries.Reply id k.items ∷ [])) (sym none)
+        subst
+            (λ (n : Option Cursor).
+            StandsOrRecalls n c.position (released c.joiner.taking) c.streams.kept table bytes
+            (all ++ entries.Reply id k.items ∷ [])) (sym none)
             (record {
               so_far = j;
               agrees = subst (λ (w : Unpacking). resuming.Agrees w j) (sym at) (m.agrees.0 answer);
               calls = m.calls;
-              stands = met_leads c table (Record Server) bytes all m ∙ ap (λ r. landed (reply_judged v m.so_far r)) k.judged ∙ ap (λ (w : Unpacking). Runs (parsing_at w j)) (sym at);
-              emitted = sym (m.emits answer) ∙ ap (λ (w : Unpacking). emitted_at w.opened j) (sym at);
+              stands =
+                  met_leads c table (Record Server) bytes all m
+                  ∙ ap (λ r. landed (reply_judged v m.so_far r)) k.judged
+                  ∙ ap (λ (w : Unpacking). Runs (parsing_at w j)) (sym at);
+              emitted =
+                  sym (m.emits answer) ∙ ap (λ (w : Unpacking). emitted_at w.opened j) (sym at);
             }),
       )
   reply_goes was now c table bytes all id whole (inr m) tells =
@@ -361,30 +464,53 @@ module _ {V : Type 0} (stands : V → List Item → Type 0) where
         entries.Reply id k.items,
         (k.items, whole, k.is_reply, refl),
         k.adds,
-        subst (λ (n : Option Cursor). StandsOrRecalls n c.position (released c.joiner.taking) c.streams.kept table bytes (all ++ entries.Reply id k.items ∷ [])) (sym m.next_is)
-            (subst (λ (n : ℕ). Recalls u c.streams.kept Server (m.taken + m.count) n table bytes (all ++ entries.Reply id k.items ∷ [])) (sym m.records_are)
-            (reply_recalled u c.streams.kept m.taken m.records table bytes all m.stood m.count (body_of c.joiner.taking) answer m.joins k.judged)),
+        subst
+            (λ (n : Option Cursor).
+            StandsOrRecalls n c.position (released c.joiner.taking) c.streams.kept table bytes
+            (all ++ entries.Reply id k.items ∷ [])) (sym m.next_is)
+            (subst
+            (λ (n : ℕ).
+            Recalls u c.streams.kept Server (m.taken + m.count) n table bytes
+            (all ++ entries.Reply id k.items ∷ [])) (sym m.records_are)
+            (reply_recalled u c.streams.kept m.taken m.records table bytes all m.stood m.count
+            (body_of c.joiner.taking) answer m.joins k.judged)),
       )
 
 -- the same with the side and the container as the code has them
-module _ {V : Type 0} (stands : V → List Item → Type 0) (was now : V) (old new : Container) (table after_it : List NumberedCall) (bytes : List ℕ) (all : List Entry) (id : ProcId) where
-  pub call_goes_at : {side : Side} → side ≡ Client → new ≡ old → IsWhole old.joiner.taking → MeetsEvent old table (Record side) bytes all
-      → ((calls : List (List Item)) → IsTableOf table calls → JudgesCall stands was now calls (body_of old.joiner.taking) after_it id) → GoesTo stands was now (Some (kinds.Call id)) new after_it bytes all
+module _ {V : Type 0} (stands : V → List Item → Type 0) (was now : V) (old new : Container)
+    (table after_it : List NumberedCall) (bytes : List ℕ) (all : List Entry) (id : ProcId) where
+  pub call_goes_at : {side : Side} → side ≡ Client → new ≡ old → IsWhole old.joiner.taking
+      → MeetsEvent old table (Record side) bytes all
+      → ((calls : List (List Item)) → IsTableOf table calls
+      → JudgesCall stands was now calls (body_of old.joiner.taking) after_it id)
+      → GoesTo stands was now (Some (kinds.Call id)) new after_it bytes all
   call_goes_at {side} is same whole m tells =
-      subst (λ (c : Container). GoesTo stands was now (Some (kinds.Call id)) c after_it bytes all) (sym same)
-      (call_goes stands was now old table after_it bytes all id whole (subst (λ (s : Side). MeetsEvent old table (Record s) bytes all) is m) tells)
+      subst (λ (c : Container). GoesTo stands was now (Some (kinds.Call id)) c after_it bytes all)
+      (sym same)
+      (call_goes stands was now old table after_it bytes all id whole
+      (subst (λ (s : Side). MeetsEvent old table (Record s) bytes all) is m) tells)
 
-  pub reply_goes_at : {side : Side} → side ≡ Server → new ≡ old → after_it ≡ table → IsWhole old.joiner.taking → MeetsEvent old table (Record side) bytes all
-      → ((calls : List (List Item)) → IsTableOf table calls → JudgesReply stands was now calls (body_of old.joiner.taking) id) → GoesTo stands was now (Some (kinds.Reply id)) new after_it bytes all
+  pub reply_goes_at : {side : Side} → side ≡ Server → new ≡ old → after_it ≡ table
+      → IsWhole old.joiner.taking → MeetsEvent old table (Record side) bytes all
+      → ((calls : List (List Item)) → IsTableOf table calls
+      → JudgesReply stands was now calls (body_of old.joiner.taking) id)
+      → GoesTo stands was now (Some (kinds.Reply id)) new after_it bytes all
   reply_goes_at {side} is same kept whole m tells =
-      subst (λ (c : Container). GoesTo stands was now (Some (kinds.Reply id)) c after_it bytes all) (sym same)
-      (subst (λ (l : List NumberedCall). GoesTo stands was now (Some (kinds.Reply id)) old l bytes all) (sym kept)
-      (reply_goes stands was now old table bytes all id whole (subst (λ (s : Side). MeetsEvent old table (Record s) bytes all) is m) tells))
+      subst (λ (c : Container). GoesTo stands was now (Some (kinds.Reply id)) c after_it bytes all)
+      (sym same)
+      (subst
+      (λ (l : List NumberedCall). GoesTo stands was now (Some (kinds.Reply id)) old l bytes all)
+      (sym kept)
+      (reply_goes stands was now old table bytes all id whole
+      (subst (λ (s : Side). MeetsEvent old table (Record s) bytes all) is m) tells))
 
 -- ---- a message that is refused
 
 module _ (c : Container) (table : List NumberedCall) (bytes : List ℕ) (all : List Entry) where
-  call_fails : (error : Error) → MeetsEvent c table (Record Client) bytes all → ((calls : List (List Item)) → IsTableOf table calls → RefusesBody c.position Client (judge_call calls (body_of c.joiner.taking)) error) → FailsAt bytes all error
+  call_fails : (error : Error) → MeetsEvent c table (Record Client) bytes all
+      → ((calls : List (List Item)) → IsTableOf table calls
+      → RefusesBody c.position Client (judge_call calls (body_of c.joiner.taking)) error)
+      → FailsAt bytes all error
   call_fails (errors.Refused fault) (inl (none, m)) refuses =
       let (stop, judged, is) = refuses m.so_far.calls m.calls in
       record {
@@ -395,23 +521,42 @@ module _ (c : Container) (table : List NumberedCall) (bytes : List ℕ) (all : L
         shown = refusal fault;
         split = m.split;
         runs = m.runs;
-        ends = m.ends ∙ ap (call_judged (unpacking_at c.position c.streams.kept Between) m.so_far) judged
-            ∙ ap (λ (f : Fault). Ends (refusal f)) (ap (λ (n : ℕ). record { place = places.Record c.position.connections Client n stop.at; reason = stop.reason }) (sym m.agrees.1) ∙ sym is);
+        ends =
+            m.ends
+            ∙ ap (call_judged (unpacking_at c.position c.streams.kept Between) m.so_far) judged
+            ∙ ap (λ (f : Fault). Ends (refusal f)) (ap
+            (λ (n : ℕ).
+            record {
+              place = places.Record c.position.connections Client n stop.at;
+              reason = stop.reason;
+            }) (sym m.agrees.1) ∙ sym is);
         is = refl;
         emits = sym m.before ∙ sym (append-nil (emitted m.state));
       }
   call_fails (errors.Refused fault) (inr m) refuses =
       let (stop, judged, is) = refuses m.stood.so_far.calls m.stood.calls in
-      let same : suc (length m.stood.so_far.calls) ≡ c.position.records = omega (arith, m.records_are, m.stood.here.1) in
-      subst (ShowsFirst bytes all) (ap (λ (n : ℕ). record { place = places.Record c.position.connections Client n stop.at; reason = stop.reason }) same ∙ sym is)
-      (call_refused (after_side_word c.position) c.streams.kept m.taken m.records table bytes all m.stood m.count (Whole (body_of c.joiner.taking)) (fault_at m.stood.so_far.calls stop.at stop.reason) m.joins (ap (reading.judged m.stood.so_far.calls) judged))
+      let same : suc (length m.stood.so_far.calls) ≡ c.position.records =
+      omega (arith, m.records_are, m.stood.here.1) in
+      subst (ShowsFirst bytes all) (ap
+      (λ (n : ℕ).
+      record {
+        place = places.Record c.position.connections Client n stop.at;
+        reason = stop.reason;
+      }) same ∙ sym is)
+      (call_refused (after_side_word c.position) c.streams.kept m.taken m.records table bytes all
+      m.stood m.count (Whole (body_of c.joiner.taking))
+      (fault_at m.stood.so_far.calls stop.at stop.reason) m.joins
+      (ap (reading.judged m.stood.so_far.calls) judged))
   call_fails errors.Read (inl (none, m)) h = h m.so_far.calls m.calls
   call_fails errors.Read (inr m) h = h m.stood.so_far.calls m.stood.calls
   call_fails errors.Write (inl (none, m)) h = h m.so_far.calls m.calls
   call_fails errors.Write (inr m) h = h m.stood.so_far.calls m.stood.calls
   call_fails errors.Memory m h = tt
 
-  reply_fails : (error : Error) → MeetsEvent c table (Record Server) bytes all → ((calls : List (List Item)) → IsTableOf table calls → RefusesBody c.position Server (judge_reply calls (body_of c.joiner.taking)) error) → FailsAt bytes all error
+  reply_fails : (error : Error) → MeetsEvent c table (Record Server) bytes all
+      → ((calls : List (List Item)) → IsTableOf table calls
+      → RefusesBody c.position Server (judge_reply calls (body_of c.joiner.taking)) error)
+      → FailsAt bytes all error
   reply_fails (errors.Refused fault) (inl (none, m)) refuses =
       let (stop, judged, is) = refuses m.so_far.calls m.calls in
       record {
@@ -422,29 +567,53 @@ module _ (c : Container) (table : List NumberedCall) (bytes : List ℕ) (all : L
         shown = refusal fault;
         split = m.split;
         runs = m.runs;
-        ends = m.ends ∙ ap (reply_judged (unpacking_at c.position c.streams.kept Between) m.so_far) judged
-            ∙ ap (λ (f : Fault). Ends (refusal f)) (ap (λ (n : ℕ). record { place = places.Record c.position.connections Server n stop.at; reason = stop.reason }) (sym m.agrees.1) ∙ sym is);
+        ends =
+            m.ends
+            ∙ ap (reply_judged (unpacking_at c.position c.streams.kept Between) m.so_far) judged
+            ∙ ap (λ (f : Fault). Ends (refusal f)) (ap
+            (λ (n : ℕ).
+            record {
+              place = places.Record c.position.connections Server n stop.at;
+              reason = stop.reason;
+            }) (sym m.agrees.1) ∙ sym is);
         is = refl;
         emits = sym m.before ∙ sym (append-nil (emitted m.state));
       }
   reply_fails (errors.Refused fault) (inr m) refuses =
       let (stop, judged, is) = refuses m.stood.so_far.calls m.stood.calls in
-      let same : suc (length m.stood.so_far.replies) ≡ c.position.records = omega (arith, m.records_are, m.stood.here.2) in
-      subst (ShowsFirst bytes all) (ap (λ (n : ℕ). record { place = places.Record c.position.connections Server n stop.at; reason = stop.reason }) same ∙ sym is)
-      (reply_refused (after_side_word c.position) c.streams.kept m.taken m.records table bytes all m.stood m.count (Whole (body_of c.joiner.taking)) (fault_at m.stood.so_far.replies stop.at stop.reason) m.joins (ap (reading.judged m.stood.so_far.replies) judged))
+      let same : suc (length m.stood.so_far.replies) ≡ c.position.records =
+      omega (arith, m.records_are, m.stood.here.2) in
+      subst (ShowsFirst bytes all) (ap
+      (λ (n : ℕ).
+      record {
+        place = places.Record c.position.connections Server n stop.at;
+        reason = stop.reason;
+      }) same ∙ sym is)
+      (reply_refused (after_side_word c.position) c.streams.kept m.taken m.records table bytes all
+      m.stood m.count (Whole (body_of c.joiner.taking))
+      (fault_at m.stood.so_far.replies stop.at stop.reason) m.joins
+      (ap (reading.judged m.stood.so_far.replies) judged))
   reply_fails errors.Read (inl (none, m)) h = h m.so_far.calls m.calls
   reply_fails errors.Read (inr m) h = h m.stood.so_far.calls m.stood.calls
   reply_fails errors.Write (inl (none, m)) h = h m.so_far.calls m.calls
   reply_fails errors.Write (inr m) h = h m.stood.so_far.calls m.stood.calls
   reply_fails errors.Memory m h = tt
 
-  pub call_fails_at : (error : Error) {side : Side} → side ≡ Client → MeetsEvent c table (Record side) bytes all
-      → ((calls : List (List Item)) → IsTableOf table calls → RefusesBody c.position Client (judge_call calls (body_of c.joiner.taking)) error) → FailsAt bytes all error
-  call_fails_at error is m refuses = call_fails error (subst (λ (s : Side). MeetsEvent c table (Record s) bytes all) is m) refuses
+  pub call_fails_at : (error : Error) {side : Side} → side ≡ Client
+      → MeetsEvent c table (Record side) bytes all
+      → ((calls : List (List Item)) → IsTableOf table calls
+      → RefusesBody c.position Client (judge_call calls (body_of c.joiner.taking)) error)
+      → FailsAt bytes all error
+  call_fails_at error is m refuses =
+      call_fails error (subst (λ (s : Side). MeetsEvent c table (Record s) bytes all) is m) refuses
 
-  pub reply_fails_at : (error : Error) {side : Side} → side ≡ Server → MeetsEvent c table (Record side) bytes all
-      → ((calls : List (List Item)) → IsTableOf table calls → RefusesBody c.position Server (judge_reply calls (body_of c.joiner.taking)) error) → FailsAt bytes all error
-  reply_fails_at error is m refuses = reply_fails error (subst (λ (s : Side). MeetsEvent c table (Record s) bytes all) is m) refuses
+  pub reply_fails_at : (error : Error) {side : Side} → side ≡ Server
+      → MeetsEvent c table (Record side) bytes all
+      → ((calls : List (List Item)) → IsTableOf table calls
+      → RefusesBody c.position Server (judge_reply calls (body_of c.joiner.taking)) error)
+      → FailsAt bytes all error
+  reply_fails_at error is m refuses =
+      reply_fails error (subst (λ (s : Side). MeetsEvent c table (Record s) bytes all) is m) refuses
 
 -- ---- streams that were kept
 
@@ -455,7 +624,9 @@ running_between (Led (Stopped x)) h e = absurd h
 running_between OutOfMemory h e = absurd h
 
 -- the streams are whole: their judging begins
-streams_open : (c : Container) (table : List NumberedCall) (bytes : List ℕ) (all : List Entry) → HasMet c table events.Streams bytes all → StandsOrRecalls (Some first_cursor) c.position c.joiner.taking c.streams.kept table bytes all
+streams_open : (c : Container) (table : List NumberedCall) (bytes : List ℕ) (all : List Entry)
+    → HasMet c table events.Streams bytes all
+    → StandsOrRecalls (Some first_cursor) c.position c.joiner.taking c.streams.kept table bytes all
 streams_open c table bytes all m =
     let j : Judged = record m.so_far { calls = []; replies = [] } in
     record {
@@ -471,17 +642,23 @@ streams_open c table bytes all m =
       here = (refl, m.agrees.1, m.emits);
     }
 
-stored_first : (p : Position) (streams : Streams) → StoredWith (Some events.Streams) p streams → AreStored p (Some first_cursor) streams
+stored_first : (p : Position) (streams : Streams) → StoredWith (Some events.Streams) p streams
+    → AreStored p (Some first_cursor) streams
 stored_first p streams stored = (omega arith, omega (arith, stored.1), stored.0, stored.2)
 
-before_mark : (streams : Streams) (spot : Spot) (at : ℕ) → IsBeforeMark Two spot → opened_at streams spot at ≡ Mark Two []
+before_mark : (streams : Streams) (spot : Spot) (at : ℕ) → IsBeforeMark Two spot
+    → opened_at streams spot at ≡ Mark Two []
 before_mark streams spot at before =
     let is = mark_is Two spot before in
     ap (λ (s : Spot). opened_at streams s at) is.2 ∙ ap₂ Mark is.3 is.4
 
 -- what is whole next in them
-module _ (cursor : Cursor) (old new : Container) (table : List NumberedCall) (bytes : List ℕ) (all : List Entry) (s : StandsOrRecalls (Some cursor) old.position old.joiner.taking old.streams.kept table bytes all) where
-  recalled_record : (side : Side) → Recalled cursor old.position new.position old.streams.kept new.streams.kept new.joiner.taking new.cursor (Record side) → MeetsEvent new table (Record side) bytes all
+module _ (cursor : Cursor) (old new : Container) (table : List NumberedCall) (bytes : List ℕ)
+    (all : List Entry) (s : StandsOrRecalls (Some cursor) old.position old.joiner.taking
+    old.streams.kept table bytes all) where
+  recalled_record : (side : Side)
+      → Recalled cursor old.position new.position old.streams.kept new.streams.kept
+      new.joiner.taking new.cursor (Record side) → MeetsEvent new table (Record side) bytes all
   recalled_record side (side_is, streams_are, position_is, (count, next_is, joins)) =
       inr (record {
         taken = cursor.taken;
@@ -493,112 +670,248 @@ module _ (cursor : Cursor) (old new : Container) (table : List NumberedCall) (by
         records_are = ap (λ (p : Position). p.records) position_is;
       })
 
-  recalled_turn : Recalled cursor old.position new.position old.streams.kept new.streams.kept new.joiner.taking new.cursor Turn → HasCome new table bytes (all ++ entries.Turn ∷ [])
+  recalled_turn : Recalled cursor old.position new.position old.streams.kept new.streams.kept
+      new.joiner.taking new.cursor Turn → HasCome new table bytes (all ++ entries.Turn ∷ [])
   recalled_turn (side_is, streams_are, position_is, next_is, between, runs) =
       let u : Unpacking = after_side_word old.position in
-      let at : Recalls u old.streams.kept Client cursor.taken old.position.records table bytes all = subst (λ (side : Side). Recalls u old.streams.kept side cursor.taken old.position.records table bytes all) side_is s in
-      let rest : after join_next (Runs Between) (drop cursor.taken old.streams.kept.client) ≡ Runs Between = subst (λ (side : Side). after join_next (Runs Between) (drop cursor.taken (stream_of side old.streams.kept)) ≡ Runs Between) side_is runs in
-      rw (streams_are, position_is, next_is) (turn_recalled u old.streams.kept cursor.taken old.position.records table bytes all at rest)
+      let at : Recalls u old.streams.kept Client cursor.taken old.position.records table bytes all =
+      subst
+      (λ (side : Side).
+      Recalls u old.streams.kept side cursor.taken old.position.records table bytes all)
+      side_is s in
+      let rest : after join_next (Runs Between) (drop cursor.taken old.streams.kept.client)
+      ≡ Runs Between =
+      subst
+      (λ (side : Side).
+      after join_next (Runs Between) (drop cursor.taken (stream_of side old.streams.kept))
+      ≡ Runs Between) side_is runs in
+      rw (streams_are, position_is, next_is) (turn_recalled u old.streams.kept cursor.taken
+      old.position.records table bytes all at rest)
 
-  recalled_close : IsRunning new.joiner.taking → AreStored old.position (Some cursor) old.streams.kept → Recalled cursor old.position new.position old.streams.kept new.streams.kept new.joiner.taking new.cursor Close → HasCome new table bytes (all ++ entries.Close ∷ [])
+  recalled_close : IsRunning new.joiner.taking
+      → AreStored old.position (Some cursor) old.streams.kept
+      → Recalled cursor old.position new.position old.streams.kept new.streams.kept
+      new.joiner.taking new.cursor Close → HasCome new table bytes (all ++ entries.Close ∷ [])
   recalled_close running stored (side_is, empty, position_is, next_is, between, runs) =
       let p : Position = old.position in
       let u : Unpacking = after_side_word p in
-      let at : Recalls u old.streams.kept Server cursor.taken p.records table bytes all = subst (λ (side : Side). Recalls u old.streams.kept side cursor.taken p.records table bytes all) side_is s in
-      let rest : after join_next (Runs Between) (drop cursor.taken old.streams.kept.server) ≡ Runs Between = subst (λ (side : Side). after join_next (Runs Between) (drop cursor.taken (stream_of side old.streams.kept)) ≡ Runs Between) side_is runs in
-      let closes = close_recalled u old.streams.kept cursor.taken p.records table bytes all at rest in
-      let opened_is : opened_at new.streams.kept p.spot p.at ≡ Mark Two [] = before_mark new.streams.kept p.spot p.at stored.3 in
-      let w : Unpacking = record { at = p.at; total = p.total; connections = p.connections; records = p.records; opened = Mark Two []; joining = Between } in
-      let here : unpacking_of p new.joiner.taking new.streams.kept ≡ w = ap₂ (λ o j. record { at = p.at; total = p.total; connections = p.connections; records = p.records; opened = o; joining = j }) opened_is between in
-      come_at_rest new table bytes (all ++ entries.Close ∷ []) next_is running (rw position_is (record {
+      let at : Recalls u old.streams.kept Server cursor.taken p.records table bytes all =
+      subst
+      (λ (side : Side). Recalls u old.streams.kept side cursor.taken p.records table bytes all)
+      side_is s in
+      let rest : after join_next (Runs Between) (drop cursor.taken old.streams.kept.server)
+      ≡ Runs Between =
+      subst
+      (λ (side : Side).
+      after join_next (Runs Between) (drop cursor.taken (stream_of side old.streams.kept))
+      ≡ Runs Between) side_is runs in
+      let closes =
+      close_recalled u old.streams.kept cursor.taken p.records table bytes all at rest in
+      let opened_is : opened_at new.streams.kept p.spot p.at ≡ Mark Two [] =
+      before_mark new.streams.kept p.spot p.at stored.3 in
+      let w : Unpacking =
+      record {
+        at = p.at;
+        total = p.total;
+        connections = p.connections;
+        records = p.records;
+        opened = Mark Two [];
+        joining = Between;
+      } in
+      let here : unpacking_of p new.joiner.taking new.streams.kept ≡ w =
+      ap₂
+      (λ o j.
+      record {
+        at = p.at;
+        total = p.total;
+        connections = p.connections;
+        records = p.records;
+        opened = o;
+        joining = j;
+      }) opened_is between in
+      come_at_rest new table bytes (all ++ entries.Close ∷ []) next_is running
+      (rw position_is (record {
         so_far = connection_closed at.so_far;
-        agrees = subst (λ (x : Unpacking). resuming.Agrees x (connection_closed at.so_far)) (sym here) refl;
+        agrees =
+            subst (λ (x : Unpacking). resuming.Agrees x (connection_closed at.so_far)) (sym here)
+            refl;
         calls = at.calls;
-        stands = closes.0 ∙ ap (λ (x : Unpacking). Runs (parsing_at x (connection_closed at.so_far))) (sym here);
-        emitted = closes.1 ∙ sym (ap (λ (x : Unpacking). emitted_at x.opened (connection_closed at.so_far)) here);
+        stands =
+            closes.0
+            ∙ ap (λ (x : Unpacking). Runs (parsing_at x (connection_closed at.so_far)))
+            (sym here);
+        emitted =
+            closes.1
+            ∙ sym (ap (λ (x : Unpacking). emitted_at x.opened (connection_closed at.so_far))
+            here);
       }))
 
-  recalled_meets : (event : Event) → Leaves (Some event) new.joiner.taking → AreStored old.position (Some cursor) old.streams.kept → Recalled cursor old.position new.position old.streams.kept new.streams.kept new.joiner.taking new.cursor event → MeetsEvent new table event bytes all
+  recalled_meets : (event : Event) → Leaves (Some event) new.joiner.taking
+      → AreStored old.position (Some cursor) old.streams.kept
+      → Recalled cursor old.position new.position old.streams.kept new.streams.kept
+      new.joiner.taking new.cursor event → MeetsEvent new table event bytes all
   recalled_meets (Record side) leaves stored r = recalled_record side r
   recalled_meets Turn leaves stored r = inr (recalled_turn r)
   recalled_meets Close leaves stored r = inr (recalled_close leaves stored r)
   recalled_meets Begin leaves stored r = absurd r
   recalled_meets events.Streams leaves stored r = absurd r
 
-left_open : {M : Type 0} (messages : List M) (j : Joining) → (j ≡ Between → ⊥) → reading.left_in messages j ≡ reading.Faulty messages (fault_at messages (length (joined_body j)) RecordCut)
+left_open : {M : Type 0} (messages : List M) (j : Joining) → (j ≡ Between → ⊥)
+    → reading.left_in messages j
+    ≡ reading.Faulty messages (fault_at messages (length (joined_body j)) RecordCut)
 left_open messages Between h = absurd (h refl)
 left_open messages (Header body part) h = refl
 left_open messages (Bytes body last left) h = refl
 
-recall_fails_at : (side : Side) (taken : ℕ) (p : Position) (streams : Streams) (table : List NumberedCall) (bytes : List ℕ) (all : List Entry) (fault : Fault) → Recalls (after_side_word p) streams side taken p.records table bytes all
-    → RecallFails (record { side = side; taken = taken }) p streams (errors.Refused fault) → ShowsFirst bytes all fault
+recall_fails_at : (side : Side) (taken : ℕ) (p : Position) (streams : Streams)
+    (table : List NumberedCall) (bytes : List ℕ) (all : List Entry) (fault : Fault)
+    → Recalls (after_side_word p) streams side taken p.records table bytes all
+    → RecallFails (record { side = side; taken = taken }) p streams (errors.Refused fault)
+    → ShowsFirst bytes all fault
 recall_fails_at Client taken p streams table bytes all fault r (inl (at, n, stops, is)) =
     let same : suc (length r.so_far.calls) ≡ p.records + 1 = omega (arith, r.here.1) in
-    subst (ShowsFirst bytes all) (ap (λ (k : ℕ). record { place = places.Record p.connections Client k at; reason = RecordTooLong }) same ∙ sym is)
-    (call_refused (after_side_word p) streams taken p.records table bytes all r n (TooLong at) (fault_at r.so_far.calls at RecordTooLong) stops refl)
+    subst (ShowsFirst bytes all) (ap
+    (λ (k : ℕ).
+    record {
+      place = places.Record p.connections Client k at;
+      reason = RecordTooLong;
+    }) same ∙ sym is)
+    (call_refused (after_side_word p) streams taken p.records table bytes all r n (TooLong at)
+    (fault_at r.so_far.calls at RecordTooLong) stops refl)
 recall_fails_at Client taken p streams table bytes all fault r (inr (j, open_is, runs, is)) =
     let same : suc (length r.so_far.calls) ≡ p.records + 1 = omega (arith, r.here.1) in
-    subst (ShowsFirst bytes all) (ap (λ (k : ℕ). record { place = places.Record p.connections Client k (length (joined_body j)); reason = RecordCut }) same ∙ sym is)
-    (call_cut (after_side_word p) streams taken p.records table bytes all r j (fault_at r.so_far.calls (length (joined_body j)) RecordCut) runs (left_open r.so_far.calls j open_is))
+    subst (ShowsFirst bytes all) (ap
+    (λ (k : ℕ).
+    record {
+      place = places.Record p.connections Client k (length (joined_body j));
+      reason = RecordCut;
+    }) same ∙ sym is)
+    (call_cut (after_side_word p) streams taken p.records table bytes all r j
+    (fault_at r.so_far.calls (length (joined_body j)) RecordCut) runs
+    (left_open r.so_far.calls j open_is))
 recall_fails_at Server taken p streams table bytes all fault r (inl (at, n, stops, is)) =
     let same : suc (length r.so_far.replies) ≡ p.records + 1 = omega (arith, r.here.2) in
-    subst (ShowsFirst bytes all) (ap (λ (k : ℕ). record { place = places.Record p.connections Server k at; reason = RecordTooLong }) same ∙ sym is)
-    (reply_refused (after_side_word p) streams taken p.records table bytes all r n (TooLong at) (fault_at r.so_far.replies at RecordTooLong) stops refl)
+    subst (ShowsFirst bytes all) (ap
+    (λ (k : ℕ).
+    record {
+      place = places.Record p.connections Server k at;
+      reason = RecordTooLong;
+    }) same ∙ sym is)
+    (reply_refused (after_side_word p) streams taken p.records table bytes all r n (TooLong at)
+    (fault_at r.so_far.replies at RecordTooLong) stops refl)
 recall_fails_at Server taken p streams table bytes all fault r (inr (j, open_is, runs, is)) =
     let same : suc (length r.so_far.replies) ≡ p.records + 1 = omega (arith, r.here.2) in
-    subst (ShowsFirst bytes all) (ap (λ (k : ℕ). record { place = places.Record p.connections Server k (length (joined_body j)); reason = RecordCut }) same ∙ sym is)
-    (reply_cut (after_side_word p) streams taken p.records table bytes all r j (fault_at r.so_far.replies (length (joined_body j)) RecordCut) runs (left_open r.so_far.replies j open_is))
+    subst (ShowsFirst bytes all) (ap
+    (λ (k : ℕ).
+    record {
+      place = places.Record p.connections Server k (length (joined_body j));
+      reason = RecordCut;
+    }) same ∙ sym is)
+    (reply_cut (after_side_word p) streams taken p.records table bytes all r j
+    (fault_at r.so_far.replies (length (joined_body j)) RecordCut) runs
+    (left_open r.so_far.replies j open_is))
 
-recall_fails : (cursor : Cursor) (p : Position) (t : Taking) (streams : Streams) (table : List NumberedCall) (bytes : List ℕ) (all : List Entry) (error : Error) → StandsOrRecalls (Some cursor) p t streams table bytes all
+recall_fails : (cursor : Cursor) (p : Position) (t : Taking) (streams : Streams)
+    (table : List NumberedCall) (bytes : List ℕ) (all : List Entry) (error : Error)
+    → StandsOrRecalls (Some cursor) p t streams table bytes all
     → RecallFails cursor p streams error → FailsAt bytes all error
-recall_fails cursor p t streams table bytes all (errors.Refused fault) s f = recall_fails_at cursor.side cursor.taken p streams table bytes all fault s f
+recall_fails cursor p t streams table bytes all (errors.Refused fault) s f =
+    recall_fails_at cursor.side cursor.taken p streams table bytes all fault s f
 recall_fails cursor p t streams table bytes all errors.Read s f = f
 recall_fails cursor p t streams table bytes all errors.Write s f = f
 recall_fails cursor p t streams table bytes all errors.Memory s f = tt
 
 -- ---- what comes next, from the file or from streams that were kept
 
-unopened_at : (c : Container) (table : List NumberedCall) (bytes : List ℕ) (all : List Entry) → c.cursor ≡ None → StandsOrRecalls c.cursor c.position c.joiner.taking c.streams.kept table bytes all → StandsAt c.position c.joiner.taking c.streams.kept table bytes all
-unopened_at c table bytes all none s = subst (λ (n : Option Cursor). StandsOrRecalls n c.position c.joiner.taking c.streams.kept table bytes all) none s
+unopened_at : (c : Container) (table : List NumberedCall) (bytes : List ℕ) (all : List Entry)
+    → c.cursor ≡ None
+    → StandsOrRecalls c.cursor c.position c.joiner.taking c.streams.kept table bytes all
+    → StandsAt c.position c.joiner.taking c.streams.kept table bytes all
+unopened_at c table bytes all none s =
+    subst
+    (λ (n : Option Cursor).
+    StandsOrRecalls n c.position c.joiner.taking c.streams.kept table bytes all) none s
 
-opened_with : (c : Container) (cursor : Cursor) (table : List NumberedCall) (bytes : List ℕ) (all : List Entry) → c.cursor ≡ Some cursor → StandsOrRecalls c.cursor c.position c.joiner.taking c.streams.kept table bytes all
+opened_with : (c : Container) (cursor : Cursor) (table : List NumberedCall) (bytes : List ℕ)
+    (all : List Entry) → c.cursor ≡ Some cursor
+    → StandsOrRecalls c.cursor c.position c.joiner.taking c.streams.kept table bytes all
     → StandsOrRecalls (Some cursor) c.position c.joiner.taking c.streams.kept table bytes all
-opened_with c cursor table bytes all some s = subst (λ (n : Option Cursor). StandsOrRecalls n c.position c.joiner.taking c.streams.kept table bytes all) some s
+opened_with c cursor table bytes all some s =
+    subst
+    (λ (n : Option Cursor).
+    StandsOrRecalls n c.position c.joiner.taking c.streams.kept table bytes all) some s
 
 -- the streams of a connection are whole with these bytes
-first_kept : (old mid : Container) (table : List NumberedCall) (bytes : List ℕ) (all : List Entry) (piece : List ℕ) → old.cursor ≡ None → StandsOrRecalls old.cursor old.position old.joiner.taking old.streams.kept table bytes all
-    → Arrives (unpacking_of old.position old.joiner.taking old.streams.kept) piece (Some events.Streams) mid.position mid.joiner.taking mid.streams.kept → StandsOrRecalls (Some first_cursor) mid.position mid.joiner.taking mid.streams.kept table (bytes ++ piece) all
+first_kept : (old mid : Container) (table : List NumberedCall) (bytes : List ℕ) (all : List Entry)
+    (piece : List ℕ) → old.cursor ≡ None
+    → StandsOrRecalls old.cursor old.position old.joiner.taking old.streams.kept table bytes all
+    → Arrives (unpacking_of old.position old.joiner.taking old.streams.kept) piece
+    (Some events.Streams) mid.position mid.joiner.taking mid.streams.kept
+    → StandsOrRecalls (Some first_cursor) mid.position mid.joiner.taking mid.streams.kept table
+    (bytes ++ piece) all
 first_kept old mid table bytes all piece none s arrives =
-    streams_open mid table (bytes ++ piece) all (stands_met old.position old.joiner.taking old.streams.kept mid table bytes all piece events.Streams (Some events.Streams) (unopened_at old table bytes all none s) refl arrives)
+    streams_open mid table (bytes ++ piece) all (stands_met old.position old.joiner.taking
+    old.streams.kept mid table bytes all piece events.Streams (Some events.Streams)
+    (unopened_at old table bytes all none s) refl arrives)
 
-one_event : (came : Option Event) (event one : Event) → came ≡ Some event → came ≡ Some one → one ≡ event
+one_event : (came : Option Event) (event one : Event) → came ≡ Some event → came ≡ Some one
+    → one ≡ event
 one_event came event one is also = cc
 
-module _ (old new : Container) (table : List NumberedCall) (bytes : List ℕ) (all : List Entry) (piece : List ℕ) (came : Option Event) (s : StandsOrRecalls old.cursor old.position old.joiner.taking old.streams.kept table bytes all) where
-  pub comes_on : came ≡ None → Leaves came new.joiner.taking → Comes old new piece came → HasCome new table (bytes ++ piece) all
+module _ (old new : Container) (table : List NumberedCall) (bytes : List ℕ) (all : List Entry)
+    (piece : List ℕ) (came : Option Event) (s : StandsOrRecalls old.cursor old.position
+    old.joiner.taking old.streams.kept table bytes all) where
+  pub comes_on : came ≡ None → Leaves came new.joiner.taking → Comes old new piece came
+      → HasCome new table (bytes ++ piece) all
   comes_on is leaves (FromFile none unopened arrives) =
-      come_at_rest new table (bytes ++ piece) all unopened (subst (λ (e : Option Event). Leaves e new.joiner.taking) is leaves)
-      (stands_on old.position new.position old.joiner.taking new.joiner.taking old.streams.kept new.streams.kept table bytes all piece came (unopened_at old table bytes all none s) is arrives)
+      come_at_rest new table (bytes ++ piece) all unopened
+      (subst (λ (e : Option Event). Leaves e new.joiner.taking) is leaves)
+      (stands_on old.position new.position old.joiner.taking new.joiner.taking old.streams.kept
+      new.streams.kept table bytes all piece came (unopened_at old table bytes all none s) is
+      arrives)
   comes_on is leaves (FirstKept mid one none arrives stored also recalled) = absurd (cc)
   comes_on is leaves (NextKept cursor one some nothing also recalled) = absurd (cc)
 
-  pub comes_meets : (event : Event) → came ≡ Some event → Leaves came new.joiner.taking → IsStored old → Comes old new piece came → MeetsEvent new table event (bytes ++ piece) all
+  pub comes_meets : (event : Event) → came ≡ Some event → Leaves came new.joiner.taking
+      → IsStored old → Comes old new piece came → MeetsEvent new table event (bytes ++ piece) all
   comes_meets event is leaves stored (FromFile none unopened arrives) =
-      inl (unopened, stands_met old.position old.joiner.taking old.streams.kept new table bytes all piece event came (unopened_at old table bytes all none s) is arrives)
+      inl (
+        unopened,
+        stands_met old.position old.joiner.taking old.streams.kept new table bytes all piece
+            event came (unopened_at old table bytes all none s) is arrives,
+      )
   comes_meets event is leaves stored (FirstKept mid one none arrives whole also recalled) =
-      subst (λ (e : Event). MeetsEvent new table e (bytes ++ piece) all) (one_event came event one is also)
-      (recalled_meets first_cursor mid new table (bytes ++ piece) all (first_kept old mid table bytes all piece none s arrives) one (subst (λ (e : Option Event). Leaves e new.joiner.taking) also leaves) (stored_first mid.position mid.streams.kept whole) recalled)
+      subst (λ (e : Event). MeetsEvent new table e (bytes ++ piece) all)
+      (one_event came event one is also)
+      (recalled_meets first_cursor mid new table (bytes ++ piece) all
+      (first_kept old mid table bytes all piece none s arrives) one
+      (subst (λ (e : Option Event). Leaves e new.joiner.taking) also leaves)
+      (stored_first mid.position mid.streams.kept whole) recalled)
   comes_meets event is leaves stored (NextKept cursor one some nothing also recalled) =
-      let same : bytes ++ piece ≡ bytes = ap (λ (b : List ℕ). bytes ++ b) nothing ∙ append-nil bytes in
-      subst (λ (e : Event). MeetsEvent new table e (bytes ++ piece) all) (one_event came event one is also)
+      let same : bytes ++ piece ≡ bytes =
+      ap (λ (b : List ℕ). bytes ++ b) nothing ∙ append-nil bytes in
+      subst (λ (e : Event). MeetsEvent new table e (bytes ++ piece) all)
+      (one_event came event one is also)
       (subst (λ (b : List ℕ). MeetsEvent new table one b all) (sym same)
-      (recalled_meets cursor old new table bytes all (opened_with old cursor table bytes all some s) one (subst (λ (e : Option Event). Leaves e new.joiner.taking) also leaves)
-      (subst (λ (n : Option Cursor). AreStored old.position n old.streams.kept) some stored) recalled))
+      (recalled_meets cursor old new table bytes all (opened_with old cursor table bytes all some s)
+      one (subst (λ (e : Option Event). Leaves e new.joiner.taking) also leaves)
+      (subst (λ (n : Option Cursor). AreStored old.position n old.streams.kept) some stored)
+      recalled))
 
-pub comes_to_fault : (old : Container) (table : List NumberedCall) (bytes : List ℕ) (all : List Entry) (piece : List ℕ) (error : Error) → StandsOrRecalls old.cursor old.position old.joiner.taking old.streams.kept table bytes all → ComesToFault old piece error → FailsAt (bytes ++ piece) all error
-comes_to_fault old table bytes all piece error s (InFile none fails) = stands_fails old.position old.joiner.taking old.streams.kept table bytes all piece error (unopened_at old table bytes all none s) fails
+pub comes_to_fault : (old : Container) (table : List NumberedCall) (bytes : List ℕ)
+    (all : List Entry) (piece : List ℕ) (error : Error)
+    → StandsOrRecalls old.cursor old.position old.joiner.taking old.streams.kept table bytes all
+    → ComesToFault old piece error → FailsAt (bytes ++ piece) all error
+comes_to_fault old table bytes all piece error s (InFile none fails) =
+    stands_fails old.position old.joiner.taking old.streams.kept table bytes all piece error
+    (unopened_at old table bytes all none s) fails
 comes_to_fault old table bytes all piece error s (InFirstKept mid n none arrives fails) =
     fails_longer bytes piece n all error
-    (recall_fails first_cursor mid.position mid.joiner.taking mid.streams.kept table (bytes ++ take n piece) all error (first_kept old mid table bytes all (take n piece) none s arrives) fails)
+    (recall_fails first_cursor mid.position mid.joiner.taking mid.streams.kept table
+    (bytes ++ take n piece) all error
+    (first_kept old mid table bytes all (take n piece) none s arrives) fails)
 comes_to_fault old table bytes all piece error s (InNextKept cursor some fails) =
-    fails_longer bytes piece 0 all error (subst (λ (b : List ℕ). FailsAt b all error) (sym (append-nil bytes)) (recall_fails cursor old.position old.joiner.taking old.streams.kept table bytes all error (opened_with old cursor table bytes all some s) fails))
+    fails_longer bytes piece 0 all error (subst (λ (b : List ℕ). FailsAt b all error)
+    (sym (append-nil bytes)) (recall_fails cursor old.position old.joiner.taking
+    old.streams.kept table bytes all error
+    (opened_with old cursor table bytes all some s) fails))

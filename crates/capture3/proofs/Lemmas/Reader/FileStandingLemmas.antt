@@ -1,37 +1,23 @@
--- The machine for a capture file goes as the one that takes the capture apart, with its records judged.
-use Rattle.std.proofs.Common.{◌≡◌, ℕ, zero, suc, ◌+◌, Bool, true, false, cond, nat_eq, nat_lt, List, [], ◌∷◌, ◌++◌, length, Result, Ok, Err, refl, sym, ap, subst, ◌∙◌, add-one, arith, length-append}
-use Rattle.xdr3.specs.declared.reason.Stop.{Stop}
-use Rattle.xdr3.specs.declared.reason.Reason.TheVariants.{BadMagic, TooManyConnections, TooManyBytes, RecordCut, RecordTooLong}
-use Rattle.xdr3.specs.Item.{Item}
-use Rattle.record_mark.specs.Joining.{Joining, Between, Header, Bytes, Joined, Whole, TooLong, join_next}
-use Rattle.record_mark.specs.Machine.{Next, Goes, Ends, Runs, Stops, after, landed, within}
-use Rattle.record_mark.specs.Word.{word_next}
-use Rattle.record_mark.proofs.Machines.{not_runs, only_stops}
-use Rattle.capture3.specs.declared.fault.Side.{Side}
-use Rattle.capture3.specs.declared.fault.Side.TheVariants.{Client, Server}
-use Rattle.capture3.specs.declared.container.position.Event.TheVariants.{Begin}
-use Rattle.capture3.specs.Bodies.{ReplyItems}
-use Rattle.capture3.specs.Connections.{ShownFault, refusal}
-use Rattle.capture3.specs.BodyProgram.{judge_call, judge_reply}
-use Rattle.capture3.specs.Capture.{Version, One, Two}
-use Rattle.capture3.specs.SidedChunksMachine.{Mixing, MixedEnd, MixedCloses, MixedRefuses, mixed_step}
-use Rattle.capture3.specs.ConnectionMachine.{InClient, InServer, InMixed, conversing, ending, judge_replies, opened, turning}
-use Rattle.capture3.specs.StreamMachine.{judged, recorded}
+-- The machine for a capture file goes as the one that takes the capture apart, with its records
+-- judged.
+use Rattle.capture3.proofs.Common.{◌≡◌, ℕ, zero, suc, ◌+◌, Bool, true, false, cond, nat_eq, nat_lt, List, [], ◌∷◌, ◌++◌, length, Result, Ok, Err, refl, sym, ap, subst, ◌∙◌, add-one, arith, length-append, Stop, BadMagic, TooManyConnections, TooManyBytes, RecordCut, RecordTooLong, Item, Joining, Between, Header, Bytes, Joined, Whole, TooLong, join_next, Next, Goes, Ends, Runs, Stops, after, landed, within, word_next, not_runs, only_stops, Side, Client, Server, Begin, ReplyItems, ShownFault, refusal, judge_call, judge_reply, Version, One, Two, Mixing, MixedEnd, MixedCloses, MixedRefuses, mixed_step, InClient, InServer, InMixed, conversing, ending, judge_replies, opened, turning, judged, recorded, Siding, SideEnd, SideRefuses, Reason, Parsing, file_next, Fault, file_fault, place_at}
 use Rattle.capture3.specs.SideMachine as siding
-use Rattle.capture3.specs.SideMachine.{Siding, SideEnd, SideRefuses}
 use Rattle.capture3.specs.declared.fault.Place.TheVariants as places
-use Rattle.xdr3.specs.declared.reason.Reason.{Reason}
 use Rattle.capture3.specs.FileMachine as parsing
-use Rattle.capture3.specs.FileMachine.{Parsing, file_next}
-use Rattle.capture3.specs.declared.fault.Fault.{Fault}
-use Rattle.capture3.specs.Sides.{file_fault, place_at}
 use Rattle.capture3.specs.machinery.FileStanding.{Judged, parsing_in, siding_at, parsing_at, resumed, call_judged, reply_judged, Agrees, AgreesAt, AgreesOn}
 use Rattle.capture3.specs.machinery.ContainerMachine.{Opened, Magic, Digit, Mark, Length, Chunk, Mixed, Ended, Unpacking, Unpacked, Has, Refuses, at_byte, left_of_magic, begun_at, connection_marked, chunk_counted, record_joined, in_chunk, mixed_at, mixed_ended, unpack_next}
 
 -- where the two machines stand
 abbrev pub at_unpacking : (at total connections records : ℕ) → Joining → Opened → Unpacking
 at_unpacking at total connections records joining opened =
-    record { at = at; total = total; connections = connections; records = records; opened = opened; joining = joining }
+    record {
+      at = at;
+      total = total;
+      connections = connections;
+      records = records;
+      opened = opened;
+      joining = joining;
+    }
 
 -- One byte takes both machines to the same place.
 abbrev pub Follows : (at total connections records : ℕ) → Joining → Opened → Judged → ℕ → Type 0
@@ -40,51 +26,77 @@ Follows at total connections records joining opened j byte =
     file_next (parsing_at u j) byte ≡ resumed j (unpack_next u byte)
 
 -- a choice by a test
-chosen_follows : (b : Bool) (x : Parsing) (u : Unpacking) (shown : ShownFault) (fault : Fault) (j : Judged) → x ≡ parsing_at u j → shown ≡ refusal fault
+chosen_follows : (b : Bool) (x : Parsing) (u : Unpacking) (shown : ShownFault) (fault : Fault)
+    (j : Judged) → x ≡ parsing_at u j → shown ≡ refusal fault
     → cond b (Goes x) (Ends shown) ≡ resumed j (cond b (Goes u) (Ends (Refuses fault)))
 chosen_follows true x u shown fault j goes ends = ap (λ (p : Parsing). Goes p) goes
 chosen_follows false x u shown fault j goes ends = ap (λ (s : ShownFault). Ends s) ends
 
 -- ---- the magic
 
-magic_follows : (at total connections records due : ℕ) (more : List ℕ) (j : Judged) (byte : ℕ) → Follows at total connections records Between (Magic due more) j byte
-magic_follows at total connections records due [] j byte = chosen_follows (nat_eq byte due) _ _ _ _ j refl refl
-magic_follows at total connections records due (next ∷ more) j byte = chosen_follows (nat_eq byte due) _ _ _ _ j refl refl
+magic_follows : (at total connections records due : ℕ) (more : List ℕ) (j : Judged) (byte : ℕ)
+    → Follows at total connections records Between (Magic due more) j byte
+magic_follows at total connections records due [] j byte =
+    chosen_follows (nat_eq byte due) _ _ _ _ j refl refl
+magic_follows at total connections records due (next ∷ more) j byte =
+    chosen_follows (nat_eq byte due) _ _ _ _ j refl refl
 
-digit_follows : (at total connections records : ℕ) (joining : Joining) (j : Judged) (byte : ℕ) → Follows at total connections records joining Digit j byte
-digit_follows at total connections records joining j byte = by_test (nat_eq byte 49) (nat_eq byte 50)
+digit_follows : (at total connections records : ℕ) (joining : Joining) (j : Judged) (byte : ℕ)
+    → Follows at total connections records joining Digit j byte
+digit_follows at total connections records joining j byte =
+    by_test (nat_eq byte 49) (nat_eq byte 50)
   where
     by_test : (b c : Bool)
-        → cond b (Goes (parsing_in One (at + 1) total connections j.entries (parsing.Mark []))) (cond c (Goes (parsing_in Two (at + 1) total connections j.entries (parsing.Mark []))) (Ends (refusal (file_fault at BadMagic))))
-        ≡ resumed j (cond b (Goes (at_unpacking (at + 1) total connections records joining (Mark One []))) (cond c (Goes (at_unpacking (at + 1) total connections records joining (Mark Two []))) (Ends (at_byte at BadMagic))))
+        → cond b (Goes (parsing_in One (at + 1) total connections j.entries (parsing.Mark [])))
+        (cond c (Goes (parsing_in Two (at + 1) total connections j.entries (parsing.Mark [])))
+        (Ends (refusal (file_fault at BadMagic))))
+        ≡ resumed j (cond b
+        (Goes (at_unpacking (at + 1) total connections records joining (Mark One [])))
+        (cond c
+        (Goes (at_unpacking (at + 1) total connections records joining (Mark Two [])))
+        (Ends (at_byte at BadMagic))))
     by_test true c = refl
     by_test false true = refl
     by_test false false = refl
 
 -- ---- connection words
 
-marked_follows : (version : Version) (at total connections records : ℕ) (joining : Joining) (j : Judged) (w : ℕ) → joining ≡ Between
-    → parsing.marked version at total connections j.entries w ≡ resumed j (connection_marked version at total connections records joining w)
+marked_follows : (version : Version) (at total connections records : ℕ) (joining : Joining)
+    (j : Judged) (w : ℕ) → joining ≡ Between
+    → parsing.marked version at total connections j.entries w
+    ≡ resumed j (connection_marked version at total connections records joining w)
 marked_follows version at total connections records joining j zero between = refl
-marked_follows version at total connections records joining j (suc zero) between = by_test (nat_lt connections 65535) version
+marked_follows version at total connections records joining j (suc zero) between =
+    by_test (nat_lt connections 65535) version
   where
-    by_test : (b : Bool) (v : Version) → cond b (Goes (parsing_in v (at + 4) total (suc connections) j.entries (parsing.Inside (opened v (at + 4) total)))) (Ends (refusal (file_fault at TooManyConnections)))
-        ≡ resumed j (cond b (Ends (Has Begin [] (begun_at v at total (connections + 1) joining))) (Ends (at_byte at TooManyConnections)))
+    by_test : (b : Bool) (v : Version)
+        → cond b
+        (Goes (parsing_in v (at + 4) total (suc connections) j.entries
+        (parsing.Inside (opened v (at + 4) total))))
+        (Ends (refusal (file_fault at TooManyConnections)))
+        ≡ resumed j (cond b (Ends (Has Begin [] (begun_at v at total (connections + 1) joining)))
+        (Ends (at_byte at TooManyConnections)))
     by_test true One = rw (between, add-one connections) refl
     by_test true Two = rw (add-one connections) refl
     by_test false v = refl
 marked_follows version at total connections records joining j (suc (suc w)) between = refl
 
-mark_next_follows : (version : Version) (at total connections records : ℕ) (joining : Joining) (j : Judged) (n : Next (List ℕ) ℕ) → joining ≡ Between
-    → within (λ p. parsing_in version at total connections j.entries (parsing.Mark p)) (parsing.marked version at total connections j.entries) n
-    ≡ resumed j (within (λ p. at_unpacking at total connections records joining (Mark version p)) (connection_marked version at total connections records joining) n)
+mark_next_follows : (version : Version) (at total connections records : ℕ) (joining : Joining)
+    (j : Judged) (n : Next (List ℕ) ℕ) → joining ≡ Between
+    → within (λ p. parsing_in version at total connections j.entries (parsing.Mark p))
+    (parsing.marked version at total connections j.entries) n
+    ≡ resumed j (within (λ p. at_unpacking at total connections records joining (Mark version p))
+    (connection_marked version at total connections records joining) n)
 mark_next_follows version at total connections records joining j (Goes p) between = refl
-mark_next_follows version at total connections records joining j (Ends w) between = marked_follows version at total connections records joining j w between
+mark_next_follows version at total connections records joining j (Ends w) between =
+    marked_follows version at total connections records joining j w between
 
 -- ---- chunks of both sides
 
-mixed_follows : (connections records : ℕ) (joining : Joining) (j : Judged) (n : Next Mixing MixedEnd)
-    → within (λ p. parsing_in Two j.start j.before connections j.entries (parsing.Inside p)) (parsing.closed Two connections j.entries) (within InMixed (conversing connections) n)
+mixed_follows : (connections records : ℕ) (joining : Joining) (j : Judged)
+    (n : Next Mixing MixedEnd)
+    → within (λ p. parsing_in Two j.start j.before connections j.entries (parsing.Inside p))
+    (parsing.closed Two connections j.entries) (within InMixed (conversing connections) n)
     ≡ resumed j (within (mixed_at connections records joining) (mixed_ended connections joining) n)
 mixed_follows connections records joining j (Goes m) = refl
 mixed_follows connections records joining j (Ends (MixedCloses at total streams)) = refl
@@ -96,154 +108,240 @@ abbrev pub at_fault : Fault → Next Parsing ShownFault
 at_fault fault = Ends (refusal fault)
 
 -- a fault of the open record, by the count and by the messages
-cut_follows : (connections records byte : ℕ) (side : Side) (reason : Reason) (number : ℕ) → records ≡ number
-    → at_fault (place_at connections side (record { number = suc number; byte = byte; reason = reason }))
-    ≡ at_fault (record { place = places.Record connections side (records + 1) byte; reason = reason })
+cut_follows : (connections records byte : ℕ) (side : Side) (reason : Reason) (number : ℕ)
+    → records ≡ number
+    → at_fault
+    (place_at connections side (record { number = suc number; byte = byte; reason = reason }))
+    ≡ at_fault
+    (record { place = places.Record connections side (records + 1) byte; reason = reason })
 cut_follows connections records byte side reason number is =
     let next : suc number ≡ records + 1 = omega arith in
-    ap (λ (n : ℕ). at_fault (record { place = places.Record connections side n byte; reason = reason })) next
+    ap
+    (λ (n : ℕ).
+    at_fault (record { place = places.Record connections side n byte; reason = reason }))
+    next
 
 -- the layers of the file's machine round one side
-abbrev pub in_client : Judged → ℕ → Next (Siding (List Item)) (SideEnd (List Item)) → Next Parsing ShownFault
+abbrev pub in_client : Judged → ℕ → Next (Siding (List Item)) (SideEnd (List Item))
+    → Next Parsing ShownFault
 in_client j connections n =
-    within (λ p. parsing_in One j.start j.before connections j.entries (parsing.Inside p)) (parsing.closed One connections j.entries) (within InClient turning n)
+    within (λ p. parsing_in One j.start j.before connections j.entries (parsing.Inside p))
+    (parsing.closed One connections j.entries) (within InClient turning n)
 
-client_word_follows : (at total connections records : ℕ) (joining : Joining) (j : Judged) (w : ℕ) → records ≡ length j.calls
-    → in_client j connections (siding.counted (place_at connections Client) at total (record { messages = j.calls; joining = joining }) w)
+client_word_follows : (at total connections records : ℕ) (joining : Joining) (j : Judged) (w : ℕ)
+    → records ≡ length j.calls
+    → in_client j connections (siding.counted (place_at connections Client) at total
+    (record { messages = j.calls; joining = joining }) w)
     ≡ resumed j (chunk_counted at total connections records Client joining w)
 client_word_follows at total connections records Between j zero is = refl
-client_word_follows at total connections records (Header body part) j zero is = cut_follows connections records (length body) Client RecordCut (length j.calls) is
-client_word_follows at total connections records (Bytes body last left) j zero is = cut_follows connections records (length body) Client RecordCut (length j.calls) is
-client_word_follows at total connections records joining j (suc left) is = by_test (nat_lt 1073741824 (total + suc left))
+client_word_follows at total connections records (Header body part) j zero is =
+    cut_follows connections records (length body) Client RecordCut (length j.calls) is
+client_word_follows at total connections records (Bytes body last left) j zero is =
+    cut_follows connections records (length body) Client RecordCut (length j.calls) is
+client_word_follows at total connections records joining j (suc left) is =
+    by_test (nat_lt 1073741824 (total + suc left))
   where
     by_test : (b : Bool)
         → in_client j connections (cond b (Ends (SideRefuses (file_fault at TooManyBytes)))
-        (Goes (siding_at (at + 4 + suc left) (total + suc left) j.calls joining (siding.Chunk left))))
-        ≡ resumed j (cond b (Ends (at_byte at TooManyBytes)) (Goes (in_chunk (at + 4 + suc left) (total + suc left) connections records Client (suc left) joining)))
+        (Goes
+        (siding_at (at + 4 + suc left) (total + suc left) j.calls joining (siding.Chunk left))))
+        ≡ resumed j (cond b (Ends (at_byte at TooManyBytes)) (Goes (in_chunk (at + 4 + suc left)
+        (total + suc left) connections records Client (suc left) joining)))
     by_test true = refl
     by_test false = refl
 
-client_length_follows : (at total connections records : ℕ) (joining : Joining) (j : Judged) (n : Next (List ℕ) ℕ) → records ≡ length j.calls
-    → in_client j connections (within (λ p. siding_at at total j.calls joining (siding.Length p)) (siding.counted (place_at connections Client) at total (record { messages = j.calls; joining = joining })) n)
-    ≡ resumed j (within (λ p. at_unpacking at total connections records joining (Length Client p)) (chunk_counted at total connections records Client joining) n)
+client_length_follows : (at total connections records : ℕ) (joining : Joining) (j : Judged)
+    (n : Next (List ℕ) ℕ) → records ≡ length j.calls
+    → in_client j connections (within (λ p. siding_at at total j.calls joining (siding.Length p))
+    (siding.counted (place_at connections Client) at total
+    (record { messages = j.calls; joining = joining })) n)
+    ≡ resumed j (within (λ p. at_unpacking at total connections records joining (Length Client p))
+    (chunk_counted at total connections records Client joining) n)
 client_length_follows at total connections records joining j (Goes p) is = refl
-client_length_follows at total connections records joining j (Ends w) is = client_word_follows at total connections records joining j w is
+client_length_follows at total connections records joining j (Ends w) is =
+    client_word_follows at total connections records joining j w is
 
 call_follows : (at total connections records left : ℕ) (j : Judged) (r : Result (List Item) Stop)
-    → in_client j connections (within (λ r. record { at = at; total = total; reading = r; point = siding.awaiting left }) (λ shown. Ends (SideRefuses (place_at connections Client shown))) (judged j.calls r))
+    → in_client j connections (within
+    (λ r. record { at = at; total = total; reading = r; point = siding.awaiting left })
+    (λ shown. Ends (SideRefuses (place_at connections Client shown))) (judged j.calls r))
     ≡ call_judged (in_chunk at total connections (records + 1) Client left Between) j r
 call_follows at total connections records zero j (Ok m) = refl
 call_follows at total connections records (suc left) j (Ok m) = refl
 call_follows at total connections records left j (Err stop) = refl
 
-client_chunk_follows : (at total connections records left : ℕ) (j : Judged) (n : Next Joining Joined) → records ≡ length j.calls
-    → in_client j connections (within (λ r. record { at = at; total = total; reading = r; point = siding.awaiting left }) (λ shown. Ends (SideRefuses (place_at connections Client shown)))
+client_chunk_follows : (at total connections records left : ℕ) (j : Judged)
+    (n : Next Joining Joined) → records ≡ length j.calls
+    → in_client j connections (within
+    (λ r. record { at = at; total = total; reading = r; point = siding.awaiting left })
+    (λ shown. Ends (SideRefuses (place_at connections Client shown)))
     (within (λ s. record { messages = j.calls; joining = s }) (recorded judge_call j.calls) n))
-    ≡ resumed j (within (in_chunk at total connections records Client left) (record_joined at total connections records Client left) n)
+    ≡ resumed j (within (in_chunk at total connections records Client left)
+    (record_joined at total connections records Client left) n)
 client_chunk_follows at total connections records zero j (Goes s) is = refl
 client_chunk_follows at total connections records (suc left) j (Goes s) is = refl
-client_chunk_follows at total connections records left j (Ends (Whole body)) is = call_follows at total connections records left j (judge_call j.calls body)
-client_chunk_follows at total connections records left j (Ends (TooLong byte)) is = cut_follows connections records byte Client RecordTooLong (length j.calls) is
+client_chunk_follows at total connections records left j (Ends (Whole body)) is =
+    call_follows at total connections records left j (judge_call j.calls body)
+client_chunk_follows at total connections records left j (Ends (TooLong byte)) is =
+    cut_follows connections records byte Client RecordTooLong (length j.calls) is
 
 -- ---- the server's side
 
-abbrev pub in_server : Judged → ℕ → Next (Siding ReplyItems) (SideEnd ReplyItems) → Next Parsing ShownFault
+abbrev pub in_server : Judged → ℕ → Next (Siding ReplyItems) (SideEnd ReplyItems)
+    → Next Parsing ShownFault
 in_server j connections n =
-    within (λ p. parsing_in One j.start j.before connections j.entries (parsing.Inside p)) (parsing.closed One connections j.entries) (within (InServer j.calls) (ending j.calls) n)
+    within (λ p. parsing_in One j.start j.before connections j.entries (parsing.Inside p))
+    (parsing.closed One connections j.entries) (within (InServer j.calls) (ending j.calls) n)
 
-server_word_follows : (at total connections records : ℕ) (joining : Joining) (j : Judged) (w : ℕ) → records ≡ length j.replies
-    → in_server j connections (siding.counted (place_at connections Server) at total (record { messages = j.replies; joining = joining }) w)
+server_word_follows : (at total connections records : ℕ) (joining : Joining) (j : Judged) (w : ℕ)
+    → records ≡ length j.replies
+    → in_server j connections (siding.counted (place_at connections Server) at total
+    (record { messages = j.replies; joining = joining }) w)
     ≡ resumed j (chunk_counted at total connections records Server joining w)
 server_word_follows at total connections records Between j zero is = refl
-server_word_follows at total connections records (Header body part) j zero is = cut_follows connections records (length body) Server RecordCut (length j.replies) is
-server_word_follows at total connections records (Bytes body last left) j zero is = cut_follows connections records (length body) Server RecordCut (length j.replies) is
-server_word_follows at total connections records joining j (suc left) is = by_test (nat_lt 1073741824 (total + suc left))
+server_word_follows at total connections records (Header body part) j zero is =
+    cut_follows connections records (length body) Server RecordCut (length j.replies) is
+server_word_follows at total connections records (Bytes body last left) j zero is =
+    cut_follows connections records (length body) Server RecordCut (length j.replies) is
+server_word_follows at total connections records joining j (suc left) is =
+    by_test (nat_lt 1073741824 (total + suc left))
   where
     by_test : (b : Bool)
         → in_server j connections (cond b (Ends (SideRefuses (file_fault at TooManyBytes)))
-        (Goes (siding_at (at + 4 + suc left) (total + suc left) j.replies joining (siding.Chunk left))))
-        ≡ resumed j (cond b (Ends (at_byte at TooManyBytes)) (Goes (in_chunk (at + 4 + suc left) (total + suc left) connections records Server (suc left) joining)))
+        (Goes (siding_at (at + 4 + suc left) (total + suc left) j.replies joining
+        (siding.Chunk left))))
+        ≡ resumed j (cond b (Ends (at_byte at TooManyBytes)) (Goes (in_chunk (at + 4 + suc left)
+        (total + suc left) connections records Server (suc left) joining)))
     by_test true = refl
     by_test false = refl
 
-server_length_follows : (at total connections records : ℕ) (joining : Joining) (j : Judged) (n : Next (List ℕ) ℕ) → records ≡ length j.replies
-    → in_server j connections (within (λ p. siding_at at total j.replies joining (siding.Length p)) (siding.counted (place_at connections Server) at total (record { messages = j.replies; joining = joining })) n)
-    ≡ resumed j (within (λ p. at_unpacking at total connections records joining (Length Server p)) (chunk_counted at total connections records Server joining) n)
+server_length_follows : (at total connections records : ℕ) (joining : Joining) (j : Judged)
+    (n : Next (List ℕ) ℕ) → records ≡ length j.replies
+    → in_server j connections (within (λ p. siding_at at total j.replies joining (siding.Length p))
+    (siding.counted (place_at connections Server) at total
+    (record { messages = j.replies; joining = joining })) n)
+    ≡ resumed j (within (λ p. at_unpacking at total connections records joining (Length Server p))
+    (chunk_counted at total connections records Server joining) n)
 server_length_follows at total connections records joining j (Goes p) is = refl
-server_length_follows at total connections records joining j (Ends w) is = server_word_follows at total connections records joining j w is
+server_length_follows at total connections records joining j (Ends w) is =
+    server_word_follows at total connections records joining j w is
 
 reply_follows : (at total connections records left : ℕ) (j : Judged) (r : Result ReplyItems Stop)
-    → in_server j connections (within (λ r. record { at = at; total = total; reading = r; point = siding.awaiting left }) (λ shown. Ends (SideRefuses (place_at connections Server shown))) (judged j.replies r))
+    → in_server j connections (within
+    (λ r. record { at = at; total = total; reading = r; point = siding.awaiting left })
+    (λ shown. Ends (SideRefuses (place_at connections Server shown))) (judged j.replies r))
     ≡ reply_judged (in_chunk at total connections (records + 1) Server left Between) j r
 reply_follows at total connections records zero j (Ok m) = refl
 reply_follows at total connections records (suc left) j (Ok m) = refl
 reply_follows at total connections records left j (Err stop) = refl
 
-server_chunk_follows : (at total connections records left : ℕ) (j : Judged) (n : Next Joining Joined) → records ≡ length j.replies
-    → in_server j connections (within (λ r. record { at = at; total = total; reading = r; point = siding.awaiting left }) (λ shown. Ends (SideRefuses (place_at connections Server shown)))
-    (within (λ s. record { messages = j.replies; joining = s }) (recorded (judge_replies j.calls) j.replies) n))
-    ≡ resumed j (within (in_chunk at total connections records Server left) (record_joined at total connections records Server left) n)
+server_chunk_follows : (at total connections records left : ℕ) (j : Judged)
+    (n : Next Joining Joined) → records ≡ length j.replies
+    → in_server j connections (within
+    (λ r. record { at = at; total = total; reading = r; point = siding.awaiting left })
+    (λ shown. Ends (SideRefuses (place_at connections Server shown)))
+    (within (λ s. record { messages = j.replies; joining = s })
+    (recorded (judge_replies j.calls) j.replies) n))
+    ≡ resumed j (within (in_chunk at total connections records Server left)
+    (record_joined at total connections records Server left) n)
 server_chunk_follows at total connections records zero j (Goes s) is = refl
 server_chunk_follows at total connections records (suc left) j (Goes s) is = refl
-server_chunk_follows at total connections records left j (Ends (Whole body)) is = reply_follows at total connections records left j (judge_reply j.calls body)
-server_chunk_follows at total connections records left j (Ends (TooLong byte)) is = cut_follows connections records byte Server RecordTooLong (length j.replies) is
+server_chunk_follows at total connections records left j (Ends (Whole body)) is =
+    reply_follows at total connections records left j (judge_reply j.calls body)
+server_chunk_follows at total connections records left j (Ends (TooLong byte)) is =
+    cut_follows connections records byte Server RecordTooLong (length j.replies) is
 
 -- ---- any byte
 
-byte_follows : (at total connections records : ℕ) (joining : Joining) (opened : Opened) (j : Judged) (byte : ℕ) → AgreesAt records joining opened j
+byte_follows : (at total connections records : ℕ) (joining : Joining) (opened : Opened) (j : Judged)
+    (byte : ℕ) → AgreesAt records joining opened j
     → Follows at total connections records joining opened j byte
 byte_follows at total connections records joining (Magic due more) j byte between =
-    subst (λ s. Follows at total connections records s (Magic due more) j byte) (sym between) (magic_follows at total connections records due more j byte)
-byte_follows at total connections records joining Digit j byte between = digit_follows at total connections records joining j byte
-byte_follows at total connections records joining (Mark version part) j byte between = mark_next_follows version at total connections records joining j (word_next part byte) between
-byte_follows at total connections records joining (Length Client part) j byte is = client_length_follows at total connections records joining j (word_next part byte) is
-byte_follows at total connections records joining (Length Server part) j byte is = server_length_follows at total connections records joining j (word_next part byte) is
-byte_follows at total connections records joining (Chunk Client left) j byte is = client_chunk_follows at total connections records left j (join_next joining byte) is
-byte_follows at total connections records joining (Chunk Server left) j byte is = server_chunk_follows at total connections records left j (join_next joining byte) is
-byte_follows at total connections records joining (Mixed streams point) j byte between = mixed_follows connections records joining j (mixed_step at total streams point byte)
+    subst (λ s. Follows at total connections records s (Magic due more) j byte) (sym between)
+    (magic_follows at total connections records due more j byte)
+byte_follows at total connections records joining Digit j byte between =
+    digit_follows at total connections records joining j byte
+byte_follows at total connections records joining (Mark version part) j byte between =
+    mark_next_follows version at total connections records joining j (word_next part byte) between
+byte_follows at total connections records joining (Length Client part) j byte is =
+    client_length_follows at total connections records joining j (word_next part byte) is
+byte_follows at total connections records joining (Length Server part) j byte is =
+    server_length_follows at total connections records joining j (word_next part byte) is
+byte_follows at total connections records joining (Chunk Client left) j byte is =
+    client_chunk_follows at total connections records left j (join_next joining byte) is
+byte_follows at total connections records joining (Chunk Server left) j byte is =
+    server_chunk_follows at total connections records left j (join_next joining byte) is
+byte_follows at total connections records joining (Mixed streams point) j byte between =
+    mixed_follows connections records joining j (mixed_step at total streams point byte)
 byte_follows at total connections records joining (Ended version) j byte agrees = refl
 
-pub follows : (u : Unpacking) (j : Judged) (byte : ℕ) → Agrees u j → file_next (parsing_at u j) byte ≡ resumed j (unpack_next u byte)
-follows u j byte agrees = byte_follows u.at u.total u.connections u.records u.joining u.opened j byte agrees
+pub follows : (u : Unpacking) (j : Judged) (byte : ℕ) → Agrees u j
+    → file_next (parsing_at u j) byte ≡ resumed j (unpack_next u byte)
+follows u j byte agrees =
+    byte_follows u.at u.total u.connections u.records u.joining u.opened j byte agrees
 
 -- ---- what was judged goes on belonging to what was taken
 
-one_more : {M : Type 0} (records : ℕ) (messages : List M) (m : M) → records ≡ length messages → records + 1 ≡ length (messages ++ m ∷ [])
+one_more : {M : Type 0} (records : ℕ) (messages : List M) (m : M) → records ≡ length messages
+    → records + 1 ≡ length (messages ++ m ∷ [])
 one_more records messages m is =
-    let size : length (messages ++ m ∷ []) ≡ length messages + 1 = length-append messages (m ∷ []) in
+    let size : length (messages ++ m ∷ []) ≡ length messages + 1 =
+    length-append messages (m ∷ []) in
     omega arith
 
-magic_agrees : (at total connections records due : ℕ) (more : List ℕ) (j : Judged) (byte : ℕ) → AgreesOn j (unpack_next (at_unpacking at total connections records Between (Magic due more)) byte)
+magic_agrees : (at total connections records due : ℕ) (more : List ℕ) (j : Judged) (byte : ℕ)
+    → AgreesOn j
+    (unpack_next (at_unpacking at total connections records Between (Magic due more)) byte)
 magic_agrees at total connections records due more j byte = by_test (nat_eq byte due) more
   where
-    by_test : (b : Bool) (more : List ℕ) → AgreesOn j (cond b (Goes (at_unpacking (at + 1) total connections records Between (left_of_magic more))) (Ends (at_byte at BadMagic)))
+    by_test : (b : Bool) (more : List ℕ)
+        → AgreesOn j (cond b
+        (Goes
+        (at_unpacking (at + 1) total connections records Between (left_of_magic more)))
+        (Ends (at_byte at BadMagic)))
     by_test true [] = refl
     by_test true (next ∷ rest) = refl
     by_test false more = tt
 
-digit_agrees : (at total connections records : ℕ) (joining : Joining) (j : Judged) (byte : ℕ) → joining ≡ Between → AgreesOn j (unpack_next (at_unpacking at total connections records joining Digit) byte)
-digit_agrees at total connections records joining j byte between = by_test (nat_eq byte 49) (nat_eq byte 50)
+digit_agrees : (at total connections records : ℕ) (joining : Joining) (j : Judged) (byte : ℕ)
+    → joining ≡ Between
+    → AgreesOn j (unpack_next (at_unpacking at total connections records joining Digit) byte)
+digit_agrees at total connections records joining j byte between =
+    by_test (nat_eq byte 49) (nat_eq byte 50)
   where
-    by_test : (b c : Bool) → AgreesOn j (cond b (Goes (at_unpacking (at + 1) total connections records joining (Mark One []))) (cond c (Goes (at_unpacking (at + 1) total connections records joining (Mark Two []))) (Ends (at_byte at BadMagic))))
+    by_test : (b c : Bool)
+        → AgreesOn j (cond b
+        (Goes (at_unpacking (at + 1) total connections records joining (Mark One [])))
+        (cond c
+        (Goes (at_unpacking (at + 1) total connections records joining (Mark Two [])))
+        (Ends (at_byte at BadMagic))))
     by_test true c = between
     by_test false true = between
     by_test false false = tt
 
-mark_agrees : (version : Version) (at total connections records : ℕ) (joining : Joining) (j : Judged) (n : Next (List ℕ) ℕ) → joining ≡ Between
-    → AgreesOn j (within (λ p. at_unpacking at total connections records joining (Mark version p)) (connection_marked version at total connections records joining) n)
+mark_agrees : (version : Version) (at total connections records : ℕ) (joining : Joining)
+    (j : Judged) (n : Next (List ℕ) ℕ) → joining ≡ Between
+    → AgreesOn j (within (λ p. at_unpacking at total connections records joining (Mark version p))
+    (connection_marked version at total connections records joining) n)
 mark_agrees version at total connections records joining j (Goes p) between = between
 mark_agrees version at total connections records joining j (Ends zero) between = tt
-mark_agrees version at total connections records joining j (Ends (suc zero)) between = by_test (nat_lt connections 65535) version
+mark_agrees version at total connections records joining j (Ends (suc zero)) between =
+    by_test (nat_lt connections 65535) version
   where
-    by_test : (b : Bool) (v : Version) → AgreesOn j (cond b (Ends (Has Begin [] (begun_at v at total (connections + 1) joining))) (Ends (at_byte at TooManyConnections)))
+    by_test : (b : Bool) (v : Version)
+        → AgreesOn j (cond b (Ends (Has Begin [] (begun_at v at total (connections + 1) joining)))
+        (Ends (at_byte at TooManyConnections)))
     by_test true One = refl
     by_test true Two = (between, refl)
     by_test false v = tt
 mark_agrees version at total connections records joining j (Ends (suc (suc w))) between = tt
 
-mixed_agrees : (connections records : ℕ) (joining : Joining) (j : Judged) (n : Next Mixing MixedEnd) → (joining ≡ Between) × (j.calls ≡ []) → AgreesOn j (within (mixed_at connections records joining) (mixed_ended connections joining) n)
+mixed_agrees : (connections records : ℕ) (joining : Joining) (j : Judged) (n : Next Mixing MixedEnd)
+    → (joining ≡ Between) × (j.calls ≡ [])
+    → AgreesOn j (within (mixed_at connections records joining) (mixed_ended connections joining) n)
 mixed_agrees connections records joining j (Goes m) between = between
-mixed_agrees connections records joining j (Ends (MixedCloses at total streams)) between = (between.0, refl, between.1)
+mixed_agrees connections records joining j (Ends (MixedCloses at total streams)) between =
+    (between.0, refl, between.1)
 mixed_agrees connections records joining j (Ends (MixedRefuses fault)) between = tt
 
 -- the open stream's messages are as many as its records
@@ -251,82 +349,124 @@ abbrev pub IsCounted : Side → ℕ → Judged → Type 0
 IsCounted Client records j = records ≡ length j.calls
 IsCounted Server records j = records ≡ length j.replies
 
-length_agrees : (at total connections records : ℕ) (side : Side) (joining : Joining) (j : Judged) (n : Next (List ℕ) ℕ) → IsCounted side records j
-    → AgreesOn j (within (λ p. at_unpacking at total connections records joining (Length side p)) (chunk_counted at total connections records side joining) n)
+length_agrees : (at total connections records : ℕ) (side : Side) (joining : Joining) (j : Judged)
+    (n : Next (List ℕ) ℕ) → IsCounted side records j
+    → AgreesOn j (within (λ p. at_unpacking at total connections records joining (Length side p))
+    (chunk_counted at total connections records side joining) n)
 length_agrees at total connections records Client joining j (Goes p) is = is
 length_agrees at total connections records Server joining j (Goes p) is = is
 length_agrees at total connections records Client Between j (Ends zero) is = refl
 length_agrees at total connections records Server Between j (Ends zero) is = refl
 length_agrees at total connections records side (Header body part) j (Ends zero) is = tt
 length_agrees at total connections records side (Bytes body last left) j (Ends zero) is = tt
-length_agrees at total connections records side joining j (Ends (suc left)) is = by_test (nat_lt 1073741824 (total + suc left)) side is
+length_agrees at total connections records side joining j (Ends (suc left)) is =
+    by_test (nat_lt 1073741824 (total + suc left)) side is
   where
     by_test : (b : Bool) (side : Side) → IsCounted side records j
-        → AgreesOn j (cond b (Ends (at_byte at TooManyBytes)) (Goes (in_chunk (at + 4 + suc left) (total + suc left) connections records side (suc left) joining)))
+        → AgreesOn j (cond b (Ends (at_byte at TooManyBytes)) (Goes (in_chunk (at + 4 + suc left)
+        (total + suc left) connections records side (suc left) joining)))
     by_test true side is = tt
     by_test false Client is = is
     by_test false Server is = is
 
-chunk_agrees : (at total connections records left : ℕ) (side : Side) (j : Judged) (n : Next Joining Joined) → IsCounted side records j
-    → AgreesOn j (within (in_chunk at total connections records side left) (record_joined at total connections records side left) n)
+chunk_agrees : (at total connections records left : ℕ) (side : Side) (j : Judged)
+    (n : Next Joining Joined) → IsCounted side records j
+    → AgreesOn j (within (in_chunk at total connections records side left)
+    (record_joined at total connections records side left) n)
 chunk_agrees at total connections records zero Client j (Goes s) is = is
 chunk_agrees at total connections records (suc left) Client j (Goes s) is = is
 chunk_agrees at total connections records zero Server j (Goes s) is = is
 chunk_agrees at total connections records (suc left) Server j (Goes s) is = is
-chunk_agrees at total connections records zero Client j (Ends (Whole body)) is = (λ call. one_more records j.calls call is, add-one records ∙ ap suc is)
-chunk_agrees at total connections records (suc left) Client j (Ends (Whole body)) is = (λ call. one_more records j.calls call is, add-one records ∙ ap suc is)
-chunk_agrees at total connections records zero Server j (Ends (Whole body)) is = (λ reply. one_more records j.replies reply is, add-one records ∙ ap suc is)
-chunk_agrees at total connections records (suc left) Server j (Ends (Whole body)) is = (λ reply. one_more records j.replies reply is, add-one records ∙ ap suc is)
+chunk_agrees at total connections records zero Client j (Ends (Whole body)) is =
+    (λ call. one_more records j.calls call is, add-one records ∙ ap suc is)
+chunk_agrees at total connections records (suc left) Client j (Ends (Whole body)) is =
+    (λ call. one_more records j.calls call is, add-one records ∙ ap suc is)
+chunk_agrees at total connections records zero Server j (Ends (Whole body)) is =
+    (λ reply. one_more records j.replies reply is, add-one records ∙ ap suc is)
+chunk_agrees at total connections records (suc left) Server j (Ends (Whole body)) is =
+    (λ reply. one_more records j.replies reply is, add-one records ∙ ap suc is)
 chunk_agrees at total connections records left side j (Ends (TooLong byte)) is = tt
 
-byte_agrees : (at total connections records : ℕ) (joining : Joining) (opened : Opened) (j : Judged) (byte : ℕ) → AgreesAt records joining opened j
+byte_agrees : (at total connections records : ℕ) (joining : Joining) (opened : Opened) (j : Judged)
+    (byte : ℕ) → AgreesAt records joining opened j
     → AgreesOn j (unpack_next (at_unpacking at total connections records joining opened) byte)
 byte_agrees at total connections records joining (Magic due more) j byte between =
-    subst (λ s. AgreesOn j (unpack_next (at_unpacking at total connections records s (Magic due more)) byte)) (sym between) (magic_agrees at total connections records due more j byte)
-byte_agrees at total connections records joining Digit j byte between = digit_agrees at total connections records joining j byte between
-byte_agrees at total connections records joining (Mark version part) j byte between = mark_agrees version at total connections records joining j (word_next part byte) between
-byte_agrees at total connections records joining (Length Client part) j byte is = length_agrees at total connections records Client joining j (word_next part byte) is
-byte_agrees at total connections records joining (Length Server part) j byte is = length_agrees at total connections records Server joining j (word_next part byte) is
-byte_agrees at total connections records joining (Chunk Client left) j byte is = chunk_agrees at total connections records left Client j (join_next joining byte) is
-byte_agrees at total connections records joining (Chunk Server left) j byte is = chunk_agrees at total connections records left Server j (join_next joining byte) is
-byte_agrees at total connections records joining (Mixed streams point) j byte between = mixed_agrees connections records joining j (mixed_step at total streams point byte) between
+    subst
+    (λ s.
+    AgreesOn j
+    (unpack_next (at_unpacking at total connections records s (Magic due more)) byte))
+    (sym between) (magic_agrees at total connections records due more j byte)
+byte_agrees at total connections records joining Digit j byte between =
+    digit_agrees at total connections records joining j byte between
+byte_agrees at total connections records joining (Mark version part) j byte between =
+    mark_agrees version at total connections records joining j (word_next part byte) between
+byte_agrees at total connections records joining (Length Client part) j byte is =
+    length_agrees at total connections records Client joining j (word_next part byte) is
+byte_agrees at total connections records joining (Length Server part) j byte is =
+    length_agrees at total connections records Server joining j (word_next part byte) is
+byte_agrees at total connections records joining (Chunk Client left) j byte is =
+    chunk_agrees at total connections records left Client j (join_next joining byte) is
+byte_agrees at total connections records joining (Chunk Server left) j byte is =
+    chunk_agrees at total connections records left Server j (join_next joining byte) is
+byte_agrees at total connections records joining (Mixed streams point) j byte between =
+    mixed_agrees connections records joining j (mixed_step at total streams point byte) between
 byte_agrees at total connections records joining (Ended version) j byte agrees = tt
 
-pub agrees_on : (u : Unpacking) (j : Judged) (byte : ℕ) → Agrees u j → AgreesOn j (unpack_next u byte)
-agrees_on u j byte agrees = byte_agrees u.at u.total u.connections u.records u.joining u.opened j byte agrees
+pub agrees_on : (u : Unpacking) (j : Judged) (byte : ℕ) → Agrees u j
+    → AgreesOn j (unpack_next u byte)
+agrees_on u j byte agrees =
+    byte_agrees u.at u.total u.connections u.records u.joining u.opened j byte agrees
 
 -- ---- lists of bytes
 
 -- where it runs
-pub runs_follow : (bytes : List ℕ) (u v : Unpacking) (j : Judged) → Agrees u j → after unpack_next (Runs u) bytes ≡ Runs v
+pub runs_follow : (bytes : List ℕ) (u v : Unpacking) (j : Judged) → Agrees u j
+    → after unpack_next (Runs u) bytes ≡ Runs v
     → (after file_next (Runs (parsing_at u j)) bytes ≡ Runs (parsing_at v j)) × Agrees v j
 runs_follow [] u v j agrees e =
-    let same : u ≡ v = cc in
-    (ap (λ (w : Unpacking). Runs (parsing_at w j)) same, subst (λ (w : Unpacking). Agrees w j) same agrees)
-runs_follow (byte ∷ bytes) u v j agrees e = on (unpack_next u byte) (follows u j byte agrees) (agrees_on u j byte agrees) e (λ w. runs_follow bytes w v j)
+    let same : u ≡ v = cc in (
+      ap (λ (w : Unpacking). Runs (parsing_at w j)) same,
+      subst (λ (w : Unpacking). Agrees w j) same agrees,
+    )
+runs_follow (byte ∷ bytes) u v j agrees e =
+    on (unpack_next u byte) (follows u j byte agrees) (agrees_on u j byte agrees) e
+    (λ w. runs_follow bytes w v j)
   where
-    on : (n : Next Unpacking Unpacked) → file_next (parsing_at u j) byte ≡ resumed j n → AgreesOn j n → after unpack_next (landed n) bytes ≡ Runs v
-        → ((w : Unpacking) → Agrees w j → after unpack_next (Runs w) bytes ≡ Runs v → (after file_next (Runs (parsing_at w j)) bytes ≡ Runs (parsing_at v j)) × Agrees v j)
-        → (after file_next (landed (file_next (parsing_at u j) byte)) bytes ≡ Runs (parsing_at v j)) × Agrees v j
+    on : (n : Next Unpacking Unpacked) → file_next (parsing_at u j) byte ≡ resumed j n
+        → AgreesOn j n → after unpack_next (landed n) bytes ≡ Runs v
+        → ((w : Unpacking) → Agrees w j → after unpack_next (Runs w) bytes ≡ Runs v
+        → (after file_next (Runs (parsing_at w j)) bytes ≡ Runs (parsing_at v j)) × Agrees v j)
+        → (after file_next (landed (file_next (parsing_at u j) byte)) bytes ≡ Runs (parsing_at v j))
+        × Agrees v j
     on (Goes w) same next e more =
         let rest = more w next e in
         (ap (λ n. after file_next (landed n) bytes) same ∙ rest.0, rest.1)
     on (Ends x) same next e more = absurd (not_runs unpack_next x v bytes e)
 
 -- where it stops
-pub stops_follow : (bytes : List ℕ) (u : Unpacking) (x : Unpacked) (j : Judged) → Agrees u j → after unpack_next (Runs u) bytes ≡ Stops x
-    → (after file_next (Runs (parsing_at u j)) bytes ≡ landed (resumed j (Ends x))) × AgreesOn j (Ends x)
+pub stops_follow : (bytes : List ℕ) (u : Unpacking) (x : Unpacked) (j : Judged) → Agrees u j
+    → after unpack_next (Runs u) bytes ≡ Stops x
+    → (after file_next (Runs (parsing_at u j)) bytes ≡ landed (resumed j (Ends x)))
+    × AgreesOn j (Ends x)
 stops_follow [] u x j agrees e = absurd (cc)
-stops_follow (byte ∷ bytes) u x j agrees e = on (unpack_next u byte) (follows u j byte agrees) (agrees_on u j byte agrees) e (λ w. stops_follow bytes w x j)
+stops_follow (byte ∷ bytes) u x j agrees e =
+    on (unpack_next u byte) (follows u j byte agrees) (agrees_on u j byte agrees) e
+    (λ w. stops_follow bytes w x j)
   where
-    on : (n : Next Unpacking Unpacked) → file_next (parsing_at u j) byte ≡ resumed j n → AgreesOn j n → after unpack_next (landed n) bytes ≡ Stops x
-        → ((w : Unpacking) → Agrees w j → after unpack_next (Runs w) bytes ≡ Stops x → (after file_next (Runs (parsing_at w j)) bytes ≡ landed (resumed j (Ends x))) × AgreesOn j (Ends x))
-        → (after file_next (landed (file_next (parsing_at u j) byte)) bytes ≡ landed (resumed j (Ends x))) × AgreesOn j (Ends x)
+    on : (n : Next Unpacking Unpacked) → file_next (parsing_at u j) byte ≡ resumed j n
+        → AgreesOn j n → after unpack_next (landed n) bytes ≡ Stops x
+        → ((w : Unpacking) → Agrees w j → after unpack_next (Runs w) bytes ≡ Stops x
+        → (after file_next (Runs (parsing_at w j)) bytes ≡ landed (resumed j (Ends x)))
+        × AgreesOn j (Ends x))
+        → (after file_next (landed (file_next (parsing_at u j) byte)) bytes
+        ≡ landed (resumed j (Ends x))) × AgreesOn j (Ends x)
     on (Goes w) same next e more =
         let rest = more w next e in
         (ap (λ n. after file_next (landed n) bytes) same ∙ rest.0, rest.1)
     on (Ends y) same next e more =
         let (none, equal) = only_stops unpack_next y x bytes e in (
-          ap (λ n. after file_next (landed n) bytes) same ∙ ap (λ b. after file_next (landed (resumed j (Ends y))) b) none ∙ ap (λ z. landed (resumed j (Ends z))) equal,
+          ap (λ n. after file_next (landed n) bytes) same
+              ∙ ap (λ b. after file_next (landed (resumed j (Ends y))) b) none
+              ∙ ap (λ z. landed (resumed j (Ends z))) equal,
           subst (λ z. AgreesOn j (Ends z)) equal next,
         )

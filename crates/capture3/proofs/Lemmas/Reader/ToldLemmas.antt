@@ -1,13 +1,8 @@
 -- What is given in turn is given at once, and what is given of known bytes is a prefix of them.
-use Rattle.std.proofs.Common.{◌≡◌, ◌∙◌, inl, inr, ap, sym, refl, subst, ℕ, Option, None, Some, List, [], ◌++◌, append-nil}
+use Rattle.capture3.proofs.Common.{◌≡◌, ◌∙◌, inl, inr, ap, sym, refl, subst, ℕ, Option, None, Some, List, [], ◌++◌, append-nil, Fault, Entry, FirstFault, Reached, append_cancel_left}
 use Rattle.std.specs.Io.KnownBytes.{Appends, Consumes}
 use Rattle.std.proofs.KnownBytes.{Appends-nil, Appends-trans, Consumes-all, Consumes-nil, Consumes-trans}
-use Rattle.std.proofs.lemmas.List.{append_cancel_left}
-use Rattle.capture3.specs.declared.fault.Fault.{Fault}
 use Rattle.capture3.specs.Entries.{IsShownBy}
-use Rattle.capture3.specs.Entry.{Entry}
-use Rattle.capture3.specs.FirstFault.{FirstFault}
-use Rattle.capture3.specs.Reached.{Reached}
 use Rattle.capture3.specs.Told.{Told, Gave, GavePrefix, IsSpent}
 
 pub gave_none : (told : Told) → Gave told told []
@@ -17,7 +12,10 @@ pub gave_none_as : (old new : Told) → new ≡ old → Gave old new []
 gave_none_as old new same = subst (λ (t : Told). Gave old t []) (sym same) (gave_none old)
 
 pub gave_both : (a b c : Told) (xs ys : List ℕ) → Gave a b xs → Gave b c ys → Gave a c (xs ++ ys)
-gave_both a b c xs ys p q = (Consumes-trans a.left b.left c.left xs ys p.0 q.0, Appends-trans a.given b.given c.given xs ys p.1 q.1)
+gave_both a b c xs ys p q = (
+  Consumes-trans a.left b.left c.left xs ys p.0 q.0,
+  Appends-trans a.given b.given c.given xs ys p.1 q.1,
+)
 
 -- the bytes given are a prefix of these, and all of them where the source is spent
 pub record IsPrefixOf (told : Told) (given bytes : List ℕ) : Type 0 where
@@ -26,24 +24,32 @@ pub record IsPrefixOf (told : Told) (given bytes : List ℕ) : Type 0 where
   pub all : IsSpent told → given ≡ bytes
 
 -- where the source told which bytes were left
-module _ (told : Told) (given bytes : List ℕ) (consumed : Consumes (Some bytes) told.left given) where
+module _ (told : Told) (given bytes : List ℕ)
+    (consumed : Consumes (Some bytes) told.left given) where
   all_left : IsSpent told → given ≡ bytes
   all_left end = Consumes-all (Some bytes) told.left given [] given consumed end.1 refl
 
   pub prefix_of_left : IsPrefixOf told given bytes
   prefix_of_left = by_left told.left consumed
     where
-      by_left : (left : Option (List ℕ)) → Consumes (Some bytes) left given → IsPrefixOf told given bytes
+      by_left : (left : Option (List ℕ)) → Consumes (Some bytes) left given
+          → IsPrefixOf told given bytes
       by_left None c = absurd c
       by_left (Some rest) c = record { rest = rest; split = c; all = all_left }
 
-pub prefix_of_told : (old new : Told) (given bytes : List ℕ) → old.left ≡ Some bytes → Gave old new given → IsPrefixOf new given bytes
-prefix_of_told old new given bytes tells gave = prefix_of_left new given bytes (subst (λ (o : Option (List ℕ)). Consumes o new.left given) tells gave.0)
+pub prefix_of_told : (old new : Told) (given bytes : List ℕ) → old.left ≡ Some bytes
+    → Gave old new given → IsPrefixOf new given bytes
+prefix_of_told old new given bytes tells gave =
+    prefix_of_left new given bytes
+    (subst (λ (o : Option (List ℕ)). Consumes o new.left given) tells gave.0)
 
 -- where the source keeps which bytes it gave
-module _ (old new : Told) (given bytes : List ℕ) (p : GavePrefix old new bytes) (gave : Gave old new given) where
+module _ (old new : Told) (given bytes : List ℕ) (p : GavePrefix old new bytes)
+    (gave : Gave old new given) where
   appended : Appends (Some p.start) (Some (p.start ++ p.given)) given
-  appended = subst (λ (o : Option (List ℕ)). Appends o (Some (p.start ++ p.given)) given) p.was (subst (λ (o : Option (List ℕ)). Appends old.given o given) p.now gave.1)
+  appended =
+      subst (λ (o : Option (List ℕ)). Appends o (Some (p.start ++ p.given)) given) p.was
+      (subst (λ (o : Option (List ℕ)). Appends old.given o given) p.now gave.1)
 
   given_is : given ≡ p.given
   given_is = append_cancel_left p.start given p.given (sym appended)
@@ -52,10 +58,18 @@ module _ (old new : Told) (given bytes : List ℕ) (p : GavePrefix old new bytes
   prefix_of_kept = record {
     rest = p.rest;
     split = p.split ∙ ap (λ (l : List ℕ). l ++ p.rest) (sym given_is);
-    all = λ end. given_is ∙ sym (p.split ∙ ap (λ (l : List ℕ). p.given ++ l) (p.all end) ∙ append-nil p.given);
+    all =
+        λ end.
+        given_is
+        ∙ sym
+        (p.split ∙ ap (λ (l : List ℕ). p.given ++ l) (p.all end) ∙ append-nil p.given);
   }
 
 -- the fault that the bytes given show is the first of all bytes
-pub shown_of_all : (told : Told) (given bytes : List ℕ) (handed : List Entry) (fault : Fault) → IsPrefixOf told given bytes → IsShownBy told given handed fault → FirstFault bytes fault × Reached bytes handed
-shown_of_all told given bytes handed fault p (inl whatever) = subst (λ (b : List ℕ). FirstFault b fault × Reached b handed) (sym p.split) (whatever p.rest)
-shown_of_all told given bytes handed fault p (inr (end, first, reached)) = subst (λ (b : List ℕ). FirstFault b fault × Reached b handed) (p.all end) (first, reached)
+pub shown_of_all : (told : Told) (given bytes : List ℕ) (handed : List Entry) (fault : Fault)
+    → IsPrefixOf told given bytes → IsShownBy told given handed fault
+    → FirstFault bytes fault × Reached bytes handed
+shown_of_all told given bytes handed fault p (inl whatever) =
+    subst (λ (b : List ℕ). FirstFault b fault × Reached b handed) (sym p.split) (whatever p.rest)
+shown_of_all told given bytes handed fault p (inr (end, first, reached)) =
+    subst (λ (b : List ℕ). FirstFault b fault × Reached b handed) (p.all end) (first, reached)

@@ -1,129 +1,182 @@
 -- Which entries are whole, as the container is taken apart and its records are judged.
-use Rattle.std.proofs.Common.{◌≡◌, ℕ, zero, suc, ◌+◌, Bool, true, false, cond, nat_eq, nat_lt, List, [], ◌∷◌, ◌++◌, map, refl, sym, ap, ◌∙◌, subst, append_assoc}
-use Rattle.xdr3.specs.declared.reason.Reason.TheVariants.{BadMagic, TooManyConnections, TooManyBytes}
-use Rattle.xdr3.specs.Item.{Item}
-use Rattle.record_mark.specs.Joining.{Joining, Between, Header, Bytes, Joined, Whole, TooLong, join_next}
-use Rattle.record_mark.specs.Machine.{Next, Goes, Ends, Runs, Stops, after, landed, within}
-use Rattle.record_mark.specs.Word.{word_next}
-use Rattle.record_mark.proofs.Machines.{not_runs, only_stops}
-use Rattle.capture3.specs.declared.fault.Side.{Side}
-use Rattle.capture3.specs.declared.fault.Side.TheVariants.{Client, Server}
-use Rattle.capture3.specs.declared.container.position.Event.TheVariants.{Begin}
-use Rattle.capture3.specs.Bodies.{ReplyItems}
-use Rattle.capture3.specs.Entry.{Entry}
+use Rattle.capture3.proofs.Common.{◌≡◌, ℕ, zero, suc, ◌+◌, Bool, true, false, cond, nat_eq, nat_lt, List, [], ◌∷◌, ◌++◌, map, refl, sym, ap, ◌∙◌, subst, append_assoc, BadMagic, TooManyConnections, TooManyBytes, Item, Joining, Between, Header, Bytes, Joined, Whole, TooLong, join_next, Next, Goes, Ends, Runs, Stops, after, landed, within, word_next, not_runs, only_stops, Side, Client, Server, Begin, ReplyItems, Entry, reply_entry, Version, One, Two, Mixing, MixedEnd, MixedCloses, MixedRefuses, mixed_step, Judged, client_entries, server_entries, emitted_at, EmitsOn}
 use Rattle.capture3.specs.Entry as entries
-use Rattle.capture3.specs.Typed.{reply_entry}
-use Rattle.capture3.specs.machinery.FileStanding.{Judged, client_entries, server_entries, emitted_at, EmitsOn}
-use Rattle.capture3.specs.Capture.{Version, One, Two}
-use Rattle.capture3.specs.SidedChunksMachine.{Mixing, MixedEnd, MixedCloses, MixedRefuses, mixed_step}
 use Rattle.capture3.specs.machinery.ContainerMachine.{Opened, Magic, Digit, Mark, Length, Chunk, Mixed, Ended, Unpacking, Unpacked, Has, at_byte, left_of_magic, begun_at, mixed_at, mixed_ended, connection_marked, chunk_counted, record_joined, in_chunk, unpack_next}
 use Rattle.capture3.proofs.Lemmas.Reader.FileStandingLemmas.{at_unpacking}
 
-map_one_more : {X Y : Type 0} (f : X → Y) (xs : List X) (x : X) → map f (xs ++ x ∷ []) ≡ map f xs ++ f x ∷ []
+map_one_more : {X Y : Type 0} (f : X → Y) (xs : List X) (x : X)
+    → map f (xs ++ x ∷ []) ≡ map f xs ++ f x ∷ []
 map_one_more f [] x = refl
 map_one_more {X} {Y} f (y ∷ xs) x = ap (λ (l : List Y). f y ∷ l) (map_one_more f xs x)
 
-pub call_added : (before : List Entry) (calls : List (List Item)) (call : List Item) → before ++ client_entries (calls ++ call ∷ []) ≡ (before ++ client_entries calls) ++ entries.Call call ∷ []
+pub call_added : (before : List Entry) (calls : List (List Item)) (call : List Item)
+    → before ++ client_entries (calls ++ call ∷ [])
+    ≡ (before ++ client_entries calls) ++ entries.Call call ∷ []
 call_added before calls call =
-    ap (λ (l : List Entry). before ++ (entries.Begin ∷ l)) (map_one_more entries.Call calls call) ∙ sym (append_assoc before (client_entries calls) (entries.Call call ∷ []))
+    ap (λ (l : List Entry). before ++ (entries.Begin ∷ l)) (map_one_more entries.Call calls call)
+    ∙ sym (append_assoc before (client_entries calls) (entries.Call call ∷ []))
 
-pub reply_added : (before : List Entry) (calls : List (List Item)) (replies : List ReplyItems) (reply : ReplyItems)
-    → before ++ (client_entries calls ++ server_entries (replies ++ reply ∷ [])) ≡ (before ++ (client_entries calls ++ server_entries replies)) ++ reply_entry reply ∷ []
+pub reply_added : (before : List Entry) (calls : List (List Item)) (replies : List ReplyItems)
+    (reply : ReplyItems)
+    → before ++ (client_entries calls ++ server_entries (replies ++ reply ∷ []))
+    ≡ (before ++ (client_entries calls ++ server_entries replies)) ++ reply_entry reply ∷ []
 reply_added before calls replies reply =
-    ap (λ (l : List Entry). before ++ (client_entries calls ++ (entries.Turn ∷ l))) (map_one_more reply_entry replies reply)
-    ∙ ap (λ (l : List Entry). before ++ l) (sym (append_assoc (client_entries calls) (server_entries replies) (reply_entry reply ∷ [])))
-    ∙ sym (append_assoc before (client_entries calls ++ server_entries replies) (reply_entry reply ∷ []))
+    ap (λ (l : List Entry). before ++ (client_entries calls ++ (entries.Turn ∷ l)))
+    (map_one_more reply_entry replies reply)
+    ∙ ap (λ (l : List Entry). before ++ l) (sym
+    (append_assoc (client_entries calls) (server_entries replies) (reply_entry reply ∷ [])))
+    ∙ sym (append_assoc before (client_entries calls ++ server_entries replies)
+    (reply_entry reply ∷ []))
 
-magic_emits : (at total connections records : ℕ) (joining : Joining) (due : ℕ) (more : List ℕ) (j : Judged) (byte : ℕ)
-    → EmitsOn j j.entries (unpack_next (at_unpacking at total connections records joining (Magic due more)) byte)
+magic_emits : (at total connections records : ℕ) (joining : Joining) (due : ℕ) (more : List ℕ)
+    (j : Judged) (byte : ℕ)
+    → EmitsOn j j.entries
+    (unpack_next (at_unpacking at total connections records joining (Magic due more)) byte)
 magic_emits at total connections records joining due more j byte = by_test (nat_eq byte due) more
   where
-    by_test : (b : Bool) (more : List ℕ) → EmitsOn j j.entries (cond b (Goes (at_unpacking (at + 1) total connections records joining (left_of_magic more))) (Ends (at_byte at BadMagic)))
+    by_test : (b : Bool) (more : List ℕ)
+        → EmitsOn j j.entries (cond b
+        (Goes
+        (at_unpacking (at + 1) total connections records joining (left_of_magic more)))
+        (Ends (at_byte at BadMagic)))
     by_test true [] = refl
     by_test true (next ∷ rest) = refl
     by_test false more = tt
 
-digit_emits : (at total connections records : ℕ) (joining : Joining) (j : Judged) (byte : ℕ) → EmitsOn j j.entries (unpack_next (at_unpacking at total connections records joining Digit) byte)
+digit_emits : (at total connections records : ℕ) (joining : Joining) (j : Judged) (byte : ℕ)
+    → EmitsOn j j.entries
+    (unpack_next (at_unpacking at total connections records joining Digit) byte)
 digit_emits at total connections records joining j byte = by_test (nat_eq byte 49) (nat_eq byte 50)
   where
-    by_test : (b c : Bool) → EmitsOn j j.entries (cond b (Goes (at_unpacking (at + 1) total connections records joining (Mark One []))) (cond c (Goes (at_unpacking (at + 1) total connections records joining (Mark Two []))) (Ends (at_byte at BadMagic))))
+    by_test : (b c : Bool)
+        → EmitsOn j j.entries (cond b
+        (Goes (at_unpacking (at + 1) total connections records joining (Mark One [])))
+        (cond c
+        (Goes (at_unpacking (at + 1) total connections records joining (Mark Two [])))
+        (Ends (at_byte at BadMagic))))
     by_test true c = refl
     by_test false true = refl
     by_test false false = tt
 
-mark_emits : (version : Version) (at total connections records : ℕ) (joining : Joining) (j : Judged) (n : Next (List ℕ) ℕ)
-    → EmitsOn j j.entries (within (λ p. at_unpacking at total connections records joining (Mark version p)) (connection_marked version at total connections records joining) n)
+mark_emits : (version : Version) (at total connections records : ℕ) (joining : Joining) (j : Judged)
+    (n : Next (List ℕ) ℕ)
+    → EmitsOn j j.entries (within
+    (λ p. at_unpacking at total connections records joining (Mark version p))
+    (connection_marked version at total connections records joining) n)
 mark_emits version at total connections records joining j (Goes p) = refl
 mark_emits version at total connections records joining j (Ends zero) = refl
-mark_emits version at total connections records joining j (Ends (suc zero)) = by_test (nat_lt connections 65535) version
+mark_emits version at total connections records joining j (Ends (suc zero)) =
+    by_test (nat_lt connections 65535) version
   where
-    by_test : (b : Bool) (v : Version) → EmitsOn j j.entries (cond b (Ends (Has Begin [] (begun_at v at total (connections + 1) joining))) (Ends (at_byte at TooManyConnections)))
+    by_test : (b : Bool) (v : Version)
+        → EmitsOn j j.entries (cond b
+        (Ends (Has Begin [] (begun_at v at total (connections + 1) joining)))
+        (Ends (at_byte at TooManyConnections)))
     by_test true One = refl
     by_test true Two = refl
     by_test false v = tt
 mark_emits version at total connections records joining j (Ends (suc (suc w))) = tt
 
-mixed_emits : (connections records : ℕ) (joining : Joining) (j : Judged) (n : Next Mixing MixedEnd) → EmitsOn j (j.entries ++ entries.Begin ∷ []) (within (mixed_at connections records joining) (mixed_ended connections joining) n)
+mixed_emits : (connections records : ℕ) (joining : Joining) (j : Judged) (n : Next Mixing MixedEnd)
+    → EmitsOn j (j.entries ++ entries.Begin ∷ [])
+    (within (mixed_at connections records joining) (mixed_ended connections joining) n)
 mixed_emits connections records joining j (Goes m) = refl
 mixed_emits connections records joining j (Ends (MixedCloses at total streams)) = refl
 mixed_emits connections records joining j (Ends (MixedRefuses fault)) = tt
 
-length_emits : (at total connections records : ℕ) (side : Side) (joining : Joining) (part : List ℕ) (j : Judged) (n : Next (List ℕ) ℕ)
-    → EmitsOn j (emitted_at (Length side part) j) (within (λ p. at_unpacking at total connections records joining (Length side p)) (chunk_counted at total connections records side joining) n)
+length_emits : (at total connections records : ℕ) (side : Side) (joining : Joining) (part : List ℕ)
+    (j : Judged) (n : Next (List ℕ) ℕ)
+    → EmitsOn j (emitted_at (Length side part) j) (within
+    (λ p. at_unpacking at total connections records joining (Length side p))
+    (chunk_counted at total connections records side joining) n)
 length_emits at total connections records Client joining part j (Goes p) = refl
 length_emits at total connections records Server joining part j (Goes p) = refl
-length_emits at total connections records Client Between part j (Ends zero) = sym (append_assoc j.entries (client_entries j.calls) (entries.Turn ∷ []))
-length_emits at total connections records Server Between part j (Ends zero) = sym (append_assoc j.entries (client_entries j.calls ++ server_entries j.replies) (entries.Close ∷ []))
+length_emits at total connections records Client Between part j (Ends zero) =
+    sym (append_assoc j.entries (client_entries j.calls) (entries.Turn ∷ []))
+length_emits at total connections records Server Between part j (Ends zero) =
+    sym (append_assoc j.entries (client_entries j.calls ++ server_entries j.replies)
+    (entries.Close ∷ []))
 length_emits at total connections records side (Header body header) part j (Ends zero) = tt
 length_emits at total connections records side (Bytes body last left) part j (Ends zero) = tt
-length_emits at total connections records side joining part j (Ends (suc left)) = by_test (nat_lt 1073741824 (total + suc left)) side
+length_emits at total connections records side joining part j (Ends (suc left)) =
+    by_test (nat_lt 1073741824 (total + suc left)) side
   where
-    by_test : (b : Bool) (side : Side) → EmitsOn j (emitted_at (Length side part) j) (cond b (Ends (at_byte at TooManyBytes)) (Goes (in_chunk (at + 4 + suc left) (total + suc left) connections records side (suc left) joining)))
+    by_test : (b : Bool) (side : Side)
+        → EmitsOn j (emitted_at (Length side part) j) (cond b (Ends (at_byte at TooManyBytes))
+        (Goes (in_chunk (at + 4 + suc left) (total + suc left) connections records side
+        (suc left) joining)))
     by_test true side = tt
     by_test false Client = refl
     by_test false Server = refl
 
-chunk_emits : (at total connections records left : ℕ) (side : Side) (j : Judged) (n : Next Joining Joined)
-    → EmitsOn j (emitted_at (Chunk side left) j) (within (in_chunk at total connections records side left) (record_joined at total connections records side left) n)
+chunk_emits : (at total connections records left : ℕ) (side : Side) (j : Judged)
+    (n : Next Joining Joined)
+    → EmitsOn j (emitted_at (Chunk side left) j) (within
+    (in_chunk at total connections records side left)
+    (record_joined at total connections records side left) n)
 chunk_emits at total connections records zero Client j (Goes s) = refl
 chunk_emits at total connections records (suc left) Client j (Goes s) = refl
 chunk_emits at total connections records zero Server j (Goes s) = refl
 chunk_emits at total connections records (suc left) Server j (Goes s) = refl
-chunk_emits at total connections records zero Client j (Ends (Whole body)) = λ call. call_added j.entries j.calls call
-chunk_emits at total connections records (suc left) Client j (Ends (Whole body)) = λ call. call_added j.entries j.calls call
-chunk_emits at total connections records zero Server j (Ends (Whole body)) = λ reply. reply_added j.entries j.calls j.replies reply
-chunk_emits at total connections records (suc left) Server j (Ends (Whole body)) = λ reply. reply_added j.entries j.calls j.replies reply
+chunk_emits at total connections records zero Client j (Ends (Whole body)) =
+    λ call. call_added j.entries j.calls call
+chunk_emits at total connections records (suc left) Client j (Ends (Whole body)) =
+    λ call. call_added j.entries j.calls call
+chunk_emits at total connections records zero Server j (Ends (Whole body)) =
+    λ reply. reply_added j.entries j.calls j.replies reply
+chunk_emits at total connections records (suc left) Server j (Ends (Whole body)) =
+    λ reply. reply_added j.entries j.calls j.replies reply
 chunk_emits at total connections records left side j (Ends (TooLong byte)) = tt
 
-byte_emits : (at total connections records : ℕ) (joining : Joining) (opened : Opened) (j : Judged) (byte : ℕ)
-    → EmitsOn j (emitted_at opened j) (unpack_next (at_unpacking at total connections records joining opened) byte)
-byte_emits at total connections records joining (Magic due more) j byte = magic_emits at total connections records joining due more j byte
-byte_emits at total connections records joining Digit j byte = digit_emits at total connections records joining j byte
-byte_emits at total connections records joining (Mark version part) j byte = mark_emits version at total connections records joining j (word_next part byte)
-byte_emits at total connections records joining (Length side part) j byte = length_emits at total connections records side joining part j (word_next part byte)
-byte_emits at total connections records joining (Chunk side left) j byte = chunk_emits at total connections records left side j (join_next joining byte)
-byte_emits at total connections records joining (Mixed streams point) j byte = mixed_emits connections records joining j (mixed_step at total streams point byte)
+byte_emits : (at total connections records : ℕ) (joining : Joining) (opened : Opened) (j : Judged)
+    (byte : ℕ)
+    → EmitsOn j (emitted_at opened j)
+    (unpack_next (at_unpacking at total connections records joining opened) byte)
+byte_emits at total connections records joining (Magic due more) j byte =
+    magic_emits at total connections records joining due more j byte
+byte_emits at total connections records joining Digit j byte =
+    digit_emits at total connections records joining j byte
+byte_emits at total connections records joining (Mark version part) j byte =
+    mark_emits version at total connections records joining j (word_next part byte)
+byte_emits at total connections records joining (Length side part) j byte =
+    length_emits at total connections records side joining part j (word_next part byte)
+byte_emits at total connections records joining (Chunk side left) j byte =
+    chunk_emits at total connections records left side j (join_next joining byte)
+byte_emits at total connections records joining (Mixed streams point) j byte =
+    mixed_emits connections records joining j (mixed_step at total streams point byte)
 byte_emits at total connections records joining (Ended version) j byte = tt
 
-pub emits : (u : Unpacking) (j : Judged) (byte : ℕ) → EmitsOn j (emitted_at u.opened j) (unpack_next u byte)
+pub emits : (u : Unpacking) (j : Judged) (byte : ℕ)
+    → EmitsOn j (emitted_at u.opened j) (unpack_next u byte)
 emits u j byte = byte_emits u.at u.total u.connections u.records u.joining u.opened j byte
 
 -- where it runs nothing is whole
-pub runs_emit : (bytes : List ℕ) (u v : Unpacking) (j : Judged) → after unpack_next (Runs u) bytes ≡ Runs v → emitted_at v.opened j ≡ emitted_at u.opened j
+pub runs_emit : (bytes : List ℕ) (u v : Unpacking) (j : Judged)
+    → after unpack_next (Runs u) bytes ≡ Runs v → emitted_at v.opened j ≡ emitted_at u.opened j
 runs_emit [] u v j e = let same : v ≡ u = cc in ap (λ (w : Unpacking). emitted_at w.opened j) same
-runs_emit (byte ∷ bytes) u v j e = on (unpack_next u byte) (emits u j byte) e (λ w. runs_emit bytes w v j)
+runs_emit (byte ∷ bytes) u v j e =
+    on (unpack_next u byte) (emits u j byte) e (λ w. runs_emit bytes w v j)
   where
-    on : (n : Next Unpacking Unpacked) → EmitsOn j (emitted_at u.opened j) n → after unpack_next (landed n) bytes ≡ Runs v
-        → ((w : Unpacking) → after unpack_next (Runs w) bytes ≡ Runs v → emitted_at v.opened j ≡ emitted_at w.opened j) → emitted_at v.opened j ≡ emitted_at u.opened j
+    on : (n : Next Unpacking Unpacked) → EmitsOn j (emitted_at u.opened j) n
+        → after unpack_next (landed n) bytes ≡ Runs v
+        → ((w : Unpacking) → after unpack_next (Runs w) bytes ≡ Runs v
+        → emitted_at v.opened j ≡ emitted_at w.opened j)
+        → emitted_at v.opened j ≡ emitted_at u.opened j
     on (Goes w) next e more = more w e ∙ next
     on (Ends x) next e more = absurd (not_runs unpack_next x v bytes e)
 
 -- where it stops something is
-pub stops_emit : (bytes : List ℕ) (u : Unpacking) (x : Unpacked) (j : Judged) → after unpack_next (Runs u) bytes ≡ Stops x → EmitsOn j (emitted_at u.opened j) (Ends x)
+pub stops_emit : (bytes : List ℕ) (u : Unpacking) (x : Unpacked) (j : Judged)
+    → after unpack_next (Runs u) bytes ≡ Stops x → EmitsOn j (emitted_at u.opened j) (Ends x)
 stops_emit [] u x j e = absurd (cc)
-stops_emit (byte ∷ bytes) u x j e = on (unpack_next u byte) (emits u j byte) e (λ w. stops_emit bytes w x j)
+stops_emit (byte ∷ bytes) u x j e =
+    on (unpack_next u byte) (emits u j byte) e (λ w. stops_emit bytes w x j)
   where
-    on : (n : Next Unpacking Unpacked) → EmitsOn j (emitted_at u.opened j) n → after unpack_next (landed n) bytes ≡ Stops x
-        → ((w : Unpacking) → after unpack_next (Runs w) bytes ≡ Stops x → EmitsOn j (emitted_at w.opened j) (Ends x)) → EmitsOn j (emitted_at u.opened j) (Ends x)
+    on : (n : Next Unpacking Unpacked) → EmitsOn j (emitted_at u.opened j) n
+        → after unpack_next (landed n) bytes ≡ Stops x
+        → ((w : Unpacking) → after unpack_next (Runs w) bytes ≡ Stops x
+        → EmitsOn j (emitted_at w.opened j) (Ends x)) → EmitsOn j (emitted_at u.opened j) (Ends x)
     on (Goes w) next e more = subst (λ (base : List Entry). EmitsOn j base (Ends x)) next (more w e)
-    on (Ends y) next e more = let (none, equal) = only_stops unpack_next y x bytes e in subst (λ z. EmitsOn j (emitted_at u.opened j) (Ends z)) equal next
+    on (Ends y) next e more =
+        let (none, equal) = only_stops unpack_next y x bytes e in
+        subst (λ z. EmitsOn j (emitted_at u.opened j) (Ends z)) equal next

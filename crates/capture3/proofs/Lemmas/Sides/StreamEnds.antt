@@ -1,14 +1,6 @@
 -- A whole stream, with its messages or its first fault.
-use Rattle.std.proofs.Common.{◌≡◌, inl, inr, ℕ, List, [], ◌∷◌, ◌++◌, refl, sym, ap, subst, ◌∙◌, append_assoc, append-nil, Ok}
-use Rattle.record_mark.specs.Machine.{Ends, Run, Runs, Stops, Stopped, after, landed, last_running}
-use Rattle.record_mark.specs.Joining.{Joining, Between, Header, Bytes, Joined, Whole, TooLong, join_next}
-use Rattle.record_mark.specs.RecordMark.{IsOpen}
-use Rattle.record_mark.proofs.Joins.{record_stops, too_long_stops}
+use Rattle.capture3.proofs.Common.{◌≡◌, inl, inr, ℕ, List, [], ◌∷◌, ◌++◌, refl, sym, ap, subst, ◌∙◌, append_assoc, append-nil, Ok, Ends, Run, Runs, Stops, Stopped, after, landed, last_running, Joining, Between, Header, Bytes, Joined, Whole, TooLong, join_next, IsOpen, AreBytes, RecordTooLong, Judgement, Holds, RecordFault, fault_at, FirstRecordFault, RefusesNext, NextIsTooLong, NextIsCut, record_stops, too_long_stops, Judge, Reading, judged, recorded, stream_next, unread, StreamEnd, Held, Faulty, left_in, end_of, rest_end, stream_end}
 use Rattle.record_mark.proofs.Machines.{Tells, after-append, after_stopped, nested_last, nested_runs, nested_stops, last_running-append, last_stopped}
-use Rattle.xdr3.specs.Item.{AreBytes}
-use Rattle.xdr3.specs.declared.reason.Reason.TheVariants.{RecordTooLong}
-use Rattle.capture3.specs.StreamMachine.{Judge, Reading, judged, recorded, stream_next, unread, StreamEnd, Held, Faulty, left_in, end_of, rest_end, stream_end}
-use Rattle.capture3.specs.Records.{Judgement, Holds, RecordFault, fault_at, FirstRecordFault, RefusesNext, NextIsTooLong, NextIsCut}
 use Rattle.capture3.proofs.Lemmas.Messages.BodyProgramLemmas.{Judged}
 use Rattle.capture3.proofs.Lemmas.Sides.StreamMachineLemmas.{HasRead, ShowsAsFirst, stream_leads, between_holds, nothing_read, held_runs, stream_runs}
 use Rattle.capture3.proofs.Lemmas.Files.Telling.{tells_bytes}
@@ -16,45 +8,71 @@ use Rattle.capture3.proofs.Lemmas.Files.Telling.{tells_bytes}
 -- ---- from a record's start on
 
 -- what is said after bytes that the machine runs through is said of them all
-pub rest_after : {M : Type 0} (judge : Judge M) (s t : Reading M) (front rest : List ℕ) → after (stream_next judge) (Runs s) front ≡ Runs t → rest_end judge s (front ++ rest) ≡ rest_end judge t rest
+pub rest_after : {M : Type 0} (judge : Judge M) (s t : Reading M) (front rest : List ℕ)
+    → after (stream_next judge) (Runs s) front ≡ Runs t
+    → rest_end judge s (front ++ rest) ≡ rest_end judge t rest
 rest_after {M} judge s t front rest runs =
-    ap (λ (u : Reading M). end_of u.messages (after (stream_next judge) (Runs s) (front ++ rest))) (last_running-append (stream_next judge) s t front rest runs)
-    ∙ ap (end_of (last_running (stream_next judge) t rest).messages) (after-append (stream_next judge) (Runs s) front rest ∙ ap (λ r. after (stream_next judge) r rest) runs)
+    ap (λ (u : Reading M). end_of u.messages (after (stream_next judge) (Runs s) (front ++ rest)))
+    (last_running-append (stream_next judge) s t front rest runs)
+    ∙ ap (end_of (last_running (stream_next judge) t rest).messages) (after-append
+    (stream_next judge) (Runs s) front rest
+    ∙ ap (λ r. after (stream_next judge) r rest) runs)
 
 abbrev pub between : {M : Type 0} → List M → Reading M
 between messages = record { messages = messages; joining = Between }
 
 -- the next record is accepted
-pub rest_accepts : {M : Type 0} (judge : Judge M) (messages : List M) (front rest body : List ℕ) (m : M) → after join_next (Runs Between) front ≡ Stops (Whole body) → judge messages body ≡ Ok m
-    → rest_end judge (between messages) (front ++ rest) ≡ rest_end judge (between (messages ++ m ∷ [])) rest
+pub rest_accepts : {M : Type 0} (judge : Judge M) (messages : List M) (front rest body : List ℕ)
+    (m : M) → after join_next (Runs Between) front ≡ Stops (Whole body)
+    → judge messages body ≡ Ok m
+    → rest_end judge (between messages) (front ++ rest)
+    ≡ rest_end judge (between (messages ++ m ∷ [])) rest
 rest_accepts judge messages front rest body m whole ok =
     rest_after judge (between messages) (between (messages ++ m ∷ [])) front rest
-    (nested_stops join_next (stream_next judge) (λ j. record { messages = messages; joining = j }) (recorded judge messages) (λ s byte. refl) front Between (Whole body) whole ∙ ap (λ r. landed (judged messages r)) ok)
+    (nested_stops join_next (stream_next judge) (λ j. record { messages = messages; joining = j })
+    (recorded judge messages) (λ s byte. refl) front Between (Whole body) whole
+    ∙ ap (λ r. landed (judged messages r)) ok)
 
 -- it is refused, or too long
-pub rest_refuses : {M : Type 0} (judge : Judge M) (messages : List M) (front rest : List ℕ) (x : Joined) (fault : RecordFault) → after join_next (Runs Between) front ≡ Stops x → recorded judge messages x ≡ Ends fault
+pub rest_refuses : {M : Type 0} (judge : Judge M) (messages : List M) (front rest : List ℕ)
+    (x : Joined) (fault : RecordFault) → after join_next (Runs Between) front ≡ Stops x
+    → recorded judge messages x ≡ Ends fault
     → rest_end judge (between messages) (front ++ rest) ≡ Faulty messages fault
 rest_refuses {M} judge messages front rest x fault stops ends =
-    ap (λ (u : Reading M). end_of u.messages (after (stream_next judge) (Runs (between messages)) (front ++ rest))) last_is
-    ∙ ap (end_of messages) (after-append (stream_next judge) (Runs (between messages)) front rest ∙ ap (λ r. after (stream_next judge) r rest) stop) ∙ stays rest
+    ap
+    (λ (u : Reading M).
+    end_of u.messages (after (stream_next judge) (Runs (between messages)) (front ++ rest)))
+    last_is
+    ∙ ap (end_of messages) (after-append (stream_next judge) (Runs (between messages)) front rest
+    ∙ ap (λ r. after (stream_next judge) r rest) stop) ∙ stays rest
   where
     stop : after (stream_next judge) (Runs (between messages)) front ≡ Stops fault
-    stop = nested_stops join_next (stream_next judge) (λ j. record { messages = messages; joining = j }) (recorded judge messages) (λ s byte. refl) front Between x stops ∙ ap landed ends
+    stop =
+        nested_stops join_next (stream_next judge)
+        (λ j. record { messages = messages; joining = j }) (recorded judge messages)
+        (λ s byte. refl) front Between x stops ∙ ap landed ends
 
-    last_is : last_running (stream_next judge) (between messages) (front ++ rest) ≡ record { messages = messages; joining = last_running join_next Between front }
+    last_is : last_running (stream_next judge) (between messages) (front ++ rest)
+        ≡ record { messages = messages; joining = last_running join_next Between front }
     last_is =
         last_stopped (stream_next judge) (between messages) front rest fault stop
-        ∙ nested_last join_next (stream_next judge) (λ j. record { messages = messages; joining = j }) (recorded judge messages) (λ s byte. refl) front Between x fault ends stops
+        ∙ nested_last join_next (stream_next judge)
+        (λ j. record { messages = messages; joining = j }) (recorded judge messages)
+        (λ s byte. refl) front Between x fault ends stops
 
-    stays : (more : List ℕ) → end_of messages (after (stream_next judge) (Stops fault) more) ≡ Faulty messages fault
+    stays : (more : List ℕ)
+        → end_of messages (after (stream_next judge) (Stops fault) more) ≡ Faulty messages fault
     stays [] = refl
     stays (byte ∷ more) = ap (end_of messages) (after_stopped (stream_next judge) fault more)
 
 -- no record is whole any more
-pub rest_leaves : {M : Type 0} (judge : Judge M) (messages : List M) (rest : List ℕ) (j : Joining) → after join_next (Runs Between) rest ≡ Runs j → rest_end judge (between messages) rest ≡ left_in messages j
+pub rest_leaves : {M : Type 0} (judge : Judge M) (messages : List M) (rest : List ℕ) (j : Joining)
+    → after join_next (Runs Between) rest ≡ Runs j
+    → rest_end judge (between messages) rest ≡ left_in messages j
 rest_leaves judge messages rest j runs =
     ap (end_of (last_running (stream_next judge) (between messages) rest).messages)
-    (nested_runs join_next (stream_next judge) (λ k. record { messages = messages; joining = k }) (recorded judge messages) (λ s byte. refl) rest Between j runs)
+    (nested_runs join_next (stream_next judge) (λ k. record { messages = messages; joining = k })
+    (recorded judge messages) (λ s byte. refl) rest Between j runs)
 
 -- ---- a whole stream
 
@@ -63,53 +81,96 @@ abbrev pub EndsStream : {M : Type 0} → Judgement M → List ℕ → StreamEnd 
 EndsStream judge stream (Held messages) = Holds judge stream messages
 EndsStream judge stream (Faulty messages fault) = FirstRecordFault judge stream messages fault
 
-stream_tells : {M : Type 0} (judge : Judged M) (stream : List ℕ) → AreBytes stream → Tells (HasRead judge.says) (ShowsAsFirst judge.says) stream (after (stream_next judge.decide) (Runs unread) stream)
-stream_tells judge = tells_bytes (stream_next judge.decide) (HasRead judge.says) (ShowsAsFirst judge.says) (stream_leads judge) unread (nothing_read judge.says)
+stream_tells : {M : Type 0} (judge : Judged M) (stream : List ℕ) → AreBytes stream
+    → Tells (HasRead judge.says) (ShowsAsFirst judge.says) stream
+    (after (stream_next judge.decide) (Runs unread) stream)
+stream_tells judge =
+    tells_bytes (stream_next judge.decide) (HasRead judge.says) (ShowsAsFirst judge.says)
+    (stream_leads judge) unread (nothing_read judge.says)
 
 -- before a record at fault the messages are whole
-last_after : {M : Type 0} (judge : Judged M) (front last rest : List ℕ) (messages : List M) (x : Joined) (fault : RecordFault) → Holds judge.says front messages → after join_next (Runs Between) last ≡ Stops x → recorded judge.decide messages x ≡ Ends fault
+last_after : {M : Type 0} (judge : Judged M) (front last rest : List ℕ) (messages : List M)
+    (x : Joined) (fault : RecordFault) → Holds judge.says front messages
+    → after join_next (Runs Between) last ≡ Stops x → recorded judge.decide messages x ≡ Ends fault
     → rest_end judge.decide unread (front ++ last ++ rest) ≡ Faulty messages fault
 last_after judge front last rest messages x fault holds stops ends =
     ap (rest_end judge.decide unread) (append_assoc front last rest)
-    ∙ rest_after judge.decide unread (between messages) front (last ++ rest) (held_runs judge front messages holds)
+    ∙ rest_after judge.decide unread (between messages) front (last ++ rest)
+    (held_runs judge front messages holds)
     ∙ rest_refuses judge.decide messages last rest x fault stops ends
 
-pub stream_ends : {M : Type 0} (judge : Judged M) (stream : List ℕ) (x : StreamEnd M) → EndsStream judge.says stream x → stream_end judge.decide stream ≡ x
-stream_ends {M} judge stream (Held messages) h = ap (end_of (last_running (stream_next judge.decide) unread stream).messages) (held_runs judge stream messages h)
-stream_ends {M} judge stream (Faulty messages fault) (RefusesNext front last rest body stop split holds whole refused is) =
+pub stream_ends : {M : Type 0} (judge : Judged M) (stream : List ℕ) (x : StreamEnd M)
+    → EndsStream judge.says stream x → stream_end judge.decide stream ≡ x
+stream_ends {M} judge stream (Held messages) h =
+    ap (end_of (last_running (stream_next judge.decide) unread stream).messages)
+    (held_runs judge stream messages h)
+stream_ends {M} judge stream (Faulty messages fault)
+    (RefusesNext front last rest body stop split holds whole refused is) =
     ap (stream_end judge.decide) split
-    ∙ last_after judge front last rest messages (Whole body) (fault_at messages stop.at stop.reason) holds (record_stops last body whole) (ap (judged messages) (judge.refuses messages body stop refused))
+    ∙ last_after judge front last rest messages (Whole body) (fault_at messages stop.at stop.reason)
+    holds (record_stops last body whole)
+    (ap (judged messages) (judge.refuses messages body stop refused))
     ∙ ap (Faulty messages) (sym is)
-stream_ends {M} judge stream (Faulty messages fault) (NextIsTooLong front last rest at split holds long is) =
-    ap (stream_end judge.decide) split ∙ last_after judge front last rest messages (TooLong at) (fault_at messages at RecordTooLong) holds (too_long_stops last at long) refl ∙ ap (Faulty messages) (sym is)
-stream_ends {M} judge stream (Faulty messages fault) (NextIsCut front last body split holds is_open is) = go is_open
+stream_ends {M} judge stream (Faulty messages fault)
+    (NextIsTooLong front last rest at split holds long is) =
+    ap (stream_end judge.decide) split
+    ∙ last_after judge front last rest messages (TooLong at)
+    (fault_at messages at RecordTooLong) holds (too_long_stops last at long) refl
+    ∙ ap (Faulty messages) (sym is)
+stream_ends {M} judge stream (Faulty messages fault)
+    (NextIsCut front last body split holds is_open is) = go is_open
   where
-    at_joining : (j : Joining) → HasRead judge.says stream (record { messages = messages; joining = j }) → stream_end judge.decide stream ≡ left_in messages j
-    at_joining j read = ap (end_of (last_running (stream_next judge.decide) unread stream).messages) (stream_runs judge stream (record { messages = messages; joining = j }) read)
+    at_joining : (j : Joining)
+        → HasRead judge.says stream (record { messages = messages; joining = j })
+        → stream_end judge.decide stream ≡ left_in messages j
+    at_joining j read =
+        ap (end_of (last_running (stream_next judge.decide) unread stream).messages)
+        (stream_runs judge stream (record { messages = messages; joining = j }) read)
 
     go : IsOpen last body → stream_end judge.decide stream ≡ Faulty messages fault
-    go (inl o) = at_joining (Header body o.0) (record { front = front; last = last; split = split; holds = holds; joined = o.1 }) ∙ ap (Faulty messages) (sym is)
-    go (inr o) = at_joining (Bytes body o.0 o.1) (record { front = front; last = last; split = split; holds = holds; joined = o.2 }) ∙ ap (Faulty messages) (sym is)
+    go (inl o) =
+        at_joining (Header body o.0)
+        (record { front = front; last = last; split = split; holds = holds; joined = o.1 })
+        ∙ ap (Faulty messages) (sym is)
+    go (inr o) =
+        at_joining (Bytes body o.0 o.1)
+        (record { front = front; last = last; split = split; holds = holds; joined = o.2 })
+        ∙ ap (Faulty messages) (sym is)
 
-left_ends : {M : Type 0} (judge : Judgement M) (stream : List ℕ) (messages : List M) (joining : Joining) → HasRead judge stream (record { messages = messages; joining = joining }) → EndsStream judge stream (left_in messages joining)
+left_ends : {M : Type 0} (judge : Judgement M) (stream : List ℕ) (messages : List M)
+    (joining : Joining)
+    → HasRead judge stream (record { messages = messages; joining = joining })
+    → EndsStream judge stream (left_in messages joining)
 left_ends judge stream messages Between h = between_holds judge stream messages h
-left_ends judge stream messages (Header body part) h = NextIsCut h.front h.last body h.split h.holds (inl (part, h.joined)) refl
-left_ends judge stream messages (Bytes body last left) h = NextIsCut h.front h.last body h.split h.holds (inr (last, left, h.joined)) refl
+left_ends judge stream messages (Header body part) h =
+    NextIsCut h.front h.last body h.split h.holds (inl (part, h.joined)) refl
+left_ends judge stream messages (Bytes body last left) h =
+    NextIsCut h.front h.last body h.split h.holds (inr (last, left, h.joined)) refl
 
 -- it ends in one way that holds
-pub ends_somehow : {M : Type 0} (judge : Judged M) (stream : List ℕ) → AreBytes stream → (x : StreamEnd M) × EndsStream judge.says stream x
-ends_somehow {M} judge stream are = go (after (stream_next judge.decide) (Runs unread) stream) (stream_tells judge stream are)
+pub ends_somehow : {M : Type 0} (judge : Judged M) (stream : List ℕ) → AreBytes stream
+    → (x : StreamEnd M) × EndsStream judge.says stream x
+ends_somehow {M} judge stream are =
+    go (after (stream_next judge.decide) (Runs unread) stream) (stream_tells judge stream are)
   where
-    go : (run : Run (Reading M) RecordFault) → Tells (HasRead judge.says) (ShowsAsFirst judge.says) stream run → (x : StreamEnd M) × EndsStream judge.says stream x
-    go (Runs s) h = (left_in s.messages s.joining, left_ends judge.says stream s.messages s.joining h)
+    go : (run : Run (Reading M) RecordFault)
+        → Tells (HasRead judge.says) (ShowsAsFirst judge.says) stream run
+        → (x : StreamEnd M) × EndsStream judge.says stream x
+    go (Runs s) h =
+        (left_in s.messages s.joining, left_ends judge.says stream s.messages s.joining h)
     go (Stops fault) h =
-        let f = h.1 [] in
-        (Faulty f.0 fault, subst (λ (b : List ℕ). FirstRecordFault judge.says b f.0 fault) (append-nil stream) f.1)
+        let f = h.1 [] in (
+          Faulty f.0 fault,
+          subst (λ (b : List ℕ). FirstRecordFault judge.says b f.0 fault) (append-nil stream) f.1,
+        )
     go (Stopped fault) h =
-        let f = h.ending.1 (h.byte ∷ h.back) in
-        (Faulty f.0 fault, subst (λ (b : List ℕ). FirstRecordFault judge.says b f.0 fault) (sym h.split) f.1)
+        let f = h.ending.1 (h.byte ∷ h.back) in (
+          Faulty f.0 fault,
+          subst (λ (b : List ℕ). FirstRecordFault judge.says b f.0 fault) (sym h.split) f.1,
+        )
 
-pub ends_stream : {M : Type 0} (judge : Judged M) (stream : List ℕ) → AreBytes stream → EndsStream judge.says stream (stream_end judge.decide stream)
+pub ends_stream : {M : Type 0} (judge : Judged M) (stream : List ℕ) → AreBytes stream
+    → EndsStream judge.says stream (stream_end judge.decide stream)
 ends_stream judge stream are =
     let e = ends_somehow judge stream are in
     subst (EndsStream judge.says stream) (sym (stream_ends judge stream e.0 e.1)) e.1

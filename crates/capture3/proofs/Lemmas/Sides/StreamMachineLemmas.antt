@@ -1,23 +1,15 @@
 -- The machine for a stream against records and messages.
-use Rattle.std.proofs.Common.{◌≡◌, inl, inr, ℕ, suc, List, [], ◌∷◌, ◌++◌, length, refl, sym, ap, subst, ◌∙◌, append_assoc, append-nil, arith, Result, Ok, Err}
-use Rattle.record_mark.specs.Machine.{Runs, Stops, landed, after}
+use Rattle.capture3.proofs.Common.{◌≡◌, inl, inr, ℕ, suc, List, [], ◌∷◌, ◌++◌, length, refl, sym, ap, subst, ◌∙◌, append_assoc, append-nil, arith, Result, Ok, Err, Runs, Stops, landed, after, Leads, leads_within, after-append, nested_runs, nested_stops, Joins-snoc, AreBytes, Reason, RecordTooLong, Stop, Reading, judged, recorded, stream_next, unread, joined_body}
 use Rattle.record_mark.specs.RecordMark.{IsRecord, IsUnfinished, Marks}
 use Rattle.record_mark.specs.Joining.{Joining, Between, Header, Bytes, Joined, Whole, TooLong, join_next, HasJoined, EndsRecord}
-use Rattle.record_mark.specs.Taking.{joined_body}
-use Rattle.record_mark.proofs.Machines.{Leads, leads_within, after-append, nested_runs, nested_stops}
-use Rattle.record_mark.proofs.Words.{Joins-snoc}
 use Rattle.record_mark.proofs.Joins.{join_leads, record_stops, joining_runs}
-use Rattle.xdr3.specs.Item.{AreBytes}
-use Rattle.xdr3.specs.declared.reason.Reason.{Reason}
-use Rattle.xdr3.specs.declared.reason.Reason.TheVariants.{RecordTooLong}
-use Rattle.xdr3.specs.declared.reason.Stop.{Stop}
 use Rattle.capture3.specs.Records.{Judgement, AreMessages, Holds, HoldsSoFar, RecordFault, fault_at, RefusesRecord, StreamShows, FirstRecordFault, RefusesNext, NextIsTooLong}
-use Rattle.capture3.specs.StreamMachine.{Reading, judged, recorded, stream_next, unread}
 use Rattle.capture3.proofs.Lemmas.Container.BytesOf.{split_bytes, record_bytes}
 use Rattle.capture3.proofs.Lemmas.Messages.BodyProgramLemmas.{Judged}
 
 -- the stream so far is whole records, and then what has come of the next
-pub record HasRead {M : Type 0} (judge : Judgement M) (stream : List ℕ) (s : Reading M) : Type 0 where
+pub record HasRead {M : Type 0} (judge : Judgement M) (stream : List ℕ) (s : Reading M) : Type
+    0 where
   pub front : List ℕ
   pub last : List ℕ
   pub split : stream ≡ front ++ last
@@ -26,34 +18,63 @@ pub record HasRead {M : Type 0} (judge : Judgement M) (stream : List ℕ) (s : R
 
 -- the last byte of the stream shows this fault, which is the first whatever comes after it
 abbrev pub ShowsAsFirst : {M : Type 0} → Judgement M → List ℕ → RecordFault → Type 0
-ShowsAsFirst {M} judge stream fault = StreamShows judge stream fault × ((rest : List ℕ) → (messages : List M) × FirstRecordFault judge (stream ++ rest) messages fault)
+ShowsAsFirst {M} judge stream fault =
+    StreamShows judge stream fault
+    × ((rest : List ℕ)
+    → (messages : List M) × FirstRecordFault judge (stream ++ rest) messages fault)
 
 -- as many messages as bodies
-as_many_messages : {M : Type 0} (judge : Judgement M) (bodies : List (List ℕ)) (before messages : List M) → AreMessages judge before bodies messages → length messages ≡ length bodies
+as_many_messages : {M : Type 0} (judge : Judgement M) (bodies : List (List ℕ))
+    (before messages : List M) → AreMessages judge before bodies messages
+    → length messages ≡ length bodies
 as_many_messages judge [] before messages h = ap length h
-as_many_messages judge (body ∷ bodies) before messages h = let more = as_many_messages judge bodies (before ++ h.0 ∷ []) h.1 h.4 in omega (arith, ap length h.2, more)
+as_many_messages judge (body ∷ bodies) before messages h =
+    let more = as_many_messages judge bodies (before ++ h.0 ∷ []) h.1 h.4 in
+    omega (arith, ap length h.2, more)
 
 -- a fault after messages is one after as many bodies
-pub fault_after : {M : Type 0} (judge : Judgement M) (stream : List ℕ) (messages : List M) (byte : ℕ) (reason : Reason) → (holds : Holds judge stream messages) → fault_at messages byte reason ≡ record { number = suc (length holds.0); byte = byte; reason = reason }
-fault_after judge stream messages byte reason holds = ap (λ n. record { number = suc n; byte = byte; reason = reason }) (as_many_messages judge holds.0 [] messages holds.2)
+pub fault_after : {M : Type 0} (judge : Judgement M) (stream : List ℕ) (messages : List M)
+    (byte : ℕ) (reason : Reason) → (holds : Holds judge stream messages)
+    → fault_at messages byte reason
+    ≡ record { number = suc (length holds.0); byte = byte; reason = reason }
+fault_after judge stream messages byte reason holds =
+    ap (λ n. record { number = suc n; byte = byte; reason = reason })
+    (as_many_messages judge holds.0 [] messages holds.2)
 
-AreMessages-snoc : {M : Type 0} (judge : Judgement M) (bodies : List (List ℕ)) (before messages : List M) (body : List ℕ) (m : M) → AreMessages judge before bodies messages → judge.accepts (before ++ messages) body m → AreMessages judge before (bodies ++ body ∷ []) (messages ++ m ∷ [])
-AreMessages-snoc judge [] before messages body m h e =
-    (m, [], ap (λ ms. ms ++ m ∷ []) h, subst (λ ms. judge.accepts ms body m) (ap (λ ms. before ++ ms) h ∙ append-nil before) e, refl)
+AreMessages-snoc : {M : Type 0} (judge : Judgement M) (bodies : List (List ℕ))
+    (before messages : List M) (body : List ℕ) (m : M)
+    → AreMessages judge before bodies messages → judge.accepts (before ++ messages) body m
+    → AreMessages judge before (bodies ++ body ∷ []) (messages ++ m ∷ [])
+AreMessages-snoc judge [] before messages body m h e = (
+  m,
+  [],
+  ap (λ ms. ms ++ m ∷ []) h,
+  subst (λ ms. judge.accepts ms body m) (ap (λ ms. before ++ ms) h ∙ append-nil before) e,
+  refl,
+)
 AreMessages-snoc judge (b ∷ bodies) before messages body m h e = (
   h.0,
   h.1 ++ m ∷ [],
   ap (λ ms. ms ++ m ∷ []) h.2,
   h.3,
-  AreMessages-snoc judge bodies (before ++ h.0 ∷ []) h.1 body m h.4 (subst (λ ms. judge.accepts ms body m) (ap (λ ms. before ++ ms) h.2 ∙ sym (append_assoc before (h.0 ∷ []) h.1)) e),
+  AreMessages-snoc judge bodies (before ++ h.0 ∷ []) h.1 body m h.4 (subst
+      (λ ms. judge.accepts ms body m)
+      (ap (λ ms. before ++ ms) h.2 ∙ sym (append_assoc before (h.0 ∷ []) h.1)) e),
 )
 
 -- one record more
-Holds-snoc : {M : Type 0} (judge : Judgement M) (front last : List ℕ) (messages : List M) (body : List ℕ) (m : M) → Holds judge front messages → IsRecord last body → judge.accepts messages body m → Holds judge (front ++ last) (messages ++ m ∷ [])
-Holds-snoc judge front last messages body m h whole e =
-    (h.0 ++ body ∷ [], Joins-snoc IsRecord h.0 front last body h.1 whole, AreMessages-snoc judge h.0 [] messages body m h.2 e)
+Holds-snoc : {M : Type 0} (judge : Judgement M) (front last : List ℕ) (messages : List M)
+    (body : List ℕ) (m : M) → Holds judge front messages → IsRecord last body
+    → judge.accepts messages body m → Holds judge (front ++ last) (messages ++ m ∷ [])
+Holds-snoc judge front last messages body m h whole e = (
+  h.0 ++ body ∷ [],
+  Joins-snoc IsRecord h.0 front last body h.1 whole,
+  AreMessages-snoc judge h.0 [] messages body m h.2 e,
+)
 
-judged_leads : {M : Type 0} (judge : Judged M) (stream front last : List ℕ) (messages : List M) (body : List ℕ) → AreBytes body → stream ≡ front ++ last → Holds judge.says front messages → IsRecord last body → (r : Result M Stop) → judge.decide messages body ≡ r
+judged_leads : {M : Type 0} (judge : Judged M) (stream front last : List ℕ) (messages : List M)
+    (body : List ℕ) → AreBytes body → stream ≡ front ++ last → Holds judge.says front messages
+    → IsRecord last body → (r : Result M Stop) → judge.decide messages body ≡ r
     → Leads (HasRead judge.says) (ShowsAsFirst judge.says) stream (judged messages r)
 judged_leads judge stream front last messages body are split holds whole (Ok m) e =
     record {
@@ -61,72 +82,153 @@ judged_leads judge stream front last messages body are split holds whole (Ok m) 
       last = [];
       split = sym (append-nil stream);
       joined = refl;
-      holds = subst (λ (b : List ℕ). Holds judge.says b (messages ++ m ∷ [])) (sym split) (Holds-snoc judge.says front last messages body m holds whole (judge.accepted messages body m are e));
+      holds =
+          subst (λ (b : List ℕ). Holds judge.says b (messages ++ m ∷ [])) (sym split)
+          (Holds-snoc judge.says front last messages body m holds whole
+          (judge.accepted messages body m are e));
     }
 judged_leads judge stream front last messages body are split holds whole (Err stop) e =
     let refused = judge.refused messages body stop are e in (
-      inl (record { front = front; last = last; messages = messages; body = body; stop = stop; split = split; holds = holds; whole = whole; refused = refused; is = refl }),
-      λ rest. (messages, RefusesNext front last rest body stop (ap (λ (b : List ℕ). b ++ rest) split) holds whole refused refl),
+      inl (record {
+        front = front;
+        last = last;
+        messages = messages;
+        body = body;
+        stop = stop;
+        split = split;
+        holds = holds;
+        whole = whole;
+        refused = refused;
+        is = refl;
+      }),
+      λ rest. (
+        messages,
+        RefusesNext front last rest body stop (ap (λ (b : List ℕ). b ++ rest) split) holds
+            whole refused refl,
+      ),
     )
 
-recorded_leads : {M : Type 0} (judge : Judged M) (stream front last : List ℕ) (messages : List M) → AreBytes last → stream ≡ front ++ last → Holds judge.says front messages → (x : Joined) → EndsRecord last x
+recorded_leads : {M : Type 0} (judge : Judged M) (stream front last : List ℕ) (messages : List M)
+    → AreBytes last → stream ≡ front ++ last → Holds judge.says front messages → (x : Joined)
+    → EndsRecord last x
     → Leads (HasRead judge.says) (ShowsAsFirst judge.says) stream (recorded judge.decide messages x)
-recorded_leads judge stream front last messages are split holds (Whole body) h = judged_leads judge stream front last messages body (record_bytes last body h are) split holds h (judge.decide messages body) refl
+recorded_leads judge stream front last messages are split holds (Whole body) h =
+    judged_leads judge stream front last messages body (record_bytes last body h are) split holds h
+    (judge.decide messages body) refl
 recorded_leads judge stream front last messages are split holds (TooLong at) h = (
-  inr (record { front = front; last = last; bodies = holds.0; at = at; split = split; marks = holds.1; long = h; is = fault_after judge.says front messages at RecordTooLong holds }),
-  λ rest. (messages, NextIsTooLong front last rest at (ap (λ (b : List ℕ). b ++ rest) split) holds h refl),
+  inr (record {
+    front = front;
+    last = last;
+    bodies = holds.0;
+    at = at;
+    split = split;
+    marks = holds.1;
+    long = h;
+    is = fault_after judge.says front messages at RecordTooLong holds;
+  }),
+  λ rest. (
+    messages,
+    NextIsTooLong front last rest at (ap (λ (b : List ℕ). b ++ rest) split) holds h refl,
+  ),
 )
 
-pub stream_leads : {M : Type 0} (judge : Judged M) (stream : List ℕ) (s : Reading M) (byte : ℕ) → AreBytes (stream ++ byte ∷ []) → HasRead judge.says stream s → Leads (HasRead judge.says) (ShowsAsFirst judge.says) (stream ++ byte ∷ []) (stream_next judge.decide s byte)
+pub stream_leads : {M : Type 0} (judge : Judged M) (stream : List ℕ) (s : Reading M) (byte : ℕ)
+    → AreBytes (stream ++ byte ∷ []) → HasRead judge.says stream s
+    → Leads (HasRead judge.says) (ShowsAsFirst judge.says) (stream ++ byte ∷ [])
+    (stream_next judge.decide s byte)
 stream_leads judge stream s byte are h =
-    let split : stream ++ byte ∷ [] ≡ h.front ++ (h.last ++ byte ∷ []) = ap (λ (b : List ℕ). b ++ byte ∷ []) h.split ∙ append_assoc h.front h.last (byte ∷ []) in
-    leads_within HasJoined EndsRecord (HasRead judge.says) (ShowsAsFirst judge.says) (λ j. record { messages = s.messages; joining = j }) (recorded judge.decide s.messages) (h.last ++ byte ∷ []) (stream ++ byte ∷ [])
-    (λ j joined. record { front = h.front; last = h.last ++ byte ∷ []; split = split; holds = h.holds; joined = joined })
-    (λ x ends. recorded_leads judge (stream ++ byte ∷ []) h.front (h.last ++ byte ∷ []) s.messages (split_bytes (stream ++ byte ∷ []) h.front (h.last ++ byte ∷ []) split are).1 split h.holds x ends)
+    let split : stream ++ byte ∷ [] ≡ h.front ++ (h.last ++ byte ∷ []) =
+    ap (λ (b : List ℕ). b ++ byte ∷ []) h.split ∙ append_assoc h.front h.last (byte ∷ []) in
+    leads_within HasJoined EndsRecord (HasRead judge.says) (ShowsAsFirst judge.says)
+    (λ j. record { messages = s.messages; joining = j }) (recorded judge.decide s.messages)
+    (h.last ++ byte ∷ []) (stream ++ byte ∷ [])
+    (λ j joined.
+    record {
+      front = h.front;
+      last = h.last ++ byte ∷ [];
+      split = split;
+      holds = h.holds;
+      joined = joined;
+    })
+    (λ x ends.
+    recorded_leads judge (stream ++ byte ∷ []) h.front (h.last ++ byte ∷ []) s.messages
+    (split_bytes (stream ++ byte ∷ []) h.front (h.last ++ byte ∷ []) split are).1 split
+    h.holds x ends)
     (join_next s.joining byte) (join_leads h.last s.joining byte h.joined)
 
 -- between two records the stream is whole records
-pub between_holds : {M : Type 0} (judge : Judgement M) (stream : List ℕ) (messages : List M) → HasRead judge stream (record { messages = messages; joining = Between }) → Holds judge stream messages
-between_holds judge stream messages h = subst (λ (b : List ℕ). Holds judge b messages) (sym (append-nil h.front) ∙ ap (λ (b : List ℕ). h.front ++ b) (sym h.joined) ∙ sym h.split) h.holds
+pub between_holds : {M : Type 0} (judge : Judgement M) (stream : List ℕ) (messages : List M)
+    → HasRead judge stream (record { messages = messages; joining = Between })
+    → Holds judge stream messages
+between_holds judge stream messages h =
+    subst (λ (b : List ℕ). Holds judge b messages)
+    (sym (append-nil h.front) ∙ ap (λ (b : List ℕ). h.front ++ b) (sym h.joined) ∙ sym h.split)
+    h.holds
 
 pub nothing_read : {M : Type 0} (judge : Judgement M) → HasRead judge [] unread
-nothing_read judge = record { front = []; last = []; split = refl; holds = ([], refl, refl); joined = refl }
+nothing_read judge =
+    record { front = []; last = []; split = refl; holds = ([], refl, refl); joined = refl }
 
 -- ---- the other way round
 
-pub record_closes : {M : Type 0} (judge : Judged M) (messages : List M) (bytes : List ℕ) (x : Joined) → after join_next (Runs Between) bytes ≡ Stops x
-    → after (stream_next judge.decide) (Runs (record { messages = messages; joining = Between })) bytes ≡ landed (recorded judge.decide messages x)
-record_closes judge messages bytes x e = nested_stops join_next (stream_next judge.decide) (λ j. record { messages = messages; joining = j }) (recorded judge.decide messages) (λ s byte. refl) bytes Between x e
+pub record_closes : {M : Type 0} (judge : Judged M) (messages : List M) (bytes : List ℕ)
+    (x : Joined) → after join_next (Runs Between) bytes ≡ Stops x
+    → after (stream_next judge.decide) (Runs (record { messages = messages; joining = Between }))
+    bytes ≡ landed (recorded judge.decide messages x)
+record_closes judge messages bytes x e =
+    nested_stops join_next (stream_next judge.decide)
+    (λ j. record { messages = messages; joining = j }) (recorded judge.decide messages)
+    (λ s byte. refl) bytes Between x e
 
-records_run : {M : Type 0} (judge : Judged M) (bodies : List (List ℕ)) (before messages : List M) (stream : List ℕ) → Marks stream bodies → AreMessages judge.says before bodies messages
-    → after (stream_next judge.decide) (Runs (record { messages = before; joining = Between })) stream ≡ Runs (record { messages = before ++ messages; joining = Between })
+records_run : {M : Type 0} (judge : Judged M) (bodies : List (List ℕ)) (before messages : List M)
+    (stream : List ℕ) → Marks stream bodies → AreMessages judge.says before bodies messages
+    → after (stream_next judge.decide) (Runs (record { messages = before; joining = Between }))
+    stream ≡ Runs (record { messages = before ++ messages; joining = Between })
 records_run judge [] before messages stream h j =
     ap (after (stream_next judge.decide) (Runs (record { messages = before; joining = Between }))) h
-    ∙ ap (λ ms. Runs (record { messages = ms; joining = Between })) (sym (append-nil before) ∙ ap (λ ms. before ++ ms) (sym j))
+    ∙ ap (λ ms. Runs (record { messages = ms; joining = Between }))
+    (sym (append-nil before) ∙ ap (λ ms. before ++ ms) (sym j))
 records_run judge (body ∷ bodies) before messages stream h j =
-    ap (after (stream_next judge.decide) (Runs (record { messages = before; joining = Between }))) h.2
-    ∙ after-append (stream_next judge.decide) (Runs (record { messages = before; joining = Between })) h.0 h.1
-    ∙ ap (λ r. after (stream_next judge.decide) r h.1) (record_closes judge before h.0 (Whole body) (record_stops h.0 body h.3) ∙ ap (λ r. landed (judged before r)) (judge.accepts before body j.0 j.3))
+    ap (after (stream_next judge.decide) (Runs (record { messages = before; joining = Between })))
+    h.2
+    ∙ after-append (stream_next judge.decide)
+    (Runs (record { messages = before; joining = Between })) h.0 h.1
+    ∙ ap (λ r. after (stream_next judge.decide) r h.1) (record_closes judge before h.0 (Whole body)
+    (record_stops h.0 body h.3)
+    ∙ ap (λ r. landed (judged before r)) (judge.accepts before body j.0 j.3))
     ∙ records_run judge bodies (before ++ j.0 ∷ []) j.1 h.1 h.4 j.4
-    ∙ ap (λ ms. Runs (record { messages = ms; joining = Between })) (append_assoc before (j.0 ∷ []) j.1 ∙ ap (λ ms. before ++ ms) (sym j.2))
+    ∙ ap (λ ms. Runs (record { messages = ms; joining = Between }))
+    (append_assoc before (j.0 ∷ []) j.1 ∙ ap (λ ms. before ++ ms) (sym j.2))
 
 -- after whole records the machine stands between two
-pub held_runs : {M : Type 0} (judge : Judged M) (stream : List ℕ) (messages : List M) → Holds judge.says stream messages → after (stream_next judge.decide) (Runs unread) stream ≡ Runs (record { messages = messages; joining = Between })
+pub held_runs : {M : Type 0} (judge : Judged M) (stream : List ℕ) (messages : List M)
+    → Holds judge.says stream messages
+    → after (stream_next judge.decide) (Runs unread) stream
+    ≡ Runs (record { messages = messages; joining = Between })
 held_runs judge stream messages holds = records_run judge holds.0 [] messages stream holds.1 holds.2
 
-later : {M : Type 0} (judge : Judged M) (stream front last : List ℕ) (messages : List M) → stream ≡ front ++ last → Holds judge.says front messages
-    → after (stream_next judge.decide) (Runs unread) stream ≡ after (stream_next judge.decide) (Runs (record { messages = messages; joining = Between })) last
+later : {M : Type 0} (judge : Judged M) (stream front last : List ℕ) (messages : List M)
+    → stream ≡ front ++ last → Holds judge.says front messages
+    → after (stream_next judge.decide) (Runs unread) stream
+    ≡ after (stream_next judge.decide)
+    (Runs (record { messages = messages; joining = Between })) last
 later judge stream front last messages split holds =
-    ap (after (stream_next judge.decide) (Runs unread)) split ∙ after-append (stream_next judge.decide) (Runs unread) front last
+    ap (after (stream_next judge.decide) (Runs unread)) split
+    ∙ after-append (stream_next judge.decide) (Runs unread) front last
     ∙ ap (λ r. after (stream_next judge.decide) r last) (held_runs judge front messages holds)
 
-pub stream_runs : {M : Type 0} (judge : Judged M) (stream : List ℕ) (s : Reading M) → HasRead judge.says stream s → after (stream_next judge.decide) (Runs unread) stream ≡ Runs s
+pub stream_runs : {M : Type 0} (judge : Judged M) (stream : List ℕ) (s : Reading M)
+    → HasRead judge.says stream s → after (stream_next judge.decide) (Runs unread) stream ≡ Runs s
 stream_runs judge stream s h =
     later judge stream h.front h.last s.messages h.split h.holds
-    ∙ nested_runs join_next (stream_next judge.decide) (λ j. record { messages = s.messages; joining = j }) (recorded judge.decide s.messages) (λ j byte. refl) h.last Between s.joining (joining_runs h.last s.joining h.joined)
+    ∙ nested_runs join_next (stream_next judge.decide)
+    (λ j. record { messages = s.messages; joining = j }) (recorded judge.decide s.messages)
+    (λ j byte. refl) h.last Between s.joining (joining_runs h.last s.joining h.joined)
 
 -- at the last byte of a record that is refused
-pub refusal_stops : {M : Type 0} (judge : Judged M) (stream : List ℕ) (fault : RecordFault) → RefusesRecord judge.says stream fault → after (stream_next judge.decide) (Runs unread) stream ≡ Stops fault
+pub refusal_stops : {M : Type 0} (judge : Judged M) (stream : List ℕ) (fault : RecordFault)
+    → RefusesRecord judge.says stream fault
+    → after (stream_next judge.decide) (Runs unread) stream ≡ Stops fault
 refusal_stops judge stream fault h =
     later judge stream h.front h.last h.messages h.split h.holds
     ∙ record_closes judge h.messages h.last (Whole h.body) (record_stops h.last h.body h.whole)
@@ -141,16 +243,27 @@ has_joined last body (inl none) = (Between, none.0)
 has_joined last body (inr (inl o)) = (Header body o.0, o.1)
 has_joined last body (inr (inr o)) = (Bytes body o.0 o.1, o.2)
 
-pub is_unfinished : (last : List ℕ) (j : Joining) → HasJoined last j → IsUnfinished last (joined_body j)
+pub is_unfinished : (last : List ℕ) (j : Joining) → HasJoined last j
+    → IsUnfinished last (joined_body j)
 is_unfinished last Between h = inl (h, refl)
 is_unfinished last (Header body part) h = inr (inl (part, h))
 is_unfinished last (Bytes body l left) h = inr (inr (l, left, h))
 
-pub has_read : {M : Type 0} (judge : Judgement M) (stream : List ℕ) (messages : List M) → HoldsSoFar judge stream messages → (j : Joining) × HasRead judge stream (record { messages = messages; joining = j })
+pub has_read : {M : Type 0} (judge : Judgement M) (stream : List ℕ) (messages : List M)
+    → HoldsSoFar judge stream messages
+    → (j : Joining) × HasRead judge stream (record { messages = messages; joining = j })
 has_read judge stream messages h =
     let j = has_joined h.last h.body h.unfinished in
     (j.0, record { front = h.front; last = h.last; split = h.split; holds = h.holds; joined = j.1 })
 
-pub holds_so_far : {M : Type 0} (judge : Judgement M) (stream : List ℕ) (s : Reading M) → HasRead judge stream s → HoldsSoFar judge stream s.messages
+pub holds_so_far : {M : Type 0} (judge : Judgement M) (stream : List ℕ) (s : Reading M)
+    → HasRead judge stream s → HoldsSoFar judge stream s.messages
 holds_so_far judge stream s h =
-    record { front = h.front; last = h.last; body = joined_body s.joining; split = h.split; holds = h.holds; unfinished = is_unfinished h.last s.joining h.joined }
+    record {
+      front = h.front;
+      last = h.last;
+      body = joined_body s.joining;
+      split = h.split;
+      holds = h.holds;
+      unfinished = is_unfinished h.last s.joining h.joined;
+    }

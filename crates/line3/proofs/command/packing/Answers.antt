@@ -5,24 +5,32 @@ use Rattle.line3.proofs.command.packing.Goals as goal
 
 pub returns-then-contains-clause-refused : goal.returns-then-contains-clause-refused
 returns-then-contains-clause-refused c = λ program.
-    let many : length (map string_bytes c.args.streams.now) ≡ length c.args.streams.now = length-map c.args.streams.now string_bytes in
+    let many : length (map string_bytes c.args.streams.now) ≡ length c.args.streams.now =
+    length-map c.args.streams.now string_bytes in
     inr (record {
       output = _;
       streams = _;
       line = record { program = program; all = refl };
       paired = ap (λ n. n % 2) many ∙ c.if-streams-ne0.false;
-      own = among c.args.streams.now c.args.output.now (sym c.contains.ensures.value ∙ c.if-contains.true);
+      own =
+          among c.args.streams.now c.args.output.now
+          (sym c.contains.ensures.value ∙ c.if-contains.true);
     })
 
 pub returns-else-contains-clause-asked : goal.returns-else-contains-clause-asked
 returns-else-contains-clause-asked c = λ program.
-    let many : length (map string_bytes c.args.streams.now) ≡ length c.args.streams.now = length-map c.args.streams.now string_bytes in
+    let many : length (map string_bytes c.args.streams.now) ≡ length c.args.streams.now =
+    length-map c.args.streams.now string_bytes in
     let low : 2 ≤ length c.args.streams.now = c.requires in
-    let none = not_among c.args.streams.now c.args.output.now (sym c.contains.ensures.value ∙ c.if-contains.false) in (
+    let none =
+    not_among c.args.streams.now c.args.output.now
+    (sym c.contains.ensures.value ∙ c.if-contains.false) in (
       record { program = program; all = cc },
       record {
         paired = ap (λ n. n % 2) many ∙ c.if-streams-ne0.false;
         some = omega (arith, many, low);
-        distinct = subst (λ (t : List ℕ). Contains (map string_bytes c.args.streams.now) t → ⊥) (sym c.as_str.ensures.value) none;
+        distinct =
+            subst (λ (t : List ℕ). Contains (map string_bytes c.args.streams.now) t → ⊥)
+            (sym c.as_str.ensures.value) none;
       },
     )

@@ -1,6 +1,4 @@
-use Rattle.std.proofs.Common.{refl}
-use Rattle.std.specs.Fmt.{digits}
-use Rattle.hex.specs.Hex.{encode_with}
+use Rattle.listing3.proofs.Common.{refl, digits, encode_with}
 use Rattle.listing3.proofs.examples.raw_lines.Goals as goal
 
 pub returns : goal.returns

@@ -1,6 +1,4 @@
-use Rattle.std.proofs.Common.{◌≡◌, true, take}
-use Rattle.std.specs.List.{flat_map}
-use Rattle.listing3.specs.Listing.{quoted_byte}
+use Rattle.listing3.proofs.Common.{◌≡◌, true, take, flat_map, quoted_byte}
 use Rattle.listing3.proofs.room.are_plain.Given as goal
 
 abbrev pub invariant-loop-i : goal.invariant-loop-i

@@ -1,12 +1,13 @@
-use Rattle.std.proofs.Common.{rules, sym, ap, subst, ◌∙◌}
+use Rattle.listing3.proofs.Common.{rules, sym, ap, subst, ◌∙◌, lower_digits, AreHalves}
 use Rattle.std.specs.Prelude.{map, slice_index}
-use Rattle.hex.specs.Hex.{lower_digits}
-use Rattle.listing3.specs.machinery.Halves.{AreHalves}
 use Rattle.listing3.proofs.Halves.{digits_of_halves, halves_below}
 use Rattle.listing3.proofs.room.encode.Goals as goal
 
 pub spell-requires : goal.spell-requires
-spell-requires c = subst AreHalves (sym c.split.ensures) (halves_below c.args.bytes.now (search rules))
+spell-requires c =
+    subst AreHalves (sym c.split.ensures) (halves_below c.args.bytes.now (search rules))
 
 pub returns : goal.returns
-returns c = c.spell.ensures ∙ ap (map (slice_index lower_digits)) c.split.ensures ∙ digits_of_halves c.args.bytes.now (search rules)
+returns c =
+    c.spell.ensures ∙ ap (map (slice_index lower_digits)) c.split.ensures
+    ∙ digits_of_halves c.args.bytes.now (search rules)

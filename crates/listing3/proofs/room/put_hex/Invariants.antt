@@ -1,6 +1,4 @@
-use Rattle.std.proofs.Common.{◌≡◌, ◌≤◌, ◌+◌, ◌*◌, ◌++◌, length, take}
-use Rattle.std.specs.Slice.Iter.{chunks_rest, chunks_size}
-use Rattle.hex.specs.Hex.{encode_lower}
+use Rattle.listing3.proofs.Common.{◌≡◌, ◌≤◌, ◌+◌, ◌*◌, ◌++◌, length, take, encode_lower, chunks_rest, chunks_size}
 use Rattle.listing3.proofs.room.put_hex.Given as goal
 
 abbrev pub invariant-loop-piece : goal.invariant-loop-piece
@@ -8,7 +6,8 @@ invariant-loop-piece l = record {
   next : goal.iterator-loop-piece.can_next l.piece-iterator;
   finite : goal.iterator-loop-piece.is_finite l.piece-iterator;
   size : chunks_size l.piece-iterator ≡ 512;
-  text : take l.end l.room ++ encode_lower (chunks_rest l.piece-iterator) ≡ take l.fn.at l.fn.room ++ encode_lower l.fn.bytes;
+  text : take l.end l.room ++ encode_lower (chunks_rest l.piece-iterator)
+      ≡ take l.fn.at l.fn.room ++ encode_lower l.fn.bytes;
   kept : take l.fn.at l.room ≡ take l.fn.at l.fn.room;
   after : l.fn.at ≤ l.end;
   left : l.end + 2 * length (chunks_rest l.piece-iterator) ≡ l.fn.at + 2 * length l.fn.bytes;

@@ -1,5 +1,4 @@
-use Rattle.std.proofs.Common.{◌∙◌, arith}
-use Rattle.std.proofs.lemmas.Grind.{common_steps}
+use Rattle.listing3.proofs.Common.{◌∙◌, arith, common_steps}
 use Rattle.listing3.proofs.Rooms.{kept_below}
 use Rattle.listing3.proofs.room.put_inside.Goals as goal
 

@@ -4,4 +4,5 @@ use Rattle.listing3.proofs.room.put_long.Goals as goal
 
 pub returns-clause-written : goal.returns-clause-written
 returns-clause-written c =
-    after_digits _ _ _ _ _ _ c.put_eight.ensures.written c.put_front-end.ensures.written (decimal_eight c.args.n (omega arith) (omega arith))
+    after_digits _ _ _ _ _ _ c.put_eight.ensures.written c.put_front-end.ensures.written
+    (decimal_eight c.args.n (omega arith) (omega arith))

@@ -1,14 +1,18 @@
-use Rattle.std.proofs.Common.{◌≡◌, ℕ, List, ◌++◌, length, take, ap, sym, ◌∙◌}
-use Rattle.std.specs.List.{flat_map}
+use Rattle.listing3.proofs.Common.{◌≡◌, ℕ, List, ◌++◌, length, take, ap, sym, ◌∙◌, flat_map, quoted_byte}
 use Rattle.std.proofs.Math.Seq.{take-length}
-use Rattle.listing3.specs.Listing.{quoted_byte}
 use Rattle.listing3.proofs.room.put_piece.Goals as goal
 
 -- a piece of plain bytes was written
-plain_piece : (now start bytes piece : List ℕ) → length bytes ≡ 8 → piece ≡ take 8 bytes → flat_map quoted_byte bytes ≡ bytes → now ≡ start ++ piece → now ≡ start ++ flat_map quoted_byte bytes
+plain_piece : (now start bytes piece : List ℕ) → length bytes ≡ 8 → piece ≡ take 8 bytes
+    → flat_map quoted_byte bytes ≡ bytes → now ≡ start ++ piece
+    → now ≡ start ++ flat_map quoted_byte bytes
 plain_piece now start bytes piece long is plain put =
-    put ∙ ap (λ (l : List ℕ). start ++ l) (is ∙ ap (λ (n : ℕ). take n bytes) (sym long) ∙ take-length bytes ∙ sym plain)
+    put
+    ∙ ap (λ (l : List ℕ). start ++ l)
+    (is ∙ ap (λ (n : ℕ). take n bytes) (sym long) ∙ take-length bytes ∙ sym plain)
 
 pub returns-then-are_plain-clause-written : goal.returns-then-are_plain-clause-written
 returns-then-are_plain-clause-written c =
-    plain_piece (take c.put_bytes.result c.put_bytes.new.room) (take c.args.at c.args.room.now) c.args.bytes.now c.block.result c.if-bytes-eq-PIECE.true c.block.ensures (c.are_plain.ensures c.if-are_plain.true) c.put_bytes.ensures.written
+    plain_piece (take c.put_bytes.result c.put_bytes.new.room) (take c.args.at c.args.room.now)
+    c.args.bytes.now c.block.result c.if-bytes-eq-PIECE.true c.block.ensures
+    (c.are_plain.ensures c.if-are_plain.true) c.put_bytes.ensures.written

@@ -1,8 +1,4 @@
-use Rattle.std.proofs.Common.{◌≡◌, ◌≤◌, [], ◌∷◌, ◌++◌, take}
-use Rattle.std.specs.List.{flat_map}
-use Rattle.std.specs.Prelude.{vec_len}
-use Rattle.std.specs.Slice.Iter.{chunks_rest, chunks_size}
-use Rattle.listing3.specs.Listing.{quoted_byte}
+use Rattle.listing3.proofs.Common.{◌≡◌, ◌≤◌, [], ◌∷◌, ◌++◌, take, flat_map, quoted_byte, vec_len, chunks_rest, chunks_size}
 use Rattle.listing3.proofs.room.put_pieces.Given as goal
 
 abbrev pub invariant-loop-piece : goal.invariant-loop-piece
@@ -10,7 +6,8 @@ invariant-loop-piece l = record {
   next : goal.iterator-loop-piece.can_next l.piece-iterator;
   finite : goal.iterator-loop-piece.is_finite l.piece-iterator;
   size : chunks_size l.piece-iterator ≡ 8;
-  text : take l.end l.room.items ++ flat_map quoted_byte (chunks_rest l.piece-iterator) ≡ (take l.fn.at l.fn.room.items ++ 34 ∷ []) ++ flat_map quoted_byte l.fn.bytes;
+  text : take l.end l.room.items ++ flat_map quoted_byte (chunks_rest l.piece-iterator)
+      ≡ (take l.fn.at l.fn.room.items ++ 34 ∷ []) ++ flat_map quoted_byte l.fn.bytes;
   kept : take l.fn.at l.room.items ≡ take l.fn.at l.fn.room.items;
   after : l.fn.at ≤ l.end;
   within : l.end ≤ vec_len l.room;

@@ -1,5 +1,4 @@
-use Rattle.std.proofs.Common.{◌≡◌, take, drop, slice_index, map, length}
-use Rattle.hex.specs.Hex.{lower_digits}
+use Rattle.listing3.proofs.Common.{◌≡◌, take, drop, slice_index, map, length, lower_digits}
 use Rattle.listing3.proofs.room.spell.Given as goal
 
 abbrev pub invariant-loop-i : goal.invariant-loop-i

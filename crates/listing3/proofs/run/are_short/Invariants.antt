@@ -1,6 +1,4 @@
-use Rattle.std.proofs.Common.{◌≡◌, true, take}
-use Rattle.std.specs.List.{All}
-use Rattle.listing3.specs.machinery.Fields.{HasShortName}
+use Rattle.listing3.proofs.Common.{◌≡◌, true, take, All, HasShortName}
 use Rattle.listing3.proofs.run.are_short.Given as goal
 
 abbrev pub invariant-loop-field : goal.invariant-loop-field

@@ -1,13 +1,11 @@
-use Rattle.std.proofs.Common.{◌≡◌, ◌≤◌, ◌++◌, length, take, drop}
-use Rattle.std.specs.Prelude.{vec_len}
-use Rattle.xdr3.specs.Plain.{run_items, run_size}
-use Rattle.listing3.specs.Listing.{shown_items}
+use Rattle.listing3.proofs.Common.{◌≡◌, ◌≤◌, ◌++◌, length, take, drop, shown_items, vec_len, run_items, run_size}
 use Rattle.listing3.proofs.run.put_each.Given as goal
 
 abbrev pub invariant-loop-field : goal.invariant-loop-field
 invariant-loop-field l = record {
   size : length l.rest ≡ run_size (drop l.field-index l.fields);
-  text : take l.end l.room.items ++ shown_items (run_items (drop l.field-index l.fields) l.rest) ≡ take l.fn.at l.fn.room.items ++ shown_items (run_items l.fields l.bytes);
+  text : take l.end l.room.items ++ shown_items (run_items (drop l.field-index l.fields) l.rest)
+      ≡ take l.fn.at l.fn.room.items ++ shown_items (run_items l.fields l.bytes);
   within : l.end ≤ vec_len l.room;
   len : vec_len l.fn.room ≤ vec_len l.room;
 }

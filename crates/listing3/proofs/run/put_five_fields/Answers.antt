@@ -1,15 +1,19 @@
-use Rattle.std.proofs.Common.{◌-◌, ◌∙◌, ap₂, ◌+◌, length, take, drop}
-use Rattle.std.proofs.lemmas.List.{take_rest}
+use Rattle.listing3.proofs.Common.{◌-◌, ◌∙◌, ap₂, ◌+◌, length, take, drop, take_rest}
 use Rattle.listing3.proofs.Runs.{both_sizes, cut_at, part_after}
 use Rattle.listing3.proofs.run.put_five_fields.Goals as goal
 
 pub returns-clause-size : goal.returns-clause-size
 returns-clause-size c =
     let fields = c.args.fields.now in
-    ap₂ (λ a b. a + b) c.put_four_fields-end.ensures.size c.put_one_field-last.ensures.size ∙ both_sizes fields (take 4 fields) (take (length fields - 4) (drop 4 fields)) (cut_at 4 fields)
+    ap₂ (λ a b. a + b) c.put_four_fields-end.ensures.size c.put_one_field-last.ensures.size
+    ∙ both_sizes fields (take 4 fields) (take (length fields - 4) (drop 4 fields))
+    (cut_at 4 fields)
 
 pub returns-clause-written : goal.returns-clause-written
 returns-clause-written c =
     let fields = c.args.fields.now in
-    part_after _ _ _ fields (take 4 fields) (take (length fields - 4) (drop 4 fields)) c.args.bytes.now _ c.put_four_fields-end.result.1 (cut_at 4 fields) c.put_four_fields-end.ensures.size
-    (take_rest c.args.bytes.now c.put_four_fields-end.result.1) c.put_four_fields-end.ensures.written c.put_one_field-last.ensures.written
+    part_after _ _ _ fields (take 4 fields) (take (length fields - 4) (drop 4 fields))
+    c.args.bytes.now _ c.put_four_fields-end.result.1 (cut_at 4 fields)
+    c.put_four_fields-end.ensures.size
+    (take_rest c.args.bytes.now c.put_four_fields-end.result.1)
+    c.put_four_fields-end.ensures.written c.put_one_field-last.ensures.written

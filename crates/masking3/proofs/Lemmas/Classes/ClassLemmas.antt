@@ -1,16 +1,8 @@
 -- Classes, their places, and their values.
-use Rattle.std.proofs.Common.{◌≡◌, ◌≢◌, ℕ, List, [], ◌++◌, refl, sym, ap, ◌∙◌, subst, append-nil}
+use Rattle.masking3.proofs.Common.{◌≡◌, ◌≢◌, ℕ, List, [], ◌++◌, refl, sym, ap, ◌∙◌, subst, append-nil, Decides-eqb, by_test, Class, Number, Ways, position, value_where, way_of}
 use Rattle.std.specs.Prelude.{◌==◌, if◌then◌else◌, get_or, slice_set, Option, None, Some}
-use Rattle.std.proofs.lemmas.Bool.Decides.{Decides-eqb}
 use Rattle.std.proofs.lemmas.List.{get_or-set_other}
-use Rattle.canon3.proofs.Lemmas.Numbers.RankLemmas.{by_test}
-use Rattle.masking3.specs.declared.class.Class.{Class}
 use Rattle.masking3.specs.declared.class.Class.TheVariants.{Times, Stamps, Space, Ids, Fsids, Cookies, CookieVerifiers, CreateVerifiers, Owners, Wcc}
-use Rattle.masking3.specs.declared.ways.Way.TheVariants.{Number}
-use Rattle.masking3.specs.declared.ways.Ways.{Ways}
-use Rattle.masking3.specs.Classes.{position}
-use Rattle.masking3.specs.Masked.{value_where}
-use Rattle.masking3.specs.Ways.{way_of}
 use Rattle.masking3.specs.machinery.ClassTables.{HoldsAt, HoldsValues, no_values, with_one}
 
 -- ---- places
@@ -41,7 +33,8 @@ class_back CreateVerifiers = refl
 class_back Owners = refl
 class_back Wcc = refl
 
-pub for_each : (P : Class → Type 0) → P Times → P Stamps → P Space → P Ids → P Fsids → P Cookies → P CookieVerifiers → P CreateVerifiers → P Owners → P Wcc → (c : Class) → P c
+pub for_each : (P : Class → Type 0) → P Times → P Stamps → P Space → P Ids → P Fsids → P Cookies
+    → P CookieVerifiers → P CreateVerifiers → P Owners → P Wcc → (c : Class) → P c
 for_each P a b c d e f g h i j Times = a
 for_each P a b c d e f g h i j Stamps = b
 for_each P a b c d e f g h i j Space = c
@@ -59,51 +52,83 @@ same_class c d e = sym (class_back c) ∙ (ap class_at e ∙ class_back d)
 -- ---- values
 
 pub none_of_other : (c d : Class) (n : ℕ) → c ≢ d → value_where c (Some d) n ≡ []
-none_of_other c d n ne = by_test (position c == position d) (λ t. absurd (ne (same_class c d ((Decides-eqb (position c) (position d)).0 t)))) (λ f. rw f refl)
+none_of_other c d n ne =
+    by_test (position c == position d)
+    (λ t. absurd (ne (same_class c d ((Decides-eqb (position c) (position d)).0 t))))
+    (λ f. rw f refl)
 
 -- two are equal if they are for each class
-pub seen_alike : (first second : Class → List ℕ) → ((d : Class) → first d ≡ second d) → first ≡ second
+pub seen_alike : (first second : Class → List ℕ) → ((d : Class) → first d ≡ second d)
+    → first ≡ second
 seen_alike first second e = λ i. λ d. e d i
 
 -- ---- tables
 
-module _ (ways : Ways) (old new : List (List ℕ)) (seen : Class → List ℕ) (own : Option Class) (n : ℕ) where
-  holds_more : ((c : Class) → way_of ways c ≡ Number → HoldsAt old (position c) (seen c) → HoldsAt new (position c) (seen c ++ value_where c own n)) → HoldsValues ways old seen → HoldsValues ways new (with_one seen own n)
+module _ (ways : Ways) (old new : List (List ℕ)) (seen : Class → List ℕ) (own : Option Class)
+    (n : ℕ) where
+  holds_more : ((c : Class) → way_of ways c ≡ Number → HoldsAt old (position c) (seen c)
+      → HoldsAt new (position c) (seen c ++ value_where c own n))
+      → HoldsValues ways old seen → HoldsValues ways new (with_one seen own n)
   holds_more step held c numbered = step c numbered (held c numbered)
 
-module _ (ways : Ways) (tables : List (List ℕ)) (seen : Class → List ℕ) (own : Option Class) (n : ℕ) where
-  holds_still : ((c : Class) → way_of ways c ≡ Number → value_where c own n ≡ []) → HoldsValues ways tables seen → HoldsValues ways tables (with_one seen own n)
-  holds_still none = holds_more ways tables tables seen own n (λ c numbered held. subst (HoldsAt tables (position c)) (sym (ap (λ (l : List ℕ). seen c ++ l) (none c numbered) ∙ append-nil (seen c))) held)
+module _ (ways : Ways) (tables : List (List ℕ)) (seen : Class → List ℕ) (own : Option Class)
+    (n : ℕ) where
+  holds_still : ((c : Class) → way_of ways c ≡ Number → value_where c own n ≡ [])
+      → HoldsValues ways tables seen → HoldsValues ways tables (with_one seen own n)
+  holds_still none =
+      holds_more ways tables tables seen own n (λ c numbered held.
+      subst (HoldsAt tables (position c))
+      (sym (ap (λ (l : List ℕ). seen c ++ l) (none c numbered) ∙ append-nil (seen c)))
+      held)
 
   -- of no class
-  pub holds_without : own ≡ None → HoldsValues ways tables seen → HoldsValues ways tables (with_one seen own n)
+  pub holds_without : own ≡ None → HoldsValues ways tables seen
+      → HoldsValues ways tables (with_one seen own n)
   holds_without none = holds_still (λ c numbered. ap (λ o. value_where c o n) none)
 
   -- of a class that is not numbered
-  pub holds_unnumbered : (d : Class) → own ≡ Some d → way_of ways d ≢ Number → HoldsValues ways tables seen → HoldsValues ways tables (with_one seen own n)
-  holds_unnumbered d is not = holds_still (λ c numbered. ap (λ o. value_where c o n) is ∙ none_of_other c d n (λ e. not (subst (λ k. way_of ways k ≡ Number) e numbered)))
+  pub holds_unnumbered : (d : Class) → own ≡ Some d → way_of ways d ≢ Number
+      → HoldsValues ways tables seen → HoldsValues ways tables (with_one seen own n)
+  holds_unnumbered d is not =
+      holds_still (λ c numbered.
+      ap (λ o. value_where c o n) is
+      ∙ none_of_other c d n (λ e. not (subst (λ k. way_of ways k ≡ Number) e numbered)))
 
 -- of a class that is numbered, and its table was given the value
-pub holds_numbered : (ways : Ways) (old new : List (List ℕ)) (seen : Class → List ℕ) (own : Option Class) (n : ℕ) (d : Class) → own ≡ Some d
+pub holds_numbered : (ways : Ways) (old new : List (List ℕ)) (seen : Class → List ℕ)
+    (own : Option Class) (n : ℕ) (d : Class) → own ≡ Some d
     → HoldsAt new (position d) (seen d ++ value_where d (Some d) n)
     → ((place : ℕ) → place ≢ position d → get_or new place [] ≡ get_or old place [])
     → HoldsValues ways old seen → HoldsValues ways new (with_one seen own n)
 holds_numbered ways old new seen own n d is given others = holds_more ways old new seen own n step
   where
-    same_or_other : (c : Class) → HoldsAt old (position c) (seen c) → HoldsAt new (position c) (seen c ++ value_where c (Some d) n)
+    same_or_other : (c : Class) → HoldsAt old (position c) (seen c)
+        → HoldsAt new (position c) (seen c ++ value_where c (Some d) n)
     same_or_other c held = by_test (position c == position d)
-        (λ t. subst (λ k. HoldsAt new (position k) (seen k ++ value_where k (Some d) n)) (sym (same_class c d ((Decides-eqb (position c) (position d)).0 t))) given)
-        (λ f. let apart : position c ≢ position d = λ e. absurd (cc (f, (Decides-eqb (position c) (position d)).1 e)) in
-        let none : value_where c (Some d) n ≡ [] = none_of_other c d n (λ e. apart (ap position e)) in
-        subst (HoldsAt new (position c)) (sym (ap (λ (l : List ℕ). seen c ++ l) none ∙ append-nil (seen c))) (others (position c) apart ∙ held))
+        (λ t.
+        subst (λ k. HoldsAt new (position k) (seen k ++ value_where k (Some d) n))
+        (sym (same_class c d ((Decides-eqb (position c) (position d)).0 t))) given)
+        (λ f. let apart : position c ≢ position d = λ e.
+        absurd (cc (f, (Decides-eqb (position c) (position d)).1 e)) in
+        let none : value_where c (Some d) n ≡ [] =
+        none_of_other c d n (λ e. apart (ap position e)) in
+        subst (HoldsAt new (position c))
+        (sym (ap (λ (l : List ℕ). seen c ++ l) none ∙ append-nil (seen c)))
+        (others (position c) apart ∙ held))
 
-    step : (c : Class) → way_of ways c ≡ Number → HoldsAt old (position c) (seen c) → HoldsAt new (position c) (seen c ++ value_where c own n)
-    step c numbered held = subst (λ o. HoldsAt new (position c) (seen c ++ value_where c o n)) (sym is) (same_or_other c held)
+    step : (c : Class) → way_of ways c ≡ Number → HoldsAt old (position c) (seen c)
+        → HoldsAt new (position c) (seen c ++ value_where c own n)
+    step c numbered held =
+        subst (λ o. HoldsAt new (position c) (seen c ++ value_where c o n)) (sym is)
+        (same_or_other c held)
 
 -- before a capture
-pub holds_none : (ways : Ways) (tables : List (List ℕ)) → ((c : Class) → get_or tables (position c) [] ≡ []) → HoldsValues ways tables no_values
+pub holds_none : (ways : Ways) (tables : List (List ℕ))
+    → ((c : Class) → get_or tables (position c) [] ≡ []) → HoldsValues ways tables no_values
 holds_none ways tables none c numbered = none c
 
 -- no other table has changed
-pub others_stay : (old new : List (List ℕ)) (i place : ℕ) (table : List ℕ) → new ≡ slice_set old i table → place ≢ i → get_or new place [] ≡ get_or old place []
-others_stay old new i place table is other = ap (λ (l : List (List ℕ)). get_or l place []) is ∙ get_or-set_other old i place table [] other
+pub others_stay : (old new : List (List ℕ)) (i place : ℕ) (table : List ℕ)
+    → new ≡ slice_set old i table → place ≢ i → get_or new place [] ≡ get_or old place []
+others_stay old new i place table is other =
+    ap (λ (l : List (List ℕ)). get_or l place []) is ∙ get_or-set_other old i place table [] other

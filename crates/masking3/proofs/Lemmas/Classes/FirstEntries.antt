@@ -1,27 +1,10 @@
--- The first entries of a well-formed file have xids of no class, and room for the numbers of their values.
-use Rattle.std.proofs.Common.{◌<◌, ◌^◌, List, [], ◌∷◌, ◌++◌, length, map, sym, subst, arith, ap, ◌∙◌}
-use Rattle.std.specs.List.{AllByRecursion}
-use Rattle.xdr3.specs.Item.{Item, Word, Hyper, Fixed, WriteVerf, Opaque, Rest}
-use Rattle.capture3.specs.Bodies.{ReplyItems}
-use Rattle.capture3.specs.Entry.{Entry, Begin, Call, Turn, Reply, Close, End}
-use Rattle.canon3.specs.Bytes.{bytes_of}
-use Rattle.canon3.specs.Laws.{AreFirst}
-use Rattle.canon3.specs.Renaming.{Same}
-use Rattle.canon3.proofs.Lemmas.WellFormed.Conversations.{IsSpelledCall, IsSpelledReply}
+-- The first entries of a well-formed file have xids of no class, and room for the numbers of their
+-- values.
+use Rattle.masking3.proofs.Common.{◌<◌, ◌^◌, List, [], ◌∷◌, ◌++◌, length, map, sym, subst, arith, ap, ◌∙◌, AllByRecursion, Item, Word, Hyper, Fixed, WriteVerf, Opaque, Rest, Entry, Begin, Call, Turn, Reply, Close, End, AreFirst, Same, all_entries, holds, is_headed_call, is_headed_reply, Class, Way, Keep, Zero, Number, Ways, masked, masked_values, values, with_text, ReplyItems, bytes_of, IsSpelledCall, IsSpelledReply, SameBut, named_by, names_by, unnamed_items}
 use Rattle.canon3.proofs.Lemmas.Renaming.Equality.{same_reflexive, same_symmetric, same_transitive}
-use Rattle.canon3.proofs.Lemmas.WellFormed.Files.{all_entries, holds}
 use Rattle.canon3.proofs.Lemmas.Order.First.{first_in_order, same_from_bytes}
-use Rattle.canon3.proofs.Lemmas.WellFormed.Messages.{is_headed_call, is_headed_reply}
 use Rattle.canon3.proofs.Lemmas.Canonical.OneFormLemmas.{canonical-same}
-use Rattle.masking3.specs.declared.class.Class.{Class}
-use Rattle.masking3.specs.declared.ways.Way.{Way}
-use Rattle.masking3.specs.declared.ways.Way.TheVariants.{Keep, Zero, Number}
-use Rattle.masking3.specs.declared.ways.Ways.{Ways}
 use Rattle.masking3.specs.Laws.{MaskedBytesDecide, MaskedFormsDecide}
-use Rattle.masking3.specs.Masked.{masked, masked_values, values}
-use Rattle.masking3.specs.SameBut.{SameBut}
-use Rattle.masking3.specs.Texts.{with_text}
-use Rattle.masking3.specs.Unnamed.{named_by, names_by, unnamed_items}
 use Rattle.masking3.proofs.Lemmas.Classes.FewValues.{few_of_first}
 use Rattle.masking3.proofs.Lemmas.Classes.SpotLemmas.{xid_free}
 use Rattle.masking3.proofs.Lemmas.Masked.MaskedFiles.{masked_is_file}
@@ -36,14 +19,17 @@ free_call m s = let h = is_headed_call m s.0.0 in subst StartsFree (sym h.is) xi
 free_reply : (r : ReplyItems) → IsSpelledReply r → StartsFree r.items
 free_reply r s = let h = is_headed_reply r.id r.items s.0.0 in subst StartsFree (sym h.is) xid_free
 
-pub all_in_front : (P : Entry → Type 0) (a b : List Entry) → AllByRecursion P (a ++ b) → AllByRecursion P a
+pub all_in_front : (P : Entry → Type 0) (a b : List Entry) → AllByRecursion P (a ++ b)
+    → AllByRecursion P a
 all_in_front P [] b h = tt
 all_in_front P (e ∷ a) b h = (h.0, all_in_front P a b h.1)
 
 xids_free : (a : List Entry) → AreFirst a → AllByRecursion HasFreeXid a
 xids_free a first =
     let h = holds first.file first.all first.typed in
-    let all : AllByRecursion HasFreeXid first.all = subst (AllByRecursion HasFreeXid) (sym h.is) (all_entries HasFreeXid free_call free_reply tt tt tt tt h.cs h.are.converse) in
+    let all : AllByRecursion HasFreeXid first.all =
+    subst (AllByRecursion HasFreeXid) (sym h.is)
+    (all_entries HasFreeXid free_call free_reply tt tt tt tt h.cs h.are.converse) in
     all_in_front HasFreeXid a first.more (subst (AllByRecursion HasFreeXid) first.split all)
 
 pub room_of : (a : List Entry) → AreFirst a → (d : Class) → length (values a d) < 2 ^ 64
@@ -75,10 +61,12 @@ module _ (by : Ways) where
   texts_free (Opaque kind name b ∷ m) f = absurd f
   texts_free (Rest name b ∷ m) f = absurd f
 
-  free_names : (a : List Entry) → AllByRecursion HasFreeXid a → AllByRecursion HasFreeXid (names_by by a)
+  free_names : (a : List Entry) → AllByRecursion HasFreeXid a
+      → AllByRecursion HasFreeXid (names_by by a)
   free_names [] h = tt
   free_names (Begin ∷ a) h = (tt, free_names a h.1)
-  free_names (Call m ∷ a) h = (named_xid_free by.machines (map (with_text by) m) (texts_free m h.0), free_names a h.1)
+  free_names (Call m ∷ a) h =
+      (named_xid_free by.machines (map (with_text by) m) (texts_free m h.0), free_names a h.1)
   free_names (Turn ∷ a) h = (tt, free_names a h.1)
   free_names (Reply id m ∷ a) h = (texts_free m h.0, free_names a h.1)
   free_names (Close ∷ a) h = (tt, free_names a h.1)
@@ -94,14 +82,20 @@ module _ (ways : Ways) (a : List Entry) (first : AreFirst a) where
   free_without : AllByRecursion HasFreeXid without
   free_without = free_names ways a (xids_free a first)
 
-pub decided : (ways : Ways) (a b : List Entry) → AreFirst a → AreFirst b → MaskedFormsDecide ways a b
+pub decided : (ways : Ways) (a b : List Entry) → AreFirst a → AreFirst b
+    → MaskedFormsDecide ways a b
 decided ways a b first second =
     let c = without ways a first in
     let d = without ways b second in
     let there = values_of_named ways ways a in
     let back = values_of_named ways ways b in (
-      (λ s. same_but_from_same ways c d (room_without ways a first) (room_without ways b second) (free_without ways a first) (subst (λ l. Same l (masked_values ways d)) (sym there) (subst (Same (masked ways a)) (sym back) s))),
-      (λ s. subst (λ l. Same l (masked ways b)) there (subst (Same (masked_values ways c)) back (same_from_same_but ways c d (free_without ways a first) s))),
+      (λ s.
+          same_but_from_same ways c d (room_without ways a first) (room_without ways b second)
+          (free_without ways a first) (subst (λ l. Same l (masked_values ways d)) (sym there)
+          (subst (Same (masked ways a)) (sym back) s))),
+      (λ s.
+          subst (λ l. Same l (masked ways b)) there (subst (Same (masked_values ways c)) back
+          (same_from_same_but ways c d (free_without ways a first) s))),
     )
 
 -- ---- masked entries are first entries too
@@ -115,24 +109,34 @@ masked_first ways a first = record {
   split = ap (masked ways) first.split ∙ masked-append ways a first.more;
 }
 
-pub bytes_decide : (ways : Ways) (a b : List Entry) → AreFirst a → AreFirst b → MaskedBytesDecide ways a b
+pub bytes_decide : (ways : Ways) (a b : List Entry) → AreFirst a → AreFirst b
+    → MaskedBytesDecide ways a b
 bytes_decide ways a b first second = (
-  (λ e. (decided ways a b first second).0 (same_from_bytes (masked ways a) (masked ways b) (masked_first ways a first) (masked_first ways b second) e)),
+  (λ e. (decided ways a b first second).0 (same_from_bytes (masked ways a) (masked ways b)
+      (masked_first ways a first) (masked_first ways b second) e)),
   (λ s. ap bytes_of (canonical-same ((decided ways a b first second).1 s))),
 )
 
 -- ---- up to less
 
-pub same_but_from_all : (ways : Ways) (a b : List Entry) → AreFirst a → AreFirst b → Same a b → SameBut ways a b
-same_but_from_all ways a b first second s = (decided ways a b first second).0 (same_named ways (same_masked ways a b (xids_free a first) s))
+pub same_but_from_all : (ways : Ways) (a b : List Entry) → AreFirst a → AreFirst b → Same a b
+    → SameBut ways a b
+same_but_from_all ways a b first second s =
+    (decided ways a b first second).0 (same_named ways (same_masked ways a b (xids_free a first) s))
 
 pub same_but_reflexive : (ways : Ways) (a : List Entry) → AreFirst a → SameBut ways a a
-same_but_reflexive ways a first = same_but_from_all ways a a first first (same_reflexive a (first_in_order a first))
+same_but_reflexive ways a first =
+    same_but_from_all ways a a first first (same_reflexive a (first_in_order a first))
 
-pub same_but_symmetric : (ways : Ways) (a b : List Entry) → AreFirst a → AreFirst b → SameBut ways a b → SameBut ways b a
+pub same_but_symmetric : (ways : Ways) (a b : List Entry) → AreFirst a → AreFirst b
+    → SameBut ways a b → SameBut ways b a
 same_but_symmetric ways a b first second s =
-    (decided ways b a second first).0 (same_symmetric (masked ways a) (masked ways b) ((decided ways a b first second).1 s))
+    (decided ways b a second first).0
+    (same_symmetric (masked ways a) (masked ways b) ((decided ways a b first second).1 s))
 
-pub same_but_transitive : (ways : Ways) (a b c : List Entry) → AreFirst a → AreFirst b → AreFirst c → SameBut ways a b → SameBut ways b c → SameBut ways a c
+pub same_but_transitive : (ways : Ways) (a b c : List Entry) → AreFirst a → AreFirst b → AreFirst c
+    → SameBut ways a b → SameBut ways b c → SameBut ways a c
 same_but_transitive ways a b c first second third s t =
-    (decided ways a c first third).0 (same_transitive (masked ways a) (masked ways b) (masked ways c) ((decided ways a b first second).1 s) ((decided ways b c second third).1 t))
+    (decided ways a c first third).0 (same_transitive (masked ways a) (masked ways b)
+    (masked ways c) ((decided ways a b first second).1 s)
+    ((decided ways b c second third).1 t))

@@ -1,19 +1,5 @@
 -- Where the items of a message stand.
-use Rattle.std.proofs.Common.{◌≡◌, ℕ, true, List, [], ◌∷◌, ◌++◌, refl, sym, ap, ◌∙◌, subst, append_assoc}
-use Rattle.std.specs.Prelude.{⊤, ◌==◌, bytes_eq, fold, None, Some}
-use Rattle.std.proofs.lemmas.Slice.Eq.{bytes_eq-Decides}
-use Rattle.xdr3.specs.Item.{Item, Word, Hyper, Fixed, WriteVerf, Opaque, Rest}
-use Rattle.rpc_head.specs.Names.{head_names}
-use Rattle.nfs3_types.specs.Names.{names}
-use Rattle.capture3.specs.declared.fault.Side.{Side}
-use Rattle.capture3.specs.declared.fault.Side.TheVariants.{Client, Server}
-use Rattle.canon3.proofs.Lemmas.Numbers.RankLemmas.{by_test, cond_either}
-use Rattle.masking3.specs.declared.class.Class.{Class}
-use Rattle.masking3.specs.declared.spot.Spot.{Spot}
-use Rattle.masking3.specs.declared.spot.Spot.TheVariants.{InCall, InReply, InDirectory, InWcc}
-use Rattle.masking3.specs.declared.ways.Ways.{Ways}
-use Rattle.masking3.specs.Classes.{class_of, class_of_word}
-use Rattle.masking3.specs.Masked.{masked_item, masked_items, value_in, values_in}
+use Rattle.masking3.proofs.Common.{◌≡◌, ℕ, true, List, [], ◌∷◌, ◌++◌, refl, sym, ap, ◌∙◌, subst, append_assoc, bytes_eq-Decides, Item, Word, Hyper, Fixed, WriteVerf, Opaque, Rest, head_names, names, Side, Client, Server, by_test, cond_either, Class, Spot, InCall, InReply, InDirectory, InWcc, Ways, class_of, class_of_word, masked_item, masked_items, value_in, values_in, ⊤, ◌==◌, bytes_eq, fold, None, Some}
 use Rattle.masking3.specs.Spots.{after_word, next_spot}
 
 -- the spot after items
@@ -21,7 +7,9 @@ abbrev pub spot_after : Spot → List Item → Spot
 spot_after spot items = fold next_spot spot items
 
 -- what is so of the spot, and of those after words, is so of the next one
-by_next : (P : Spot → Type 0) (spot : Spot) (i : Item) → P spot → ((name : List ℕ) (n : ℕ) → i ≡ Word name n → P (after_word spot name n)) → P (next_spot spot i)
+by_next : (P : Spot → Type 0) (spot : Spot) (i : Item) → P spot
+    → ((name : List ℕ) (n : ℕ) → i ≡ Word name n → P (after_word spot name n))
+    → P (next_spot spot i)
 by_next P InCall i p w = p
 by_next P InReply (Word name n) p w = w name n refl
 by_next P InReply (Hyper name n) p w = p
@@ -44,7 +32,8 @@ IsNoWord (Word name n) = ⊥
 IsNoWord _ = ⊤
 
 pub still_after : (spot : Spot) (i : Item) → IsNoWord i → next_spot spot i ≡ spot
-still_after spot i other = by_next (λ s. s ≡ spot) spot i refl (λ name n e. absurd (subst IsNoWord e other))
+still_after spot i other =
+    by_next (λ s. s ≡ spot) spot i refl (λ name n e. absurd (subst IsNoWord e other))
 
 before_free : (spot : Spot) → class_of_word spot names.before ≡ None
 unfolding names head_names
@@ -54,10 +43,14 @@ type_free : (spot : Spot) → class_of_word spot names.type ≡ None
 unfolding names head_names
 type_free spot = refl
 
-pub free_name : (spot : Spot) (name free : List ℕ) → class_of_word spot free ≡ None → bytes_eq name free ≡ true → class_of_word spot name ≡ None
-free_name spot name free none t = subst (λ (n : List ℕ). class_of_word spot n ≡ None) (sym ((bytes_eq-Decides name free).0 t)) none
+pub free_name : (spot : Spot) (name free : List ℕ) → class_of_word spot free ≡ None
+    → bytes_eq name free ≡ true → class_of_word spot name ≡ None
+free_name spot name free none t =
+    subst (λ (n : List ℕ). class_of_word spot n ≡ None) (sym ((bytes_eq-Decides name free).0 t))
+    none
 
-word_still : (spot : Spot) (name : List ℕ) (n : ℕ) (d : Class) → class_of_word spot name ≡ Some d → after_word spot name n ≡ spot
+word_still : (spot : Spot) (name : List ℕ) (n : ℕ) (d : Class) → class_of_word spot name ≡ Some d
+    → after_word spot name n ≡ spot
 word_still spot name n d is = by_test (bytes_eq name names.before)
     (λ t. absurd (cc (is, free_name spot name names.before (before_free spot) t)))
     (λ f. by_test (bytes_eq name names.type)
@@ -65,8 +58,11 @@ word_still spot name n d is = by_test (bytes_eq name names.before)
     (λ g. rw (f, g) refl))
 
 -- an item of a class
-pub still : (spot : Spot) (i : Item) (d : Class) → class_of spot i ≡ Some d → next_spot spot i ≡ spot
-still spot i d is = by_next (λ s. s ≡ spot) spot i refl (λ name n e. word_still spot name n d (subst (λ k. class_of spot k ≡ Some d) e is))
+pub still : (spot : Spot) (i : Item) (d : Class) → class_of spot i ≡ Some d
+    → next_spot spot i ≡ spot
+still spot i d is =
+    by_next (λ s. s ≡ spot) spot i refl
+    (λ name n e. word_still spot name n d (subst (λ k. class_of spot k ≡ Some d) e is))
 
 -- a word of this name has no class, and moves nowhere
 pub record IsFree (name : List ℕ) : Type 0 where
@@ -110,10 +106,12 @@ IsOn Server InDirectory = ⊤
 IsOn Server InWcc = ⊤
 IsOn _ _ = ⊥
 
-word_on : (spot : Spot) (name : List ℕ) (n : ℕ) → IsOn Server spot → IsOn Server (after_word spot name n)
+word_on : (spot : Spot) (name : List ℕ) (n : ℕ) → IsOn Server spot
+    → IsOn Server (after_word spot name n)
 word_on spot name n on =
     cond_either (IsOn Server) (bytes_eq name names.before) tt
-    (cond_either (IsOn Server) (bytes_eq name names.type) (cond_either (IsOn Server) (n == 2) tt tt) on)
+    (cond_either (IsOn Server) (bytes_eq name names.type) (cond_either (IsOn Server) (n == 2) tt tt)
+    on)
 
 pub on_next : (side : Side) (spot : Spot) (i : Item) → IsOn side spot → IsOn side (next_spot spot i)
 on_next Client InCall i on = tt
@@ -122,18 +120,25 @@ on_next Client InDirectory i on = absurd on
 on_next Client InWcc i on = absurd on
 on_next Server spot i on = by_next (IsOn Server) spot i on (λ name n e. word_on spot name n on)
 
-pub on_after : (side : Side) (spot : Spot) (items : List Item) → IsOn side spot → IsOn side (spot_after spot items)
+pub on_after : (side : Side) (spot : Spot) (items : List Item) → IsOn side spot
+    → IsOn side (spot_after spot items)
 on_after side spot [] on = on
 on_after side spot (i ∷ items) on = on_after side (next_spot spot i) items (on_next side spot i on)
 
 -- ---- items after others
 
-pub values_in-append : (d : Class) (spot : Spot) (a b : List Item) → values_in d spot (a ++ b) ≡ values_in d spot a ++ values_in d (spot_after spot a) b
+pub values_in-append : (d : Class) (spot : Spot) (a b : List Item)
+    → values_in d spot (a ++ b) ≡ values_in d spot a ++ values_in d (spot_after spot a) b
 values_in-append d spot [] b = refl
 values_in-append d spot (i ∷ a) b =
     ap (λ (l : List ℕ). value_in d spot i ++ l) (values_in-append d (next_spot spot i) a b)
-    ∙ sym (append_assoc (value_in d spot i) (values_in d (next_spot spot i) a) (values_in d (spot_after (next_spot spot i) a) b))
+    ∙ sym (append_assoc (value_in d spot i) (values_in d (next_spot spot i) a)
+    (values_in d (spot_after (next_spot spot i) a) b))
 
-pub masked_items-append : (ways : Ways) (seen : Class → List ℕ) (spot : Spot) (a b : List Item) → masked_items ways seen spot (a ++ b) ≡ masked_items ways seen spot a ++ masked_items ways seen (spot_after spot a) b
+pub masked_items-append : (ways : Ways) (seen : Class → List ℕ) (spot : Spot) (a b : List Item)
+    → masked_items ways seen spot (a ++ b)
+    ≡ masked_items ways seen spot a ++ masked_items ways seen (spot_after spot a) b
 masked_items-append ways seen spot [] b = refl
-masked_items-append ways seen spot (i ∷ a) b = ap (λ (l : List Item). masked_item ways seen spot i ∷ l) (masked_items-append ways seen (next_spot spot i) a b)
+masked_items-append ways seen spot (i ∷ a) b =
+    ap (λ (l : List Item). masked_item ways seen spot i ∷ l)
+    (masked_items-append ways seen (next_spot spot i) a b)

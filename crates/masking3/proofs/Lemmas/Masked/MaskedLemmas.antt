@@ -1,45 +1,26 @@
 -- What later values leave of the masked form, and how it grows.
-use Rattle.std.proofs.Common.{◌≡◌, ℕ, true, false, List, [], ◌∷◌, ◌++◌, map, refl, sym, ap, ap₂, ◌∙◌, subst, append_assoc, append-nil}
-use Rattle.std.specs.Prelude.{⊤, nat_eq, Option, None, Some}
-use Rattle.std.specs.List.{AllByRecursion, flat_map}
-use Rattle.std.proofs.lemmas.Bool.Decides.{Decides-eqb}
-use Rattle.std.proofs.lemmas.Grind.{flat_map-append}
-use Rattle.std.proofs.lemmas.List.{map-append}
-use Rattle.xdr3.specs.Item.{Item}
+use Rattle.masking3.proofs.Common.{◌≡◌, ℕ, true, false, List, [], ◌∷◌, ◌++◌, map, refl, sym, ap, ap₂, ◌∙◌, subst, append_assoc, append-nil, ⊤, nat_eq, Option, None, Some, AllByRecursion, flat_map, Decides-eqb, flat_map-append, map-append, Item, Entry, Begin, Call, Turn, Reply, Close, End, AreFirst, Member, here, Class, Spot, InCall, InReply, Way, Keep, Zero, Number, Ways, class_of, position, class_value, next_spot, named_entry, names_by, way_of, bytes_of, entry_bytes, are_some, magic_unless, by_way, is_zero_that_stays, masked, masked_bytes, masked_entry, masked_item, masked_items, masked_values, number_among, substitute, value_in, value_where, values, values_in, values_in_entry, with_value}
 use Rattle.capture3.specs.Capture.{One, magic}
-use Rattle.capture3.specs.Entry.{Entry, Begin, Call, Turn, Reply, Close, End}
-use Rattle.canon3.specs.Bytes.{bytes_of, entry_bytes}
-use Rattle.canon3.specs.Laws.{AreFirst}
-use Rattle.canon3.specs.Pairing.{Member, here}
-use Rattle.canon3.specs.machinery.FormSteps.{are_some, magic_unless}
 use Rattle.canon3.proofs.Lemmas.Numbers.RankLemmas.{by_test, member-append_left, member-append_right, rank-append}
-use Rattle.masking3.specs.declared.class.Class.{Class}
-use Rattle.masking3.specs.declared.spot.Spot.{Spot}
-use Rattle.masking3.specs.declared.spot.Spot.TheVariants.{InCall, InReply}
-use Rattle.masking3.specs.declared.ways.Way.{Way}
-use Rattle.masking3.specs.declared.ways.Way.TheVariants.{Keep, Zero, Number}
-use Rattle.masking3.specs.declared.ways.Ways.{Ways}
-use Rattle.masking3.specs.Classes.{class_of, position, class_value}
-use Rattle.masking3.specs.Masked.{by_way, is_zero_that_stays, masked, masked_bytes, masked_entry, masked_item, masked_items, masked_values, number_among, substitute, value_in, value_where, values, values_in, values_in_entry, with_value}
-use Rattle.masking3.specs.Spots.{next_spot}
-use Rattle.masking3.specs.Unnamed.{named_entry, names_by}
-use Rattle.masking3.specs.Ways.{way_of}
 use Rattle.masking3.proofs.Lemmas.Classes.ClassLemmas.{seen_alike}
 
 -- ---- numbers stay
 
-pub value_given : (d : Class) (n : ℕ) → is_zero_that_stays d n ≡ false → value_where d (Some d) n ≡ n ∷ []
+pub value_given : (d : Class) (n : ℕ) → is_zero_that_stays d n ≡ false
+    → value_where d (Some d) n ≡ n ∷ []
 value_given d n f = rw (f, (Decides-eqb (position d) (position d)).1 refl) refl
 
 -- ---- values that were seen
 
 -- the value of an item at this spot, where it has one, is among these of its class
 abbrev pub IsAmong : (Class → List ℕ) → Spot → Item → Type 0
-IsAmong seen spot i = (d : Class) → class_of spot i ≡ Some d → is_zero_that_stays d (class_value i) ≡ false → Member (class_value i) (seen d)
+IsAmong seen spot i = (d : Class) → class_of spot i ≡ Some d
+    → is_zero_that_stays d (class_value i) ≡ false → Member (class_value i) (seen d)
 
 abbrev pub ItemsAreAmong : (Class → List ℕ) → Spot → List Item → Type 0
 ItemsAreAmong seen spot [] = ⊤
-ItemsAreAmong seen spot (i ∷ items) = IsAmong seen spot i × ItemsAreAmong seen (next_spot spot i) items
+ItemsAreAmong seen spot (i ∷ items) =
+    IsAmong seen spot i × ItemsAreAmong seen (next_spot spot i) items
 
 abbrev pub EntryIsAmong : (Class → List ℕ) → Entry → Type 0
 EntryIsAmong seen (Call items) = ItemsAreAmong seen InCall items
@@ -49,18 +30,28 @@ EntryIsAmong seen _ = ⊤
 abbrev pub AreAmong : (Class → List ℕ) → List Entry → Type 0
 AreAmong seen entries = AllByRecursion (EntryIsAmong seen) entries
 
-own_value : (d : Class) (spot : Spot) (i : Item) → class_of spot i ≡ Some d → is_zero_that_stays d (class_value i) ≡ false → Member (class_value i) (value_in d spot i)
-own_value d spot i is f = subst (Member (class_value i)) (sym (ap (λ o. value_where d o (class_value i)) is ∙ value_given d (class_value i) f)) here
+own_value : (d : Class) (spot : Spot) (i : Item) → class_of spot i ≡ Some d
+    → is_zero_that_stays d (class_value i) ≡ false → Member (class_value i) (value_in d spot i)
+own_value d spot i is f =
+    subst (Member (class_value i))
+    (sym (ap (λ o. value_where d o (class_value i)) is ∙ value_given d (class_value i) f)) here
 
 module _ (seen : Class → List ℕ) where
-  pub items_among : (spot : Spot) (items : List Item) → ((d : Class) (x : ℕ) → Member x (values_in d spot items) → Member x (seen d)) → ItemsAreAmong seen spot items
+  pub items_among : (spot : Spot) (items : List Item)
+      → ((d : Class) (x : ℕ) → Member x (values_in d spot items) → Member x (seen d))
+      → ItemsAreAmong seen spot items
   items_among spot [] within = tt
   items_among spot (i ∷ items) within = (
-    (λ d is f. within d (class_value i) (member-append_left (values_in d (next_spot spot i) items) (own_value d spot i is f))),
-    items_among (next_spot spot i) items (λ d x m. within d x (member-append_right (value_in d spot i) m)),
+    (λ d is f.
+        within d (class_value i)
+        (member-append_left (values_in d (next_spot spot i) items) (own_value d spot i is f))),
+    items_among (next_spot spot i) items
+        (λ d x m. within d x (member-append_right (value_in d spot i) m)),
   )
 
-  entry_among : (e : Entry) → ((d : Class) (x : ℕ) → Member x (values_in_entry d e) → Member x (seen d)) → EntryIsAmong seen e
+  entry_among : (e : Entry)
+      → ((d : Class) (x : ℕ) → Member x (values_in_entry d e) → Member x (seen d))
+      → EntryIsAmong seen e
   entry_among Begin within = tt
   entry_among (Call items) within = items_among InCall items within
   entry_among Turn within = tt
@@ -68,7 +59,9 @@ module _ (seen : Class → List ℕ) where
   entry_among Close within = tt
   entry_among End within = tt
 
-  all_among : (entries : List Entry) → ((d : Class) (x : ℕ) → Member x (values entries d) → Member x (seen d)) → AreAmong seen entries
+  all_among : (entries : List Entry)
+      → ((d : Class) (x : ℕ) → Member x (values entries d) → Member x (seen d))
+      → AreAmong seen entries
   all_among [] within = tt
   all_among (e ∷ entries) within = (
     entry_among e (λ d x m. within d x (member-append_left (values entries d) m)),
@@ -84,28 +77,40 @@ module _ (ways : Ways) (seen more : Class → List ℕ) where
   abbrev followed : Class → List ℕ
   followed d = seen d ++ more d
 
-  number_stays : (spot : Spot) (i : Item) (d : Class) → IsAmong seen spot i → class_of spot i ≡ Some d → number_among (followed d) d (class_value i) ≡ number_among (seen d) d (class_value i)
+  number_stays : (spot : Spot) (i : Item) (d : Class) → IsAmong seen spot i
+      → class_of spot i ≡ Some d
+      → number_among (followed d) d (class_value i) ≡ number_among (seen d) d (class_value i)
   number_stays spot i d among is = by_test (is_zero_that_stays d (class_value i))
       (λ t. rw t refl)
       (λ f. rw f (rank-append nat_eq Decides-eqb (more d) (among d is f)))
 
-  way_stays : (w : Way) (d : Class) (n : ℕ) → number_among (followed d) d n ≡ number_among (seen d) d n → by_way w (followed d) d n ≡ by_way w (seen d) d n
+  way_stays : (w : Way) (d : Class) (n : ℕ)
+      → number_among (followed d) d n ≡ number_among (seen d) d n
+      → by_way w (followed d) d n ≡ by_way w (seen d) d n
   way_stays Keep d n e = refl
   way_stays Zero d n e = refl
   way_stays Number d n e = ap Some e
 
-  substitute_stays : (spot : Spot) (i : Item) (o : Option Class) → class_of spot i ≡ o → IsAmong seen spot i → substitute ways followed o (class_value i) ≡ substitute ways seen o (class_value i)
+  substitute_stays : (spot : Spot) (i : Item) (o : Option Class) → class_of spot i ≡ o
+      → IsAmong seen spot i
+      → substitute ways followed o (class_value i) ≡ substitute ways seen o (class_value i)
   substitute_stays spot i None is among = refl
-  substitute_stays spot i (Some d) is among = way_stays (way_of ways d) d (class_value i) (number_stays spot i d among is)
+  substitute_stays spot i (Some d) is among =
+      way_stays (way_of ways d) d (class_value i) (number_stays spot i d among is)
 
-  item_stays : (spot : Spot) (i : Item) → IsAmong seen spot i → masked_item ways followed spot i ≡ masked_item ways seen spot i
+  item_stays : (spot : Spot) (i : Item) → IsAmong seen spot i
+      → masked_item ways followed spot i ≡ masked_item ways seen spot i
   item_stays spot i among = ap (with_value i) (substitute_stays spot i (class_of spot i) refl among)
 
-  pub items_stay : (spot : Spot) (items : List Item) → ItemsAreAmong seen spot items → masked_items ways followed spot items ≡ masked_items ways seen spot items
+  pub items_stay : (spot : Spot) (items : List Item) → ItemsAreAmong seen spot items
+      → masked_items ways followed spot items ≡ masked_items ways seen spot items
   items_stay spot [] among = refl
-  items_stay spot (i ∷ items) among = ap₂ (λ (j : Item) (l : List Item). j ∷ l) (item_stays spot i among.0) (items_stay (next_spot spot i) items among.1)
+  items_stay spot (i ∷ items) among =
+      ap₂ (λ (j : Item) (l : List Item). j ∷ l) (item_stays spot i among.0)
+      (items_stay (next_spot spot i) items among.1)
 
-  entry_stays : (e : Entry) → EntryIsAmong seen e → masked_entry ways followed e ≡ masked_entry ways seen e
+  entry_stays : (e : Entry) → EntryIsAmong seen e
+      → masked_entry ways followed e ≡ masked_entry ways seen e
   entry_stays Begin among = refl
   entry_stays (Call items) among = ap Call (items_stay InCall items among)
   entry_stays Turn among = refl
@@ -113,17 +118,23 @@ module _ (ways : Ways) (seen more : Class → List ℕ) where
   entry_stays Close among = refl
   entry_stays End among = refl
 
-  entries_stay : (a : List Entry) → AreAmong seen a → map (masked_entry ways followed) a ≡ map (masked_entry ways seen) a
+  entries_stay : (a : List Entry) → AreAmong seen a
+      → map (masked_entry ways followed) a ≡ map (masked_entry ways seen) a
   entries_stay [] among = refl
-  entries_stay (e ∷ a) among = ap₂ (λ (f : Entry) (l : List Entry). f ∷ l) (entry_stays e among.0) (entries_stay a among.1)
+  entries_stay (e ∷ a) among =
+      ap₂ (λ (f : Entry) (l : List Entry). f ∷ l) (entry_stays e among.0) (entries_stay a among.1)
 
 -- an item that has no class stays
-pub unmasked : (ways : Ways) (seen : Class → List ℕ) (spot : Spot) (i : Item) → class_of spot i ≡ None → masked_item ways seen spot i ≡ i
-unmasked ways seen spot i none = ap (λ o. with_value i (substitute ways seen o (class_value i))) none
+pub unmasked : (ways : Ways) (seen : Class → List ℕ) (spot : Spot) (i : Item)
+    → class_of spot i ≡ None → masked_item ways seen spot i ≡ i
+unmasked ways seen spot i none =
+    ap (λ o. with_value i (substitute ways seen o (class_value i))) none
 
 -- the values of entries, and of more after them
 pub values_split : (a b : List Entry) → values (a ++ b) ≡ (λ d. values a d ++ values b d)
-values_split a b = seen_alike (values (a ++ b)) (λ d. values a d ++ values b d) (λ d. flat_map-append (values_in_entry d) a b)
+values_split a b =
+    seen_alike (values (a ++ b)) (λ d. values a d ++ values b d)
+    (λ d. flat_map-append (values_in_entry d) a b)
 
 -- ---- the form grows
 
@@ -134,25 +145,36 @@ module _ (ways : Ways) where
   abbrev pub after : (a b : List Entry) → List Entry
   after a b = names_by ways (values_after a b)
 
-  values-append : (a b : List Entry) → masked_values ways (a ++ b) ≡ masked_values ways a ++ values_after a b
+  values-append : (a b : List Entry)
+      → masked_values ways (a ++ b) ≡ masked_values ways a ++ values_after a b
   values-append a b =
       map-append (masked_entry ways (values (a ++ b))) a b
       ∙ ap (λ (l : List Entry). l ++ values_after a b)
-      (ap (λ (seen : Class → List ℕ). map (masked_entry ways seen) a) (values_split a b) ∙ entries_stay ways (values a) (values b) a (among_own a))
+      (ap (λ (seen : Class → List ℕ). map (masked_entry ways seen) a) (values_split a b)
+      ∙ entries_stay ways (values a) (values b) a (among_own a))
 
   pub masked-append : (a b : List Entry) → masked ways (a ++ b) ≡ masked ways a ++ after a b
-  masked-append a b = ap (names_by ways) (values-append a b) ∙ map-append (named_entry ways) (masked_values ways a) (values_after a b)
+  masked-append a b =
+      ap (names_by ways) (values-append a b)
+      ∙ map-append (named_entry ways) (masked_values ways a) (values_after a b)
 
-  bytes_with : (l m : List Entry) → are_some l ≡ true → bytes_of (l ++ m) ≡ bytes_of l ++ flat_map entry_bytes m
+  bytes_with : (l m : List Entry) → are_some l ≡ true
+      → bytes_of (l ++ m) ≡ bytes_of l ++ flat_map entry_bytes m
   bytes_with [] m some = absurd cc
   bytes_with (e ∷ l) m some =
-      ap (λ (b : List ℕ). magic One ++ b) (flat_map-append entry_bytes (e ∷ l) m) ∙ sym (append_assoc (magic One) (flat_map entry_bytes (e ∷ l)) (flat_map entry_bytes m))
+      ap (λ (b : List ℕ). magic One ++ b) (flat_map-append entry_bytes (e ∷ l) m)
+      ∙ sym (append_assoc (magic One) (flat_map entry_bytes (e ∷ l)) (flat_map entry_bytes m))
 
-  form_some : (e : Entry) (a b : List Entry) → masked_bytes ways ((e ∷ a) ++ b) ≡ masked_bytes ways (e ∷ a) ++ flat_map entry_bytes (after (e ∷ a) b)
-  form_some e a b = ap bytes_of (masked-append (e ∷ a) b) ∙ bytes_with (masked ways (e ∷ a)) (after (e ∷ a) b) refl
+  form_some : (e : Entry) (a b : List Entry)
+      → masked_bytes ways ((e ∷ a) ++ b)
+      ≡ masked_bytes ways (e ∷ a) ++ flat_map entry_bytes (after (e ∷ a) b)
+  form_some e a b =
+      ap bytes_of (masked-append (e ∷ a) b)
+      ∙ bytes_with (masked ways (e ∷ a)) (after (e ∷ a) b) refl
 
   -- what the first entries are written as is a front of what all are
-  pub form_fronts : (a b : List Entry) → AreFirst (a ++ b) → (back : List ℕ) × (masked_bytes ways (a ++ b) ≡ masked_bytes ways a ++ back)
+  pub form_fronts : (a b : List Entry) → AreFirst (a ++ b)
+      → (back : List ℕ) × (masked_bytes ways (a ++ b) ≡ masked_bytes ways a ++ back)
   form_fronts [] b first = (masked_bytes ways b, refl)
   form_fronts (e ∷ a) b first = (flat_map entry_bytes (after (e ∷ a) b), form_some e a b)
 
@@ -160,7 +182,11 @@ module _ (ways : Ways) where
   abbrev pub last_bytes : (a : List Entry) (one : Entry) → List ℕ
   last_bytes a one = entry_bytes (named_entry ways (masked_entry ways (values (a ++ one ∷ [])) one))
 
-  pub form_grows : (a : List Entry) (one : Entry) → masked_bytes ways (a ++ one ∷ []) ≡ (masked_bytes ways a ++ magic_unless (are_some a)) ++ last_bytes a one
+  pub form_grows : (a : List Entry) (one : Entry)
+      → masked_bytes ways (a ++ one ∷ [])
+      ≡ (masked_bytes ways a ++ magic_unless (are_some a)) ++ last_bytes a one
   form_grows [] one = ap (λ (l : List ℕ). magic One ++ l) (append-nil (last_bytes [] one))
   form_grows (e ∷ a) one =
-      form_some e a (one ∷ []) ∙ ap₂ (λ (l m : List ℕ). l ++ m) (sym (append-nil (masked_bytes ways (e ∷ a)))) (append-nil (last_bytes (e ∷ a) one))
+      form_some e a (one ∷ [])
+      ∙ ap₂ (λ (l m : List ℕ). l ++ m) (sym (append-nil (masked_bytes ways (e ∷ a))))
+      (append-nil (last_bytes (e ∷ a) one))

@@ -1,38 +1,9 @@
 -- Messages with masked values are messages of the same procedures, of the same length.
-use Rattle.std.proofs.Common.{◌≡◌, ℕ, suc, ◌+◌, ◌<◌, ◌≤◌, ◌^◌, Bool, true, false, List, [], ◌∷◌, ◌++◌, length, refl, sym, ap, ap₂, ◌∙◌, subst, arith, length-append, append-nil, append_assoc}
-use Rattle.std.specs.Prelude.{IsTrue, nat_eq, if◌then◌else◌, Option, None, Some}
-use Rattle.std.specs.List.{AllByRecursion}
-use Rattle.byteorder.specs.Endian.{big_bytes}
-use Rattle.byteorder.specs.Numbers.{length-bytes_high_first}
-use Rattle.xdr3.specs.Item.{Item, Word, Hyper, Fixed, WriteVerf, Opaque, Rest, Var, Spells, SpellsItem, zero_spelling, zero_spelling_of}
+use Rattle.masking3.proofs.Common.{◌≡◌, ℕ, suc, ◌+◌, ◌<◌, ◌≤◌, ◌^◌, Bool, true, false, List, [], ◌∷◌, ◌++◌, length, refl, sym, ap, ap₂, ◌∙◌, subst, arith, length-append, append-nil, append_assoc, IsTrue, nat_eq, if◌then◌else◌, Option, None, Some, AllByRecursion, big_bytes, length-bytes_high_first, Item, Word, Hyper, Fixed, WriteVerf, Opaque, Rest, Var, Spells, SpellsItem, zero_spelling, zero_spelling_of, Layout, exactly, rest, after, FitsLayout, ProcId, has_results, procedure_in, head_names, names, arguments_of, results_of, Side, Client, Server, xid_in, max_bytes, Decides-eqb, Class, Spot, InCall, InReply, Way, Keep, Zero, Number, Ways, class_of_fixed, class_of_hyper, class_of_word, class_value, by_way, is_zero_that_stays, masked_item, masked_items, number_among, substitute, with_value, next_spot, way_of, HasParts, Part, parts_weaker, word_part, hyper_part, fixed_part, write_verf_part, rest_part, opaque_part, size_part, accept, call_head, credential, deny, reply_head, verifier, FitsCall, FitsReply, call_next, headed_call_fits, headed_reply_fits, is_headed_call, is_headed_reply, reply_next}
 use Rattle.xdr3.specs.Shape.{Shape, ◌then◌, both, choose, counted, fixed, hyper, linked, listed, nothing, opaque, sized, word, write_verf, Fits, joined, links}
-use Rattle.xdr3.specs.Layout.{Layout, exactly, rest, after, FitsLayout}
-use Rattle.xdr3.proofs.Lemmas.Shapes.ShapeParts.{HasParts, Part, parts_weaker, word_part, hyper_part, fixed_part, write_verf_part, rest_part, opaque_part, size_part}
-use Rattle.rpc_head.specs.declared.values.call.ProcId.{ProcId}
-use Rattle.rpc_head.specs.Messages.{has_results, procedure_in}
-use Rattle.rpc_head.specs.Names.{head_names}
-use Rattle.rpc_head.specs.Shapes.{accept, call_head, credential, deny, reply_head, verifier}
-use Rattle.nfs3_types.specs.Names.{names}
-use Rattle.procs3.specs.Table.{arguments_of, results_of}
-use Rattle.capture3.specs.declared.fault.Side.{Side}
-use Rattle.capture3.specs.declared.fault.Side.TheVariants.{Client, Server}
-use Rattle.capture3.specs.Bodies.{xid_in}
-use Rattle.capture3.specs.Chunks.{max_bytes}
 use Rattle.canon3.specs.Rank.{before, rank}
 use Rattle.canon3.proofs.Lemmas.WellFormed.Items.{IsEach, all_in_message, are_bytes_of_number, zero_spelled_one}
-use Rattle.canon3.proofs.Lemmas.WellFormed.Messages.{FitsCall, FitsReply, call_next, headed_call_fits, headed_reply_fits, is_headed_call, is_headed_reply, reply_next}
 use Rattle.canon3.proofs.Lemmas.Numbers.RankLemmas.{by_test, cond_either, equivalence, length-with_keys}
-use Rattle.std.proofs.lemmas.Bool.Decides.{Decides-eqb}
-use Rattle.masking3.specs.declared.class.Class.{Class}
-use Rattle.masking3.specs.declared.spot.Spot.{Spot}
-use Rattle.masking3.specs.declared.spot.Spot.TheVariants.{InCall, InReply}
-use Rattle.masking3.specs.declared.ways.Way.{Way}
-use Rattle.masking3.specs.declared.ways.Way.TheVariants.{Keep, Zero, Number}
-use Rattle.masking3.specs.declared.ways.Ways.{Ways}
-use Rattle.masking3.specs.Classes.{class_of_fixed, class_of_hyper, class_of_word, class_value}
-use Rattle.masking3.specs.Masked.{by_way, is_zero_that_stays, masked_item, masked_items, number_among, substitute, with_value}
-use Rattle.masking3.specs.Spots.{next_spot}
-use Rattle.masking3.specs.Ways.{way_of}
 use Rattle.masking3.proofs.Lemmas.Classes.SpotLemmas.{IsOn, masked_items-append, on_after, on_next, spot_after, xid_free}
 use Rattle.masking3.proofs.Lemmas.Masked.MaskedLemmas.{unmasked}
 use Rattle.masking3.proofs.Lemmas.Masked.MaskedShapes.{KeepsSize, RowTakesOn, TakesOn, TakesWord, arguments_take, call_head_takes, mtype_takes, reply_head_takes, reply_takes}
@@ -41,10 +12,17 @@ use Rattle.masking3.proofs.Lemmas.Masked.MaskedShapes.{KeepsSize, RowTakesOn, Ta
 
 length-before : (x : ℕ) (l : List ℕ) → length (before nat_eq x l) ≤ length l
 length-before x [] = omega arith
-length-before x (y ∷ l) = cond_either (λ (k : List ℕ). length k ≤ length (y ∷ l)) (nat_eq x y) (omega arith) (omega (arith, length-before x l))
+length-before x (y ∷ l) =
+    cond_either (λ (k : List ℕ). length k ≤ length (y ∷ l)) (nat_eq x y) (omega arith)
+    (omega (arith, length-before x l))
 
 rank_small : (x : ℕ) (l : List ℕ) → rank nat_eq x l ≤ 1 + length l
-rank_small x l = omega (arith, length-with_keys nat_eq (equivalence nat_eq Decides-eqb) (before nat_eq x l) [], length-before x l)
+rank_small x l =
+    omega (
+      arith,
+      length-with_keys nat_eq (equivalence nat_eq Decides-eqb) (before nat_eq x l) [],
+      length-before x l,
+    )
 
 module _ (ways : Ways) (seen : Class → List ℕ) where
   abbrev pub under : Spot → List Item → List Item
@@ -52,41 +30,52 @@ module _ (ways : Ways) (seen : Class → List ℕ) where
 
   -- ---- kinds and names stay
 
-  word_with : (name : List ℕ) (n : ℕ) (o : Option ℕ) → (m : ℕ) × (with_value (Word name n) o ≡ Word name m)
+  word_with : (name : List ℕ) (n : ℕ) (o : Option ℕ)
+      → (m : ℕ) × (with_value (Word name n) o ≡ Word name m)
   word_with name n None = (n, refl)
   word_with name n (Some m) = (m, refl)
 
-  hyper_with : (name : List ℕ) (n : ℕ) (o : Option ℕ) → (m : ℕ) × (with_value (Hyper name n) o ≡ Hyper name m)
+  hyper_with : (name : List ℕ) (n : ℕ) (o : Option ℕ)
+      → (m : ℕ) × (with_value (Hyper name n) o ≡ Hyper name m)
   hyper_with name n None = (n, refl)
   hyper_with name n (Some m) = (m, refl)
 
-  fixed_with : (name bytes : List ℕ) (o : Option ℕ) → (others : List ℕ) × (with_value (Fixed name bytes) o ≡ Fixed name others)
+  fixed_with : (name bytes : List ℕ) (o : Option ℕ)
+      → (others : List ℕ) × (with_value (Fixed name bytes) o ≡ Fixed name others)
   fixed_with name bytes None = (bytes, refl)
   fixed_with name bytes (Some m) = (big_bytes 8 m, refl)
 
-  word_under : (spot : Spot) (name : List ℕ) (n : ℕ) → (m : ℕ) × (masked_item ways seen spot (Word name n) ≡ Word name m)
+  word_under : (spot : Spot) (name : List ℕ) (n : ℕ)
+      → (m : ℕ) × (masked_item ways seen spot (Word name n) ≡ Word name m)
   word_under spot name n = word_with name n (substitute ways seen (class_of_word spot name) n)
 
   -- a word that is accepted becomes one that is, and chooses the same
-  chosen : (spot : Spot) (name : List ℕ) (accepted : ℕ → Bool) (next : ℕ → Shape) (o : Option Class) → class_of_word spot name ≡ o → TakesWord o accepted next → (n : ℕ) → IsTrue (accepted n)
-      → (m : ℕ) × (masked_item ways seen spot (Word name n) ≡ Word name m) × IsTrue (accepted m) × (next m ≡ next n)
-  chosen spot name accepted next None is takes n a = (n, unmasked ways seen spot (Word name n) is, a, refl)
+  chosen : (spot : Spot) (name : List ℕ) (accepted : ℕ → Bool) (next : ℕ → Shape) (o : Option Class)
+      → class_of_word spot name ≡ o → TakesWord o accepted next → (n : ℕ) → IsTrue (accepted n)
+      → (m : ℕ) × (masked_item ways seen spot (Word name n) ≡ Word name m) × IsTrue (accepted m)
+      × (next m ≡ next n)
+  chosen spot name accepted next None is takes n a =
+      (n, unmasked ways seen spot (Word name n) is, a, refl)
   chosen spot name accepted next (Some d) is takes n a =
       let w = word_under spot name n in (w.0, w.1, takes.0 w.0, takes.1 w.0 ∙ sym (takes.1 n))
 
   -- ---- lengths stay
 
   abbrev KeepsLength : Item → Type 0
-  KeepsLength i = (spot : Spot) → length (zero_spelling_of (masked_item ways seen spot i)) ≡ length (zero_spelling_of i)
+  KeepsLength i = (spot : Spot)
+      → length (zero_spelling_of (masked_item ways seen spot i)) ≡ length (zero_spelling_of i)
 
   word_length : (name : List ℕ) (n : ℕ) → KeepsLength (Word name n)
   word_length name n spot =
-      let w = word_under spot name n in ap (λ i. length (zero_spelling_of i)) w.1 ∙ (length-bytes_high_first 4 w.0 ∙ sym (length-bytes_high_first 4 n))
+      let w = word_under spot name n in
+      ap (λ i. length (zero_spelling_of i)) w.1
+      ∙ (length-bytes_high_first 4 w.0 ∙ sym (length-bytes_high_first 4 n))
 
   hyper_length : (name : List ℕ) (n : ℕ) → KeepsLength (Hyper name n)
   hyper_length name n spot =
       let w = hyper_with name n (substitute ways seen (class_of_hyper spot name) n) in
-      ap (λ i. length (zero_spelling_of i)) w.1 ∙ (length-bytes_high_first 8 w.0 ∙ sym (length-bytes_high_first 8 n))
+      ap (λ i. length (zero_spelling_of i)) w.1
+      ∙ (length-bytes_high_first 8 w.0 ∙ sym (length-bytes_high_first 8 n))
 
   each_length : (part : Part) → KeepsSize part → IsEach KeepsLength part
   each_length (word_part name reason) h = λ n. word_length name n
@@ -97,107 +86,168 @@ module _ (ways : Ways) (seen : Class → List ℕ) where
   each_length (opaque_part kind name max) h = λ bytes le spot. refl
   each_length (size_part name s) h = λ n. word_length name n
 
-  all_lengths : (spot : Spot) (items : List Item) → AllByRecursion KeepsLength items → length (zero_spelling (under spot items)) ≡ length (zero_spelling items)
+  all_lengths : (spot : Spot) (items : List Item) → AllByRecursion KeepsLength items
+      → length (zero_spelling (under spot items)) ≡ length (zero_spelling items)
   all_lengths spot [] h = refl
   all_lengths spot (i ∷ items) h =
       let rest : List Item = under (next_spot spot i) items in
-      omega (arith, h.0 spot, all_lengths (next_spot spot i) items h.1, length-append (zero_spelling_of i) (zero_spelling items), length-append (zero_spelling_of (masked_item ways seen spot i)) (zero_spelling rest))
+      omega (
+        arith,
+        h.0 spot,
+        all_lengths (next_spot spot i) items h.1,
+        length-append (zero_spelling_of i) (zero_spelling items),
+        length-append (zero_spelling_of (masked_item ways seen spot i)) (zero_spelling rest),
+      )
 
-  fitting_lengths : (spot : Spot) (s : Shape) (items : List Item) → HasParts KeepsSize s → Fits s items → length (zero_spelling (under spot items)) ≡ length (zero_spelling items)
+  fitting_lengths : (spot : Spot) (s : Shape) (items : List Item) → HasParts KeepsSize s
+      → Fits s items → length (zero_spelling (under spot items)) ≡ length (zero_spelling items)
   fitting_lengths spot s items h p =
-      all_lengths spot items (all_in_message KeepsLength s (λ front. exactly nothing) items (parts_weaker KeepsSize (IsEach KeepsLength) each_length s h) (λ front. tt) (items, [], p, refl, sym (append-nil items)))
+      all_lengths spot items (all_in_message KeepsLength s (λ front. exactly nothing) items
+      (parts_weaker KeepsSize (IsEach KeepsLength) each_length s h) (λ front. tt)
+      (items, [], p, refl, sym (append-nil items)))
 
   -- ---- parts one after another, each from the spot that the move leads to
 
   module _ (move : Spot → Spot) where
     abbrev masked_parts : Spot → List (List Item) → List (List Item)
     masked_parts spot [] = []
-    masked_parts spot (part ∷ parts) = under (move spot) part ∷ masked_parts (spot_after (move spot) part) parts
+    masked_parts spot (part ∷ parts) =
+        under (move spot) part ∷ masked_parts (spot_after (move spot) part) parts
 
-    length-masked_parts : (spot : Spot) (parts : List (List Item)) → length (masked_parts spot parts) ≡ length parts
+    length-masked_parts : (spot : Spot) (parts : List (List Item))
+        → length (masked_parts spot parts) ≡ length parts
     length-masked_parts spot [] = refl
-    length-masked_parts spot (part ∷ parts) = ap suc (length-masked_parts (spot_after (move spot) part) parts)
+    length-masked_parts spot (part ∷ parts) =
+        ap suc (length-masked_parts (spot_after (move spot) part) parts)
 
-    module _ (side : Side) (stays : (spot : Spot) → IsOn side spot → IsOn side (move spot)) (P : List Item → Type 0) (fits : (spot : Spot) → IsOn side spot → (part : List Item) → P part → P (under spot part)) where
-      all_parts : (spot : Spot) → IsOn side spot → (parts : List (List Item)) → AllByRecursion P parts → AllByRecursion P (masked_parts spot parts)
+    module _ (side : Side) (stays : (spot : Spot) → IsOn side spot → IsOn side (move spot))
+        (P : List Item → Type 0) (fits : (spot : Spot) → IsOn side spot → (part : List Item)
+        → P part → P (under spot part)) where
+      all_parts : (spot : Spot) → IsOn side spot → (parts : List (List Item))
+          → AllByRecursion P parts → AllByRecursion P (masked_parts spot parts)
       all_parts spot on [] h = tt
       all_parts spot on (part ∷ parts) h = (
         fits (move spot) (stays spot on) part h.0,
-        all_parts (spot_after (move spot) part) (on_after side (move spot) part (stays spot on)) parts h.1,
+        all_parts (spot_after (move spot) part) (on_after side (move spot) part (stays spot on))
+            parts h.1,
       )
 
-  joined_under : (spot : Spot) (parts : List (List Item)) → under spot (joined parts) ≡ joined (masked_parts (λ s. s) spot parts)
+  joined_under : (spot : Spot) (parts : List (List Item))
+      → under spot (joined parts) ≡ joined (masked_parts (λ s. s) spot parts)
   joined_under spot [] = refl
   joined_under spot (part ∷ parts) =
-      masked_items-append ways seen spot part (joined parts) ∙ ap (λ (l : List Item). under spot part ++ l) (joined_under (spot_after spot part) parts)
+      masked_items-append ways seen spot part (joined parts)
+      ∙ ap (λ (l : List Item). under spot part ++ l) (joined_under (spot_after spot part) parts)
 
-  module _ (side : Side) (name : List ℕ) (free : (spot : Spot) → IsOn side spot → class_of_word spot name ≡ None) where
+  module _ (side : Side) (name : List ℕ)
+      (free : (spot : Spot) → IsOn side spot → class_of_word spot name ≡ None) where
     abbrev after_link : Spot → Spot
     after_link spot = next_spot spot (Word name 1)
 
-    links_under : (spot : Spot) → IsOn side spot → (parts : List (List Item)) → under spot (links name parts ++ Word name 0 ∷ []) ≡ links name (masked_parts after_link spot parts) ++ Word name 0 ∷ []
-    links_under spot on [] = ap (λ (i : Item). i ∷ []) (unmasked ways seen spot (Word name 0) (free spot on))
+    links_under : (spot : Spot) → IsOn side spot → (parts : List (List Item))
+        → under spot (links name parts ++ Word name 0 ∷ [])
+        ≡ links name (masked_parts after_link spot parts) ++ Word name 0 ∷ []
+    links_under spot on [] =
+        ap (λ (i : Item). i ∷ []) (unmasked ways seen spot (Word name 0) (free spot on))
     links_under spot on (part ∷ parts) =
         let next : Spot = after_link spot in
         let later : Spot = spot_after next part in
         let stays = on_after side next part (on_next side spot (Word name 1) on) in
         let end : List Item = Word name 0 ∷ [] in
-        ap₂ (λ (i : Item) (l : List Item). i ∷ l) (unmasked ways seen spot (Word name 1) (free spot on))
+        ap₂ (λ (i : Item) (l : List Item). i ∷ l)
+        (unmasked ways seen spot (Word name 1) (free spot on))
         (ap (under next) (append_assoc part (links name parts) end)
         ∙ masked_items-append ways seen next part (links name parts ++ end)
         ∙ ap (λ (l : List Item). under next part ++ l) (links_under later stays parts)
-        ∙ sym (append_assoc (under next part) (links name (masked_parts after_link later parts)) end))
+        ∙ sym
+        (append_assoc (under next part) (links name (masked_parts after_link later parts)) end))
 
   -- ---- shapes stay
 
-  pub fits_under : (side : Side) (spot : Spot) → IsOn side spot → (s : Shape) (items : List Item) → TakesOn side s → Fits s items → Fits s (under spot items)
+  pub fits_under : (side : Side) (spot : Spot) → IsOn side spot → (s : Shape) (items : List Item)
+      → TakesOn side s → Fits s items → Fits s (under spot items)
   fits_under side spot on (choose name accepted reason next) items h p =
       let c = chosen spot name accepted next (class_of_word spot name) refl (h spot on).0 p.0 p.2 in
-      let later : Spot = next_spot spot (Word name p.0) in
-      (c.0, under later p.1, c.2, subst (λ s. Fits s (under later p.1)) (sym c.3) (fits_under side later (on_next side spot (Word name p.0) on) (next p.0) p.1 (λ t o. (h t o).1 p.0) p.3), ap (under spot) p.4 ∙ ap (λ (i : Item). i ∷ under later p.1) c.1)
+      let later : Spot = next_spot spot (Word name p.0) in (
+        c.0,
+        under later p.1,
+        c.2,
+        subst (λ s. Fits s (under later p.1)) (sym c.3) (fits_under side later
+            (on_next side spot (Word name p.0) on) (next p.0) p.1 (λ t o. (h t o).1 p.0) p.3),
+        ap (under spot) p.4 ∙ ap (λ (i : Item). i ∷ under later p.1) c.1,
+      )
   fits_under side spot on (hyper name) items h p =
-      let w = hyper_with name p.0 (substitute ways seen (class_of_hyper spot name) p.0) in (w.0, ap (under spot) p.1 ∙ ap (λ (i : Item). i ∷ []) w.1)
+      let w = hyper_with name p.0 (substitute ways seen (class_of_hyper spot name) p.0) in
+      (w.0, ap (under spot) p.1 ∙ ap (λ (i : Item). i ∷ []) w.1)
   fits_under side spot on (fixed name) items h p =
-      let w = fixed_with name p.0 (substitute ways seen (class_of_fixed name) (class_value (Fixed name p.0))) in (w.0, ap (under spot) p.1 ∙ ap (λ (i : Item). i ∷ []) w.1)
+      let w =
+      fixed_with name p.0
+      (substitute ways seen (class_of_fixed name) (class_value (Fixed name p.0))) in
+      (w.0, ap (under spot) p.1 ∙ ap (λ (i : Item). i ∷ []) w.1)
   fits_under side spot on (write_verf name) items h p = (p.0, ap (under spot) p.1)
   fits_under side spot on (opaque kind name max) items h p = (p.0, p.1, ap (under spot) p.2)
   fits_under side spot on nothing items h p = ap (under spot) p
   fits_under side spot on (both a b) items h p =
-      let later : Spot = spot_after spot p.0 in
-      (under spot p.0, under later p.1, fits_under side spot on a p.0 (λ t o. (h t o).0) p.2, fits_under side later (on_after side spot p.0 on) b p.1 (λ t o. (h t o).1) p.3, ap (under spot) p.4 ∙ masked_items-append ways seen spot p.0 p.1)
+      let later : Spot = spot_after spot p.0 in (
+        under spot p.0,
+        under later p.1,
+        fits_under side spot on a p.0 (λ t o. (h t o).0) p.2,
+        fits_under side later (on_after side spot p.0 on) b p.1 (λ t o. (h t o).1) p.3,
+        ap (under spot) p.4 ∙ masked_items-append ways seen spot p.0 p.1,
+      )
   fits_under side spot on (linked name s) items h p = (
     masked_parts (λ t. next_spot t (Word name 1)) spot p.0,
-    all_parts (λ t. next_spot t (Word name 1)) side (λ t o. on_next side t (Word name 1) o) (Fits s) (λ t o part. fits_under side t o s part (λ u k. (h u k).1)) spot on p.0 p.1,
+    all_parts (λ t. next_spot t (Word name 1)) side (λ t o. on_next side t (Word name 1) o) (Fits s)
+        (λ t o part. fits_under side t o s part (λ u k. (h u k).1)) spot on p.0 p.1,
     ap (under spot) p.2 ∙ links_under side name (λ t o. (h t o).0) spot on p.0,
   )
   fits_under side spot on (counted name max s) items h p =
       let later : Spot = next_spot spot (Word name (length p.0)) in
       let size = length-masked_parts (λ t. t) later p.0 in (
         masked_parts (λ t. t) later p.0,
-        all_parts (λ t. t) side (λ t o. o) (Fits s) (λ t o part. fits_under side t o s part (λ u k. (h u k).1)) later (on_next side spot (Word name (length p.0)) on) p.0 p.1,
+        all_parts (λ t. t) side (λ t o. o) (Fits s)
+            (λ t o part. fits_under side t o s part (λ u k. (h u k).1)) later
+            (on_next side spot (Word name (length p.0)) on) p.0 p.1,
         omega (arith, p.2, size),
-        ap (under spot) p.3 ∙ ap₂ (λ (i : Item) (l : List Item). i ∷ l) (unmasked ways seen spot (Word name (length p.0)) (h spot on).0 ∙ ap (Word name) (sym size)) (joined_under later p.0),
+        ap (under spot) p.3
+            ∙ ap₂ (λ (i : Item) (l : List Item). i ∷ l)
+            (unmasked ways seen spot (Word name (length p.0)) (h spot on).0
+            ∙ ap (Word name) (sym size)) (joined_under later p.0),
       )
   fits_under side spot on (sized name s) items h p =
       let later : Spot = next_spot spot (Word name (length (zero_spelling p.0))) in
       let size = fitting_lengths later s p.0 (h spot on).1 p.1 in (
         under later p.0,
-        fits_under side later (on_next side spot (Word name (length (zero_spelling p.0))) on) s p.0 (λ t o. (h t o).2) p.1,
+        fits_under side later (on_next side spot (Word name (length (zero_spelling p.0))) on) s p.0
+            (λ t o. (h t o).2) p.1,
         omega (arith, p.2, size),
-        ap (under spot) p.3 ∙ ap (λ (i : Item). i ∷ under later p.0) (unmasked ways seen spot (Word name (length (zero_spelling p.0))) (h spot on).0 ∙ ap (Word name) (sym size)),
+        ap (under spot) p.3
+            ∙ ap (λ (i : Item). i ∷ under later p.0) (unmasked ways seen spot
+            (Word name (length (zero_spelling p.0))) (h spot on).0
+            ∙ ap (Word name) (sym size)),
       )
 
-  row_under : (side : Side) (spot : Spot) → IsOn side spot → (layout : Layout) (items : List Item) → RowTakesOn side layout → FitsLayout layout items → FitsLayout layout (under spot items)
+  row_under : (side : Side) (spot : Spot) → IsOn side spot → (layout : Layout) (items : List Item)
+      → RowTakesOn side layout → FitsLayout layout items → FitsLayout layout (under spot items)
   row_under side spot on (exactly s) items h p = fits_under side spot on s items h p
   row_under side spot on (rest name) items h p = (p.0, ap (under spot) p.1)
   row_under side spot on (after s next) items h p = absurd (h spot on)
 
 -- ---- the words that choose a layout
 
-pub first_word : (name : List ℕ) (s : Shape) (items : List Item) → Fits (both (word name) s) items → (n : ℕ) × (back : List Item) × Fits s back × (items ≡ Word name n ∷ back)
-first_word name s items p = (p.2.0, p.1, p.3, p.4 ∙ ap (λ (l : List Item). l ++ p.1) (p.2.4 ∙ ap (λ (l : List Item). Word name p.2.0 ∷ l) p.2.3))
+pub first_word : (name : List ℕ) (s : Shape) (items : List Item) → Fits (both (word name) s) items
+    → (n : ℕ) × (back : List Item) × Fits s back × (items ≡ Word name n ∷ back)
+first_word name s items p = (
+  p.2.0,
+  p.1,
+  p.3,
+  p.4
+      ∙ ap (λ (l : List Item). l ++ p.1)
+      (p.2.4 ∙ ap (λ (l : List Item). Word name p.2.0 ∷ l) p.2.3),
+)
 
-pub mtype_is : (types : List ℕ) (items : List Item) → Fits (listed head_names.mtype types) items → (n : ℕ) × (items ≡ Word head_names.mtype n ∷ [])
+pub mtype_is : (types : List ℕ) (items : List Item) → Fits (listed head_names.mtype types) items
+    → (n : ℕ) × (items ≡ Word head_names.mtype n ∷ [])
 mtype_is types items p = (p.0, p.4 ∙ ap (λ (l : List Item). Word head_names.mtype p.0 ∷ l) p.3)
 
 record CallWords (head : List Item) : Type 0 where
@@ -206,33 +256,64 @@ record CallWords (head : List Item) : Type 0 where
   vers : ℕ
   proc : ℕ
   back : List Item
-  is : head ≡ Word head_names.rpcvers version ∷ Word head_names.prog prog ∷ Word head_names.vers vers ∷ Word head_names.proc proc ∷ back
+  is : head
+      ≡ Word head_names.rpcvers version ∷ Word head_names.prog prog ∷ Word head_names.vers vers
+      ∷ Word head_names.proc proc ∷ back
 
-four_words : (version prog vers proc : ℕ) (head a b c back : List Item) → head ≡ Word head_names.rpcvers version ∷ a → a ≡ Word head_names.prog prog ∷ b → b ≡ Word head_names.vers vers ∷ c → c ≡ Word head_names.proc proc ∷ back
-    → head ≡ Word head_names.rpcvers version ∷ Word head_names.prog prog ∷ Word head_names.vers vers ∷ Word head_names.proc proc ∷ back
+four_words : (version prog vers proc : ℕ) (head a b c back : List Item)
+    → head ≡ Word head_names.rpcvers version ∷ a → a ≡ Word head_names.prog prog ∷ b
+    → b ≡ Word head_names.vers vers ∷ c → c ≡ Word head_names.proc proc ∷ back
+    → head
+    ≡ Word head_names.rpcvers version ∷ Word head_names.prog prog ∷ Word head_names.vers vers
+    ∷ Word head_names.proc proc ∷ back
 four_words version prog vers proc head a b c back e f g h = cc
 
 call_words : (head : List Item) → Fits call_head head → CallWords head
 unfolding call_head
 call_words head p =
-    let a = first_word head_names.prog (word head_names.vers then word head_names.proc then credential then verifier) p.1 p.3 in
-    let b = first_word head_names.vers (word head_names.proc then credential then verifier) a.1 a.2 in
+    let a =
+    first_word head_names.prog
+    (word head_names.vers then word head_names.proc then credential then verifier) p.1 p.3 in
+    let b =
+    first_word head_names.vers (word head_names.proc then credential then verifier) a.1 a.2 in
     let c = first_word head_names.proc (credential then verifier) b.1 b.2 in
-    record { version = p.0; prog = a.0; vers = b.0; proc = c.0; back = c.1; is = four_words p.0 a.0 b.0 c.0 head p.1 a.1 b.1 c.1 p.4 a.3 b.3 c.3 }
+    record {
+      version = p.0;
+      prog = a.0;
+      vers = b.0;
+      proc = c.0;
+      back = c.1;
+      is = four_words p.0 a.0 b.0 c.0 head p.1 a.1 b.1 c.1 p.4 a.3 b.3 c.3;
+    }
 
 -- the status of a reply's head, and where it is accepted the status after its verifier
 record ReplyWords (head : List Item) : Type 0 where
   status : ℕ
   back : List Item
   is : head ≡ Word head_names.reply_stat status ∷ back
-  accepted : nat_eq status 0 ≡ true → (flavor stat : ℕ) × (body : List ℕ) × (last : List Item) × (back ≡ Word head_names.verf_flavor flavor ∷ Opaque Var head_names.verf_body body ∷ Word head_names.accept_stat stat ∷ last)
+  accepted : nat_eq status 0 ≡ true
+      → (flavor stat : ℕ) × (body : List ℕ) × (last : List Item)
+      × (back
+      ≡ Word head_names.verf_flavor flavor ∷ Opaque Var head_names.verf_body body
+      ∷ Word head_names.accept_stat stat ∷ last)
 
-accepted_words : (items : List Item) → Fits (verifier then accept) items → (flavor stat : ℕ) × (body : List ℕ) × (last : List Item) × (items ≡ Word head_names.verf_flavor flavor ∷ Opaque Var head_names.verf_body body ∷ Word head_names.accept_stat stat ∷ last)
+accepted_words : (items : List Item) → Fits (verifier then accept) items
+    → (flavor stat : ℕ) × (body : List ℕ) × (last : List Item)
+    × (items
+    ≡ Word head_names.verf_flavor flavor ∷ Opaque Var head_names.verf_body body
+    ∷ Word head_names.accept_stat stat ∷ last)
 unfolding verifier accept
 accepted_words items p =
     let v = p.2 in
-    let a = p.3 in
-    (v.0, a.0, v.3.0, a.1, p.4 ∙ ap₂ (λ (l m : List Item). l ++ m) (v.4 ∙ ap (λ (l : List Item). Word head_names.verf_flavor v.0 ∷ l) v.3.2) a.4)
+    let a = p.3 in (
+      v.0,
+      a.0,
+      v.3.0,
+      a.1,
+      p.4
+          ∙ ap₂ (λ (l m : List Item). l ++ m)
+          (v.4 ∙ ap (λ (l : List Item). Word head_names.verf_flavor v.0 ∷ l) v.3.2) a.4,
+    )
 
 reply_words : (head : List Item) → Fits reply_head head → ReplyWords head
 unfolding reply_head
@@ -240,41 +321,62 @@ reply_words head p = record {
   status = p.0;
   back = p.1;
   is = p.4;
-  accepted = λ zero. accepted_words p.1 (subst (λ b. Fits (if b then (verifier then accept) else deny) p.1) zero p.3);
+  accepted =
+      λ zero.
+      accepted_words p.1
+      (subst (λ b. Fits (if b then (verifier then accept) else deny) p.1) zero p.3);
 }
 
 module _ (ways : Ways) (seen : Class → List ℕ) where
-  procedure_of_words : (a b : Spot) (x version prog vers proc mtype : ℕ) (start head back : List Item) → start ≡ Word head_names.mtype mtype ∷ []
-      → head ≡ Word head_names.rpcvers version ∷ Word head_names.prog prog ∷ Word head_names.vers vers ∷ Word head_names.proc proc ∷ back
-      → procedure_in (Word head_names.xid x ∷ (under ways seen a start ++ under ways seen b head)) ≡ procedure_in (Word head_names.xid x ∷ (start ++ head))
+  procedure_of_words : (a b : Spot) (x version prog vers proc mtype : ℕ)
+      (start head back : List Item) → start ≡ Word head_names.mtype mtype ∷ []
+      → head
+      ≡ Word head_names.rpcvers version ∷ Word head_names.prog prog ∷ Word head_names.vers vers
+      ∷ Word head_names.proc proc ∷ back
+      → procedure_in (Word head_names.xid x ∷ (under ways seen a start ++ under ways seen b head))
+      ≡ procedure_in (Word head_names.xid x ∷ (start ++ head))
   unfolding names head_names
   procedure_of_words a b x version prog vers proc mtype start head back e f = rw (e, f) refl
 
-  procedure_stays : (a b : Spot) (x : ℕ) (start head : List Item) → Fits (listed head_names.mtype (0 ∷ [])) start → Fits call_head head
-      → procedure_in (Word head_names.xid x ∷ (under ways seen a start ++ under ways seen b head)) ≡ procedure_in (Word head_names.xid x ∷ (start ++ head))
+  procedure_stays : (a b : Spot) (x : ℕ) (start head : List Item)
+      → Fits (listed head_names.mtype (0 ∷ [])) start → Fits call_head head
+      → procedure_in (Word head_names.xid x ∷ (under ways seen a start ++ under ways seen b head))
+      ≡ procedure_in (Word head_names.xid x ∷ (start ++ head))
   procedure_stays a b x start head p q =
       let m = mtype_is (0 ∷ []) start p in
       let w = call_words head q in
       procedure_of_words a b x w.version w.prog w.vers w.proc m.0 start head w.back m.1 w.is
 
-  refused_results : (a b : Spot) (x status mtype : ℕ) (start head back : List Item) → nat_eq status 0 ≡ false → start ≡ Word head_names.mtype mtype ∷ [] → head ≡ Word head_names.reply_stat status ∷ back
-      → has_results (Word head_names.xid x ∷ (under ways seen a start ++ under ways seen b head)) ≡ has_results (Word head_names.xid x ∷ (start ++ head))
+  refused_results : (a b : Spot) (x status mtype : ℕ) (start head back : List Item)
+      → nat_eq status 0 ≡ false → start ≡ Word head_names.mtype mtype ∷ []
+      → head ≡ Word head_names.reply_stat status ∷ back
+      → has_results (Word head_names.xid x ∷ (under ways seen a start ++ under ways seen b head))
+      ≡ has_results (Word head_names.xid x ∷ (start ++ head))
   unfolding names head_names
   refused_results a b x status mtype start head back z e f = rw (e, f) (rw z refl)
 
-  accepted_results : (a b : Spot) (x status mtype flavor stat : ℕ) (body : List ℕ) (start head back last : List Item) → start ≡ Word head_names.mtype mtype ∷ [] → head ≡ Word head_names.reply_stat status ∷ back
-      → back ≡ Word head_names.verf_flavor flavor ∷ Opaque Var head_names.verf_body body ∷ Word head_names.accept_stat stat ∷ last
-      → has_results (Word head_names.xid x ∷ (under ways seen a start ++ under ways seen b head)) ≡ has_results (Word head_names.xid x ∷ (start ++ head))
+  accepted_results : (a b : Spot) (x status mtype flavor stat : ℕ) (body : List ℕ)
+      (start head back last : List Item) → start ≡ Word head_names.mtype mtype ∷ []
+      → head ≡ Word head_names.reply_stat status ∷ back
+      → back
+      ≡ Word head_names.verf_flavor flavor ∷ Opaque Var head_names.verf_body body
+      ∷ Word head_names.accept_stat stat ∷ last
+      → has_results (Word head_names.xid x ∷ (under ways seen a start ++ under ways seen b head))
+      ≡ has_results (Word head_names.xid x ∷ (start ++ head))
   unfolding names head_names
-  accepted_results a b x status mtype flavor stat body start head back last e f g = rw (e, f, g) refl
+  accepted_results a b x status mtype flavor stat body start head back last e f g =
+      rw (e, f, g) refl
 
-  results_stay : (a b : Spot) (x : ℕ) (start head : List Item) → Fits (listed head_names.mtype (1 ∷ [])) start → Fits reply_head head
-      → has_results (Word head_names.xid x ∷ (under ways seen a start ++ under ways seen b head)) ≡ has_results (Word head_names.xid x ∷ (start ++ head))
+  results_stay : (a b : Spot) (x : ℕ) (start head : List Item)
+      → Fits (listed head_names.mtype (1 ∷ [])) start → Fits reply_head head
+      → has_results (Word head_names.xid x ∷ (under ways seen a start ++ under ways seen b head))
+      ≡ has_results (Word head_names.xid x ∷ (start ++ head))
   results_stay a b x start head p q =
       let m = mtype_is (1 ∷ []) start p in
       let w = reply_words head q in
       by_test (nat_eq w.status 0)
-      (λ t. let k = w.accepted t in accepted_results a b x w.status m.0 k.0 k.1 k.2 start head w.back k.3 m.1 w.is k.4)
+      (λ t. let k = w.accepted t in
+      accepted_results a b x w.status m.0 k.0 k.1 k.2 start head w.back k.3 m.1 w.is k.4)
       (λ f. refused_results a b x w.status m.0 start head w.back f m.1 w.is)
 
 module _ (ways : Ways) (seen : Class → List ℕ) (spot : Spot) where
@@ -284,41 +386,64 @@ module _ (ways : Ways) (seen : Class → List ℕ) (spot : Spot) where
   -- ---- a message, its xid and its procedure
 
   -- with what is under way after its start and after its head
-  message_is : (x : ℕ) (items start head back : List Item) → items ≡ Word head_names.xid x ∷ ((start ++ head) ++ back)
-      → masks items ≡ Word head_names.xid x ∷ ((masks start ++ under ways seen (spot_after spot start) head) ++ under ways seen (spot_after spot (start ++ head)) back)
+  message_is : (x : ℕ) (items start head back : List Item)
+      → items ≡ Word head_names.xid x ∷ ((start ++ head) ++ back)
+      → masks items
+      ≡ Word head_names.xid x
+      ∷ ((masks start ++ under ways seen (spot_after spot start) head)
+      ++ under ways seen (spot_after spot (start ++ head)) back)
   message_is x items start head back is =
-      ap masks is ∙ ap₂ (λ (i : Item) (l : List Item). i ∷ l) (unmasked ways seen spot (Word head_names.xid x) (xid_free.classless spot))
+      ap masks is
+      ∙ ap₂ (λ (i : Item) (l : List Item). i ∷ l)
+      (unmasked ways seen spot (Word head_names.xid x) (xid_free.classless spot))
       (ap (λ (s : Spot). under ways seen s ((start ++ head) ++ back)) (xid_free.moves_not spot x)
       ∙ masked_items-append ways seen spot (start ++ head) back
-      ∙ ap (λ (l : List Item). l ++ under ways seen (spot_after spot (start ++ head)) back) (masked_items-append ways seen spot start head))
+      ∙ ap (λ (l : List Item). l ++ under ways seen (spot_after spot (start ++ head)) back)
+      (masked_items-append ways seen spot start head))
 
-  xid_of_message : (x : ℕ) (items start head back : List Item) → items ≡ Word head_names.xid x ∷ ((start ++ head) ++ back) → xid_in (masks items) ≡ xid_in items
-  xid_of_message x items start head back is = ap xid_in (message_is x items start head back is) ∙ sym (ap xid_in is)
+  xid_of_message : (x : ℕ) (items start head back : List Item)
+      → items ≡ Word head_names.xid x ∷ ((start ++ head) ++ back)
+      → xid_in (masks items) ≡ xid_in items
+  xid_of_message x items start head back is =
+      ap xid_in (message_is x items start head back is) ∙ sym (ap xid_in is)
 
   pub call_xid_under : (items : List Item) → FitsCall items → xid_in (masks items) ≡ xid_in items
-  call_xid_under items p = let h = is_headed_call items p in xid_of_message h.number items h.start h.head h.back h.is
+  call_xid_under items p =
+      let h = is_headed_call items p in xid_of_message h.number items h.start h.head h.back h.is
 
-  pub reply_xid_under : (id : ProcId) (items : List Item) → FitsReply id items → xid_in (masks items) ≡ xid_in items
-  reply_xid_under id items p = let h = is_headed_reply id items p in xid_of_message h.number items h.start h.head h.back h.is
+  pub reply_xid_under : (id : ProcId) (items : List Item) → FitsReply id items
+      → xid_in (masks items) ≡ xid_in items
+  reply_xid_under id items p =
+      let h = is_headed_reply id items p in xid_of_message h.number items h.start h.head h.back h.is
 
-  procedure_of_message : (x version prog vers proc mtype : ℕ) (items start head back last : List Item) → items ≡ Word head_names.xid x ∷ ((start ++ head) ++ last) → start ≡ Word head_names.mtype mtype ∷ []
-      → head ≡ Word head_names.rpcvers version ∷ Word head_names.prog prog ∷ Word head_names.vers vers ∷ Word head_names.proc proc ∷ back → procedure_in (masks items) ≡ procedure_in items
+  procedure_of_message : (x version prog vers proc mtype : ℕ)
+      (items start head back last : List Item)
+      → items ≡ Word head_names.xid x ∷ ((start ++ head) ++ last)
+      → start ≡ Word head_names.mtype mtype ∷ []
+      → head
+      ≡ Word head_names.rpcvers version ∷ Word head_names.prog prog ∷ Word head_names.vers vers
+      ∷ Word head_names.proc proc ∷ back → procedure_in (masks items) ≡ procedure_in items
   unfolding names head_names
-  procedure_of_message x version prog vers proc mtype items start head back last e f g = rw (e, f, g) refl
+  procedure_of_message x version prog vers proc mtype items start head back last e f g =
+      rw (e, f, g) refl
 
-  pub procedure_under : (items : List Item) → FitsCall items → procedure_in (masks items) ≡ procedure_in items
+  pub procedure_under : (items : List Item) → FitsCall items
+      → procedure_in (masks items) ≡ procedure_in items
   procedure_under items p =
       let h = is_headed_call items p in
       let m = mtype_is (0 ∷ []) h.start h.start_fits in
       let w = call_words h.head h.head_fits in
-      procedure_of_message h.number w.version w.prog w.vers w.proc m.0 items h.start h.head w.back h.back h.is m.1 w.is
+      procedure_of_message h.number w.version w.prog w.vers w.proc m.0 items h.start h.head w.back
+      h.back h.is m.1 w.is
 
   -- ---- spellings
 
-  spelled_length : (i : Item) (bytes : List ℕ) → SpellsItem i bytes → length (zero_spelling_of (masked_item ways seen spot i)) ≡ length (zero_spelling_of i)
+  spelled_length : (i : Item) (bytes : List ℕ) → SpellsItem i bytes
+      → length (zero_spelling_of (masked_item ways seen spot i)) ≡ length (zero_spelling_of i)
   spelled_length (Word name n) bytes p = word_length ways seen name n spot
   spelled_length (Hyper name n) bytes p = hyper_length ways seen name n spot
-  spelled_length (Fixed name b) bytes p = eight (substitute ways seen (class_of_fixed name) (class_value (Fixed name b)))
+  spelled_length (Fixed name b) bytes p =
+      eight (substitute ways seen (class_of_fixed name) (class_value (Fixed name b)))
     where
       eight : (o : Option ℕ) → length (zero_spelling_of (with_value (Fixed name b) o)) ≡ length b
       eight None = refl
@@ -328,50 +453,81 @@ module _ (ways : Ways) (seen : Class → List ℕ) (spot : Spot) where
   spelled_length (Rest name b) bytes p = refl
 
 module _ (ways : Ways) (seen : Class → List ℕ) where
-  pub message_length : (spot : Spot) (items : List Item) (bytes : List ℕ) → Spells items bytes → length (zero_spelling (under ways seen spot items)) ≡ length (zero_spelling items)
+  pub message_length : (spot : Spot) (items : List Item) (bytes : List ℕ) → Spells items bytes
+      → length (zero_spelling (under ways seen spot items)) ≡ length (zero_spelling items)
   message_length spot [] bytes p = refl
   message_length spot (i ∷ items) bytes p =
       let later : Spot = next_spot spot i in
-      omega (arith, spelled_length ways seen spot i p.0 p.2, message_length later items p.1 p.3, length-append (zero_spelling_of i) (zero_spelling items), length-append (zero_spelling_of (masked_item ways seen spot i)) (zero_spelling (under ways seen later items)))
+      omega (
+        arith,
+        spelled_length ways seen spot i p.0 p.2,
+        message_length later items p.1 p.3,
+        length-append (zero_spelling_of i) (zero_spelling items),
+        length-append (zero_spelling_of (masked_item ways seen spot i))
+            (zero_spelling (under ways seen later items)),
+      )
 
   module _ (few : (d : Class) → length (seen d) ≤ max_bytes) where
     number_small : (d : Class) (n : ℕ) → number_among (seen d) d n < 2 ^ 32
-    number_small d n = cond_either (λ (m : ℕ). m < 2 ^ 32) (is_zero_that_stays d n) (omega arith) (let low = few d in omega (arith, rank_small n (seen d)))
+    number_small d n =
+        cond_either (λ (m : ℕ). m < 2 ^ 32) (is_zero_that_stays d n) (omega arith)
+        (let low = few d in omega (arith, rank_small n (seen d)))
 
     way_small : (w : Way) (d : Class) (n m : ℕ) → by_way w (seen d) d n ≡ Some m → m < 2 ^ 32
     way_small Keep d n m e = absurd cc
     way_small Zero d n m e = let is : 0 ≡ m = cc in omega arith
-    way_small Number d n m e = let is : number_among (seen d) d n ≡ m = cc in subst (λ k. k < 2 ^ 32) is (number_small d n)
+    way_small Number d n m e =
+        let is : number_among (seen d) d n ≡ m = cc in subst (λ k. k < 2 ^ 32) is (number_small d n)
 
     substitute_small : (o : Option Class) (n m : ℕ) → substitute ways seen o n ≡ Some m → m < 2 ^ 32
     substitute_small None n m e = absurd cc
     substitute_small (Some d) n m e = way_small (way_of ways d) d n m e
 
-    word_spelled : (name : List ℕ) (n : ℕ) (o : Option ℕ) → ((m : ℕ) → o ≡ Some m → m < 2 ^ 32) → n < 2 ^ 32 → SpellsItem (with_value (Word name n) o) (zero_spelling_of (with_value (Word name n) o))
+    word_spelled : (name : List ℕ) (n : ℕ) (o : Option ℕ) → ((m : ℕ) → o ≡ Some m → m < 2 ^ 32)
+        → n < 2 ^ 32
+        → SpellsItem (with_value (Word name n) o) (zero_spelling_of (with_value (Word name n) o))
     word_spelled name n None low p = (p, refl)
     word_spelled name n (Some m) low p = (low m refl, refl)
 
-    hyper_spelled : (name : List ℕ) (n : ℕ) (o : Option ℕ) → ((m : ℕ) → o ≡ Some m → m < 2 ^ 32) → n < 2 ^ 64 → SpellsItem (with_value (Hyper name n) o) (zero_spelling_of (with_value (Hyper name n) o))
+    hyper_spelled : (name : List ℕ) (n : ℕ) (o : Option ℕ) → ((m : ℕ) → o ≡ Some m → m < 2 ^ 32)
+        → n < 2 ^ 64
+        → SpellsItem (with_value (Hyper name n) o) (zero_spelling_of (with_value (Hyper name n) o))
     hyper_spelled name n None low p = (p, refl)
     hyper_spelled name n (Some m) low p = let small = low m refl in (omega arith, refl)
 
-    fixed_spelled : (name b bytes : List ℕ) (o : Option ℕ) → SpellsItem (Fixed name b) bytes → SpellsItem (with_value (Fixed name b) o) (zero_spelling_of (with_value (Fixed name b) o))
+    fixed_spelled : (name b bytes : List ℕ) (o : Option ℕ) → SpellsItem (Fixed name b) bytes
+        → SpellsItem (with_value (Fixed name b) o) (zero_spelling_of (with_value (Fixed name b) o))
     fixed_spelled name b bytes None p = (p.0, p.1, refl)
-    fixed_spelled name b bytes (Some m) p = (length-bytes_high_first 8 m, are_bytes_of_number 8 m, refl)
+    fixed_spelled name b bytes (Some m) p =
+        (length-bytes_high_first 8 m, are_bytes_of_number 8 m, refl)
 
-    item_spelled : (spot : Spot) (i : Item) (bytes : List ℕ) → SpellsItem i bytes → SpellsItem (masked_item ways seen spot i) (zero_spelling_of (masked_item ways seen spot i))
-    item_spelled spot (Word name n) bytes p = word_spelled name n (substitute ways seen (class_of_word spot name) n) (substitute_small (class_of_word spot name) n) p.0
-    item_spelled spot (Hyper name n) bytes p = hyper_spelled name n (substitute ways seen (class_of_hyper spot name) n) (substitute_small (class_of_hyper spot name) n) p.0
-    item_spelled spot (Fixed name b) bytes p = fixed_spelled name b bytes (substitute ways seen (class_of_fixed name) (class_value (Fixed name b))) p
+    item_spelled : (spot : Spot) (i : Item) (bytes : List ℕ) → SpellsItem i bytes
+        → SpellsItem (masked_item ways seen spot i)
+        (zero_spelling_of (masked_item ways seen spot i))
+    item_spelled spot (Word name n) bytes p =
+        word_spelled name n (substitute ways seen (class_of_word spot name) n)
+        (substitute_small (class_of_word spot name) n) p.0
+    item_spelled spot (Hyper name n) bytes p =
+        hyper_spelled name n (substitute ways seen (class_of_hyper spot name) n)
+        (substitute_small (class_of_hyper spot name) n) p.0
+    item_spelled spot (Fixed name b) bytes p =
+        fixed_spelled name b bytes
+        (substitute ways seen (class_of_fixed name) (class_value (Fixed name b))) p
     item_spelled spot (WriteVerf name b) bytes p = zero_spelled_one (WriteVerf name b) bytes p
     item_spelled spot (Opaque kind name b) bytes p = zero_spelled_one (Opaque kind name b) bytes p
     item_spelled spot (Rest name b) bytes p = zero_spelled_one (Rest name b) bytes p
 
-    pub message_spelled : (spot : Spot) (items : List Item) (bytes : List ℕ) → Spells items bytes → Spells (under ways seen spot items) (zero_spelling (under ways seen spot items))
+    pub message_spelled : (spot : Spot) (items : List Item) (bytes : List ℕ) → Spells items bytes
+        → Spells (under ways seen spot items) (zero_spelling (under ways seen spot items))
     message_spelled spot [] bytes p = refl
     message_spelled spot (i ∷ items) bytes p =
-        let later : List Item = under ways seen (next_spot spot i) items in
-        (zero_spelling_of (masked_item ways seen spot i), zero_spelling later, item_spelled spot i p.0 p.2, message_spelled (next_spot spot i) items p.1 p.3, refl)
+        let later : List Item = under ways seen (next_spot spot i) items in (
+          zero_spelling_of (masked_item ways seen spot i),
+          zero_spelling later,
+          item_spelled spot i p.0 p.2,
+          message_spelled (next_spot spot i) items p.1 p.3,
+          refl,
+        )
 
 -- ---- calls and replies
 
@@ -386,14 +542,27 @@ module _ (ways : Ways) (seen : Class → List ℕ) where
         start = under ways seen InCall h.start;
         head = under ways seen head_spot h.head;
         back = under ways seen back_spot h.back;
-        start_fits = fits_under ways seen Client InCall tt (listed head_names.mtype (0 ∷ [])) h.start (λ t o. mtype_takes t (0 ∷ [])) h.start_fits;
-        head_fits = fits_under ways seen Client head_spot (on_after Client InCall h.start tt) call_head h.head call_head_takes h.head_fits;
-        back_fits = subst (λ id. FitsLayout (arguments_of id) (under ways seen back_spot h.back)) (sym (procedure_stays ways seen InCall head_spot h.number h.start h.head h.start_fits h.head_fits))
-            (row_under ways seen Client back_spot (on_after Client InCall (h.start ++ h.head) tt) (call_next (Word head_names.xid h.number ∷ (h.start ++ h.head))) h.back (λ t o. arguments_take t (procedure_in (Word head_names.xid h.number ∷ (h.start ++ h.head)))) h.back_fits);
+        start_fits =
+            fits_under ways seen Client InCall tt (listed head_names.mtype (0 ∷ [])) h.start
+            (λ t o. mtype_takes t (0 ∷ [])) h.start_fits;
+        head_fits =
+            fits_under ways seen Client head_spot (on_after Client InCall h.start tt) call_head
+            h.head call_head_takes h.head_fits;
+        back_fits =
+            subst (λ id. FitsLayout (arguments_of id) (under ways seen back_spot h.back))
+            (sym (procedure_stays ways seen InCall head_spot h.number h.start h.head
+            h.start_fits h.head_fits))
+            (row_under ways seen Client back_spot (on_after Client InCall (h.start ++ h.head) tt)
+            (call_next (Word head_names.xid h.number ∷ (h.start ++ h.head))) h.back
+            (λ t o.
+            arguments_take t
+            (procedure_in (Word head_names.xid h.number ∷ (h.start ++ h.head))))
+            h.back_fits);
         is = message_is ways seen InCall h.number items h.start h.head h.back h.is;
       })
 
-  pub reply_under : (id : ProcId) (items : List Item) → FitsReply id items → FitsReply id (under ways seen InReply items)
+  pub reply_under : (id : ProcId) (items : List Item) → FitsReply id items
+      → FitsReply id (under ways seen InReply items)
   reply_under id items p =
       let h = is_headed_reply id items p in
       let head_spot : Spot = spot_after InReply h.start in
@@ -403,9 +572,21 @@ module _ (ways : Ways) (seen : Class → List ℕ) where
         start = under ways seen InReply h.start;
         head = under ways seen head_spot h.head;
         back = under ways seen back_spot h.back;
-        start_fits = fits_under ways seen Server InReply tt (listed head_names.mtype (1 ∷ [])) h.start (λ t o. mtype_takes t (1 ∷ [])) h.start_fits;
-        head_fits = fits_under ways seen Server head_spot (on_after Server InReply h.start tt) reply_head h.head (λ t o. reply_head_takes t) h.head_fits;
-        back_fits = subst (λ b. FitsLayout (if b then results_of id else exactly nothing) (under ways seen back_spot h.back)) (sym (results_stay ways seen InReply head_spot h.number h.start h.head h.start_fits h.head_fits))
-            (row_under ways seen Server back_spot (on_after Server InReply (h.start ++ h.head) tt) (reply_next id (Word head_names.xid h.number ∷ (h.start ++ h.head))) h.back (λ t o. reply_takes t o id (Word head_names.xid h.number ∷ (h.start ++ h.head))) h.back_fits);
+        start_fits =
+            fits_under ways seen Server InReply tt (listed head_names.mtype (1 ∷ [])) h.start
+            (λ t o. mtype_takes t (1 ∷ [])) h.start_fits;
+        head_fits =
+            fits_under ways seen Server head_spot (on_after Server InReply h.start tt) reply_head
+            h.head (λ t o. reply_head_takes t) h.head_fits;
+        back_fits =
+            subst
+            (λ b.
+            FitsLayout (if b then results_of id else exactly nothing)
+            (under ways seen back_spot h.back)) (sym (results_stay ways seen InReply
+            head_spot h.number h.start h.head h.start_fits h.head_fits))
+            (row_under ways seen Server back_spot (on_after Server InReply (h.start ++ h.head) tt)
+            (reply_next id (Word head_names.xid h.number ∷ (h.start ++ h.head))) h.back
+            (λ t o. reply_takes t o id (Word head_names.xid h.number ∷ (h.start ++ h.head)))
+            h.back_fits);
         is = message_is ways seen InReply h.number items h.start h.head h.back h.is;
       })

@@ -1,24 +1,11 @@
--- Each shape of the protocol takes masked values: a word of a class takes any value, and chooses nothing.
-use Rattle.std.proofs.Common.{◌≡◌, ℕ, Bool, true, false, List, refl}
-use Rattle.std.specs.Prelude.{⊤, ◌||◌, IsTrue, bytes_eq, nat_eq, if◌then◌else◌, Option, None, Some}
-use Rattle.xdr3.specs.Item.{Item, Text, Var}
+-- Each shape of the protocol takes masked values: a word of a class takes any value, and chooses
+-- nothing.
+use Rattle.masking3.proofs.Common.{◌≡◌, ℕ, Bool, true, false, List, refl, ⊤, ◌||◌, IsTrue, bytes_eq, nat_eq, if◌then◌else◌, Option, None, Some, Item, Text, Var, Layout, exactly, rest, after, HasParts, Part, fixed_part, opaque_part, ProcId, has_results, head_names, names, Side, Client, Server, Class, Spot, InCall, InReply, InDirectory, InWcc, class_of_word}
 use Rattle.xdr3.specs.Shape.{Shape, ◌then◌, choose, counted, fixed, hyper, linked, listed, nothing, opaque, both, optional, sized, word}
-use Rattle.xdr3.specs.Layout.{Layout, exactly, rest, after}
-use Rattle.xdr3.proofs.Lemmas.Shapes.ShapeParts.{HasParts, Part, fixed_part, opaque_part}
-use Rattle.rpc_head.specs.declared.values.call.ProcId.{ProcId}
-use Rattle.rpc_head.specs.Messages.{has_results}
-use Rattle.rpc_head.specs.Names.{head_names}
 use Rattle.rpc_head.specs.Shapes.{accept, auth_stats, auth_sys, call_head, credential, deny, gids, parameters, reply_head, verifier, versions}
-use Rattle.nfs3_types.specs.Names.{names}
 use Rattle.nfs3_types.specs.Shapes.{attributes, dir_op, export, exports, file_kind, flavor, group, guard, handle, mount_list, mount_ok, mounted, post_op_attr, post_op_fh, results, set_hyper, set_word, settable, time, time_how, times, wcc, wcc_attr}
 use Rattle.procs3.specs.Shapes.{access_args, access_ok, commit_ok, create_args, create_how, create_ok, device, dirpath, entry, entry_plus, file_range, fsinfo_ok, fsstat_ok, link_args, link_wcc, lookup_ok, mkdir_args, mknod_args, mknod_what, mount_results, pathconf_ok, read_ok, readdir_args, readdir_ok, readdirplus_args, readdirplus_ok, readlink_ok, rename_args, rename_wcc, setattr_args, symlink_args, write_args, write_ok}
 use Rattle.procs3.specs.Table.{arguments_of, is_mount, is_nfs, mount_arguments, mount_results_of, nfs_arguments, nfs_results, results_of}
-use Rattle.capture3.specs.declared.fault.Side.{Side}
-use Rattle.capture3.specs.declared.fault.Side.TheVariants.{Client, Server}
-use Rattle.masking3.specs.declared.class.Class.{Class}
-use Rattle.masking3.specs.declared.spot.Spot.{Spot}
-use Rattle.masking3.specs.declared.spot.Spot.TheVariants.{InCall, InReply, InDirectory, InWcc}
-use Rattle.masking3.specs.Classes.{class_of_word}
 use Rattle.masking3.proofs.Lemmas.Classes.SpotLemmas.{IsOn}
 
 -- ---- what is asked of a shape
@@ -26,20 +13,25 @@ use Rattle.masking3.proofs.Lemmas.Classes.SpotLemmas.{IsOn}
 -- a word of a class takes any value, and nothing follows that it chooses
 abbrev pub TakesWord : Option Class → (ℕ → Bool) → (ℕ → Shape) → Type 0
 TakesWord None accepted next = ⊤
-TakesWord (Some class) accepted next = ((n : ℕ) → IsTrue (accepted n)) × ((n : ℕ) → next n ≡ nothing)
+TakesWord (Some class) accepted next =
+    ((n : ℕ) → IsTrue (accepted n)) × ((n : ℕ) → next n ≡ nothing)
 
--- Eight bytes may have another length than masked ones, where they are not spelled, and so may a text that is masked.
+-- Eight bytes may have another length than masked ones, where they are not spelled, and so may a
+-- text that is masked.
 abbrev pub KeepsSize : Part → Type 0
 KeepsSize (fixed_part name) = ⊥
-KeepsSize (opaque_part Text name max) = (bytes_eq name names.name ≡ false) × (bytes_eq name names.hostname ≡ false)
+KeepsSize (opaque_part Text name max) =
+    (bytes_eq name names.name ≡ false) × (bytes_eq name names.hostname ≡ false)
 KeepsSize _ = ⊤
 
 abbrev pub TakesMasks : Spot → Shape → Type 0
-TakesMasks spot (choose name accepted reason next) = TakesWord (class_of_word spot name) accepted next × ((n : ℕ) → TakesMasks spot (next n))
+TakesMasks spot (choose name accepted reason next) =
+    TakesWord (class_of_word spot name) accepted next × ((n : ℕ) → TakesMasks spot (next n))
 TakesMasks spot (both a b) = TakesMasks spot a × TakesMasks spot b
 TakesMasks spot (linked name s) = (class_of_word spot name ≡ None) × TakesMasks spot s
 TakesMasks spot (counted name max s) = (class_of_word spot name ≡ None) × TakesMasks spot s
-TakesMasks spot (sized name s) = (class_of_word spot name ≡ None) × HasParts KeepsSize s × TakesMasks spot s
+TakesMasks spot (sized name s) =
+    (class_of_word spot name ≡ None) × HasParts KeepsSize s × TakesMasks spot s
 TakesMasks spot _ = ⊤
 
 abbrev pub RowTakesMasks : Spot → Layout → Type 0
@@ -57,17 +49,20 @@ attributes_at InWcc = assumption
 
 -- at any spot
 module _ (spot : Spot) where
-  takes_if : (b : Bool) (s t : Shape) → TakesMasks spot s → TakesMasks spot t → TakesMasks spot (if b then s else t)
+  takes_if : (b : Bool) (s t : Shape) → TakesMasks spot s → TakesMasks spot t
+      → TakesMasks spot (if b then s else t)
   takes_if true s t h k = h
   takes_if false s t h k = k
 
-  row_takes_if : (b : Bool) (s t : Layout) → RowTakesMasks spot s → RowTakesMasks spot t → RowTakesMasks spot (if b then s else t)
+  row_takes_if : (b : Bool) (s t : Layout) → RowTakesMasks spot s → RowTakesMasks spot t
+      → RowTakesMasks spot (if b then s else t)
   row_takes_if true s t h k = h
   row_takes_if false s t h k = k
 
   -- ---- parts
 
-  optional_takes : (name : List ℕ) (s : Shape) → class_of_word spot name ≡ None → TakesMasks spot s → TakesMasks spot (optional name s)
+  optional_takes : (name : List ℕ) (s : Shape) → class_of_word spot name ≡ None → TakesMasks spot s
+      → TakesMasks spot (optional name s)
   unfolding optional
   optional_takes name s w h = (rw w tt, λ n. takes_if (nat_eq n 0) nothing s tt h)
 
@@ -87,9 +82,11 @@ module _ (spot : Spot) where
   unfolding post_op_fh handle names head_names
   post_op_fh_takes = optional_takes names.handle handle refl tt
 
-  time_how_takes : (name sec nsec : List ℕ) → class_of_word spot name ≡ None → TakesMasks spot (time sec nsec) → TakesMasks spot (time_how name sec nsec)
+  time_how_takes : (name sec nsec : List ℕ) → class_of_word spot name ≡ None
+      → TakesMasks spot (time sec nsec) → TakesMasks spot (time_how name sec nsec)
   unfolding time_how
-  time_how_takes name sec nsec w h = (rw w tt, λ how. takes_if (nat_eq how 2) (time sec nsec) nothing h tt)
+  time_how_takes name sec nsec w h =
+      (rw w tt, λ how. takes_if (nat_eq how 2) (time sec nsec) nothing h tt)
 
   settable_takes : TakesMasks spot settable
   unfolding settable set_word set_hyper time names head_names
@@ -106,13 +103,15 @@ module _ (spot : Spot) where
   unfolding guard time names head_names
   guard_takes = optional_takes names.check (time names.ctime_sec names.ctime_nsec) refl (assumption)
 
-  results_take : (done failed : Shape) → TakesMasks spot done → TakesMasks spot failed → TakesMasks spot (results done failed)
+  results_take : (done failed : Shape) → TakesMasks spot done → TakesMasks spot failed
+      → TakesMasks spot (results done failed)
   unfolding results names head_names
   results_take done failed h k = (tt, λ n. takes_if (nat_eq n 0) done failed h k)
 
   create_how_takes : TakesMasks spot create_how
   unfolding create_how names head_names
-  create_how_takes = (tt, λ how. takes_if (nat_eq how 2) (fixed names.createverf) settable tt settable_takes)
+  create_how_takes =
+      (tt, λ how. takes_if (nat_eq how 2) (fixed names.createverf) settable tt settable_takes)
 
   device_takes : TakesMasks spot device
   unfolding device names head_names
@@ -122,7 +121,9 @@ module _ (spot : Spot) where
   unfolding mknod_what names head_names
   mknod_what_takes = (
     tt,
-    λ kind. takes_if (nat_eq kind 3 || nat_eq kind 4) device (if nat_eq kind 6 || nat_eq kind 7 then settable else nothing) device_takes
+    λ kind.
+        takes_if (nat_eq kind 3 || nat_eq kind 4) device
+        (if nat_eq kind 6 || nat_eq kind 7 then settable else nothing) device_takes
         (takes_if (nat_eq kind 6 || nat_eq kind 7) settable nothing settable_takes tt),
   )
 
@@ -132,11 +133,15 @@ module _ (spot : Spot) where
 
   -- ---- the table of procedures
 
-  arg_row : (b : Bool) (s : Shape) (more : Layout) → TakesMasks spot s → RowTakesMasks spot more → RowTakesMasks spot (if b then exactly s else more)
+  arg_row : (b : Bool) (s : Shape) (more : Layout) → TakesMasks spot s → RowTakesMasks spot more
+      → RowTakesMasks spot (if b then exactly s else more)
   arg_row b s more h k = row_takes_if b (exactly s) more h k
 
-  result_row : (b : Bool) (done failed : Shape) (more : Layout) → TakesMasks spot done → TakesMasks spot failed → RowTakesMasks spot more → RowTakesMasks spot (if b then exactly (results done failed) else more)
-  result_row b done failed more h k l = arg_row b (results done failed) more (results_take done failed h k) l
+  result_row : (b : Bool) (done failed : Shape) (more : Layout) → TakesMasks spot done
+      → TakesMasks spot failed → RowTakesMasks spot more
+      → RowTakesMasks spot (if b then exactly (results done failed) else more)
+  result_row b done failed more h k l =
+      arg_row b (results done failed) more (results_take done failed h k) l
 
   dir_op_takes : TakesMasks spot dir_op
   unfolding dir_op handle
@@ -147,7 +152,8 @@ module _ (spot : Spot) where
   handle_takes = tt
 
   nfs_arguments_take : (n : ℕ) → RowTakesMasks spot (nfs_arguments n)
-  unfolding access_args create_args file_range handle head_names link_args mkdir_args mknod_args names readdir_args readdirplus_args rename_args setattr_args symlink_args write_args
+  unfolding access_args create_args file_range handle head_names link_args mkdir_args mknod_args
+      names readdir_args readdirplus_args rename_args setattr_args symlink_args write_args
   nfs_arguments_take n =
       arg_row (nat_eq n 0) nothing _ tt (
       arg_row (nat_eq n 1) handle _ handle_takes (
@@ -186,33 +192,52 @@ module _ (spot : Spot) where
   unfolding arguments_of
   arguments_take id =
       row_takes_if (is_nfs id) (nfs_arguments id.proc_no) _ (nfs_arguments_take id.proc_no)
-      (row_takes_if (is_mount id) (mount_arguments id.proc_no) (rest names.rest) (mount_arguments_take id.proc_no) tt)
+      (row_takes_if (is_mount id) (mount_arguments id.proc_no) (rest names.rest)
+      (mount_arguments_take id.proc_no) tt)
 
   nfs_results_take : (n : ℕ) → RowTakesMasks spot (nfs_results n)
-  unfolding access_ok commit_ok create_ok entry entry_plus fsinfo_ok fsstat_ok handle head_names link_wcc lookup_ok names pathconf_ok read_ok readdir_ok readdirplus_ok readlink_ok rename_wcc time write_ok
+  unfolding access_ok commit_ok create_ok entry entry_plus fsinfo_ok fsstat_ok handle head_names
+      link_wcc lookup_ok names pathconf_ok read_ok readdir_ok readdirplus_ok readlink_ok rename_wcc
+      time write_ok
   nfs_results_take n =
       arg_row (nat_eq n 0) nothing _ tt (
       result_row (nat_eq n 1) attributes nothing _ (attributes_at spot) tt (
       result_row (nat_eq n 2) wcc wcc _ wcc_takes wcc_takes (
-      result_row (nat_eq n 3) lookup_ok post_op_attr _ (assumption post_op_attr_takes) post_op_attr_takes (
-      result_row (nat_eq n 4) access_ok post_op_attr _ (assumption post_op_attr_takes) post_op_attr_takes (
-      result_row (nat_eq n 5) readlink_ok post_op_attr _ (assumption post_op_attr_takes) post_op_attr_takes (
-      result_row (nat_eq n 6) read_ok post_op_attr _ (assumption post_op_attr_takes) post_op_attr_takes (
+      result_row (nat_eq n 3) lookup_ok post_op_attr _ (assumption post_op_attr_takes)
+      post_op_attr_takes (
+      result_row (nat_eq n 4) access_ok post_op_attr _ (assumption post_op_attr_takes)
+      post_op_attr_takes (
+      result_row (nat_eq n 5) readlink_ok post_op_attr _ (assumption post_op_attr_takes)
+      post_op_attr_takes (
+      result_row (nat_eq n 6) read_ok post_op_attr _ (assumption post_op_attr_takes)
+      post_op_attr_takes (
       result_row (nat_eq n 7) write_ok wcc _ (assumption wcc_takes) wcc_takes (
-      result_row (nat_eq n 8) create_ok wcc _ (assumption (post_op_fh_takes, post_op_attr_takes, wcc_takes)) wcc_takes (
-      result_row (nat_eq n 9) create_ok wcc _ (assumption (post_op_fh_takes, post_op_attr_takes, wcc_takes)) wcc_takes (
-      result_row (nat_eq n 10) create_ok wcc _ (assumption (post_op_fh_takes, post_op_attr_takes, wcc_takes)) wcc_takes (
-      result_row (nat_eq n 11) create_ok wcc _ (assumption (post_op_fh_takes, post_op_attr_takes, wcc_takes)) wcc_takes (
+      result_row (nat_eq n 8) create_ok wcc
+      _ (assumption (post_op_fh_takes, post_op_attr_takes, wcc_takes)) wcc_takes (
+      result_row (nat_eq n 9) create_ok wcc
+      _ (assumption (post_op_fh_takes, post_op_attr_takes, wcc_takes)) wcc_takes (
+      result_row (nat_eq n 10) create_ok wcc
+      _ (assumption (post_op_fh_takes, post_op_attr_takes, wcc_takes)) wcc_takes (
+      result_row (nat_eq n 11) create_ok wcc
+      _ (assumption (post_op_fh_takes, post_op_attr_takes, wcc_takes)) wcc_takes (
       result_row (nat_eq n 12) wcc wcc _ wcc_takes wcc_takes (
       result_row (nat_eq n 13) wcc wcc _ wcc_takes wcc_takes (
-      result_row (nat_eq n 14) rename_wcc rename_wcc _ (assumption wcc_takes) (assumption wcc_takes) (
-      result_row (nat_eq n 15) link_wcc link_wcc _ (assumption (post_op_attr_takes, wcc_takes)) (assumption (post_op_attr_takes, wcc_takes)) (
-      result_row (nat_eq n 16) readdir_ok post_op_attr _ (assumption post_op_attr_takes) post_op_attr_takes (
-      result_row (nat_eq n 17) readdirplus_ok post_op_attr _ (assumption (post_op_attr_takes, post_op_fh_takes)) post_op_attr_takes (
-      result_row (nat_eq n 18) fsstat_ok post_op_attr _ (assumption post_op_attr_takes) post_op_attr_takes (
-      result_row (nat_eq n 19) fsinfo_ok post_op_attr _ (assumption post_op_attr_takes) post_op_attr_takes (
-      result_row (nat_eq n 20) pathconf_ok post_op_attr _ (assumption post_op_attr_takes) post_op_attr_takes (
-      result_row (nat_eq n 21) commit_ok wcc _ (assumption wcc_takes) wcc_takes tt)))))))))))))))))))))
+      result_row (nat_eq n 14) rename_wcc rename_wcc _ (assumption wcc_takes) (assumption wcc_takes)
+      (
+      result_row (nat_eq n 15) link_wcc link_wcc _ (assumption (post_op_attr_takes, wcc_takes))
+      (assumption (post_op_attr_takes, wcc_takes)) (
+      result_row (nat_eq n 16) readdir_ok post_op_attr _ (assumption post_op_attr_takes)
+      post_op_attr_takes (
+      result_row (nat_eq n 17) readdirplus_ok post_op_attr
+      _ (assumption (post_op_attr_takes, post_op_fh_takes)) post_op_attr_takes (
+      result_row (nat_eq n 18) fsstat_ok post_op_attr _ (assumption post_op_attr_takes)
+      post_op_attr_takes (
+      result_row (nat_eq n 19) fsinfo_ok post_op_attr _ (assumption post_op_attr_takes)
+      post_op_attr_takes (
+      result_row (nat_eq n 20) pathconf_ok post_op_attr _ (assumption post_op_attr_takes)
+      post_op_attr_takes (
+      result_row (nat_eq n 21) commit_ok wcc _ (assumption wcc_takes) wcc_takes
+      tt)))))))))))))))))))))
 
   -- ---- heads
 
@@ -226,11 +251,21 @@ module _ (spot : Spot) where
 
   deny_takes : TakesMasks spot deny
   unfolding deny names head_names
-  deny_takes = (tt, λ n. takes_if (nat_eq n 0) versions (listed head_names.auth_stat auth_stats) (assumption) (assumption))
+  deny_takes = (
+    tt,
+    λ n.
+        takes_if (nat_eq n 0) versions (listed head_names.auth_stat auth_stats) (assumption)
+        (assumption),
+  )
 
   pub reply_head_takes : TakesMasks spot reply_head
   unfolding reply_head names head_names
-  reply_head_takes = (tt, λ n. takes_if (nat_eq n 0) (verifier then accept) deny (verifier_takes, accept_takes) deny_takes)
+  reply_head_takes = (
+    tt,
+    λ n.
+        takes_if (nat_eq n 0) (verifier then accept) deny (verifier_takes, accept_takes)
+        deny_takes,
+  )
 
   pub mtype_takes : (types : List ℕ) → TakesMasks spot (listed head_names.mtype types)
   unfolding names head_names
@@ -244,7 +279,12 @@ auth_sys_takes = assumption
 
 credential_takes : TakesMasks InCall credential
 unfolding credential names head_names
-credential_takes = (tt, λ n. takes_if InCall (nat_eq n 0) (opaque Var head_names.cred_body 400) auth_sys tt auth_sys_takes)
+credential_takes = (
+  tt,
+  λ n.
+      takes_if InCall (nat_eq n 0) (opaque Var head_names.cred_body 400) auth_sys tt
+      auth_sys_takes,
+)
 
 call_head_in_call : TakesMasks InCall call_head
 unfolding call_head names head_names
@@ -274,11 +314,15 @@ module _ (spot : Spot) (on : IsOn Server spot) where
   unfolding results_of
   procedure_results_take id =
       row_takes_if spot (is_nfs id) (nfs_results id.proc_no) _ (nfs_results_take spot id.proc_no)
-      (row_takes_if spot (is_mount id) (mount_results_of id.proc_no) (rest names.rest) (mount_results_of_take id.proc_no) tt)
+      (row_takes_if spot (is_mount id) (mount_results_of id.proc_no) (rest names.rest)
+      (mount_results_of_take id.proc_no) tt)
 
   -- what follows the head of a reply
-  pub reply_takes : (id : ProcId) (items : List Item) → RowTakesMasks spot (if has_results items then results_of id else exactly nothing)
-  reply_takes id items = row_takes_if spot (has_results items) (results_of id) (exactly nothing) (procedure_results_take id) tt
+  pub reply_takes : (id : ProcId) (items : List Item)
+      → RowTakesMasks spot (if has_results items then results_of id else exactly nothing)
+  reply_takes id items =
+      row_takes_if spot (has_results items) (results_of id) (exactly nothing)
+      (procedure_results_take id) tt
 
 -- ---- at each spot of a side
 

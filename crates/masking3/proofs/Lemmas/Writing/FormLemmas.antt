@@ -1,32 +1,14 @@
 -- What was written of the masked form, entry by entry.
 use Rattle.std.proofs.Common.{◌≡◌, ℕ, List, [], ◌∷◌, ◌++◌, Option, refl, sym, ap, ◌∙◌, subst, append_assoc}
-use Rattle.std.specs.Prelude.{⊤}
-use Rattle.std.specs.List.{AllByRecursion, flat_map}
-use Rattle.std.specs.Io.KnownBytes.{Appends}
+use Rattle.masking3.proofs.Common.{⊤, AllByRecursion, flat_map, zero_spelling, Client, Entry, Begin, Call, Turn, Reply, Close, End, items_of, AreFirst, AppendsFront, all_entries, holds, FitsCall, FitsReply, Class, InCall, Ways, named_entry, BeginsOn, first_spot, body_by, Appends, chunk_bytes, entry_bytes, record_bytes, masked_bytes, masked_entry, masked_items, told_entry, values_so_far, written_as, are_some, magic_unless}
 use Rattle.std.proofs.KnownBytes.{Appends-trans}
-use Rattle.xdr3.specs.Item.{zero_spelling}
 use Rattle.capture3.specs.declared.reader.entry.Kind.{Kind}
 use Rattle.capture3.specs.declared.reader.entry.Kind.TheVariants as kinds
-use Rattle.capture3.specs.declared.fault.Side.TheVariants.{Client}
-use Rattle.capture3.specs.Entry.{Entry, Begin, Call, Turn, Reply, Close, End, items_of}
 use Rattle.capture3.specs.Kept.{IsOfKind}
-use Rattle.canon3.specs.Bytes.{chunk_bytes, entry_bytes, record_bytes}
-use Rattle.canon3.specs.Laws.{AreFirst}
-use Rattle.canon3.specs.machinery.FormSteps.{are_some, magic_before, magic_unless}
+use Rattle.canon3.specs.Bytes.{magic_before}
 use Rattle.canon3.specs.Parting.{connections}
-use Rattle.canon3.specs.SinkWrites.{AppendsFront}
 use Rattle.canon3.proofs.Lemmas.Canonical.CanonicalFormLemmas.{the_magic}
-use Rattle.canon3.proofs.Lemmas.WellFormed.Files.{all_entries, holds}
-use Rattle.canon3.proofs.Lemmas.WellFormed.Messages.{FitsCall, FitsReply}
 use Rattle.canon3.proofs.Lemmas.Writing.SinkWritesLemmas.{front_of_first, front_of_second, whole_front}
-use Rattle.masking3.specs.declared.class.Class.{Class}
-use Rattle.masking3.specs.declared.spot.Spot.TheVariants.{InCall}
-use Rattle.masking3.specs.declared.ways.Ways.{Ways}
-use Rattle.masking3.specs.Masked.{masked_bytes, masked_entry, masked_items}
-use Rattle.masking3.specs.Unnamed.{named_entry}
-use Rattle.masking3.specs.machinery.MaskingWriter.{told_entry, values_so_far, written_as}
-use Rattle.masking3.specs.machinery.MessageSpot.{BeginsOn, first_spot}
-use Rattle.masking3.specs.machinery.UnnamedBody.{body_by}
 use Rattle.masking3.proofs.Lemmas.Classes.FirstEntries.{all_in_front}
 use Rattle.masking3.proofs.Lemmas.Masked.MaskedLemmas.{form_grows, last_bytes}
 use Rattle.masking3.proofs.Lemmas.Masked.MaskedMessages.{call_under}
@@ -46,10 +28,13 @@ IsFitting entry = ⊤
 all_fitting : (entries : List Entry) → AreFirst entries → AllByRecursion IsFitting entries
 all_fitting entries first =
     let h = holds first.file first.all first.typed in
-    let all : AllByRecursion IsFitting first.all = subst (AllByRecursion IsFitting) (sym h.is) (all_entries IsFitting (λ m s. s.0.0) (λ r s. s.0.0) tt tt tt tt h.cs h.are.converse) in
+    let all : AllByRecursion IsFitting first.all =
+    subst (AllByRecursion IsFitting) (sym h.is)
+    (all_entries IsFitting (λ m s. s.0.0) (λ r s. s.0.0) tt tt tt tt h.cs h.are.converse) in
     all_in_front IsFitting entries first.more (subst (AllByRecursion IsFitting) first.split all)
 
-the_last : (entries : List Entry) (one : Entry) → AllByRecursion IsFitting (entries ++ one ∷ []) → IsFitting one
+the_last : (entries : List Entry) (one : Entry) → AllByRecursion IsFitting (entries ++ one ∷ [])
+    → IsFitting one
 the_last [] one h = h.0
 the_last (e ∷ entries) one h = the_last entries one h.1
 
@@ -64,31 +49,53 @@ fitting_begins (Reply id m) f = begins_reply id m f
 fitting_begins Close f = begins_none Client
 fitting_begins End f = begins_none Client
 
-pub last_begins : (entries : List Entry) (one : Entry) → AreFirst (entries ++ one ∷ []) → BeginsOn (entry_side one) (items_of one)
+pub last_begins : (entries : List Entry) (one : Entry) → AreFirst (entries ++ one ∷ [])
+    → BeginsOn (entry_side one) (items_of one)
 last_begins entries one first = fitting_begins one (last_fitting entries one first)
 
 module _ (ways : Ways) (seen : Class → List ℕ) (body : List ℕ) where
   abbrev IsWrittenAs : Kind → Entry → Type 0
-  IsWrittenAs kind one = IsFitting one → body ≡ zero_spelling (with_texts ways (masked_items ways seen (first_spot (entry_side one)) (items_of one))) → written_as ways.machines kind body ≡ entry_bytes (named_entry ways (masked_entry ways seen one))
+  IsWrittenAs kind one =
+      IsFitting one
+      → body
+      ≡ zero_spelling (with_texts ways
+      (masked_items ways seen (first_spot (entry_side one)) (items_of one)))
+      → written_as ways.machines kind body
+      ≡ entry_bytes (named_entry ways (masked_entry ways seen one))
 
   of_kind : (kind : Kind) (one : Entry) → IsOfKind kind one → IsWrittenAs kind one
   of_kind kinds.Begin one is = subst (IsWrittenAs kinds.Begin) (sym is) (λ f b. refl)
   of_kind (kinds.Call id) one (items, asks, is) =
-      subst (IsWrittenAs (kinds.Call id)) (sym is) (λ f b. ap (λ (l : List ℕ). chunk_bytes (record_bytes l)) (ap (body_by ways.machines) b ∙ named_bytes_of ways (masked_items ways seen InCall items) (call_under ways seen items f)))
+      subst (IsWrittenAs (kinds.Call id)) (sym is) (λ f b.
+      ap (λ (l : List ℕ). chunk_bytes (record_bytes l)) (ap (body_by ways.machines) b
+      ∙ named_bytes_of ways (masked_items ways seen InCall items)
+      (call_under ways seen items f)))
   of_kind kinds.Turn one is = subst (IsWrittenAs kinds.Turn) (sym is) (λ f b. refl)
-  of_kind (kinds.Reply id) one (items, is) = subst (IsWrittenAs (kinds.Reply id)) (sym is) (λ f b. ap (λ (l : List ℕ). chunk_bytes (record_bytes l)) b)
+  of_kind (kinds.Reply id) one (items, is) =
+      subst (IsWrittenAs (kinds.Reply id)) (sym is)
+      (λ f b. ap (λ (l : List ℕ). chunk_bytes (record_bytes l)) b)
   of_kind kinds.Close one is = subst (IsWrittenAs kinds.Close) (sym is) (λ f b. refl)
   of_kind kinds.End one is = subst (IsWrittenAs kinds.End) (sym is) (λ f b. refl)
 
-pub entry_is : (ways : Ways) (body : List ℕ) (kind : Kind) (entries : List Entry) (one : Entry) → IsOfKind kind one → AreFirst (entries ++ one ∷ [])
-    → body ≡ zero_spelling (with_texts ways (masked_items ways (values_so_far (flat_map told_entry entries) (entry_side one) (items_of one)) (first_spot (entry_side one)) (items_of one))) → written_as ways.machines kind body ≡ last_bytes ways entries one
+pub entry_is : (ways : Ways) (body : List ℕ) (kind : Kind) (entries : List Entry) (one : Entry)
+    → IsOfKind kind one → AreFirst (entries ++ one ∷ [])
+    → body
+    ≡ zero_spelling (with_texts ways (masked_items ways
+    (values_so_far (flat_map told_entry entries) (entry_side one) (items_of one))
+    (first_spot (entry_side one)) (items_of one)))
+    → written_as ways.machines kind body ≡ last_bytes ways entries one
 entry_is ways body kind entries one of first is =
-    of_kind ways (values_so_far (flat_map told_entry entries) (entry_side one) (items_of one)) body kind one of (last_fitting entries one first) is
-    ∙ ap (λ (seen : Class → List ℕ). entry_bytes (named_entry ways (masked_entry ways seen one))) (values_with_last entries one)
+    of_kind ways (values_so_far (flat_map told_entry entries) (entry_side one) (items_of one)) body
+    kind one of (last_fitting entries one first) is
+    ∙ ap (λ (seen : Class → List ℕ). entry_bytes (named_entry ways (masked_entry ways seen one)))
+    (values_with_last entries one)
 
 -- ---- one entry more, where the sink had the old bytes first, and then these in turn
 
-module _ (ways : Ways) (old before between after : Option (List ℕ)) (entries : List Entry) (one : Entry) (count : ℕ) (first : AreFirst (entries ++ one ∷ [])) (counted : count ≡ connections entries) (so_far : Appends old before (masked_bytes ways entries)) where
+module _ (ways : Ways) (old before between after : Option (List ℕ)) (entries : List Entry)
+    (one : Entry) (count : ℕ) (first : AreFirst (entries ++ one ∷ []))
+    (counted : count ≡ connections entries)
+    (so_far : Appends old before (masked_bytes ways entries)) where
   abbrev form : List ℕ
   form = masked_bytes ways entries
 
@@ -101,24 +108,40 @@ module _ (ways : Ways) (old before between after : Option (List ℕ)) (entries :
   -- nothing more was written
   pub nothing_more : AppendsFront old before whole
   nothing_more =
-      front_of_first old before form (magic_bytes ++ last_bytes ways entries one) whole (form_grows ways entries one ∙ append_assoc form magic_bytes (last_bytes ways entries one)) (whole_front old before form so_far)
+      front_of_first old before form (magic_bytes ++ last_bytes ways entries one) whole
+      (form_grows ways entries one
+      ∙ append_assoc form magic_bytes (last_bytes ways entries one))
+      (whole_front old before form so_far)
 
-  with_magic : Appends before between (magic_before count) → Appends old between (form ++ magic_bytes)
-  with_magic magic = Appends-trans old before between form magic_bytes so_far (subst (Appends before between) (the_magic entries one count first counted) magic)
+  with_magic : Appends before between (magic_before count)
+      → Appends old between (form ++ magic_bytes)
+  with_magic magic =
+      Appends-trans old before between form magic_bytes so_far
+      (subst (Appends before between) (the_magic entries one count first counted) magic)
 
   -- the magic was cut
-  pub cut_in_magic : AppendsFront before between (magic_before count) → AppendsFront old between whole
+  pub cut_in_magic : AppendsFront before between (magic_before count)
+      → AppendsFront old between whole
   cut_in_magic cut =
-      front_of_first old between (form ++ magic_bytes) (last_bytes ways entries one) whole (form_grows ways entries one)
-      (front_of_second old before between form magic_bytes (form ++ magic_bytes) refl so_far (subst (AppendsFront before between) (the_magic entries one count first counted) cut))
+      front_of_first old between (form ++ magic_bytes) (last_bytes ways entries one) whole
+      (form_grows ways entries one)
+      (front_of_second old before between form magic_bytes (form ++ magic_bytes) refl so_far
+      (subst (AppendsFront before between) (the_magic entries one count first counted) cut))
 
   -- the entry was cut
-  pub cut_in_entry : (bytes : List ℕ) → bytes ≡ last_bytes ways entries one → Appends before between (magic_before count) → AppendsFront between after bytes → AppendsFront old after whole
+  pub cut_in_entry : (bytes : List ℕ) → bytes ≡ last_bytes ways entries one
+      → Appends before between (magic_before count) → AppendsFront between after bytes
+      → AppendsFront old after whole
   cut_in_entry bytes is magic cut =
-      front_of_second old between after (form ++ magic_bytes) (last_bytes ways entries one) whole (form_grows ways entries one) (with_magic magic) (subst (AppendsFront between after) is cut)
+      front_of_second old between after (form ++ magic_bytes) (last_bytes ways entries one) whole
+      (form_grows ways entries one) (with_magic magic)
+      (subst (AppendsFront between after) is cut)
 
   -- the entry was written
-  pub all_written : (bytes : List ℕ) → bytes ≡ last_bytes ways entries one → Appends before between (magic_before count) → Appends between after bytes → Appends old after whole
+  pub all_written : (bytes : List ℕ) → bytes ≡ last_bytes ways entries one
+      → Appends before between (magic_before count) → Appends between after bytes
+      → Appends old after whole
   all_written bytes is magic written =
       subst (Appends old after) (sym (form_grows ways entries one))
-      (Appends-trans old between after (form ++ magic_bytes) (last_bytes ways entries one) (with_magic magic) (subst (Appends between after) is written))
+      (Appends-trans old between after (form ++ magic_bytes) (last_bytes ways entries one)
+      (with_magic magic) (subst (Appends between after) is written))

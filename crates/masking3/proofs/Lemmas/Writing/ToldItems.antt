@@ -1,26 +1,15 @@
 -- What stands for the items of the messages before has their values and their handles.
-use Rattle.std.proofs.Common.{◌≡◌, ℕ, List, [], ◌∷◌, ◌++◌, refl, sym, ap, ap₂, ◌∙◌, append-nil}
-use Rattle.std.specs.Prelude.{Option, None, Some}
-use Rattle.std.specs.List.{flat_map}
-use Rattle.std.proofs.lemmas.Grind.{flat_map-append}
-use Rattle.xdr3.specs.Item.{Item, Word, Hyper, Fixed, WriteVerf, Opaque, Rest}
-use Rattle.capture3.specs.Entry.{Entry, Begin, Call, Turn, Reply, Close, End, items_of}
+use Rattle.masking3.proofs.Common.{◌≡◌, ℕ, List, [], ◌∷◌, ◌++◌, refl, sym, ap, ap₂, ◌∙◌, append-nil, Option, None, Some, flat_map, flat_map-append, Item, Word, Hyper, Fixed, WriteVerf, Opaque, Rest, Entry, Begin, Call, Turn, Reply, Close, End, items_of, Class, Spot, InCall, InReply, class_of, class_of_fixed, class_of_hyper, class_of_word, class_value, value_where, values, values_in, values_in_entry, next_spot, first_spot}
 use Rattle.canon3.specs.Values.{handle_in, handles, handles_in}
-use Rattle.masking3.specs.declared.class.Class.{Class}
-use Rattle.masking3.specs.declared.spot.Spot.{Spot}
-use Rattle.masking3.specs.declared.spot.Spot.TheVariants.{InCall, InReply}
-use Rattle.masking3.specs.Classes.{class_of, class_of_fixed, class_of_hyper, class_of_word, class_value}
-use Rattle.masking3.specs.Masked.{value_where, values, values_in, values_in_entry}
-use Rattle.masking3.specs.Spots.{next_spot}
 use Rattle.masking3.specs.machinery.MaskingWriter.{told_entry, told_item, told_items, told_value, values_so_far}
-use Rattle.masking3.specs.machinery.MessageSpot.{first_spot}
 use Rattle.masking3.proofs.Lemmas.Classes.ClassLemmas.{seen_alike}
 use Rattle.masking3.proofs.Lemmas.Classes.MessageSpotLemmas.{entry_side}
 
 -- ---- values
 
 module _ (d : Class) where
-  told_one : (o : Option Class) (i : Item) → told_value d (told_item o i) ≡ value_where d o (class_value i)
+  told_one : (o : Option Class) (i : Item)
+      → told_value d (told_item o i) ≡ value_where d o (class_value i)
   told_one (Some e) i = refl
   told_one None (Word name n) = refl
   told_one None (Hyper name n) = refl
@@ -29,9 +18,12 @@ module _ (d : Class) where
   told_one None (Opaque kind name bytes) = refl
   told_one None (Rest name bytes) = refl
 
-  pub told_values : (spot : Spot) (items : List Item) → flat_map (told_value d) (told_items spot items) ≡ values_in d spot items
+  pub told_values : (spot : Spot) (items : List Item)
+      → flat_map (told_value d) (told_items spot items) ≡ values_in d spot items
   told_values spot [] = refl
-  told_values spot (i ∷ items) = ap₂ (λ (l m : List ℕ). l ++ m) (told_one (class_of spot i) i) (told_values (next_spot spot i) items)
+  told_values spot (i ∷ items) =
+      ap₂ (λ (l m : List ℕ). l ++ m) (told_one (class_of spot i) i)
+      (told_values (next_spot spot i) items)
 
   values_of_entry : (e : Entry) → flat_map (told_value d) (told_entry e) ≡ values_in_entry d e
   values_of_entry Begin = refl
@@ -41,12 +33,15 @@ module _ (d : Class) where
   values_of_entry Close = refl
   values_of_entry End = refl
 
-  values_before : (entries : List Entry) → flat_map (told_value d) (flat_map told_entry entries) ≡ values entries d
+  values_before : (entries : List Entry)
+      → flat_map (told_value d) (flat_map told_entry entries) ≡ values entries d
   values_before [] = refl
   values_before (e ∷ entries) =
-      flat_map-append (told_value d) (told_entry e) (flat_map told_entry entries) ∙ ap₂ (λ (l m : List ℕ). l ++ m) (values_of_entry e) (values_before entries)
+      flat_map-append (told_value d) (told_entry e) (flat_map told_entry entries)
+      ∙ ap₂ (λ (l m : List ℕ). l ++ m) (values_of_entry e) (values_before entries)
 
-  values_on_side : (e : Entry) → values_in d (first_spot (entry_side e)) (items_of e) ≡ values_in_entry d e
+  values_on_side : (e : Entry)
+      → values_in d (first_spot (entry_side e)) (items_of e) ≡ values_in_entry d e
   values_on_side Begin = refl
   values_on_side (Call items) = refl
   values_on_side Turn = refl
@@ -54,15 +49,21 @@ module _ (d : Class) where
   values_on_side Close = refl
   values_on_side End = refl
 
-  with_last : (entries : List Entry) (one : Entry) → values_so_far (flat_map told_entry entries) (entry_side one) (items_of one) d ≡ values (entries ++ one ∷ []) d
+  with_last : (entries : List Entry) (one : Entry)
+      → values_so_far (flat_map told_entry entries) (entry_side one) (items_of one) d
+      ≡ values (entries ++ one ∷ []) d
   with_last entries one =
       ap₂ (λ (l m : List ℕ). l ++ m) (values_before entries) (values_on_side one)
-      ∙ sym (flat_map-append (values_in_entry d) entries (one ∷ []) ∙ ap (λ (l : List ℕ). values entries d ++ l) (append-nil (values_in_entry d one)))
+      ∙ sym (flat_map-append (values_in_entry d) entries (one ∷ [])
+      ∙ ap (λ (l : List ℕ). values entries d ++ l) (append-nil (values_in_entry d one)))
 
 -- the values so far, with those of the last entry
-pub values_with_last : (entries : List Entry) (one : Entry) → values_so_far (flat_map told_entry entries) (entry_side one) (items_of one) ≡ values (entries ++ one ∷ [])
+pub values_with_last : (entries : List Entry) (one : Entry)
+    → values_so_far (flat_map told_entry entries) (entry_side one) (items_of one)
+    ≡ values (entries ++ one ∷ [])
 values_with_last entries one =
-    seen_alike (values_so_far (flat_map told_entry entries) (entry_side one) (items_of one)) (values (entries ++ one ∷ [])) (λ d. with_last d entries one)
+    seen_alike (values_so_far (flat_map told_entry entries) (entry_side one) (items_of one))
+    (values (entries ++ one ∷ [])) (λ d. with_last d entries one)
 
 told_on_side : (e : Entry) → told_entry e ≡ told_items (first_spot (entry_side e)) (items_of e)
 told_on_side Begin = refl
@@ -72,21 +73,28 @@ told_on_side (Reply id items) = refl
 told_on_side Close = refl
 told_on_side End = refl
 
-pub before_with_last : (entries : List Entry) (one : Entry) → flat_map told_entry (entries ++ one ∷ []) ≡ flat_map told_entry entries ++ told_items (first_spot (entry_side one)) (items_of one)
+pub before_with_last : (entries : List Entry) (one : Entry)
+    → flat_map told_entry (entries ++ one ∷ [])
+    ≡ flat_map told_entry entries ++ told_items (first_spot (entry_side one)) (items_of one)
 before_with_last entries one =
-    flat_map-append told_entry entries (one ∷ []) ∙ ap (λ (l : List Item). flat_map told_entry entries ++ l) (append-nil (told_entry one) ∙ told_on_side one)
+    flat_map-append told_entry entries (one ∷ [])
+    ∙ ap (λ (l : List Item). flat_map told_entry entries ++ l)
+    (append-nil (told_entry one) ∙ told_on_side one)
 
 -- ---- handles
 
-word_without : (o : Option Class) (name : List ℕ) (n : ℕ) → handle_in (told_item o (Word name n)) ≡ []
+word_without : (o : Option Class) (name : List ℕ) (n : ℕ)
+    → handle_in (told_item o (Word name n)) ≡ []
 word_without None name n = refl
 word_without (Some d) name n = refl
 
-hyper_without : (o : Option Class) (name : List ℕ) (n : ℕ) → handle_in (told_item o (Hyper name n)) ≡ []
+hyper_without : (o : Option Class) (name : List ℕ) (n : ℕ)
+    → handle_in (told_item o (Hyper name n)) ≡ []
 hyper_without None name n = refl
 hyper_without (Some d) name n = refl
 
-fixed_without : (o : Option Class) (name bytes : List ℕ) → handle_in (told_item o (Fixed name bytes)) ≡ []
+fixed_without : (o : Option Class) (name bytes : List ℕ)
+    → handle_in (told_item o (Fixed name bytes)) ≡ []
 fixed_without None name bytes = refl
 fixed_without (Some d) name bytes = refl
 
@@ -98,9 +106,12 @@ told_handle spot (WriteVerf name bytes) = refl
 told_handle spot (Opaque kind name bytes) = refl
 told_handle spot (Rest name bytes) = refl
 
-pub told_handles : (spot : Spot) (items : List Item) → handles_in (told_items spot items) ≡ handles_in items
+pub told_handles : (spot : Spot) (items : List Item)
+    → handles_in (told_items spot items) ≡ handles_in items
 told_handles spot [] = refl
-told_handles spot (i ∷ items) = ap₂ (λ (l m : List (List ℕ)). l ++ m) (told_handle spot i) (told_handles (next_spot spot i) items)
+told_handles spot (i ∷ items) =
+    ap₂ (λ (l m : List (List ℕ)). l ++ m) (told_handle spot i)
+    (told_handles (next_spot spot i) items)
 
 handles_of_entry : (e : Entry) → handles_in (told_entry e) ≡ handles_in (items_of e)
 handles_of_entry Begin = refl
@@ -110,7 +121,9 @@ handles_of_entry (Reply id items) = told_handles InReply items
 handles_of_entry Close = refl
 handles_of_entry End = refl
 
-pub handles_before : (entries : List Entry) → handles_in (flat_map told_entry entries) ≡ handles entries
+pub handles_before : (entries : List Entry)
+    → handles_in (flat_map told_entry entries) ≡ handles entries
 handles_before [] = refl
 handles_before (e ∷ entries) =
-    flat_map-append handle_in (told_entry e) (flat_map told_entry entries) ∙ ap₂ (λ (l m : List (List ℕ)). l ++ m) (handles_of_entry e) (handles_before entries)
+    flat_map-append handle_in (told_entry e) (flat_map told_entry entries)
+    ∙ ap₂ (λ (l m : List (List ℕ)). l ++ m) (handles_of_entry e) (handles_before entries)

@@ -1,6 +1,4 @@
-use Rattle.std.proofs.Common.{refl}
-use Rattle.nfs3_types.specs.Names.{names}
-use Rattle.rpc_head.specs.Names.{head_names}
+use Rattle.masking3.proofs.Common.{refl, names, head_names}
 use Rattle.masking3.proofs.examples.weak_cache_consistency.Goals as goal
 
 pub returns : goal.returns

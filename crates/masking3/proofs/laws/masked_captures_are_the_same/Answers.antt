@@ -12,4 +12,5 @@ pub returns-clause-weaker : goal.returns-clause-weaker
 returns-clause-weaker c ways a b first second s = same_but_from_all ways a b first second s
 
 pub returns-clause-unmasked : goal.returns-clause-unmasked
-returns-clause-unmasked c ways a b keeps = (same_of_all_kept ways keeps a b, all_kept_of_same ways keeps a b)
+returns-clause-unmasked c ways a b keeps =
+    (same_of_all_kept ways keeps a b, all_kept_of_same ways keeps a b)

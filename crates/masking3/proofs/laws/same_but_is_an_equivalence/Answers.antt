@@ -8,4 +8,5 @@ pub returns-clause-symmetric : goal.returns-clause-symmetric
 returns-clause-symmetric c ways a b first second s = same_but_symmetric ways a b first second s
 
 pub returns-clause-transitive : goal.returns-clause-transitive
-returns-clause-transitive c ways a b c2 first second third s t = same_but_transitive ways a b c2 first second third s t
+returns-clause-transitive c ways a b c2 first second third s t =
+    same_but_transitive ways a b c2 first second third s t

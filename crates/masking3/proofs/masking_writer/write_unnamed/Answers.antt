@@ -1,7 +1,5 @@
 use Rattle.std.proofs.Common.{ℕ, List, OnErr, OnOk, subst}
-use Rattle.std.specs.Io.KnownBytes.{Appends}
-use Rattle.canon3.specs.Bytes.{chunk_bytes, record_bytes}
-use Rattle.canon3.specs.SinkWrites.{AppendsFront}
+use Rattle.masking3.proofs.Common.{Appends, chunk_bytes, record_bytes, AppendsFront}
 use Rattle.masking3.proofs.masking_writer.write_unnamed.Goals as goal
 
 pub returns-in-Ok : goal.returns-in-Ok
@@ -10,8 +8,12 @@ returns-in-Ok g c =
     let new = g.W.Sink.written c.write_message.new.sink in
     let came = c.write_message.result in
     record {
-      ok = subst (λ (l : List ℕ). OnOk came (Appends old new (chunk_bytes (record_bytes l)))) c.in-Ok.ensures c.write_message.ensures.ok;
-      err = subst (λ (l : List ℕ). OnErr came (AppendsFront old new (chunk_bytes (record_bytes l)))) c.in-Ok.ensures c.write_message.ensures.err;
+      ok =
+          subst (λ (l : List ℕ). OnOk came (Appends old new (chunk_bytes (record_bytes l))))
+          c.in-Ok.ensures c.write_message.ensures.ok;
+      err =
+          subst (λ (l : List ℕ). OnErr came (AppendsFront old new (chunk_bytes (record_bytes l))))
+          c.in-Ok.ensures c.write_message.ensures.err;
       count = c.write_message.ensures.count;
       error = c.write_message.ensures.error;
     }

@@ -1,5 +1,4 @@
-use Rattle.std.proofs.Common.{◌≡◌, ◌≤◌, ◌-◌, length, take}
-use Rattle.capture3.specs.Told.{Gave}
+use Rattle.packing3.proofs.Common.{◌≡◌, ◌≤◌, ◌-◌, length, take, Gave}
 use Rattle.packing3.proofs.block.fill.Given as goal
 
 abbrev pub invariant-loop-filled : goal.invariant-loop-filled

@@ -1,38 +1,60 @@
-use Rattle.std.proofs.Common.{arith, take, ◌≤◌}
-use Rattle.std.proofs.lemmas.List.{length-take-le}
-use Rattle.capture3.proofs.Lemmas.Reader.PassedOn.{error_is}
-use Rattle.canon3.proofs.Lemmas.Writing.SinkWritesLemmas.{front_of_first, front_of_second}
-use Rattle.xdr3.specs.Item.{word_bytes}
-use Rattle.std.proofs.Common.{refl, subst, ◌++◌}
-use Rattle.std.specs.Io.KnownBytes.{Appends}
-use Rattle.canon3.specs.SinkWrites.{AppendsFront}
-use Rattle.packing3.specs.Packed.{full_size}
+use Rattle.packing3.proofs.Common.{arith, take, ◌≤◌, refl, subst, ◌++◌, length-take-le, error_is, front_of_first, front_of_second, word_bytes, Appends, AppendsFront, full_size}
 use Rattle.packing3.proofs.Chunks.{chunk_cut, chunk_refused, chunk_some}
 use Rattle.packing3.proofs.stream.write_chunk.Goals as goal
 
 pub returns-then-count-extent-clause-err : goal.returns-then-count-extent-clause-err
 returns-then-count-extent-clause-err g c =
-    let within : c.in-Ok.count ≤ full_size = omega (arith, c.in-Ok.ensures.within, c.fill.ensures.size, c.requires.block) in
-    chunk_refused (g.R.Source.told c.args.source.now) (g.R.Source.told c.fill.new.source) (g.W.Sink.written c.args.sink.now) c.args.extent.now c.refusal.result (take c.in-Ok.count c.fill.new.block) c.in-Ok.count c.in-Ok.ensures.bytes (length-take-le c.in-Ok.count c.fill.new.block c.in-Ok.ensures.within) within c.requires.room (omega (arith, c.if-count-extent.true, c.requires.room)) c.refusal.ensures
+    let within : c.in-Ok.count ≤ full_size =
+    omega (arith, c.in-Ok.ensures.within, c.fill.ensures.size, c.requires.block) in
+    chunk_refused (g.R.Source.told c.args.source.now) (g.R.Source.told c.fill.new.source)
+    (g.W.Sink.written c.args.sink.now) c.args.extent.now c.refusal.result
+    (take c.in-Ok.count c.fill.new.block) c.in-Ok.count c.in-Ok.ensures.bytes
+    (length-take-le c.in-Ok.count c.fill.new.block c.in-Ok.ensures.within) within
+    c.requires.room (omega (arith, c.if-count-extent.true, c.requires.room)) c.refusal.ensures
 
 pub returns-in_err-write_all-clause-err : goal.returns-in_err-write_all-clause-err
 returns-in_err-write_all-clause-err g c =
     let chunk = take c.in-Ok.count c.fill.new.block in
-    let front = subst (AppendsFront (g.W.Sink.written c.args.sink.now) (g.W.Sink.written c.write_all.new.sink)) c.pack_chunk.ensures c.in_err-write_all.ensures.err in
+    let front =
+    subst (AppendsFront (g.W.Sink.written c.args.sink.now) (g.W.Sink.written c.write_all.new.sink))
+    c.pack_chunk.ensures c.in_err-write_all.ensures.err in
     rw (error_is _ _ c.from_residual.ensures)
-    (chunk_cut (g.R.Source.told c.args.source.now) (g.R.Source.told c.fill.new.source) (g.W.Sink.written c.args.sink.now) (g.W.Sink.written c.write_all.new.sink) c.args.extent.now _ chunk c.in-Ok.count c.in-Ok.ensures.bytes (length-take-le c.in-Ok.count c.fill.new.block c.in-Ok.ensures.within) (omega arith) (omega (arith, c.in-Ok.ensures.within, c.fill.ensures.size, c.requires.block)) c.in_err-write_all.ensures.error
-    (front_of_first (g.W.Sink.written c.args.sink.now) (g.W.Sink.written c.write_all.new.sink) (word_bytes c.in-Ok.count) chunk (word_bytes c.in-Ok.count ++ chunk) refl front))
+    (chunk_cut (g.R.Source.told c.args.source.now) (g.R.Source.told c.fill.new.source)
+    (g.W.Sink.written c.args.sink.now) (g.W.Sink.written c.write_all.new.sink) c.args.extent.now
+    _ chunk c.in-Ok.count c.in-Ok.ensures.bytes
+    (length-take-le c.in-Ok.count c.fill.new.block c.in-Ok.ensures.within) (omega arith)
+    (omega (arith, c.in-Ok.ensures.within, c.fill.ensures.size, c.requires.block))
+    c.in_err-write_all.ensures.error
+    (front_of_first (g.W.Sink.written c.args.sink.now) (g.W.Sink.written c.write_all.new.sink)
+    (word_bytes c.in-Ok.count) chunk (word_bytes c.in-Ok.count ++ chunk) refl front))
 
 pub returns-in_err-write_all-2-clause-err : goal.returns-in_err-write_all-2-clause-err
 returns-in_err-write_all-2-clause-err g c =
     let chunk = take c.in-Ok.count c.fill.new.block in
-    let word = subst (Appends (g.W.Sink.written c.args.sink.now) (g.W.Sink.written c.write_all.new.sink)) c.pack_chunk.ensures c.in_ok-write_all.ensures.ok in
+    let word =
+    subst (Appends (g.W.Sink.written c.args.sink.now) (g.W.Sink.written c.write_all.new.sink))
+    c.pack_chunk.ensures c.in_ok-write_all.ensures.ok in
     rw (error_is _ _ c.from_residual-in_err-write_all-2.ensures)
-    (chunk_cut (g.R.Source.told c.args.source.now) (g.R.Source.told c.fill.new.source) (g.W.Sink.written c.args.sink.now) (g.W.Sink.written c.write_all-2.new.sink) c.args.extent.now _ chunk c.in-Ok.count c.in-Ok.ensures.bytes (length-take-le c.in-Ok.count c.fill.new.block c.in-Ok.ensures.within) (omega arith) (omega (arith, c.in-Ok.ensures.within, c.fill.ensures.size, c.requires.block)) c.in_err-write_all-2.ensures.error
-    (front_of_second (g.W.Sink.written c.args.sink.now) (g.W.Sink.written c.write_all.new.sink) (g.W.Sink.written c.write_all-2.new.sink) (word_bytes c.in-Ok.count) chunk (word_bytes c.in-Ok.count ++ chunk) refl word c.in_err-write_all-2.ensures.err))
+    (chunk_cut (g.R.Source.told c.args.source.now) (g.R.Source.told c.fill.new.source)
+    (g.W.Sink.written c.args.sink.now) (g.W.Sink.written c.write_all-2.new.sink)
+    c.args.extent.now _ chunk c.in-Ok.count c.in-Ok.ensures.bytes
+    (length-take-le c.in-Ok.count c.fill.new.block c.in-Ok.ensures.within) (omega arith)
+    (omega (arith, c.in-Ok.ensures.within, c.fill.ensures.size, c.requires.block))
+    c.in_err-write_all-2.ensures.error
+    (front_of_second (g.W.Sink.written c.args.sink.now) (g.W.Sink.written c.write_all.new.sink)
+    (g.W.Sink.written c.write_all-2.new.sink) (word_bytes c.in-Ok.count) chunk
+    (word_bytes c.in-Ok.count ++ chunk) refl word c.in_err-write_all-2.ensures.err))
 
 pub returns-clause-ok : goal.returns-clause-ok
 returns-clause-ok g c =
     let chunk = take c.in-Ok.count c.fill.new.block in
-    let word = subst (Appends (g.W.Sink.written c.args.sink.now) (g.W.Sink.written c.write_all.new.sink)) c.pack_chunk.ensures c.in_ok-write_all.ensures.ok in
-    chunk_some (g.R.Source.told c.args.source.now) (g.R.Source.told c.fill.new.source) (g.W.Sink.written c.args.sink.now) (g.W.Sink.written c.write_all.new.sink) (g.W.Sink.written c.write_all-2.new.sink) c.args.extent.now _ chunk c.in-Ok.count c.in-Ok.ensures.bytes (length-take-le c.in-Ok.count c.fill.new.block c.in-Ok.ensures.within) (omega arith) (omega (arith, c.in-Ok.ensures.within, c.fill.ensures.size, c.requires.block)) (λ less. c.in-Ok.ensures.end (omega (arith, less, c.fill.ensures.size, c.requires.block))) word c.in_ok-write_all-2.ensures.ok refl refl
+    let word =
+    subst (Appends (g.W.Sink.written c.args.sink.now) (g.W.Sink.written c.write_all.new.sink))
+    c.pack_chunk.ensures c.in_ok-write_all.ensures.ok in
+    chunk_some (g.R.Source.told c.args.source.now) (g.R.Source.told c.fill.new.source)
+    (g.W.Sink.written c.args.sink.now) (g.W.Sink.written c.write_all.new.sink)
+    (g.W.Sink.written c.write_all-2.new.sink) c.args.extent.now _ chunk c.in-Ok.count
+    c.in-Ok.ensures.bytes (length-take-le c.in-Ok.count c.fill.new.block c.in-Ok.ensures.within)
+    (omega arith) (omega (arith, c.in-Ok.ensures.within, c.fill.ensures.size, c.requires.block))
+    (λ less. c.in-Ok.ensures.end (omega (arith, less, c.fill.ensures.size, c.requires.block)))
+    word c.in_ok-write_all-2.ensures.ok refl refl

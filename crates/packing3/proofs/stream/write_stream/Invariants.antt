@@ -1,6 +1,4 @@
-use Rattle.std.proofs.Common.{◌≡◌, ◌≤◌, ◌-◌, length}
-use Rattle.capture3.specs.Chunks.{max_bytes}
-use Rattle.packing3.specs.Packed.{full_size}
+use Rattle.packing3.proofs.Common.{◌≡◌, ◌≤◌, ◌-◌, length, max_bytes, full_size}
 use Rattle.packing3.specs.machinery.Streaming.{HasFull, GrowsLittle}
 use Rattle.packing3.proofs.stream.write_stream.Given as goal
 
@@ -9,7 +7,8 @@ invariant-loop-count g l = record {
   block : length l.block ≡ full_size;
   room : l.extent.streamed ≤ max_bytes;
   small : GrowsLittle 0 l.fn.extent l.extent;
-  full : HasFull (g.R.Source.told l.fn.source) (g.R.Source.told l.source) (g.W.Sink.written l.fn.sink) (g.W.Sink.written l.sink) l.fn.extent l.extent;
+  full : HasFull (g.R.Source.told l.fn.source) (g.R.Source.told l.source)
+      (g.W.Sink.written l.fn.sink) (g.W.Sink.written l.sink) l.fn.extent l.extent;
   read : g.R.Source.failures l.source ≡ g.R.Source.failures l.fn.source;
   write : g.W.Sink.failures l.sink ≡ g.W.Sink.failures l.fn.sink;
 }

@@ -4,4 +4,10 @@ use Rattle.program3.proofs.system.all_stand_apart.Goals as goal
 
 -- the stream at which the loop is
 pub returns-in-Err : goal.returns-in-Err
-returns-in-Err c = (c.loop-stream.stream-index, c.as_str.result.now, grind (arith, length-map), grind (arith, get_or-map), c.in-Err.ensures)
+returns-in-Err c = (
+  c.loop-stream.stream-index,
+  c.as_str.result.now,
+  grind (arith, length-map),
+  grind (arith, get_or-map),
+  c.in-Err.ensures,
+)

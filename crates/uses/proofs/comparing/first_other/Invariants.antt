@@ -1,5 +1,4 @@
-use Rattle.std.proofs.Common.{◌≡◌, map, take}
-use Rattle.nfs3_types.specs.Handle.{handle_bytes}
+use Rattle.uses.proofs.Common.{◌≡◌, map, take, handle_bytes}
 use Rattle.uses.proofs.comparing.first_other.Given as goal
 
 abbrev pub invariant-loop-at : goal.invariant-loop-at

@@ -1,9 +1,4 @@
-use Rattle.std.proofs.Common.{◌≡◌, None}
-use Rattle.std.specs.List.{flat_map}
-use Rattle.capture3.specs.Entries.{failure_of, source_of}
-use Rattle.capture3.specs.Entry.{items_of}
-use Rattle.capture3.specs.machinery.EntriesHistory.{entries_left}
-use Rattle.uses.specs.Comparing.{handles_of_items}
+use Rattle.uses.proofs.Common.{◌≡◌, None, flat_map, failure_of, source_of, items_of, entries_left, handles_of_items}
 use Rattle.uses.proofs.Reading.{HasReturned}
 use Rattle.uses.proofs.comparing.handles_of.Given as goal
 

@@ -1,8 +1,5 @@
-use Rattle.std.proofs.Common.{◌≡◌, ◌≤◌, ◌+◌, None, count_by}
-use Rattle.capture3.specs.Entries.{failure_of, source_of}
-use Rattle.capture3.specs.machinery.EntriesHistory.{entries_left}
+use Rattle.uses.proofs.Common.{◌≡◌, ◌≤◌, ◌+◌, None, count_by, failure_of, source_of, entries_left, is_call_of}
 use Rattle.capture3.specs.Laws.{most_entries}
-use Rattle.uses.specs.Counting.{is_call_of}
 use Rattle.uses.proofs.Reading.{HasReturned}
 use Rattle.uses.proofs.counting.count_calls.Given as goal
 

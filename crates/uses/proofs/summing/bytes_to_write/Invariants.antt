@@ -1,6 +1,4 @@
-use Rattle.std.proofs.Common.{◌≡◌, None, []}
-use Rattle.capture3.specs.Entries.{failure_of, source_of}
-use Rattle.capture3.specs.machinery.EntriesHistory.{entries_left}
+use Rattle.uses.proofs.Common.{◌≡◌, None, [], failure_of, source_of, entries_left}
 use Rattle.uses.specs.Summing.{HasSummed, IsSum}
 use Rattle.uses.proofs.Reading.{HasReturned}
 use Rattle.uses.proofs.summing.bytes_to_write.Given as goal

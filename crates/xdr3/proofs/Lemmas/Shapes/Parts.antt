@@ -1,20 +1,15 @@
 -- Wholes by their parts.
 use Rattle.std.proofs.Common.{◌≡◌, ℕ, zero, suc, ◌+◌, Bool, List, [], ◌∷◌, ◌++◌, length, refl, sym, ap, subst, ◌∙◌, append_assoc, append-nil, arith, inl, inr}
-use Rattle.std.specs.List.{AllByRecursion}
-use Rattle.std.proofs.lemmas.List.{length-append}
-use Rattle.byteorder.specs.Endian.{big_bytes}
-use Rattle.byteorder.specs.Numbers.{length-bytes_high_first}
-use Rattle.xdr3.specs.declared.reason.Reason.{Reason}
-use Rattle.xdr3.specs.Item.{Kind, Item, Word, Hyper, Fixed, WriteVerf, Opaque, Spells, word_bytes, residue, zero_spelling}
+use Rattle.xdr3.proofs.Common.{AllByRecursion, length-append, big_bytes, length-bytes_high_first, Reason, Kind, Item, Word, Hyper, Fixed, WriteVerf, Opaque, Spells, word_bytes, residue, zero_spelling, Layout, Shape, choose, fixed, write_verf, both, linked, counted, sized, links, joined, Fits, Reads, Refusal, IsShort, ThenWord, RefusesWindow, Refuses}
 use Rattle.xdr3.specs.Parts.{BeginsWith, AfterByParts, ReadsTimes, ChooseByParts, HyperByParts, EightByParts, OpaqueByParts, NothingByParts, BothByParts, LinkedByParts, CountedByParts, SizedByParts}
-use Rattle.xdr3.specs.Layout.{Layout}
-use Rattle.xdr3.specs.Shape.{Shape, choose, fixed, write_verf, both, linked, counted, sized, links, joined, Fits, Reads, Refusal, IsShort, ThenWord, RefusesWindow, Refuses}
 use Rattle.xdr3.proofs.Lemmas.Reading.Items.{Spells-append, Spells-one, length_of_spelling}
 
 -- ---- fronts
 
 -- more items that fit another shape, after a front
-joins : (whole : Shape) (bytes front more left back : List ℕ) (xs ys : List Item) → Fits whole (xs ++ ys) → Spells xs front → Spells ys back → bytes ≡ front ++ more → more ≡ back ++ left → Reads whole bytes (xs ++ ys) left
+joins : (whole : Shape) (bytes front more left back : List ℕ) (xs ys : List Item)
+    → Fits whole (xs ++ ys) → Spells xs front → Spells ys back → bytes ≡ front ++ more
+    → more ≡ back ++ left → Reads whole bytes (xs ++ ys) left
 joins whole bytes front more left back xs ys f s t e g = record {
   front = front ++ back;
   fits = f;
@@ -22,48 +17,91 @@ joins whole bytes front more left back xs ys f s t e g = record {
   whole = e ∙ ap (λ (l : List ℕ). front ++ l) g ∙ sym (append_assoc front back left);
 }
 
-pub word_spelled : (name : List ℕ) (n : ℕ) (bytes more : List ℕ) → BeginsWith n bytes more → Spells (Word name n ∷ []) (word_bytes n)
+pub word_spelled : (name : List ℕ) (n : ℕ) (bytes more : List ℕ) → BeginsWith n bytes more
+    → Spells (Word name n ∷ []) (word_bytes n)
 word_spelled name n bytes more b = Spells-one (Word name n) (word_bytes n) (b.fits, refl)
 
 len4 : (n : ℕ) → length (word_bytes n) ≡ 4
 len4 n = length-bytes_high_first 4 n
 
 -- what a word and more items are
-after_word : (whole : Shape) (name : List ℕ) (n : ℕ) (bytes more left back : List ℕ) (ys : List Item) → BeginsWith n bytes more → Fits whole (Word name n ∷ ys) → Spells ys back → more ≡ back ++ left → Reads whole bytes (Word name n ∷ ys) left
-after_word whole name n bytes more left back ys b f t g = joins whole bytes (word_bytes n) more left back (Word name n ∷ []) ys f (word_spelled name n bytes more b) t b.is g
+after_word : (whole : Shape) (name : List ℕ) (n : ℕ) (bytes more left back : List ℕ)
+    (ys : List Item) → BeginsWith n bytes more → Fits whole (Word name n ∷ ys) → Spells ys back
+    → more ≡ back ++ left → Reads whole bytes (Word name n ∷ ys) left
+after_word whole name n bytes more left back ys b f t g =
+    joins whole bytes (word_bytes n) more left back (Word name n ∷ []) ys f
+    (word_spelled name n bytes more b) t b.is g
 
 regrouped : (a b c d : List ℕ) → a ++ (b ++ (c ++ d)) ≡ ((a ++ b) ++ c) ++ d
 regrouped a b c d = sym (append_assoc (a ++ b) c d ∙ append_assoc a b (c ++ d))
 
 -- what is refused after a word
-then_word : (name : List ℕ) (n : ℕ) (R : Refusal) (bytes more : List ℕ) (at : ℕ) (reason : Reason) → BeginsWith n bytes more → R more at reason → ThenWord name n R bytes (4 + at) reason
-then_word name n R bytes more at reason b r = (Word name n ∷ [], word_bytes n, more, at, refl, word_spelled name n bytes more b, b.is, r, omega (arith, len4 n))
+then_word : (name : List ℕ) (n : ℕ) (R : Refusal) (bytes more : List ℕ) (at : ℕ) (reason : Reason)
+    → BeginsWith n bytes more → R more at reason → ThenWord name n R bytes (4 + at) reason
+then_word name n R bytes more at reason b r = (
+  Word name n ∷ [],
+  word_bytes n,
+  more,
+  at,
+  refl,
+  word_spelled name n bytes more b,
+  b.is,
+  r,
+  omega (arith, len4 n),
+)
 
 -- ---- the cases
 
-pub choose_by_parts : (name : List ℕ) (accepted : ℕ → Bool) (other : Reason) (next : ℕ → Shape) → ChooseByParts name accepted other next
+pub choose_by_parts : (name : List ℕ) (accepted : ℕ → Bool) (other : Reason) (next : ℕ → Shape)
+    → ChooseByParts name accepted other next
 choose_by_parts name accepted other next = record {
   fits = λ n more a f. (n, more, a, f, refl);
-  reads = λ n bytes more left items b a r. after_word (choose name accepted other next) name n bytes more left r.front items b (n, items, a, r.fits, refl) r.spells r.whole;
+  reads =
+      λ n bytes more left items b a r.
+      after_word (choose name accepted other next) name n bytes more left r.front items b
+      (n, items, a, r.fits, refl) r.spells r.whole;
   refuses_word = λ bytes at reason r. inl r;
-  refuses_next = λ n bytes more at reason b a r. inr (n, a, then_word name n (Refuses (next n)) bytes more at reason b r);
+  refuses_next =
+      λ n bytes more at reason b a r.
+      inr (n, a, then_word name n (Refuses (next n)) bytes more at reason b r);
 }
 
 pub hyper_by_parts : (name : List ℕ) → HyperByParts name
 hyper_by_parts name = record {
-  reads = λ n bytes left h e. record { front = big_bytes 8 n; fits = (n, refl); spells = Spells-one (Hyper name n) (big_bytes 8 n) (h, refl); whole = e };
+  reads =
+      λ n bytes left h e.
+      record {
+        front = big_bytes 8 n;
+        fits = (n, refl);
+        spells = Spells-one (Hyper name n) (big_bytes 8 n) (h, refl);
+        whole = e;
+      };
   refuses = λ bytes h. (h, refl, refl);
 }
 
 pub fixed_by_parts : (name : List ℕ) → EightByParts (fixed name) (Fixed name)
 fixed_by_parts name = record {
-  reads = λ run left l b. record { front = run; fits = (run, refl); spells = Spells-one (Fixed name run) run (l, b, refl); whole = refl };
+  reads =
+      λ run left l b.
+      record {
+        front = run;
+        fits = (run, refl);
+        spells = Spells-one (Fixed name run) run (l, b, refl);
+        whole = refl;
+      };
   refuses = λ bytes h. (h, refl, refl);
 }
 
 pub write_verf_by_parts : (name : List ℕ) → EightByParts (write_verf name) (WriteVerf name)
 write_verf_by_parts name = record {
-  reads = λ run left l b. record { front = run; fits = (run, refl); spells = Spells-one (WriteVerf name run) run (l, b, refl); whole = refl };
+  reads =
+      λ run left l b.
+      record {
+        front = run;
+        fits = (run, refl);
+        spells = Spells-one (WriteVerf name run) run (l, b, refl);
+        whole = refl;
+      };
   refuses = λ bytes h. (h, refl, refl);
 }
 
@@ -72,11 +110,17 @@ opaque_by_parts kind name max = record {
   reads = λ bytes more run residual left w e m b l c. record {
     front = word_bytes (length run) ++ (run ++ residual);
     fits = (run, m, refl);
-    spells = Spells-one (Opaque kind name run) (word_bytes (length run) ++ (run ++ residual)) (residual, w.fits, b, l, c, refl);
-    whole = w.is ∙ ap (λ (t : List ℕ). word_bytes (length run) ++ t) e ∙ sym (append_assoc (word_bytes (length run)) (run ++ residual) left);
+    spells =
+        Spells-one (Opaque kind name run) (word_bytes (length run) ++ (run ++ residual))
+        (residual, w.fits, b, l, c, refl);
+    whole =
+        w.is ∙ ap (λ (t : List ℕ). word_bytes (length run) ++ t) e
+        ∙ sym (append_assoc (word_bytes (length run)) (run ++ residual) left);
   };
   refuses_length = λ bytes at reason r. inl r;
-  refuses_run = λ n bytes more w m h. inr (n, m, then_word name n (IsShort (n + residue n)) bytes more 0 _ w (h, refl, refl));
+  refuses_run =
+      λ n bytes more w m h.
+      inr (n, m, then_word name n (IsShort (n + residue n)) bytes more 0 _ w (h, refl, refl));
 }
 
 pub nothing_by_parts : NothingByParts
@@ -85,23 +129,55 @@ nothing_by_parts bytes = record { front = []; fits = refl; spells = refl; whole 
 pub both_by_parts : (a b : Shape) → BothByParts a b
 both_by_parts a b = record {
   fits = λ xs ys f g. (xs, ys, f, g, refl);
-  reads = λ bytes more left xs ys r s. joins (both a b) bytes r.front more left s.front xs ys (xs, ys, r.fits, s.fits, refl) r.spells s.spells r.whole s.whole;
+  reads =
+      λ bytes more left xs ys r s.
+      joins (both a b) bytes r.front more left s.front xs ys (xs, ys, r.fits, s.fits, refl)
+      r.spells s.spells r.whole s.whole;
   refuses_first = λ bytes at reason r. inl r;
   refuses_second = λ bytes more xs at further reason r s p.
-      inr (xs, r.front, more, further, r.fits, r.spells, r.whole, s, omega (arith, p, ap length r.whole, length-append r.front more));
+      inr (
+        xs,
+        r.front,
+        more,
+        further,
+        r.fits,
+        r.spells,
+        r.whole,
+        s,
+        omega (arith, p, ap length r.whole, length-append r.front more),
+      );
 }
 
 -- a link before the links that a list has
 pub linked_by_parts : (name : List ℕ) (shape : Shape) → LinkedByParts name shape
 linked_by_parts name shape = record {
-  reads_none = λ bytes left b. after_word (linked name shape) name 0 bytes left left [] [] b ([], tt, refl) refl refl;
+  reads_none =
+      λ bytes left b.
+      after_word (linked name shape) name 0 bytes left left [] [] b ([], tt, refl) refl refl;
   reads_more = λ bytes first more left part parts b r s.
       let f = s.fits in
-      let is : Word name 1 ∷ (part ++ parts) ≡ links name (part ∷ f.0) ++ Word name 0 ∷ [] = ap (λ (xs : List Item). Word name 1 ∷ (part ++ xs)) f.2 ∙ sym (append_assoc (Word name 1 ∷ part) (links name f.0) (Word name 0 ∷ [])) in
-      after_word (linked name shape) name 1 bytes first left (r.front ++ s.front) (part ++ parts) b (part ∷ f.0, (r.fits, f.1), is)
-      (Spells-append part parts r.front s.front r.spells s.spells) (r.whole ∙ ap (λ (l : List ℕ). r.front ++ l) s.whole ∙ sym (append_assoc r.front s.front left));
-  refuses_word = λ bytes at reason r. ([], [], bytes, at, ([], tt, refl), refl, refl, inl r, omega arith);
-  refuses_part = λ bytes first at reason b r. ([], [], bytes, 4 + at, ([], tt, refl), refl, refl, inr (then_word name 1 (Refuses shape) bytes first at reason b r), omega arith);
+      let is : Word name 1 ∷ (part ++ parts) ≡ links name (part ∷ f.0) ++ Word name 0 ∷ [] =
+      ap (λ (xs : List Item). Word name 1 ∷ (part ++ xs)) f.2
+      ∙ sym (append_assoc (Word name 1 ∷ part) (links name f.0) (Word name 0 ∷ [])) in
+      after_word (linked name shape) name 1 bytes first left (r.front ++ s.front) (part ++ parts) b
+      (part ∷ f.0, (r.fits, f.1), is)
+      (Spells-append part parts r.front s.front r.spells s.spells) (r.whole
+      ∙ ap (λ (l : List ℕ). r.front ++ l) s.whole
+      ∙ sym (append_assoc r.front s.front left));
+  refuses_word =
+      λ bytes at reason r. ([], [], bytes, at, ([], tt, refl), refl, refl, inl r, omega arith);
+  refuses_part =
+      λ bytes first at reason b r. (
+        [],
+        [],
+        bytes,
+        4 + at,
+        ([], tt, refl),
+        refl,
+        refl,
+        inr (then_word name 1 (Refuses shape) bytes first at reason b r),
+        omega arith,
+      );
   refuses_later = λ bytes first more part at further reason b r s p.
       let f = s.4 in (
         (Word name 1 ∷ part) ++ s.0,
@@ -109,15 +185,31 @@ linked_by_parts name shape = record {
         s.2,
         s.3,
         (part ∷ f.0, (r.fits, f.1), ap (λ (xs : List Item). (Word name 1 ∷ part) ++ xs) f.2),
-        Spells-append (Word name 1 ∷ part) s.0 (word_bytes 1 ++ r.front) s.1 (Spells-append (Word name 1 ∷ []) part (word_bytes 1) r.front (word_spelled name 1 bytes first b) r.spells) s.5,
-        b.is ∙ ap (λ (l : List ℕ). word_bytes 1 ++ l) (r.whole ∙ ap (λ (l : List ℕ). r.front ++ l) s.6) ∙ regrouped (word_bytes 1) r.front s.1 s.2,
+        Spells-append (Word name 1 ∷ part) s.0 (word_bytes 1 ++ r.front) s.1
+            (Spells-append (Word name 1 ∷ []) part (word_bytes 1) r.front
+            (word_spelled name 1 bytes first b) r.spells) s.5,
+        b.is
+            ∙ ap (λ (l : List ℕ). word_bytes 1 ++ l)
+            (r.whole ∙ ap (λ (l : List ℕ). r.front ++ l) s.6)
+            ∙ regrouped (word_bytes 1) r.front s.1 s.2,
         s.7,
-        omega (arith, p, s.8, ap length b.is, ap length r.whole, length-append (word_bytes 1) first, length-append r.front more, length-append (word_bytes 1 ++ r.front) s.1, length-append (word_bytes 1) r.front),
+        omega (
+          arith,
+          p,
+          s.8,
+          ap length b.is,
+          ap length r.whole,
+          length-append (word_bytes 1) first,
+          length-append r.front more,
+          length-append (word_bytes 1 ++ r.front) s.1,
+          length-append (word_bytes 1) r.front,
+        ),
       );
 }
 
 -- parts that were read one after the other
-record AreRead (shape : Shape) (n : ℕ) (bytes : List ℕ) (items : List Item) (left : List ℕ) : Type 0 where
+record AreRead (shape : Shape) (n : ℕ) (bytes : List ℕ) (items : List Item) (left : List ℕ) : Type
+    0 where
   parts : List (List Item)
   fit : AllByRecursion (Fits shape) parts
   count : length parts ≡ n
@@ -126,8 +218,18 @@ record AreRead (shape : Shape) (n : ℕ) (bytes : List ℕ) (items : List Item) 
   spells : Spells items front
   whole : bytes ≡ front ++ left
 
-are_read : (shape : Shape) (n : ℕ) (bytes : List ℕ) (items : List Item) (left : List ℕ) → ReadsTimes shape n bytes items left → AreRead shape n bytes items left
-are_read shape zero bytes items left r = record { parts = []; fit = tt; count = refl; is = r.0; front = []; spells = subst (λ (xs : List Item). Spells xs []) (sym r.0) refl; whole = sym r.1 }
+are_read : (shape : Shape) (n : ℕ) (bytes : List ℕ) (items : List Item) (left : List ℕ)
+    → ReadsTimes shape n bytes items left → AreRead shape n bytes items left
+are_read shape zero bytes items left r =
+    record {
+      parts = [];
+      fit = tt;
+      count = refl;
+      is = r.0;
+      front = [];
+      spells = subst (λ (xs : List Item). Spells xs []) (sym r.0) refl;
+      whole = sym r.1;
+    }
 are_read shape (suc n) bytes items left r =
     let t = are_read shape n r.2 r.1 left r.4 in
     record {
@@ -136,16 +238,23 @@ are_read shape (suc n) bytes items left r =
       count = ap suc t.count;
       is = r.5 ∙ ap (λ (xs : List Item). r.0 ++ xs) t.is;
       front = r.3.front ++ t.front;
-      spells = subst (λ (xs : List Item). Spells xs (r.3.front ++ t.front)) (sym r.5) (Spells-append r.0 r.1 r.3.front t.front r.3.spells t.spells);
-      whole = r.3.whole ∙ ap (λ (l : List ℕ). r.3.front ++ l) t.whole ∙ sym (append_assoc r.3.front t.front left);
+      spells =
+          subst (λ (xs : List Item). Spells xs (r.3.front ++ t.front)) (sym r.5)
+          (Spells-append r.0 r.1 r.3.front t.front r.3.spells t.spells);
+      whole =
+          r.3.whole ∙ ap (λ (l : List ℕ). r.3.front ++ l) t.whole
+          ∙ sym (append_assoc r.3.front t.front left);
     }
 
 pub counted_by_parts : (name : List ℕ) (max : ℕ) (shape : Shape) → CountedByParts name max shape
 counted_by_parts name max shape = record {
   reads = λ n bytes first left items b m r.
       let t = are_read shape n first items left r in
-      let is : Word name n ∷ items ≡ Word name (length t.parts) ∷ joined t.parts = ap (λ (k : ℕ). Word name k ∷ items) (sym t.count) ∙ ap (λ (xs : List Item). Word name (length t.parts) ∷ xs) t.is in
-      after_word (counted name max shape) name n bytes first left t.front items b (t.parts, t.fit, omega (arith, t.count), is) t.spells t.whole;
+      let is : Word name n ∷ items ≡ Word name (length t.parts) ∷ joined t.parts =
+      ap (λ (k : ℕ). Word name k ∷ items) (sym t.count)
+      ∙ ap (λ (xs : List Item). Word name (length t.parts) ∷ xs) t.is in
+      after_word (counted name max shape) name n bytes first left t.front items b
+      (t.parts, t.fit, omega (arith, t.count), is) t.spells t.whole;
   refuses_count = λ bytes at reason r. inl r;
   refuses_part = λ n k bytes first more items at further reason b m h r s p.
       let t = are_read shape k first items more r in
@@ -158,10 +267,20 @@ counted_by_parts name max shape = record {
           more,
           further,
           (t.parts, t.fit, omega (arith, t.count), ap (λ (xs : List Item). Word name n ∷ xs) t.is),
-          Spells-append (Word name n ∷ []) items (word_bytes n) t.front (word_spelled name n bytes first b) t.spells,
-          b.is ∙ ap (λ (l : List ℕ). word_bytes n ++ l) t.whole ∙ sym (append_assoc (word_bytes n) t.front more),
+          Spells-append (Word name n ∷ []) items (word_bytes n) t.front
+              (word_spelled name n bytes first b) t.spells,
+          b.is ∙ ap (λ (l : List ℕ). word_bytes n ++ l) t.whole
+              ∙ sym (append_assoc (word_bytes n) t.front more),
           s,
-          omega (arith, p, ap length b.is, ap length t.whole, length-append (word_bytes n) first, length-append t.front more, length-append (word_bytes n) t.front),
+          omega (
+            arith,
+            p,
+            ap length b.is,
+            ap length t.whole,
+            length-append (word_bytes n) first,
+            length-append t.front more,
+            length-append (word_bytes n) t.front,
+          ),
         ),
       );
 }
@@ -170,15 +289,61 @@ pub sized_by_parts : (name : List ℕ) (shape : Shape) → SizedByParts name sha
 sized_by_parts name shape = record {
   reads = λ n bytes window left items b l m r.
       let all : window ≡ r.front = r.whole ∙ append-nil r.front in
-      let len : length (zero_spelling items) ≡ n = omega (arith, length_of_spelling items r.front r.spells, ap length all) in
-      after_word (sized name shape) name n bytes (window ++ left) left r.front items b (items, r.fits, omega (arith, len), ap (λ (k : ℕ). Word name k ∷ items) (sym len)) r.spells (ap (λ (w : List ℕ). w ++ left) all);
+      let len : length (zero_spelling items) ≡ n =
+      omega (arith, length_of_spelling items r.front r.spells, ap length all) in
+      after_word (sized name shape) name n bytes (window ++ left) left r.front items b
+      (items, r.fits, omega (arith, len), ap (λ (k : ℕ). Word name k ∷ items) (sym len))
+      r.spells (ap (λ (w : List ℕ). w ++ left) all);
   refuses_length = λ bytes at reason r. inl r;
-  refuses_cut = λ n bytes more b m h. inr (n, m, then_word name n (RefusesWindow n (Fits shape) (Refuses shape)) bytes more 0 _ b (inl (h, refl, refl)));
+  refuses_cut =
+      λ n bytes more b m h.
+      inr (
+        n,
+        m,
+        then_word name n (RefusesWindow n (Fits shape) (Refuses shape)) bytes more 0 _ b
+            (inl (h, refl, refl)),
+      );
   refuses_inside = λ n bytes window left at reason b l m r.
-      inr (n, m, then_word name n (RefusesWindow n (Fits shape) (Refuses shape)) bytes (window ++ left) at _ b (inr (window, left, refl, l, inl (reason, r, refl))));
+      inr (
+        n,
+        m,
+        then_word name n (RefusesWindow n (Fits shape) (Refuses shape)) bytes (window ++ left)
+            at _ b (inr (window, left, refl, l, inl (reason, r, refl))),
+      );
   refuses_over = λ n bytes window left over items at b l m r h p.
-      let place : at ≡ length (word_bytes n) + length r.front = omega (arith, p, len4 n, l, ap length r.whole, length-append r.front over) in
-      inr (n, m, (Word name n ∷ [], word_bytes n, window ++ left, length r.front, refl, word_spelled name n bytes (window ++ left) b, b.is, inr (window, left, refl, l, inr (items, r.front, over, 0, r.fits, r.spells, r.whole, (h, refl, refl), omega arith)), place));
+      let place : at ≡ length (word_bytes n) + length r.front =
+      omega (arith, p, len4 n, l, ap length r.whole, length-append r.front over) in
+      inr (
+        n,
+        m,
+        (
+          Word name n ∷ [],
+          word_bytes n,
+          window ++ left,
+          length r.front,
+          refl,
+          word_spelled name n bytes (window ++ left) b,
+          b.is,
+          inr (
+            window,
+            left,
+            refl,
+            l,
+            inr (
+              items,
+              r.front,
+              over,
+              0,
+              r.fits,
+              r.spells,
+              r.whole,
+              (h, refl, refl),
+              omega arith,
+            ),
+          ),
+          place,
+        ),
+      );
 }
 
 pub after_by_parts : (shape : Shape) (next : List Item → Layout) → AfterByParts shape next
@@ -187,5 +352,19 @@ after_by_parts shape next = record {
   reads = λ bytes more left xs ys r s. (xs, ys, more, r, s, refl);
   refuses_first = λ bytes at reason r. inl r;
   refuses_next = λ bytes more xs at further reason r s p.
-      inr (xs, r.fits, (xs, r.front, more, further, refl, r.spells, r.whole, s, omega (arith, p, ap length r.whole, length-append r.front more)));
+      inr (
+        xs,
+        r.fits,
+        (
+          xs,
+          r.front,
+          more,
+          further,
+          refl,
+          r.spells,
+          r.whole,
+          s,
+          omega (arith, p, ap length r.whole, length-append r.front more),
+        ),
+      );
 }

@@ -1,11 +1,6 @@
 -- What is so of each part of a shape.
-use Rattle.std.proofs.Common.{ℕ, Bool, true, false, List}
+use Rattle.xdr3.proofs.Common.{ℕ, Bool, true, false, List, Reason, BadBool, TooLong, Kind, Layout, exactly, rest, after, Shape, choose, hyper, fixed, write_verf, opaque, nothing, both, linked, counted, sized}
 use Rattle.std.specs.Prelude.{⊤, if◌then◌else◌}
-use Rattle.xdr3.specs.declared.reason.Reason.{Reason}
-use Rattle.xdr3.specs.declared.reason.Reason.TheVariants.{BadBool, TooLong}
-use Rattle.xdr3.specs.Item.{Kind}
-use Rattle.xdr3.specs.Layout.{Layout, exactly, rest, after}
-use Rattle.xdr3.specs.Shape.{Shape, choose, hyper, fixed, write_verf, opaque, nothing, both, linked, counted, sized}
 
 -- what stands for one item of a value, under its name
 pub data Part : Type 0 where
@@ -19,7 +14,8 @@ pub data Part : Type 0 where
 
 module _ (P : Part → Type 0) where
   abbrev pub HasParts : Shape → Type 0
-  HasParts (choose name accepted reason next) = P (word_part name reason) × ((n : ℕ) → HasParts (next n))
+  HasParts (choose name accepted reason next) =
+      P (word_part name reason) × ((n : ℕ) → HasParts (next n))
   HasParts (hyper name) = P (hyper_part name)
   HasParts (fixed name) = P (fixed_part name)
   HasParts (write_verf name) = P (write_verf_part name)
@@ -40,13 +36,15 @@ module _ (P : Part → Type 0) where
   parts_if true s t h k = h
   parts_if false s t h k = k
 
-  pub row_if : (b : Bool) (s t : Layout) → RowHasParts s → RowHasParts t → RowHasParts (if b then s else t)
+  pub row_if : (b : Bool) (s t : Layout) → RowHasParts s → RowHasParts t
+      → RowHasParts (if b then s else t)
   row_if true s t h k = h
   row_if false s t h k = k
 
 module _ (P Q : Part → Type 0) (weaker : (part : Part) → P part → Q part) where
   pub parts_weaker : (s : Shape) → HasParts P s → HasParts Q s
-  parts_weaker (choose name accepted reason next) h = (weaker (word_part name reason) h.0, λ n. parts_weaker (next n) (h.1 n))
+  parts_weaker (choose name accepted reason next) h =
+      (weaker (word_part name reason) h.0, λ n. parts_weaker (next n) (h.1 n))
   parts_weaker (hyper name) h = weaker (hyper_part name) h
   parts_weaker (fixed name) h = weaker (fixed_part name) h
   parts_weaker (write_verf name) h = weaker (write_verf_part name) h

@@ -1,7 +1,4 @@
-use Rattle.std.proofs.Common.{refl}
-use Rattle.xdr3.specs.Layout.{reading_layout}
-use Rattle.xdr3.specs.Reading.{reading}
-use Rattle.xdr3.specs.Shape.{optional}
+use Rattle.xdr3.proofs.Common.{refl, reading_layout, reading, optional}
 use Rattle.xdr3.proofs.examples.parts.Goals as goal
 
 pub returns : goal.returns

@@ -1,9 +1,5 @@
-use Rattle.std.proofs.Common.{◌≡◌, ◌∙◌, ap₂, subst, sym, [], ◌∷◌, ◌++◌}
+use Rattle.canon3.proofs.Common.{◌≡◌, ◌∙◌, ap₂, subst, sym, [], ◌∷◌, ◌++◌, values_of, HasPassed, place_from, spelling_of}
 use Rattle.std.specs.Prelude.{MatchBool, ◌≢◌}
-use Rattle.canon3.specs.machinery.MessageWriter.{values_of}
-use Rattle.canon3.specs.machinery.Spelling.{spelling_of}
-use Rattle.canon3.specs.Progress.{HasPassed}
-use Rattle.canon3.specs.machinery.ProgressSteps.{place_from}
 use Rattle.canon3.proofs.Lemmas.Comparison.ComparisonLemmas.{agree_on, parts_here}
 use Rattle.canon3.proofs.Lemmas.Progress.ProgressLemmas.{after_more, side_same}
 use Rattle.canon3.proofs.Lemmas.Writing.EntryWriterLemmas.{lent_kind}
@@ -17,12 +13,24 @@ returns-then-branch-clause-compares g c a b e f of other_of first second few oth
     let other_form = c.in-Ok-spelling_of_entry.form in
     let s = c.in-Ok.ensures a e of first few told.first in
     let t = c.in-Ok-spelling_of_entry.ensures b f other_of second other_few told.second in
-    let alike = subst (λ k. MatchBool k (spelling_of form n ≡ spelling_of other_form m) (spelling_of form n ≢ spelling_of other_form m)) c.if-branch.true c.in_ok-are_alike.ensures.alike in
+    let alike =
+    subst
+    (λ k.
+    MatchBool k (spelling_of form n ≡ spelling_of other_form m)
+    (spelling_of form n ≢ spelling_of other_form m)) c.if-branch.true
+    c.in_ok-are_alike.ensures.alike in
     record {
       agree = agree_on n m form other_form a b e f first second s t told.agree alike;
-      first = c.begin_message.ensures.stands (values_of (a ++ e ∷ [])) (c.in_ok-are_alike.ensures.holds (values_of (a ++ e ∷ [])) s.holds);
-      second = c.begin_message-then-branch.ensures.stands (values_of (b ++ f ∷ [])) (c.in_ok-are_alike.ensures.other_holds (values_of (b ++ f ∷ [])) t.holds);
-      progress = subst (λ p. HasPassed p (a ++ e ∷ [])) (sym c.pass.ensures.after) (after_more c.args.self.now.progress a told.progress c.kind_of.result e (lent_kind c.args.entry c.kind_of.result e c.kind_of.ensures of));
+      first =
+          c.begin_message.ensures.stands (values_of (a ++ e ∷ []))
+          (c.in_ok-are_alike.ensures.holds (values_of (a ++ e ∷ [])) s.holds);
+      second =
+          c.begin_message-then-branch.ensures.stands (values_of (b ++ f ∷ []))
+          (c.in_ok-are_alike.ensures.other_holds (values_of (b ++ f ∷ [])) t.holds);
+      progress =
+          subst (λ p. HasPassed p (a ++ e ∷ [])) (sym c.pass.ensures.after) (after_more
+          c.args.self.now.progress a told.progress c.kind_of.result e
+          (lent_kind c.args.entry c.kind_of.result e c.kind_of.ensures of));
     }
 
 pub returns-clause-compares : goal.returns-clause-compares
@@ -31,9 +39,18 @@ returns-clause-compares g c a b e f of other_of first second few other_few told 
     let m = c.spelling_of_entry-2.new.message_writer in
     let form = c.in-Ok.form in
     let other_form = c.in-Ok-spelling_of_entry.form in
-    let unlike = subst (λ k. MatchBool k (spelling_of form n ≡ spelling_of other_form m) (spelling_of form n ≢ spelling_of other_form m)) c.if-branch.false c.in_ok-are_alike.ensures.alike in
+    let unlike =
+    subst
+    (λ k.
+    MatchBool k (spelling_of form n ≡ spelling_of other_form m)
+    (spelling_of form n ≢ spelling_of other_form m)) c.if-branch.false
+    c.in_ok-are_alike.ensures.alike in
     parts_here n m form other_form a b e f first second
-    (c.in-Ok.ensures a e of first few told.first) (c.in-Ok-spelling_of_entry.ensures b f other_of second other_few told.second)
+    (c.in-Ok.ensures a e of first few told.first)
+    (c.in-Ok-spelling_of_entry.ensures b f other_of second other_few told.second)
     told.agree c.args.self.now.progress c.place.result unlike told.progress
-    (c.place.ensures ∙ ap₂ (λ x y. place_from c.args.self.now.progress x y) (side_same c.kind_of-2.result e (lent_kind c.args.entry c.kind_of-2.result e c.kind_of-2.ensures of))
-    (side_same c.kind_of-3.result f (lent_kind c.args.other c.kind_of-3.result f c.kind_of-3.ensures other_of)))
+    (c.place.ensures
+    ∙ ap₂ (λ x y. place_from c.args.self.now.progress x y) (side_same c.kind_of-2.result e
+    (lent_kind c.args.entry c.kind_of-2.result e c.kind_of-2.ensures of))
+    (side_same c.kind_of-3.result f
+    (lent_kind c.args.other c.kind_of-3.result f c.kind_of-3.ensures other_of)))

@@ -1,10 +1,5 @@
-use Rattle.std.proofs.Common.{◌≡◌, ◌≤◌, ◌+◌, None}
-use Rattle.capture3.specs.Told.{Told}
-use Rattle.capture3.specs.Entries.{failure_of, loan_of, source_of}
-use Rattle.capture3.specs.machinery.EntriesHistory.{entries_left}
-use Rattle.capture3.specs.Laws.{most_entries}
+use Rattle.canon3.proofs.Common.{◌≡◌, ◌≤◌, ◌+◌, None, Told, failure_of, loan_of, source_of, entries_left, most_entries, steps_of}
 use Rattle.canon3.specs.machinery.ComparisonSteps.{IsComparing}
-use Rattle.canon3.specs.Progress.{steps_of}
 use Rattle.canon3.proofs.comparison.Comparison.find.Given as goal
 
 abbrev pub invariant-loop-finding : goal.invariant-loop-finding
@@ -12,9 +7,13 @@ invariant-loop-finding g l = record {
   going_first : failure_of l.first ≡ None;
   going_second : failure_of l.second ≡ None;
   room : steps_of l.self.progress + entries_left l.first ≤ most_entries;
-  under_way : (start other_start : Told) → IsComparing g.A.Source.told g.B.Source.told start other_start l.fn.first l.fn.second l.fn.self → IsComparing g.A.Source.told g.B.Source.told start other_start l.first l.second l.self;
+  under_way : (start other_start : Told)
+      → IsComparing g.A.Source.told g.B.Source.told start other_start l.fn.first l.fn.second
+      l.fn.self
+      → IsComparing g.A.Source.told g.B.Source.told start other_start l.first l.second l.self;
   read_first : g.A.Source.failures (source_of l.first) ≡ g.A.Source.failures (source_of l.fn.first);
-  read_second : g.B.Source.failures (source_of l.second) ≡ g.B.Source.failures (source_of l.fn.second);
+  read_second : g.B.Source.failures (source_of l.second)
+      ≡ g.B.Source.failures (source_of l.fn.second);
   same_first : loan_of l.first ≡ loan_of l.fn.first;
   same_second : loan_of l.second ≡ loan_of l.fn.second;
 }

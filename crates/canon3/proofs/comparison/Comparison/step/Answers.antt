@@ -1,7 +1,4 @@
-use Rattle.std.proofs.Common.{Ok, Err, subst}
-use Rattle.capture3.specs.Entries.{source_of}
-use Rattle.capture3.specs.Entry.{items_of}
-use Rattle.canon3.specs.machinery.MessageWriter.{WriterStands}
+use Rattle.canon3.proofs.Common.{Ok, Err, subst, source_of, items_of, WriterStands}
 use Rattle.canon3.proofs.Lemmas.Comparison.ComparisonLemmas.{first_stops, Hands, hands, stepped, told_first}
 use Rattle.canon3.proofs.comparison.Comparison.step.Goals as goal
 
@@ -12,9 +9,19 @@ returns-in-Some-clause-steps g c start other_start u =
     let new = c.next.new.self in
     let was = c.args.self.now.first in
     let now = c.next.new.visitor in
-    let (e, is, first, few, adds, given) = subst (λ next. Hands left (WriterStands {S = g.row.S.Denot} {H = g.row.S-Hasher.Denot}) start old new was now u.a (Ok next)) c.in-Ok-Some.field-0-is (hands left (WriterStands {S = g.row.S.Denot} {H = g.row.S-Hasher.Denot}) start old new was now u.a u.first_given (Ok c.in-Ok-Some.field-0) (c.in-Ok-Some.ensures.answers u.first_given.given u.a u.first_given.stands)) in
+    let (e, is, first, few, adds, given) =
+    subst
+    (λ next.
+    Hands left (WriterStands {S = g.row.S.Denot} {H = g.row.S-Hasher.Denot}) start old new
+    was now u.a (Ok next)) c.in-Ok-Some.field-0-is
+    (hands left (WriterStands {S = g.row.S.Denot} {H = g.row.S-Hasher.Denot}) start old new was
+    now u.a u.first_given (Ok c.in-Ok-Some.field-0)
+    (c.in-Ok-Some.ensures.answers u.first_given.given u.a u.first_given.stands)) in
     let so_far = told_first c.args.self.now u.a u.b now (items_of e) adds u.compared in
-    stepped left g.B.Source.told start other_start new c.compare_second_entry.new.second c.compare_second_entry.new.self u.a u.b e given c.compare_second_entry.result (c.compare_second_entry.ensures.meets start (left (source_of new)) other_start u.a u.b e (c.in-Some.ensures.lent given.given u.a e given.stands) first few so_far u.second_given)
+    stepped left g.B.Source.told start other_start new c.compare_second_entry.new.second
+    c.compare_second_entry.new.self u.a u.b e given c.compare_second_entry.result
+    (c.compare_second_entry.ensures.meets start (left (source_of new)) other_start u.a u.b e
+    (c.in-Some.ensures.lent given.given u.a e given.stands) first few so_far u.second_given)
 
 pub returns-in-Ok-None-clause-steps : goal.returns-in-Ok-None-clause-steps
 returns-in-Ok-None-clause-steps g c start other_start u =
@@ -23,11 +30,30 @@ returns-in-Ok-None-clause-steps g c start other_start u =
     let new = c.next.new.self in
     let was = c.args.self.now.first in
     let now = c.next.new.visitor in
-    let (all, given) = subst (λ next. Hands left (WriterStands {S = g.row.S.Denot} {H = g.row.S-Hasher.Denot}) start old new was now u.a (Ok next)) c.in-Ok-None.field-0-is (hands left (WriterStands {S = g.row.S.Denot} {H = g.row.S-Hasher.Denot}) start old new was now u.a u.first_given (Ok c.in-Ok-None.field-0) (c.in-Ok-None.ensures.answers u.first_given.given u.a u.first_given.stands)) in
-    record { a = u.a; b = u.b; first_given = given; second_given = u.second_given; agree = u.compared.agree; file = all.given; typed = all.typed }
+    let (all, given) =
+    subst
+    (λ next.
+    Hands left (WriterStands {S = g.row.S.Denot} {H = g.row.S-Hasher.Denot}) start old new
+    was now u.a (Ok next)) c.in-Ok-None.field-0-is
+    (hands left (WriterStands {S = g.row.S.Denot} {H = g.row.S-Hasher.Denot}) start old new was
+    now u.a u.first_given (Ok c.in-Ok-None.field-0)
+    (c.in-Ok-None.ensures.answers u.first_given.given u.a u.first_given.stands)) in
+    record {
+      a = u.a;
+      b = u.b;
+      first_given = given;
+      second_given = u.second_given;
+      agree = u.compared.agree;
+      file = all.given;
+      typed = all.typed;
+    }
 
 pub returns-in-Err-clause-steps : goal.returns-in-Err-clause-steps
 returns-in-Err-clause-steps g c start other_start u =
     let told = g.A.Source.told (source_of c.next.new.self) in
     let told_other = g.B.Source.told (source_of c.args.second.now) in
-    first_stops start told other_start told_other c.in-Err.error (hands g.A.Source.told (WriterStands {S = g.row.S.Denot} {H = g.row.S-Hasher.Denot}) start c.args.first.now c.next.new.self c.args.self.now.first c.next.new.visitor u.a u.first_given (Err c.in-Err.error) (c.in-Err.ensures.answers u.first_given.given u.a u.first_given.stands))
+    first_stops start told other_start told_other c.in-Err.error (hands g.A.Source.told
+    (WriterStands {S = g.row.S.Denot} {H = g.row.S-Hasher.Denot}) start c.args.first.now
+    c.next.new.self c.args.self.now.first c.next.new.visitor u.a u.first_given
+    (Err c.in-Err.error)
+    (c.in-Err.ensures.answers u.first_given.given u.a u.first_given.stands))

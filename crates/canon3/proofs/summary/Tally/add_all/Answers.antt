@@ -4,4 +4,8 @@ use Rattle.canon3.proofs.summary.Tally.add_all.Goals as goal
 
 pub returns-clause-over : goal.returns-clause-over
 returns-clause-over g c first u =
-    subst (λ more. TalliesOn g.R.Source.told first c.add_next.new.entries c.add_next.new.self (Ok more)) c.if-branch.false (c.in_ok-add_next.ensures.goes_on first (c.loop.invariant.under_way first u))
+    subst
+    (λ more.
+    TalliesOn g.R.Source.told first c.add_next.new.entries c.add_next.new.self (Ok more))
+    c.if-branch.false
+    (c.in_ok-add_next.ensures.goes_on first (c.loop.invariant.under_way first u))

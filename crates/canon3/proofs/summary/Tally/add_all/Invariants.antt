@@ -1,9 +1,4 @@
-use Rattle.std.proofs.Common.{◌≡◌, ◌≤◌, ◌+◌, None}
-use Rattle.capture3.specs.Told.{Told}
-use Rattle.capture3.specs.Entries.{failure_of, loan_of, source_of}
-use Rattle.capture3.specs.machinery.EntriesHistory.{entries_left}
-use Rattle.capture3.specs.Laws.{most_entries}
-use Rattle.canon3.specs.EntryCounts.{counted_steps}
+use Rattle.canon3.proofs.Common.{◌≡◌, ◌≤◌, ◌+◌, None, Told, failure_of, loan_of, source_of, entries_left, most_entries, counted_steps}
 use Rattle.canon3.specs.machinery.Tally.{IsTallying}
 use Rattle.canon3.proofs.summary.Tally.add_all.Given as goal
 
@@ -11,7 +6,8 @@ abbrev pub invariant-loop : goal.invariant-loop
 invariant-loop g l = record {
   going : failure_of l.entries ≡ None;
   room : counted_steps l.self.counts + entries_left l.entries ≤ most_entries;
-  under_way : (first : Told) → IsTallying g.R.Source.told first l.fn.entries l.fn.self → IsTallying g.R.Source.told first l.entries l.self;
+  under_way : (first : Told) → IsTallying g.R.Source.told first l.fn.entries l.fn.self
+      → IsTallying g.R.Source.told first l.entries l.self;
   read : g.R.Source.failures (source_of l.entries) ≡ g.R.Source.failures (source_of l.fn.entries);
   same_reference : loan_of l.entries ≡ loan_of l.fn.entries;
 }

@@ -1,12 +1,4 @@
-use Rattle.std.proofs.Common.{List, Ok, [], ◌∷◌, ◌++◌, subst, sym}
-use Rattle.capture3.proofs.Lemmas.Reader.ToldLemmas.{gave_both}
-use Rattle.xdr3.specs.Item.{Item}
-use Rattle.xdr3.specs.Visit.{Adds}
-use Rattle.capture3.specs.Entries.{source_of}
-use Rattle.capture3.proofs.Lemmas.Reader.PassedOn.{error_is}
-use Rattle.canon3.specs.HandleTable.{Gathers}
-use Rattle.canon3.specs.machinery.Sums.{all_items}
-use Rattle.capture3.specs.Handing.{HandsOut}
+use Rattle.canon3.proofs.Common.{List, Ok, [], ◌∷◌, ◌++◌, subst, sym, gave_both, Item, Adds, source_of, error_is, all_items, Gathers, HandsOut}
 use Rattle.canon3.proofs.Lemmas.Progress.SummaryLemmas.{items_with_last}
 use Rattle.canon3.proofs.summary.Tally.add_next.Goals as goal
 
@@ -14,15 +6,24 @@ pub returns-in-Some-clause-goes_on : goal.returns-in-Some-clause-goes_on
 unfolding Adds
 returns-in-Some-clause-goes_on g c first u =
     let a = c.in_ok-kind.ensures.answers u.given u.handed u.stands in
-    let (one, is, reached, adds, stands) = subst (λ next. HandsOut g.R.Source.told Gathers c.next.new.self c.args.self.now.handles c.next.new.visitor (u.given ++ a.more) u.handed (Ok next)) c.in-Some.is a.hands_out in
+    let (one, is, reached, adds, stands) =
+    subst
+    (λ next.
+    HandsOut g.R.Source.told Gathers c.next.new.self c.args.self.now.handles
+    c.next.new.visitor (u.given ++ a.more) u.handed (Ok next)) c.in-Some.is a.hands_out
+    in
     record {
       given = u.given ++ a.more;
       handed = u.handed ++ one ∷ [];
-      consumed = gave_both first (g.R.Source.told (source_of c.args.entries.now)) (g.R.Source.told (source_of c.next.new.self)) u.given a.more u.consumed a.consumed;
+      consumed =
+          gave_both first (g.R.Source.told (source_of c.args.entries.now))
+          (g.R.Source.told (source_of c.next.new.self)) u.given a.more u.consumed a.consumed;
       stands = stands;
       tallied = record {
         counts = c.add.ensures.counts u.handed one is u.tallied.counts;
-        handles = subst (λ (l : List Item). Gathers c.next.new.visitor l) (sym (items_with_last u.handed one)) (adds (all_items u.handed) u.tallied.handles);
+        handles =
+            subst (λ (l : List Item). Gathers c.next.new.visitor l)
+            (sym (items_with_last u.handed one)) (adds (all_items u.handed) u.tallied.handles);
       };
     }
 
@@ -32,18 +33,27 @@ returns-in_err-kind-clause-goes_on g c first u =
     rw (error_is _ _ c.from_residual.ensures) (record {
       given = u.given ++ a.more;
       handed = u.handed;
-      consumed = gave_both first (g.R.Source.told (source_of c.args.entries.now)) (g.R.Source.told (source_of c.next.new.self)) u.given a.more u.consumed a.consumed;
+      consumed =
+          gave_both first (g.R.Source.told (source_of c.args.entries.now))
+          (g.R.Source.told (source_of c.next.new.self)) u.given a.more u.consumed a.consumed;
       met = a.hands_out.0;
     })
 
 pub returns-in-None-clause-goes_on : goal.returns-in-None-clause-goes_on
 returns-in-None-clause-goes_on g c first u =
     let a = c.in_ok-kind.ensures.answers u.given u.handed u.stands in
-    let (typed, ended, stands) = subst (λ next. HandsOut g.R.Source.told Gathers c.next.new.self c.args.self.now.handles c.next.new.visitor (u.given ++ a.more) u.handed (Ok next)) c.in-None.is a.hands_out in
+    let (typed, ended, stands) =
+    subst
+    (λ next.
+    HandsOut g.R.Source.told Gathers c.next.new.self c.args.self.now.handles
+    c.next.new.visitor (u.given ++ a.more) u.handed (Ok next)) c.in-None.is a.hands_out
+    in
     record {
       given = u.given ++ a.more;
       handed = u.handed;
-      consumed = gave_both first (g.R.Source.told (source_of c.args.entries.now)) (g.R.Source.told (source_of c.next.new.self)) u.given a.more u.consumed a.consumed;
+      consumed =
+          gave_both first (g.R.Source.told (source_of c.args.entries.now))
+          (g.R.Source.told (source_of c.next.new.self)) u.given a.more u.consumed a.consumed;
       ended = ended;
       typed = typed;
       tallied = record {

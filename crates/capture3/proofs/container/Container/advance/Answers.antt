@@ -1,30 +1,44 @@
-use Rattle.std.proofs.Common.{sym, ◌∙◌, arith}
-use Rattle.std.proofs.lemmas.Grind.{common_steps}
-use Rattle.capture3.specs.machinery.Container.{unpacking_in}
+use Rattle.capture3.proofs.Common.{sym, ◌∙◌, arith, common_steps, unpacking_in}
 use Rattle.capture3.proofs.Lemmas.Container.ContainerLemmas.{arrives_more, fails_more, goes_on_more, room_on, still_running, stored_on}
 use Rattle.capture3.proofs.Lemmas.Reader.PassedOn.{error_is}
 use Rattle.capture3.proofs.container.Container.advance.Goals as goal
 
 pub returns-then-is_some-clause-machine : goal.returns-then-is_some-clause-machine
 returns-then-is_some-clause-machine c =
-    arrives_more (unpacking_in c.args.self.now) c.args.piece.now c.loop-taken.taken c.in_ok-step.step.count c.loop-taken.self.position c.in_ok-step.step.position
-    c.loop-taken.self.joiner.taking c.step.new.self.joiner.taking c.loop-taken.self.streams.kept c.step.new.self.streams.kept c.in_ok-step.step.event c.loop-taken.invariant.machine c.in_ok-step.ensures.machine
+    arrives_more (unpacking_in c.args.self.now) c.args.piece.now c.loop-taken.taken
+    c.in_ok-step.step.count c.loop-taken.self.position c.in_ok-step.step.position
+    c.loop-taken.self.joiner.taking c.step.new.self.joiner.taking c.loop-taken.self.streams.kept
+    c.step.new.self.streams.kept c.in_ok-step.step.event c.loop-taken.invariant.machine
+    c.in_ok-step.ensures.machine
 
 pub loop-taken-preserved : goal.loop-taken-preserved
 loop-taken-preserved c = record {
   within = grind (arith, common_steps, c.in_ok-step.ensures);
   sound = c.in_ok-step.ensures.taken.sound;
-  running = still_running c.in_ok-step.step.event c.step.new.self.joiner.taking (sym c.is_some.ensures ∙ c.if-is_some.false) c.in_ok-step.ensures.joiner;
+  running =
+      still_running c.in_ok-step.step.event c.step.new.self.joiner.taking
+      (sym c.is_some.ensures ∙ c.if-is_some.false) c.in_ok-step.ensures.joiner;
   machine =
-      goes_on_more (unpacking_in c.args.self.now) c.args.piece.now c.loop-taken.taken c.in_ok-step.step.count c.loop-taken.self.position c.in_ok-step.step.position
-      c.loop-taken.self.joiner.taking c.step.new.self.joiner.taking c.loop-taken.self.streams.kept c.step.new.self.streams.kept c.in_ok-step.step.event (sym c.is_some.ensures ∙ c.if-is_some.false) c.loop-taken.invariant.machine c.in_ok-step.ensures.machine;
-  room = room_on c.in_ok-step.step.event _ _ c.step.new.self.streams.kept (sym c.is_some.ensures ∙ c.if-is_some.false) c.in_ok-step.ensures.room c.loop-taken.invariant.room;
+      goes_on_more (unpacking_in c.args.self.now) c.args.piece.now c.loop-taken.taken
+      c.in_ok-step.step.count c.loop-taken.self.position c.in_ok-step.step.position
+      c.loop-taken.self.joiner.taking c.step.new.self.joiner.taking c.loop-taken.self.streams.kept
+      c.step.new.self.streams.kept c.in_ok-step.step.event
+      (sym c.is_some.ensures ∙ c.if-is_some.false) c.loop-taken.invariant.machine
+      c.in_ok-step.ensures.machine;
+  room =
+      room_on c.in_ok-step.step.event _ _ c.step.new.self.streams.kept
+      (sym c.is_some.ensures ∙ c.if-is_some.false) c.in_ok-step.ensures.room
+      c.loop-taken.invariant.room;
   cursor = c.in_ok-step.ensures.cursor ∙ c.loop-taken.invariant.cursor;
-  stored = stored_on c.in_ok-step.step.event c.in_ok-step.step.position c.step.new.self.streams.kept (sym c.is_some.ensures ∙ c.if-is_some.false) c.in_ok-step.ensures.stored;
+  stored =
+      stored_on c.in_ok-step.step.event c.in_ok-step.step.position c.step.new.self.streams.kept
+      (sym c.is_some.ensures ∙ c.if-is_some.false) c.in_ok-step.ensures.stored;
 }
 
 pub returns-in_err-step-clause-fault : goal.returns-in_err-step-clause-fault
 returns-in_err-step-clause-fault c =
     rw (error_is _ _ c.from_residual.ensures)
-    (fails_more (unpacking_in c.args.self.now) c.args.piece.now c.loop-taken.taken c.loop-taken.self.position c.loop-taken.self.joiner.taking c.loop-taken.self.streams.kept c.in_err-step.field-0.0
+    (fails_more (unpacking_in c.args.self.now) c.args.piece.now c.loop-taken.taken
+    c.loop-taken.self.position c.loop-taken.self.joiner.taking c.loop-taken.self.streams.kept
+    c.in_err-step.field-0.0
     c.loop-taken.invariant.within c.loop-taken.invariant.machine c.in_err-step.ensures.fault)

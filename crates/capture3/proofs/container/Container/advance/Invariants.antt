@@ -1,6 +1,4 @@
-use Rattle.std.proofs.Common.{◌≡◌, ◌≤◌, ◌-◌, length, take, None}
-use Rattle.record_mark.specs.Taking.{IsRunning}
-use Rattle.capture3.specs.machinery.Container.{Arrives, unpacking_in}
+use Rattle.capture3.proofs.Common.{◌≡◌, ◌≤◌, ◌-◌, length, take, None, IsRunning, Arrives, unpacking_in}
 use Rattle.capture3.specs.machinery.Position.{IsSoundPosition, StoredAt, room_of}
 use Rattle.capture3.proofs.container.Container.advance.Given as goal
 
@@ -9,8 +7,10 @@ invariant-loop-taken l = record {
   within : l.taken ≤ length l.piece;
   sound : IsSoundPosition l.self.position;
   running : IsRunning l.self.joiner.taking;
-  machine : Arrives (unpacking_in l.initial.self) (take l.taken l.piece) None l.self.position l.self.joiner.taking l.self.streams.kept;
-  room : room_of l.self.position l.self.streams.kept ≤ room_of l.initial.self.position l.initial.self.streams.kept;
+  machine : Arrives (unpacking_in l.initial.self) (take l.taken l.piece) None l.self.position
+      l.self.joiner.taking l.self.streams.kept;
+  room : room_of l.self.position l.self.streams.kept
+      ≤ room_of l.initial.self.position l.initial.self.streams.kept;
   cursor : l.self.cursor ≡ l.initial.self.cursor;
   stored : StoredAt l.self.position.spot l.self.position.total l.self.streams.kept;
 }

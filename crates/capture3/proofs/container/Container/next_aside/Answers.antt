@@ -1,11 +1,9 @@
-use Rattle.std.proofs.Common.{ap, refl, ◌∙◌, subst, Option, Some, take}
-use Rattle.capture3.specs.declared.container.position.Event.{Event}
-use Rattle.capture3.specs.machinery.Container.{Arrives, FirstKept, InFirstKept, InNextKept, NextKept, unpacking_in}
-use Rattle.capture3.specs.machinery.Position.{StoredWith}
+use Rattle.capture3.proofs.Common.{ap, refl, ◌∙◌, subst, Option, Some, take, Event, StoredWith, Arrives, FirstKept, InFirstKept, InNextKept, NextKept, unpacking_in}
 use Rattle.capture3.proofs.container.Container.next_aside.Goals as goal
 
 pub returns-in-Ok-clause-comes : goal.returns-in-Ok-clause-comes
-returns-in-Ok-clause-comes c = NextKept c.in-Some.cursor c.in-Ok.event c.in-Some.is refl refl c.in-Ok.ensures.recalled
+returns-in-Ok-clause-comes c =
+    NextKept c.in-Some.cursor c.in-Ok.event c.in-Some.is refl refl c.in-Ok.ensures.recalled
 
 pub returns-in-Err-clause-fault : goal.returns-in-Err-clause-fault
 returns-in-Err-clause-fault c = InNextKept c.in-Some.cursor c.in-Some.is c.in-Err.ensures.fault
@@ -16,13 +14,21 @@ returns-in-Ok-first_recalled-clause-comes c =
     let mid = c.advance.new.self in
     let is = came.field-0-1-is ∙ ap Some came.field-0-1-0-is in
     FirstKept mid c.in-Ok-first_recalled.event c.in-None.is
-    (subst (λ (e : Option Event). Arrives (unpacking_in c.args.self.now) (take came.count c.args.piece.now) e mid.position mid.joiner.taking mid.streams.kept) is came.ensures.machine)
-    (subst (λ (e : Option Event). StoredWith e mid.position mid.streams.kept) is came.ensures.stored) refl c.in-Ok-first_recalled.ensures.recalled
+    (subst
+    (λ (e : Option Event).
+    Arrives (unpacking_in c.args.self.now) (take came.count c.args.piece.now) e mid.position
+    mid.joiner.taking mid.streams.kept) is came.ensures.machine)
+    (subst (λ (e : Option Event). StoredWith e mid.position mid.streams.kept) is
+    came.ensures.stored) refl c.in-Ok-first_recalled.ensures.recalled
 
 pub returns-in-Err-first_recalled-clause-fault : goal.returns-in-Err-first_recalled-clause-fault
 returns-in-Err-first_recalled-clause-fault c =
     let came = c.in-Ok-default-Some-Streams in
     let mid = c.advance.new.self in
     InFirstKept mid came.count c.in-None.is
-    (subst (λ (e : Option Event). Arrives (unpacking_in c.args.self.now) (take came.count c.args.piece.now) e mid.position mid.joiner.taking mid.streams.kept) (came.field-0-1-is ∙ ap Some came.field-0-1-0-is) came.ensures.machine)
+    (subst
+    (λ (e : Option Event).
+    Arrives (unpacking_in c.args.self.now) (take came.count c.args.piece.now) e mid.position
+    mid.joiner.taking mid.streams.kept)
+    (came.field-0-1-is ∙ ap Some came.field-0-1-0-is) came.ensures.machine)
     c.in-Err-first_recalled.ensures.fault

@@ -1,6 +1,4 @@
-use Rattle.std.proofs.Common.{Err, ℕ, Option, arith, ap, subst, ◌≡◌, ◌∙◌, ◌++◌, ◌-◌, [], ◌∷◌, take, take_all, drop, length, length-take, length-drop, refl}
-use Rattle.capture3.specs.Entry.{End}
-use Rattle.capture3.specs.declared.reader.entry.Kind.{Kind}
+use Rattle.capture3.proofs.Common.{Err, ℕ, Option, arith, ap, subst, ◌≡◌, ◌∙◌, ◌++◌, ◌-◌, [], ◌∷◌, take, take_all, drop, length, length-take, length-drop, refl, End, Kind}
 use Rattle.capture3.specs.machinery.EntryParser.{entry_cost, SpellsLast}
 use Rattle.capture3.proofs.Lemmas.Reached.Limits.{typed_within}
 use Rattle.capture3.proofs.Lemmas.Reader.PassedOn.{error_is}
@@ -12,17 +10,24 @@ loop-taken-preserved-in-Continue-branch-2 c =
     let invariant = c.loop-taken.invariant in
     let cost = ap entry_cost c.in-Some.is in
     let left = length-drop c.loop-taken.taken c.args.bytes.now in
-    let piece = length-take (length c.args.bytes.now - c.loop-taken.taken) (drop c.loop-taken.taken c.args.bytes.now) in
+    let piece =
+    length-take (length c.args.bytes.now - c.loop-taken.taken)
+    (drop c.loop-taken.taken c.args.bytes.now) in
     record {
       within = omega (arith, c.in-Ok.ensures.within, piece, left, invariant.within);
       sound = c.in-Ok.ensures.sound;
       stored = c.in-Ok.ensures.stored;
       ready = c.in-Ok.ensures.ready;
-      room = omega (arith, invariant.room, c.in-Ok.ensures.room, cost, c.in_ok-push-in-Ok.ensures.len);
+      room =
+          omega (arith, invariant.room, c.in-Ok.ensures.room, cost, c.in_ok-push-in-Ok.ensures.len);
       machine =
           rw c.in_ok-push-in-Ok.ensures.items
-          (keeps_more _ _ _ _ c.args.bytes.now c.loop-taken.taken c.in-Ok.count _ c.loop-taken.entries.items invariant.machine.0 _ _ _ c.in-Some.is
-          (c.in-Ok.ensures.machine (take c.loop-taken.taken c.args.bytes.now) invariant.machine.0 invariant.machine.1) (λ entry h. c.in_ok-entry-in-Ok.ensures.kept entry (c.lend.ensures.lent entry h)) invariant.machine.2);
+          (keeps_more _ _ _ _ c.args.bytes.now c.loop-taken.taken c.in-Ok.count
+          _ c.loop-taken.entries.items invariant.machine.0 _ _ _ c.in-Some.is
+          (c.in-Ok.ensures.machine (take c.loop-taken.taken c.args.bytes.now) invariant.machine.0
+          invariant.machine.1)
+          (λ entry h. c.in_ok-entry-in-Ok.ensures.kept entry (c.lend.ensures.lent entry h))
+          invariant.machine.2);
     }
 
 pub loop-taken-preserved : goal.loop-taken-preserved
@@ -30,7 +35,9 @@ loop-taken-preserved c =
     let invariant = c.loop-taken.invariant in
     let cost = ap entry_cost c.in_default.is in
     let left = length-drop c.loop-taken.taken c.args.bytes.now in
-    let piece = length-take (length c.args.bytes.now - c.loop-taken.taken) (drop c.loop-taken.taken c.args.bytes.now) in
+    let piece =
+    length-take (length c.args.bytes.now - c.loop-taken.taken)
+    (drop c.loop-taken.taken c.args.bytes.now) in
     record {
       within = omega (arith, c.in-Ok.ensures.within, piece, left, invariant.within);
       sound = c.in-Ok.ensures.sound;
@@ -38,22 +45,32 @@ loop-taken-preserved c =
       ready = c.in-Ok.ensures.ready;
       room = omega (arith, invariant.room, c.in-Ok.ensures.room, cost);
       machine =
-          keeps_on _ _ _ _ c.args.bytes.now c.loop-taken.taken c.in-Ok.count _ c.loop-taken.entries.items invariant.machine.0 _ c.in_default.is
-          (c.in-Ok.ensures.machine (take c.loop-taken.taken c.args.bytes.now) invariant.machine.0 invariant.machine.1) invariant.machine.2;
+          keeps_on _ _ _ _ c.args.bytes.now c.loop-taken.taken c.in-Ok.count
+          _ c.loop-taken.entries.items invariant.machine.0 _ c.in_default.is
+          (c.in-Ok.ensures.machine (take c.loop-taken.taken c.args.bytes.now) invariant.machine.0
+          invariant.machine.1) invariant.machine.2;
     }
 
 pub returns-in-Err-clause-fault : goal.returns-in-Err-clause-fault
 returns-in-Err-clause-fault c =
-    first_fault {X = ℕ} (Err c.next.new.self.error) c.args.bytes.now c.loop-taken.taken c.loop-taken.invariant.machine.0 c.next.new.self.error refl (λ i. omega (arith, c.type_inv.bytes i))
-    (c.in-Err.ensures.fault (take c.loop-taken.taken c.args.bytes.now) c.loop-taken.invariant.machine.0 c.loop-taken.invariant.machine.1)
+    first_fault {X = ℕ} (Err c.next.new.self.error) c.args.bytes.now c.loop-taken.taken
+    c.loop-taken.invariant.machine.0 c.next.new.self.error refl
+    (λ i. omega (arith, c.type_inv.bytes i))
+    (c.in-Err.ensures.fault (take c.loop-taken.taken c.args.bytes.now)
+    c.loop-taken.invariant.machine.0 c.loop-taken.invariant.machine.1)
 
 pub returns-clause-entries : goal.returns-clause-entries
 returns-clause-entries c =
     let invariant = c.loop-taken.invariant in
-    let all : take c.loop-taken.taken c.args.bytes.now ≡ c.args.bytes.now = take_all c.loop-taken.taken c.args.bytes.now (omega (arith, c.if-taken-bytes.false)) in (
+    let all : take c.loop-taken.taken c.args.bytes.now ≡ c.args.bytes.now =
+    take_all c.loop-taken.taken c.args.bytes.now (omega (arith, c.if-taken-bytes.false)) in (
       invariant.machine.0 ++ End ∷ [],
-      typed_at c.args.bytes.now _ _ _ _ invariant.machine.0 (λ i. omega (arith, c.type_inv.bytes i)) (judged_all c.loop-taken.parser.container _ _ _ _ all (not_recalling _ _ c.is_recalling.ensures c.if-is_recalling.false) invariant.machine.1) c.in_ok-end.ensures.ok,
-      rw c.in_ok-push.ensures.items (kept_snoc c.loop-taken.entries.items invariant.machine.0 _ End invariant.machine.2 refl),
+      typed_at c.args.bytes.now _ _ _ _ invariant.machine.0 (λ i. omega (arith, c.type_inv.bytes i))
+          (judged_all c.loop-taken.parser.container _ _ _ _ all
+          (not_recalling _ _ c.is_recalling.ensures c.if-is_recalling.false)
+          invariant.machine.1) c.in_ok-end.ensures.ok,
+      rw c.in_ok-push.ensures.items
+          (kept_snoc c.loop-taken.entries.items invariant.machine.0 _ End invariant.machine.2 refl),
     )
 
 pub returns-clause-connections : goal.returns-clause-connections
@@ -67,10 +84,20 @@ returns-clause-spelled c entries typed = (typed_within c.args.bytes.now entries 
 pub returns-in_err-end-clause-fault : goal.returns-in_err-end-clause-fault
 returns-in_err-end-clause-fault c =
     let invariant = c.loop-taken.invariant in
-    let all : take c.loop-taken.taken c.args.bytes.now ≡ c.args.bytes.now = take_all c.loop-taken.taken c.args.bytes.now (omega (arith, c.if-taken-bytes.false)) in
-    let met = cut_at c.args.bytes.now _ _ _ _ invariant.machine.0 (λ i. omega (arith, c.type_inv.bytes i)) (judged_all c.loop-taken.parser.container _ _ _ _ all (not_recalling _ _ c.is_recalling.ensures c.if-is_recalling.false) invariant.machine.1) c.in_err-end.ensures.err.0 in
+    let all : take c.loop-taken.taken c.args.bytes.now ≡ c.args.bytes.now =
+    take_all c.loop-taken.taken c.args.bytes.now (omega (arith, c.if-taken-bytes.false)) in
+    let met =
+    cut_at c.args.bytes.now _ _ _ _ invariant.machine.0 (λ i. omega (arith, c.type_inv.bytes i))
+    (judged_all c.loop-taken.parser.container _ _ _ _ all
+    (not_recalling _ _ c.is_recalling.ensures c.if-is_recalling.false) invariant.machine.1)
+    c.in_err-end.ensures.err.0 in
     rw (error_is _ _ c.from_residual-in_err-end.ensures ∙ ap Err c.in_err-end.ensures.err.1) met
 
 pub lend-requires : goal.lend-requires
 lend-requires c =
-    record { spells = subst (λ (came : Option Kind). ∥ SpellsLast came c.next.new.self.container.joiner.taking ∥₁) c.in-Some.is c.in-Ok.ensures.spells }
+    record {
+      spells =
+          subst
+          (λ (came : Option Kind). ∥ SpellsLast came c.next.new.self.container.joiner.taking ∥₁)
+          c.in-Some.is c.in-Ok.ensures.spells;
+    }

@@ -1,6 +1,4 @@
-use Rattle.std.proofs.Common.{◌≤◌, ◌+◌, ◌-◌, length, take, vec_len}
-use Rattle.record_mark.specs.Taking.{released}
-use Rattle.capture3.specs.machinery.Container.{IsReady, IsStored, room_in}
+use Rattle.capture3.proofs.Common.{◌≤◌, ◌+◌, ◌-◌, length, take, vec_len, released, IsReady, IsStored, room_in}
 use Rattle.capture3.specs.machinery.Position.{IsSoundPosition, most_things}
 use Rattle.capture3.proofs.Lemmas.Reader.WholeFiles.{Keeps}
 use Rattle.capture3.proofs.reader.whole.parse.Given as goal

@@ -1,11 +1,10 @@
-use Rattle.std.proofs.Common.{◌∙◌, arith}
-use Rattle.std.proofs.lemmas.Grind.{common_steps}
-use Rattle.xdr3.proofs.Lemmas.Shapes.Walks.{on_err}
+use Rattle.listing3.proofs.Common.{◌∙◌, arith, common_steps, on_err}
 use Rattle.listing3.proofs.Rooms.{kept_below}
 use Rattle.listing3.proofs.line_text.LineText.append_quoted.Goals as goal
 
 pub returns-in_err-self-inside-clause-err : goal.returns-in_err-self-inside-clause-err
 returns-in_err-self-inside-clause-err c =
     on_err c.from_residual-in_err-self-inside.result
-    (kept_below c.self.inside.end c.put_name-start.result _ _ (omega (arith, c.put_name-start.ensures.end)) c.in_err-self-inside.ensures.kept
+    (kept_below c.self.inside.end c.put_name-start.result
+    _ _ (omega (arith, c.put_name-start.ensures.end)) c.in_err-self-inside.ensures.kept
     ∙ grind (arith, common_steps))

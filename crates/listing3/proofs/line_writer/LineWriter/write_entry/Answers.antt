@@ -1,51 +1,80 @@
-use Rattle.std.proofs.Common.{◌∷◌, ◌+◌, subst}
+use Rattle.listing3.proofs.Common.{◌∷◌, ◌+◌, subst, Appends, Word, ProcId, head_names, all_items, AppendsFront, after_front, LineStands}
 use Rattle.std.specs.Prelude.{OnErr, OnOk}
-use Rattle.std.specs.Io.KnownBytes.{Appends}
+use Rattle.xdr3.specs.Item.{Spells}
 use Rattle.std.proofs.KnownBytes.{Appends-nil}
-use Rattle.xdr3.specs.Item.{Word}
-use Rattle.rpc_head.specs.declared.values.call.ProcId.{ProcId}
-use Rattle.rpc_head.specs.Names.{head_names}
 use Rattle.capture3.specs.Entry.{Entry, items_of}
-use Rattle.canon3.specs.machinery.Sums.{all_items}
-use Rattle.canon3.specs.SinkWrites.{AppendsFront}
-use Rattle.listing3.specs.machinery.LineWriter.{after_front, LineStands}
 use Rattle.listing3.specs.Listing.{client, entry_line, line}
-use Rattle.listing3.proofs.LineLemmas.{listed_call, listed_reply, no_line}
+use Rattle.listing3.proofs.Lines.LineLemmas.{listed_call, listed_reply, no_line}
 use Rattle.listing3.proofs.line_writer.LineWriter.write_entry.Goals as goal
 
 pub returns-in-Call-clause-ok : goal.returns-in-Call-clause-ok
-returns-in-Call-clause-ok g c entries one of first =
+returns-in-Call-clause-ok g c entries one of spells first =
     let p = c.args.counts.now.progress in
     let before = g.W.Sink.written c.args.sink.now in
     let after = g.W.Sink.written c.write_line.new.sink in
-    listed_call (λ (e : Entry). LineStands g.H.Visit.stands c.args.self.now (after_front (all_items entries) (items_of e)) → OnOk c.write_line.result (Appends before after (entry_line p.connections p.records e))) entries one c.args.kind of first c.in-Call.id c.in-Call.is
-    (λ n rest asks stands. subst (λ (i : ProcId). OnOk c.write_line.result (Appends before after (line p.connections client (p.records + 1) i (Word head_names.xid n ∷ rest)))) asks (c.write_line.ensures.ok (all_items entries) rest n stands))
+    listed_call
+    (λ (e : Entry).
+    Spells (items_of e) c.args.body.now → LineStands g.H.Visit.stands c.args.self.now
+    (after_front (all_items entries) (items_of e))
+    → OnOk c.write_line.result
+    (Appends before after (entry_line p.connections p.records e))) entries one
+    c.args.kind of first c.in-Call.id c.in-Call.is
+    (λ n rest asks spelled stands.
+    subst
+    (λ (i : ProcId).
+    OnOk c.write_line.result (Appends before after (line p.connections client
+    (p.records + 1) i (Word head_names.xid n ∷ rest)))) asks
+    (c.write_line.ensures.ok (all_items entries) rest n spelled stands)) spells
 
 pub returns-in-Call-clause-err : goal.returns-in-Call-clause-err
-returns-in-Call-clause-err g c entries one of first =
+returns-in-Call-clause-err g c entries one of spells first =
     let p = c.args.counts.now.progress in
     let before = g.W.Sink.written c.args.sink.now in
     let after = g.W.Sink.written c.write_line.new.sink in
-    listed_call (λ (e : Entry). LineStands g.H.Visit.stands c.args.self.now (after_front (all_items entries) (items_of e)) → OnErr c.write_line.result (AppendsFront before after (entry_line p.connections p.records e))) entries one c.args.kind of first c.in-Call.id c.in-Call.is
-    (λ n rest asks stands. subst (λ (i : ProcId). OnErr c.write_line.result (AppendsFront before after (line p.connections client (p.records + 1) i (Word head_names.xid n ∷ rest)))) asks (c.write_line.ensures.err (all_items entries) rest n stands))
+    listed_call
+    (λ (e : Entry).
+    Spells (items_of e) c.args.body.now → LineStands g.H.Visit.stands c.args.self.now
+    (after_front (all_items entries) (items_of e))
+    → OnErr c.write_line.result
+    (AppendsFront before after (entry_line p.connections p.records e))) entries one
+    c.args.kind of first c.in-Call.id c.in-Call.is
+    (λ n rest asks spelled stands.
+    subst
+    (λ (i : ProcId).
+    OnErr c.write_line.result (AppendsFront before after (line p.connections client
+    (p.records + 1) i (Word head_names.xid n ∷ rest)))) asks
+    (c.write_line.ensures.err (all_items entries) rest n spelled stands)) spells
 
 pub returns-in-Reply-clause-ok : goal.returns-in-Reply-clause-ok
-returns-in-Reply-clause-ok g c entries one of first =
+returns-in-Reply-clause-ok g c entries one of spells first =
     let p = c.args.counts.now.progress in
     let r = c.write_line-in-Reply in
-    listed_reply (λ (e : Entry). LineStands g.H.Visit.stands c.args.self.now (after_front (all_items entries) (items_of e)) → OnOk r.result (Appends (g.W.Sink.written c.args.sink.now) (g.W.Sink.written r.new.sink) (entry_line p.connections p.records e))) entries one c.args.kind of first c.in-Reply.id c.in-Reply.is
-    (λ n rest stands. r.ensures.ok (all_items entries) rest n stands)
+    listed_reply
+    (λ (e : Entry).
+    Spells (items_of e) c.args.body.now → LineStands g.H.Visit.stands c.args.self.now
+    (after_front (all_items entries) (items_of e))
+    → OnOk r.result (Appends (g.W.Sink.written c.args.sink.now)
+    (g.W.Sink.written r.new.sink) (entry_line p.connections p.records e)))
+    entries one c.args.kind of first c.in-Reply.id c.in-Reply.is
+    (λ n rest spelled stands. r.ensures.ok (all_items entries) rest n spelled stands) spells
 
 pub returns-in-Reply-clause-err : goal.returns-in-Reply-clause-err
-returns-in-Reply-clause-err g c entries one of first =
+returns-in-Reply-clause-err g c entries one of spells first =
     let p = c.args.counts.now.progress in
     let r = c.write_line-in-Reply in
-    listed_reply (λ (e : Entry). LineStands g.H.Visit.stands c.args.self.now (after_front (all_items entries) (items_of e)) → OnErr r.result (AppendsFront (g.W.Sink.written c.args.sink.now) (g.W.Sink.written r.new.sink) (entry_line p.connections p.records e))) entries one c.args.kind of first c.in-Reply.id c.in-Reply.is
-    (λ n rest stands. r.ensures.err (all_items entries) rest n stands)
+    listed_reply
+    (λ (e : Entry).
+    Spells (items_of e) c.args.body.now → LineStands g.H.Visit.stands c.args.self.now
+    (after_front (all_items entries) (items_of e))
+    → OnErr r.result (AppendsFront (g.W.Sink.written c.args.sink.now)
+    (g.W.Sink.written r.new.sink) (entry_line p.connections p.records e)))
+    entries one c.args.kind of first c.in-Reply.id c.in-Reply.is
+    (λ n rest spelled stands. r.ensures.err (all_items entries) rest n spelled stands) spells
 
 pub returns-in-Begin-clause-ok : goal.returns-in-Begin-clause-ok
-returns-in-Begin-clause-ok g c entries one of first stands =
+returns-in-Begin-clause-ok g c entries one of spells first stands =
     let p = c.args.counts.now.progress in
     let old = g.W.Sink.written c.args.sink.now in
     let none = Appends-nil old in
-    no_line (λ (e : Entry). Appends old old (entry_line p.connections p.records e)) entries one c.args.kind of first c.in-Begin.is none none none none
+    no_line (λ (e : Entry). Appends old old (entry_line p.connections p.records e)) entries one
+    c.args.kind of first c.in-Begin.is none none none none

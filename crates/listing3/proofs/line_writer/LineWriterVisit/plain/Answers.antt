@@ -1,6 +1,13 @@
 use Rattle.std.proofs.lemmas.Result.{on_ok_weaker}
-use Rattle.listing3.proofs.LineLemmas.{adds_run}
+use Rattle.listing3.proofs.Lines.LineLemmas.{adds_run}
 use Rattle.listing3.proofs.line_writer.LineWriterVisit.plain.Goals as goal
 
 pub returns-in-Some : goal.returns-in-Some
-returns-in-Some g c = record { ok = on_ok_weaker c.plain.result (adds_run g.H.Visit.stands g.met.H.Gathering.skips c.args.self.now c.plain.new.self c.args.fields.now c.args.bytes.now c.in-Some.field-0 c.in-Some.is) c.plain.ensures.ok }
+returns-in-Some g c =
+    record {
+      ok =
+          on_ok_weaker c.plain.result
+          (adds_run g.H.Visit.stands g.met.H.Gathering.skips c.args.self.now c.plain.new.self
+          c.args.fields.now c.args.bytes.now c.in-Some.field-0 c.in-Some.is)
+          c.plain.ensures.ok;
+    }

@@ -1,11 +1,16 @@
-use Rattle.std.proofs.Common.{refl}
-use Rattle.std.proofs.lemmas.Result.{on_err_weaker, on_ok_weaker}
-use Rattle.xdr3.specs.Item.{Opaque, Text}
-use Rattle.listing3.proofs.LineLemmas.{adds_plain, keeps_text, no_word}
+use Rattle.listing3.proofs.Common.{refl, on_err_weaker, on_ok_weaker, Opaque, Text}
+use Rattle.listing3.proofs.Lines.LineLemmas.{adds_plain, keeps_text, no_word}
 use Rattle.listing3.proofs.line_writer.LineWriterVisit.text.Goals as goal
 
 pub returns-clause-ok : goal.returns-clause-ok
-returns-clause-ok g c = on_ok_weaker c.text.result (adds_plain g.H.Visit.stands c.args.self.now c.text.new.self g.met.H.Gathering.skips (Opaque Text c.args.name.now c.args.bytes.now) refl (no_word c.args.self.now.xid (Opaque Text c.args.name.now c.args.bytes.now) tt)) c.text.ensures.ok
+returns-clause-ok g c =
+    on_ok_weaker c.text.result
+    (adds_plain g.H.Visit.stands c.args.self.now c.text.new.self g.met.H.Gathering.skips
+    (Opaque Text c.args.name.now c.args.bytes.now) refl
+    (no_word c.args.self.now.xid (Opaque Text c.args.name.now c.args.bytes.now) tt))
+    c.text.ensures.ok
 
 pub returns-clause-err : goal.returns-clause-err
-returns-clause-err g c = on_err_weaker c.text.result (keeps_text g.H.Visit.stands c.args.self.now c.text.new.self) c.text.ensures.err
+returns-clause-err g c =
+    on_err_weaker c.text.result (keeps_text g.H.Visit.stands c.args.self.now c.text.new.self)
+    c.text.ensures.err

@@ -1,10 +1,6 @@
 use Rattle.std.proofs.Common.{List, ℕ, [], ap, append-nil, ◌∙◌, length, min, subst}
-use Rattle.std.specs.Prelude.{bytes_eq}
-use Rattle.std.specs.List.{flat_map}
-use Rattle.capture3.specs.declared.fault.Side.TheVariants.{Client}
-use Rattle.canon3.specs.HandleTable.{Gathers}
+use Rattle.masking3.proofs.Common.{bytes_eq, flat_map, Client, told_entry, Gathers}
 use Rattle.canon3.specs.Rank.{distinct, number_limit}
-use Rattle.masking3.specs.machinery.MaskingWriter.{told_entry}
 use Rattle.masking3.proofs.Lemmas.Classes.MessageSpotLemmas.{begins_none}
 use Rattle.masking3.proofs.Lemmas.Writing.ToldItems.{handles_before}
 use Rattle.masking3.proofs.Lemmas.Writing.WriterLemmas.{is_after}
@@ -13,5 +9,10 @@ use Rattle.masking3.proofs.masked_form.MaskingWriterCountingWriter.handles.Goals
 pub returns : goal.returns
 returns g c entries goes stands =
     let front = flat_map told_entry entries in
-    let gathered = subst (Gathers c.args.self.now.handles) (append-nil front) (is_after g.P.Plan.ways c.args.self.now front [] Client (begins_none Client) goes stands).handles in
-    c.len.ensures front gathered ∙ ap (λ (l : List (List ℕ)). min (length (distinct bytes_eq l)) number_limit) (handles_before entries)
+    let gathered =
+    subst (Gathers c.args.self.now.handles) (append-nil front)
+    (is_after g.P.Plan.ways c.args.self.now front [] Client (begins_none Client) goes
+    stands).handles in
+    c.len.ensures front gathered
+    ∙ ap (λ (l : List (List ℕ)). min (length (distinct bytes_eq l)) number_limit)
+    (handles_before entries)

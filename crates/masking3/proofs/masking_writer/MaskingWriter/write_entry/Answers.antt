@@ -7,5 +7,12 @@ returns-in-Call-clause-stands g c all stands going =
       front,
       items,
       are,
-      (λ side begins. let h = is side begins in record { ways_are = h.ways_are; tables = h.tables; handles = h.handles; spot_is = h.spot_is; written = h.written }),
+      (λ side begins. let h = is side begins in
+          record {
+            ways_are = h.ways_are;
+            tables = h.tables;
+            handles = h.handles;
+            spot_is = h.spot_is;
+            written = h.written;
+          }),
     )

@@ -1,10 +1,14 @@
-use Rattle.std.proofs.Common.{[], ◌∷◌}
-use Rattle.xdr3.specs.Item.{Hyper}
-use Rattle.xdr3.specs.Visit.{Adds}
-use Rattle.canon3.proofs.Lemmas.Writing.Visiting.{settled}
-use Rattle.masking3.specs.machinery.MaskingWriter.{MaskStands}
+use Rattle.masking3.proofs.Common.{[], ◌∷◌, Hyper, Adds, settled, MaskStands}
 use Rattle.masking3.proofs.masking_writer.MaskingWriterVisit.hyper.Goals as goal
 
 pub returns-clause-ok : goal.returns-clause-ok
 returns-clause-ok g c =
-    settled (λ n. Adds (MaskStands {P = g.row.P.Denot} {S = g.row.S.Denot} {H = g.row.S-Hasher.Denot} g.P.Plan.ways) c.args.self.now n (Hyper c.args.name.now c.args.n ∷ [])) c.write_masked_hyper-written.result c.fail_for_good.result c.write_masked_hyper-written.new.self c.fail_for_good.new.self c.fail_for_good.ensures.result c.fail_for_good.ensures.ok c.write_masked_hyper-written.ensures.ok
+    settled
+    (λ n.
+    Adds
+    (MaskStands {P = g.row.P.Denot} {S = g.row.S.Denot} {H = g.row.S-Hasher.Denot}
+    g.P.Plan.ways) c.args.self.now n (Hyper c.args.name.now c.args.n ∷ []))
+    c.write_masked_hyper-written.result c.fail_for_good.result
+    c.write_masked_hyper-written.new.self c.fail_for_good.new.self
+    c.fail_for_good.ensures.result c.fail_for_good.ensures.ok
+    c.write_masked_hyper-written.ensures.ok

@@ -1,11 +1,14 @@
-use Rattle.std.proofs.Common.{refl}
-use Rattle.std.proofs.lemmas.Result.{on_err_weaker, on_ok_weaker}
-use Rattle.xdr3.specs.Item.{Opaque, Var}
+use Rattle.masking3.proofs.Common.{refl, on_err_weaker, on_ok_weaker, Opaque, Var}
 use Rattle.masking3.proofs.Lemmas.Writing.WriterLemmas.{adds_plain, keeps_spelled}
 use Rattle.masking3.proofs.masking_writer.MaskingWriterVisit.var.Goals as goal
 
 pub returns-clause-ok : goal.returns-clause-ok
-returns-clause-ok g c = on_ok_weaker c.var.result (adds_plain g.P.Plan.ways c.args.self.now c.var.new.self (Opaque Var c.args.name.now c.args.bytes.now) tt (λ spot. refl) refl) c.var.ensures.ok
+returns-clause-ok g c =
+    on_ok_weaker c.var.result
+    (adds_plain g.P.Plan.ways c.args.self.now c.var.new.self
+    (Opaque Var c.args.name.now c.args.bytes.now) tt (λ spot. refl) refl) c.var.ensures.ok
 
 pub returns-clause-err : goal.returns-clause-err
-returns-clause-err g c = on_err_weaker c.var.result (keeps_spelled g.P.Plan.ways c.args.self.now c.var.new.self) c.var.ensures.err
+returns-clause-err g c =
+    on_err_weaker c.var.result (keeps_spelled g.P.Plan.ways c.args.self.now c.var.new.self)
+    c.var.ensures.err

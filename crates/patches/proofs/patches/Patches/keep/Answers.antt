@@ -6,6 +6,12 @@ use Rattle.patches.proofs.patches.Patches.keep.Goals as goal
 pub returns : goal.returns
 returns c body more form makes l few =
     let was = subst (λ (noted : Noted). Makes noted body form) (sym c.self.view_is) makes in
-    let sum : c.saturating_add-self-inside.result ≡ c.self.inside.kept + c.args.count = omega (arith, was.covers, l, few, length-append body more, c.saturating_add-self-inside.ensures) in
-    subst (λ (kept : ℕ). Makes (record { parts = c.self.inside.parts.items; kept = kept }) (body ++ more) (form ++ more)) (sym sum)
-    (makes-kept (record { parts = c.self.inside.parts.items; kept = c.self.inside.kept }) c.args.count body more form was l)
+    let sum : c.saturating_add-self-inside.result ≡ c.self.inside.kept + c.args.count =
+    omega (arith, was.covers, l, few, length-append body more, c.saturating_add-self-inside.ensures)
+    in
+    subst
+    (λ (kept : ℕ).
+    Makes (record { parts = c.self.inside.parts.items; kept = kept }) (body ++ more)
+    (form ++ more)) (sym sum)
+    (makes-kept (record { parts = c.self.inside.parts.items; kept = c.self.inside.kept })
+    c.args.count body more form was l)

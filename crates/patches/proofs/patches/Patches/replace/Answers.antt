@@ -6,4 +6,5 @@ use Rattle.patches.proofs.patches.Patches.replace.Goals as goal
 pub returns-clause-ok : goal.returns-clause-ok
 returns-clause-ok c body gone form makes l =
     let was = subst (λ (noted : Noted). Makes noted body form) (sym c.self.view_is) makes in
-    makes-replaced (record { parts = c.self.inside.parts.items; kept = c.self.inside.kept }) _ _ body gone form was c.in_ok-push.ensures.items refl l
+    makes-replaced (record { parts = c.self.inside.parts.items; kept = c.self.inside.kept })
+    _ _ body gone form was c.in_ok-push.ensures.items refl l

@@ -3,7 +3,8 @@ use Rattle.program3.specs.Hashing.{mix_blocks}
 use Rattle.program3.proofs.hashing.SecretHasherHasher.write.Given as goal
 
 abbrev pub invariant-loop-at : goal.invariant-loop-at
-invariant-loop-at l = (l.at % 16 ≡ 0) × (l.at < l.len) × (l.state ≡ mix_blocks l.bytes l.self.secret l.initial.state (l.at / 16))
+invariant-loop-at l = (l.at % 16 ≡ 0) × (l.at < l.len)
+    × (l.state ≡ mix_blocks l.bytes l.self.secret l.initial.state (l.at / 16))
 
 abbrev pub decreases-loop-at : goal.decreases-loop-at
 decreases-loop-at l = l.len - l.at

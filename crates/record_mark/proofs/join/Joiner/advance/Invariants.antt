@@ -1,6 +1,5 @@
 use Rattle.std.proofs.Common.{◌≡◌, ◌≤◌, ◌<◌, ◌+◌, ◌-◌, length, take, vec_capacity, vec_len}
-use Rattle.record_mark.specs.Taking.{IsRunning}
-use Rattle.record_mark.specs.machinery.TakingSteps.{led_on}
+use Rattle.record_mark.proofs.Common.{IsRunning, led_on}
 use Rattle.record_mark.specs.Joiner.{taking_of, IsSound}
 use Rattle.record_mark.proofs.join.Joiner.advance.Given as goal
 

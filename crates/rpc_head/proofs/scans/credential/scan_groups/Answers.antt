@@ -1,9 +1,4 @@
-use Rattle.std.specs.Prelude.{IfErr, OnOk}
-use Rattle.std.proofs.Common.{subst, sym, refl}
-use Rattle.xdr3.specs.declared.reason.GetError.{GetError}
-use Rattle.xdr3.specs.Scan.{Scans, Stops}
-use Rattle.xdr3.specs.Shape.{Shape}
-use Rattle.rpc_head.specs.Names.{head_names}
+use Rattle.rpc_head.proofs.Common.{IfErr, OnOk, subst, sym, refl, GetError, Scans, Stops, Shape, head_names}
 use Rattle.rpc_head.proofs.OwnerLemmas.{groups_shape, groups_size}
 use Rattle.rpc_head.proofs.scans.credential.scan_groups.Goals as goal
 
@@ -13,9 +8,16 @@ scan_plain-requires g c = sym (groups_size c.args.count _ c.requires refl)
 pub returns-clause-ok : goal.returns-clause-ok
 unfolding head_names
 returns-clause-ok g c =
-    subst (λ (s : Shape). OnOk c.scan_plain.result (Scans g.V.Visit.stands s c.args.input.now c.scan_plain.new.input c.args.visitor.now c.scan_plain.new.visitor)) (groups_shape c.args.count _ c.requires refl) c.scan_plain.ensures.ok
+    subst
+    (λ (s : Shape).
+    OnOk c.scan_plain.result (Scans g.V.Visit.stands s c.args.input.now
+    c.scan_plain.new.input c.args.visitor.now c.scan_plain.new.visitor))
+    (groups_shape c.args.count _ c.requires refl) c.scan_plain.ensures.ok
 
 pub returns-clause-err : goal.returns-clause-err
 unfolding head_names
 returns-clause-err g c =
-    subst (λ (s : Shape). IfErr c.scan_plain.result (λ (error : GetError). Stops s c.args.input.now error)) (groups_shape c.args.count _ c.requires refl) c.scan_plain.ensures.err
+    subst
+    (λ (s : Shape).
+    IfErr c.scan_plain.result (λ (error : GetError). Stops s c.args.input.now error))
+    (groups_shape c.args.count _ c.requires refl) c.scan_plain.ensures.err

@@ -6,8 +6,11 @@ use Rattle.typed3.proofs.args.Args.get.Goals as goal
 
 pub returns-clause-relations : goal.returns-clause-relations
 returns-clause-relations c =
-    layout_is_read (arguments_of c.args.id) args_items c.args.input.now c.of_procedure.new.input c.of_procedure.result c.at.ensures.bytes c.at.ensures.within c.of_procedure.ensures.read
+    layout_is_read (arguments_of c.args.id) args_items c.args.input.now c.of_procedure.new.input
+    c.of_procedure.result c.at.ensures.bytes c.at.ensures.within c.of_procedure.ensures.read
 
 pub returns-clause-limit : goal.returns-clause-limit
 returns-clause-limit c =
-    layout_given_within (arguments_of c.args.id) args_items c.args.input.now.body c.args.input.now.at c.of_procedure.new.input.at c.of_procedure.result c.at.ensures.bytes c.at.ensures.within c.at.ensures.limit c.of_procedure.ensures.read
+    layout_given_within (arguments_of c.args.id) args_items c.args.input.now.body
+    c.args.input.now.at c.of_procedure.new.input.at c.of_procedure.result c.at.ensures.bytes
+    c.at.ensures.within c.at.ensures.limit c.of_procedure.ensures.read

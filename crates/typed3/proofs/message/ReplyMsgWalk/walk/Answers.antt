@@ -15,5 +15,8 @@ pub returns-in_default-clause-ok : goal.returns-in_default-clause-ok
 unfolding head_names
 returns-in_default-clause-ok g c =
     rw c.in_default.is
-    (steps_add g.V.Visit.stands c.args.visitor.now c.walk_fields.new.visitor c.walk.new.visitor _ _ c.in_ok-walk_fields.ensures.ok
-    (steps_add g.V.Visit.stands c.walk_fields.new.visitor c.walk.new.visitor c.walk.new.visitor (reply_head_items c.args.self.now.head) [] c.in_ok-walk.ensures.ok (adds_nothing g.V.Visit.stands c.walk.new.visitor)))
+    (steps_add g.V.Visit.stands c.args.visitor.now c.walk_fields.new.visitor c.walk.new.visitor
+    _ _ c.in_ok-walk_fields.ensures.ok
+    (steps_add g.V.Visit.stands c.walk_fields.new.visitor c.walk.new.visitor c.walk.new.visitor
+    (reply_head_items c.args.self.now.head) [] c.in_ok-walk.ensures.ok
+    (adds_nothing g.V.Visit.stands c.walk.new.visitor)))

@@ -8,10 +8,26 @@ pub loop-field-preserved : goal.loop-field-preserved
 loop-field-preserved g c =
     elim c.match-field.branch [
       | in-Word+in_ok-word-in-Word w ↦
-          telling_next g.Self.Visit.stands c.args.fields.now c.args.bytes.now c.loop-field.rest.now c.match-field.rest.now c.args.self.now c.loop-field.self w.word.new.self c.match-field.self c.loop-field.field-index _ _ c.loop-field.invariant c.loop-field-test.true w.in-Word.is (rw w.read_u32.ensures at w.in_ok-word-in-Word.ensures.ok) (ap (λ r. r.now) w.rest-is ∙ take_rest c.loop-field.rest.now 4) w.self-is
+          telling_next g.Self.Visit.stands c.args.fields.now c.args.bytes.now c.loop-field.rest.now
+          c.match-field.rest.now c.args.self.now c.loop-field.self w.word.new.self
+          c.match-field.self c.loop-field.field-index _ _ c.loop-field.invariant
+          c.loop-field-test.true w.in-Word.is
+          (rw w.read_u32.ensures at w.in_ok-word-in-Word.ensures.ok)
+          (ap (λ r. r.now) w.rest-is ∙ take_rest c.loop-field.rest.now 4) w.self-is
       | in-Hyper+in_ok-hyper-in-Hyper w ↦
-          telling_next g.Self.Visit.stands c.args.fields.now c.args.bytes.now c.loop-field.rest.now c.match-field.rest.now c.args.self.now c.loop-field.self w.hyper.new.self c.match-field.self c.loop-field.field-index _ _ c.loop-field.invariant c.loop-field-test.true w.in-Hyper.is (rw w.read_u64.ensures at w.in_ok-hyper-in-Hyper.ensures.ok) (ap (λ r. r.now) w.rest-is ∙ take_rest c.loop-field.rest.now 8) w.self-is
+          telling_next g.Self.Visit.stands c.args.fields.now c.args.bytes.now c.loop-field.rest.now
+          c.match-field.rest.now c.args.self.now c.loop-field.self w.hyper.new.self
+          c.match-field.self c.loop-field.field-index _ _ c.loop-field.invariant
+          c.loop-field-test.true w.in-Hyper.is
+          (rw w.read_u64.ensures at w.in_ok-hyper-in-Hyper.ensures.ok)
+          (ap (λ r. r.now) w.rest-is ∙ take_rest c.loop-field.rest.now 8) w.self-is
     ]
 
 pub returns : goal.returns
-returns g c = record { ok = telling_ends g.Self.Visit.stands c.args.fields.now c.args.bytes.now c.loop-field.rest.now c.args.self.now c.loop-field.self c.loop-field.field-index c.loop-field.invariant c.loop-field-test.false }
+returns g c =
+    record {
+      ok =
+          telling_ends g.Self.Visit.stands c.args.fields.now c.args.bytes.now c.loop-field.rest.now
+          c.args.self.now c.loop-field.self c.loop-field.field-index c.loop-field.invariant
+          c.loop-field-test.false;
+    }

@@ -7,4 +7,10 @@ use Rattle.xdr3.proofs.writer.WriterVisit.plain.Goals as goal
 pub returns : goal.returns
 returns c =
     let bytes : AreBytes c.args.bytes.now = search rules in
-    record { ok = on_ok_weaker c.append.result (λ is. run_written c.args._fields.now c.args.bytes.now c.args.self.now c.append.new.self bytes c.requires is) c.append.ensures.ok }
+    record {
+      ok =
+          on_ok_weaker c.append.result
+          (λ is.
+          run_written c.args._fields.now c.args.bytes.now c.args.self.now c.append.new.self
+          bytes c.requires is) c.append.ensures.ok;
+    }

@@ -1,6 +1,4 @@
-use Rattle.capture3.specs.machinery.Position.{AreEmpty, version_of}
-use Rattle.std.proofs.Common.{◌≡◌, ap, ◌∙◌, refl}
-use Rattle.record_mark.specs.Machine.{landed}
+use Rattle.capture3.proofs.Common.{AreEmpty, version_of, ◌≡◌, ap, ◌∙◌, refl, landed}
 use Rattle.capture3.proofs.Lemmas.Container.PositionLemmas.{marked_one}
 use Rattle.capture3.proofs.container.position.Position.after_mark.Goals as goal
 
@@ -9,5 +7,6 @@ returns-in-1-clause-machine c streams joining stored =
     let empty : AreEmpty streams = rw c.requires.here at stored in
     let is : c.args.n ≡ 1 = c.in-1.is in
     rw is
-    (ap landed (marked_one (version_of c.args.version) c.args.self.at c.args.self.total c.args.self.connections c.args.self.records joining c.if-self-lt-MAX_CONNECTIONS.true)
+    (ap landed (marked_one (version_of c.args.version) c.args.self.at c.args.self.total
+    c.args.self.connections c.args.self.records joining c.if-self-lt-MAX_CONNECTIONS.true)
     ∙ rw (c.after_begin.ensures.event, c.after_begin.ensures.machine streams joining empty) refl)

@@ -1,5 +1,4 @@
-use Rattle.std.proofs.Common.{◌≡◌, drop}
-use Rattle.capture3.specs.machinery.Calls.{found}
+use Rattle.capture3.proofs.Common.{◌≡◌, drop, found}
 use Rattle.capture3.proofs.message.calls.CallList.find.Given as goal
 
 abbrev pub invariant-loop-call : goal.invariant-loop-call

@@ -1,9 +1,4 @@
-use Rattle.std.proofs.Common.{◌++◌, ◌∷◌, [], ap, sym, ◌∙◌, refl, is_some, Option, List, arith}
-use Rattle.rpc_head.specs.declared.values.call.ProcId.{ProcId}
-use Rattle.capture3.specs.declared.message.calls.NumberedCall.{NumberedCall}
-use Rattle.capture3.specs.machinery.Calls.{found, numbered_calls}
-use Rattle.capture3.specs.machinery.Counting.{home_of}
-use Rattle.capture3.specs.BodyProgram.{agrees}
+use Rattle.capture3.proofs.Common.{◌++◌, ◌∷◌, [], ap, sym, ◌∙◌, refl, is_some, Option, List, arith, ProcId, NumberedCall, found, numbered_calls, home_of, agrees}
 use Rattle.capture3.proofs.Lemmas.Connections.HashedCallsLemmas.{none_anywhere}
 use Rattle.capture3.proofs.Lemmas.Connections.LineLemmas.{found_before, gains_put, gains_known, lined_either, lined_push, puts_before, puts_push}
 use Rattle.capture3.proofs.message.counted_calls.CountedCalls.admit.Goals as goal
@@ -12,12 +7,16 @@ pub returns-in-Some-clause-agrees : goal.returns-in-Some-clause-agrees
 returns-in-Some-clause-agrees g c =
     c.is_none_or.ensures
     ∙ ap (λ (o : Option ProcId). agrees o c.args.id)
-    (sym (found_before c.args.self.now.line.items (numbered_calls c.args.self.now.others.entries) c.args.xid c.in-Some.other (sym c.in-Some.ensures)))
+    (sym (found_before c.args.self.now.line.items (numbered_calls c.args.self.now.others.entries)
+    c.args.xid c.in-Some.other (sym c.in-Some.ensures)))
 
 pub returns-in-Some-clause-added : goal.returns-in-Some-clause-added
 returns-in-Some-clause-added g c is =
     let all = c.args.self.now.line.items ++ numbered_calls c.args.self.now.others.entries in
-    gains_known all all c.args.xid c.args.id (ap is_some (found_before c.args.self.now.line.items (numbered_calls c.args.self.now.others.entries) c.args.xid c.in-Some.other (sym c.in-Some.ensures))) (λ q. refl)
+    gains_known all all c.args.xid c.args.id
+    (ap is_some (found_before c.args.self.now.line.items
+    (numbered_calls c.args.self.now.others.entries) c.args.xid c.in-Some.other
+    (sym c.in-Some.ensures))) (λ q. refl)
 
 pub invariant_of-self-clause-lined : goal.invariant_of-self-clause-lined
 invariant_of-self-clause-lined g c =
@@ -32,7 +31,8 @@ pub returns-then-home-self-clause-agrees : goal.returns-then-home-self-clause-ag
 returns-then-home-self-clause-agrees g c =
     let line = c.args.self.now.line.items in
     let others = numbered_calls c.args.self.now.others.entries in
-    sym (ap (λ (o : Option ProcId). agrees o c.args.id) (none_anywhere line others c.args.xid (sym c.in_default.ensures) (c.args.self.now.above c.args.xid (omega arith))))
+    sym (ap (λ (o : Option ProcId). agrees o c.args.id) (none_anywhere line others c.args.xid
+    (sym c.in_default.ensures) (c.args.self.now.above c.args.xid (omega arith))))
 
 pub returns-then-home-self-clause-added : goal.returns-then-home-self-clause-added
 returns-then-home-self-clause-added g c is q =
@@ -40,6 +40,9 @@ returns-then-home-self-clause-added g c is q =
     let others = numbered_calls c.args.self.now.others.entries in
     let one : NumberedCall = record { xid = c.args.xid; id = c.args.id } in
     ap (λ (l : List NumberedCall). found (l ++ others) q) c.in_ok-push.ensures.items
-    ∙ gains_put (line ++ others) ((line ++ one ∷ []) ++ others) c.args.xid c.args.id (none_anywhere line others c.args.xid (sym c.in_default.ensures) (c.args.self.now.above c.args.xid (omega arith)))
-    (puts_before line (line ++ one ∷ []) others c.args.xid c.args.id (puts_push line c.args.xid c.args.id (sym c.in_default.ensures)))
+    ∙ gains_put (line ++ others) ((line ++ one ∷ []) ++ others) c.args.xid c.args.id
+    (none_anywhere line others c.args.xid (sym c.in_default.ensures)
+    (c.args.self.now.above c.args.xid (omega arith)))
+    (puts_before line (line ++ one ∷ []) others c.args.xid c.args.id
+    (puts_push line c.args.xid c.args.id (sym c.in_default.ensures)))
     q

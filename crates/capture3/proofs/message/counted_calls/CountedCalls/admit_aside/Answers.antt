@@ -1,9 +1,5 @@
-use Rattle.std.proofs.Common.{◌≡◌, ◌==◌, ◌++◌, if◌then◌else◌, ap, sym, ◌∙◌, ℕ, Option, Some, None, List, arith}
+use Rattle.capture3.proofs.Common.{◌≡◌, ◌==◌, ◌++◌, if◌then◌else◌, ap, sym, ◌∙◌, ℕ, Option, Some, None, List, arith, ProcId, NumberedCall, found, numbered_calls, FindsSame, Puts, agrees}
 use Rattle.std.proofs.lemmas.Result.{IfOk-weaker}
-use Rattle.rpc_head.specs.declared.values.call.ProcId.{ProcId}
-use Rattle.capture3.specs.declared.message.calls.NumberedCall.{NumberedCall}
-use Rattle.capture3.specs.machinery.Calls.{found, numbered_calls, FindsSame, Puts}
-use Rattle.capture3.specs.BodyProgram.{agrees}
 use Rattle.capture3.proofs.Lemmas.Connections.HashedCallsLemmas.{none_anywhere}
 use Rattle.capture3.proofs.Lemmas.Connections.LineLemmas.{gains_put, gains_along, puts_before, same_before}
 use Rattle.capture3.proofs.message.counted_calls.CountedCalls.admit_aside.Goals as goal
@@ -13,8 +9,11 @@ returns-then-branch-clause-agrees g c =
     let line = c.args.self.now.line.items in
     let others = numbered_calls c.args.self.now.others.entries in
     let absent : found others c.args.xid ≡ None =
-    ap (λ (pairs : List (ℕ × ProcId)). found (numbered_calls pairs) c.args.xid) (sym c.start_with.ensures.others) ∙ c.start_with.new.self.above c.args.xid (omega arith) in
-    sym (ap (λ (o : Option ProcId). agrees o c.args.id) (none_anywhere line others c.args.xid c.requires.new absent))
+    ap (λ (pairs : List (ℕ × ProcId)). found (numbered_calls pairs) c.args.xid)
+    (sym c.start_with.ensures.others)
+    ∙ c.start_with.new.self.above c.args.xid (omega arith) in
+    sym (ap (λ (o : Option ProcId). agrees o c.args.id)
+    (none_anywhere line others c.args.xid c.requires.new absent))
 
 pub returns-then-branch-clause-added : goal.returns-then-branch-clause-added
 returns-then-branch-clause-added g c is q =
@@ -22,20 +21,36 @@ returns-then-branch-clause-added g c is q =
     let others = numbered_calls c.args.self.now.others.entries in
     let now = c.place.new.self.line.items in
     let absent : found others c.args.xid ≡ None =
-    ap (λ (pairs : List (ℕ × ProcId)). found (numbered_calls pairs) c.args.xid) (sym c.start_with.ensures.others) ∙ c.start_with.new.self.above c.args.xid (omega arith) in
-    let puts : Puts line c.args.xid c.args.id now = λ k. c.in_ok-place.ensures.puts c.if-branch.true k ∙ ap (λ (l : List NumberedCall). if c.args.xid == k then Some c.args.id else found l k) c.start_with.ensures.line in
-    ap (λ (pairs : List (ℕ × ProcId)). found (now ++ numbered_calls pairs) q) (c.in_ok-place.ensures.others ∙ c.start_with.ensures.others)
-    ∙ gains_put (line ++ others) (now ++ others) c.args.xid c.args.id (none_anywhere line others c.args.xid c.requires.new absent) (puts_before line now others c.args.xid c.args.id puts) q
+    ap (λ (pairs : List (ℕ × ProcId)). found (numbered_calls pairs) c.args.xid)
+    (sym c.start_with.ensures.others)
+    ∙ c.start_with.new.self.above c.args.xid (omega arith) in
+    let puts : Puts line c.args.xid c.args.id now =
+    λ k.
+    c.in_ok-place.ensures.puts c.if-branch.true k
+    ∙ ap (λ (l : List NumberedCall). if c.args.xid == k then Some c.args.id else found l k)
+    c.start_with.ensures.line in
+    ap (λ (pairs : List (ℕ × ProcId)). found (now ++ numbered_calls pairs) q)
+    (c.in_ok-place.ensures.others ∙ c.start_with.ensures.others)
+    ∙ gains_put (line ++ others) (now ++ others) c.args.xid c.args.id
+    (none_anywhere line others c.args.xid c.requires.new absent)
+    (puts_before line now others c.args.xid c.args.id puts) q
 
 pub returns-else-branch-clause-agrees : goal.returns-else-branch-clause-agrees
 returns-else-branch-clause-agrees g c =
     let line = c.args.self.now.line.items in
     let others = numbered_calls c.args.self.now.others.entries in
     let now = c.place.new.self.line.items in
-    let same : FindsSame line now = λ k. c.in_ok-place.ensures.same c.if-branch.false k ∙ ap (λ (l : List NumberedCall). found l k) c.start_with.ensures.line in
+    let same : FindsSame line now =
+    λ k.
+    c.in_ok-place.ensures.same c.if-branch.false k
+    ∙ ap (λ (l : List NumberedCall). found l k) c.start_with.ensures.line in
     let all_same =
-    ap (λ (pairs : List (ℕ × ProcId)). found (now ++ numbered_calls pairs) c.args.xid) (c.in_ok-place.ensures.others ∙ c.start_with.ensures.others) ∙ same_before line now others same c.args.xid in
-    IfOk-weaker c.admit_other-else-branch.result _ _ (λ is agree. agree ∙ ap (λ (o : Option ProcId). agrees o c.args.id) all_same) c.admit_other-else-branch.ensures.agrees
+    ap (λ (pairs : List (ℕ × ProcId)). found (now ++ numbered_calls pairs) c.args.xid)
+    (c.in_ok-place.ensures.others ∙ c.start_with.ensures.others)
+    ∙ same_before line now others same c.args.xid in
+    IfOk-weaker c.admit_other-else-branch.result
+    _ _ (λ is agree. agree ∙ ap (λ (o : Option ProcId). agrees o c.args.id) all_same)
+    c.admit_other-else-branch.ensures.agrees
 
 pub returns-else-branch-clause-added : goal.returns-else-branch-clause-added
 returns-else-branch-clause-added g c =
@@ -43,7 +58,15 @@ returns-else-branch-clause-added g c =
     let others = numbered_calls c.args.self.now.others.entries in
     let now = c.place.new.self.line.items in
     let placed = now ++ numbered_calls c.place.new.self.others.entries in
-    let same : FindsSame line now = λ k. c.in_ok-place.ensures.same c.if-branch.false k ∙ ap (λ (l : List NumberedCall). found l k) c.start_with.ensures.line in
+    let same : FindsSame line now =
+    λ k.
+    c.in_ok-place.ensures.same c.if-branch.false k
+    ∙ ap (λ (l : List NumberedCall). found l k) c.start_with.ensures.line in
     let all_same : FindsSame (line ++ others) placed = λ k.
-    ap (λ (pairs : List (ℕ × ProcId)). found (now ++ numbered_calls pairs) k) (c.in_ok-place.ensures.others ∙ c.start_with.ensures.others) ∙ same_before line now others same k in
-    IfOk-weaker c.admit_other-else-branch.result _ _ (λ is gains true_is. gains_along (line ++ others) placed _ c.args.xid c.args.id all_same (gains true_is)) c.admit_other-else-branch.ensures.added
+    ap (λ (pairs : List (ℕ × ProcId)). found (now ++ numbered_calls pairs) k)
+    (c.in_ok-place.ensures.others ∙ c.start_with.ensures.others)
+    ∙ same_before line now others same k in
+    IfOk-weaker c.admit_other-else-branch.result
+    _ _ (λ is gains true_is.
+    gains_along (line ++ others) placed _ c.args.xid c.args.id all_same (gains true_is))
+    c.admit_other-else-branch.ensures.added

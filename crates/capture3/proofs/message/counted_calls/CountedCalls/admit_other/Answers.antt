@@ -1,9 +1,5 @@
 use Rattle.std.proofs.Math.Nat.{min-le_left, min-le_right}
-use Rattle.std.proofs.Common.{arith, ap, sym, ◌∙◌, Option}
-use Rattle.rpc_head.specs.declared.values.call.ProcId.{ProcId}
-use Rattle.capture3.specs.machinery.Calls.{numbered_calls}
-use Rattle.capture3.specs.machinery.Counting.{home_of}
-use Rattle.capture3.specs.BodyProgram.{agrees}
+use Rattle.capture3.proofs.Common.{arith, ap, sym, ◌∙◌, Option, ProcId, numbered_calls, home_of, agrees}
 use Rattle.capture3.proofs.Lemmas.Connections.HashedCallsLemmas.{above_inserted, admitted, looked_up, puts_pair}
 use Rattle.capture3.proofs.Lemmas.Connections.LineLemmas.{found_behind}
 use Rattle.capture3.proofs.message.counted_calls.CountedCalls.admit_other.Goals as goal
@@ -14,7 +10,9 @@ invariant_of-self-clause-above g c =
     let right = min-le_right c.args.self.now.nearest c.home.result in
     let least = c.min-self.ensures in
     let home_is = c.home.ensures in
-    above_inserted (home_of c.args.self.now.counting) c.args.self.now.nearest c.min-self.result c.args.self.now.others c.insert.new.self c.args.xid c.args.id c.insert.result c.args.self.now.above (omega arith) (omega arith)
+    above_inserted (home_of c.args.self.now.counting) c.args.self.now.nearest c.min-self.result
+    c.args.self.now.others c.insert.new.self c.args.xid c.args.id c.insert.result
+    c.args.self.now.above (omega arith) (omega arith)
     c.insert.ensures.updates
     c.insert.ensures.err
 
@@ -22,10 +20,14 @@ pub returns-clause-agrees : goal.returns-clause-agrees
 returns-clause-agrees g c =
     c.is_none_or.ensures
     ∙ ap (λ (o : Option ProcId). agrees o c.args.id)
-    (c.in_ok-other.ensures.old ∙ looked_up c.args.xid c.args.self.now.others.entries ∙ sym (found_behind c.args.self.now.line.items (numbered_calls c.args.self.now.others.entries) c.args.xid c.requires.new))
+    (c.in_ok-other.ensures.old ∙ looked_up c.args.xid c.args.self.now.others.entries
+    ∙ sym (found_behind c.args.self.now.line.items
+    (numbered_calls c.args.self.now.others.entries) c.args.xid c.requires.new))
 
 pub returns-clause-added : goal.returns-clause-added
 returns-clause-added g c is =
-    admitted c.args.self.now.line.items (numbered_calls c.args.self.now.others.entries) (numbered_calls c.insert.new.self.entries) c.args.xid c.args.id c.requires.new
-    (puts_pair c.args.self.now.others c.insert.new.self c.args.xid c.args.id c.in_ok-other.ensures.updates.0)
+    admitted c.args.self.now.line.items (numbered_calls c.args.self.now.others.entries)
+    (numbered_calls c.insert.new.self.entries) c.args.xid c.args.id c.requires.new
+    (puts_pair c.args.self.now.others c.insert.new.self c.args.xid c.args.id
+    c.in_ok-other.ensures.updates.0)
     (sym (returns-clause-agrees g c) ∙ is)

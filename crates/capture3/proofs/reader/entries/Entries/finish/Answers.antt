@@ -3,8 +3,12 @@ use Rattle.capture3.proofs.Lemmas.Reader.EntriesLemmas.{cut_short, finished}
 use Rattle.capture3.proofs.reader.entries.Entries.finish.Goals as goal
 
 pub returns-in-Ok-clause-ok : goal.returns-in-Ok-clause-ok
-returns-in-Ok-clause-ok g c given handed s = finished g.R.Source.told c.args.self.now _ given handed c.requires.reading refl refl refl c.requires.judged c.requires.unopened c.in-Ok.ensures.ok c.requires.end s
+returns-in-Ok-clause-ok g c given handed s =
+    finished g.R.Source.told c.args.self.now _ given handed c.requires.reading refl refl refl
+    c.requires.judged c.requires.unopened c.in-Ok.ensures.ok c.requires.end s
 
 pub returns-in-Err-clause-err : goal.returns-in-Err-clause-err
 returns-in-Err-clause-err g c given handed s =
-    cut_short g.R.Source.told c.args.self.now _ c.in-Err.error given handed c.requires.reading refl refl refl c.requires.judged c.requires.unopened c.in-Err.ensures.err.0 c.in-Err.ensures.err.1 c.requires.end s
+    cut_short g.R.Source.told c.args.self.now _ c.in-Err.error given handed c.requires.reading refl
+    refl refl c.requires.judged c.requires.unopened c.in-Err.ensures.err.0
+    c.in-Err.ensures.err.1 c.requires.end s

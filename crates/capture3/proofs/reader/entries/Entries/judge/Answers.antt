@@ -1,5 +1,4 @@
-use Rattle.std.proofs.Common.{ap, arith, refl, subst, List, ℕ, ◌-◌, ◌+◌, ◌++◌, ◌≤◌, take, drop, slice_range, length, length-take}
-use Rattle.capture3.specs.machinery.EntryParser.{FailsAt, GoesTo}
+use Rattle.capture3.proofs.Common.{ap, arith, refl, subst, List, ℕ, ◌-◌, ◌+◌, ◌++◌, ◌≤◌, take, drop, slice_range, length, length-take, FailsAt, GoesTo}
 use Rattle.capture3.proofs.Lemmas.Reader.EntriesLemmas.{failed_not_read, failed_not_write, judged_failed, judged_on, ready_joiner, sound_position, stored_container}
 use Rattle.capture3.proofs.reader.entries.Entries.judge.Goals as goal
 
@@ -7,28 +6,50 @@ pub next-requires-clause-sound : goal.next-requires-clause-sound
 next-requires-clause-sound g c = sound_position _ (c.args.self.now.sound c.requires.reading)
 
 pub next-requires-clause-stored : goal.next-requires-clause-stored
-next-requires-clause-stored g c = stored_container c.args.self.now.parser.container (c.args.self.now.stored c.requires.reading)
+next-requires-clause-stored g c =
+    stored_container c.args.self.now.parser.container (c.args.self.now.stored c.requires.reading)
 
 pub next-requires-clause-ready : goal.next-requires-clause-ready
-next-requires-clause-ready g c = ready_joiner c.args.self.now.parser.container.cursor _ (c.args.self.now.ready c.requires.reading)
+next-requires-clause-ready g c =
+    ready_joiner c.args.self.now.parser.container.cursor
+    _ (c.args.self.now.ready c.requires.reading)
 
 pub invariant_of-self-in-Err-clause-never_writes : goal.invariant_of-self-in-Err-clause-never_writes
-invariant_of-self-in-Err-clause-never_writes g c = failed_not_write c.next.new.self.error c.in-Err.ensures.device
+invariant_of-self-in-Err-clause-never_writes g c =
+    failed_not_write c.next.new.self.error c.in-Err.ensures.device
 
 pub returns-in-Ok-clause-goes_on : goal.returns-in-Ok-clause-goes_on
 returns-in-Ok-clause-goes_on g c given handed s =
-    let inner = length-take (c.args.self.now.end - c.args.self.now.start) (drop c.args.self.now.start c.deref.result.now) in
-    let fits : c.args.self.now.start + c.in-Ok.count ≤ c.args.self.now.end = omega (arith, c.in-Ok.ensures.within, inner, c.args.self.now.ordered) in
-    let within : c.args.self.now.end ≤ length c.args.self.now.block.items = omega (arith, c.args.self.now.within, c.deref.ensures.len, ap length c.deref.ensures.value) in
-    judged_on g.R.Source.told g.V.Visit.stands c.args.visitor.now c.next.new.visitor c.args.self.now _ c.in-Ok.count given handed c.in-Ok.kind c.requires.reading c.requires.reading refl refl refl refl fits within c.in-Ok.ensures.room s
+    let inner =
+    length-take (c.args.self.now.end - c.args.self.now.start)
+    (drop c.args.self.now.start c.deref.result.now) in
+    let fits : c.args.self.now.start + c.in-Ok.count ≤ c.args.self.now.end =
+    omega (arith, c.in-Ok.ensures.within, inner, c.args.self.now.ordered) in
+    let within : c.args.self.now.end ≤ length c.args.self.now.block.items =
+    omega (arith, c.args.self.now.within, c.deref.ensures.len, ap length c.deref.ensures.value) in
+    judged_on g.R.Source.told g.V.Visit.stands c.args.visitor.now c.next.new.visitor c.args.self.now
+    _ c.in-Ok.count given handed c.in-Ok.kind c.requires.reading c.requires.reading refl refl
+    refl refl fits within c.in-Ok.ensures.room s
     (λ judged at. subst
-    (λ (items : List ℕ). GoesTo g.V.Visit.stands c.args.visitor.now c.next.new.visitor c.in-Ok.kind c.next.new.self.container c.next.new.self.calls (judged ++ take c.in-Ok.count (slice_range items c.args.self.now.start c.args.self.now.end)) handed)
+    (λ (items : List ℕ).
+    GoesTo g.V.Visit.stands c.args.visitor.now c.next.new.visitor c.in-Ok.kind
+    c.next.new.self.container c.next.new.self.calls
+    (judged
+    ++ take c.in-Ok.count (slice_range items c.args.self.now.start c.args.self.now.end))
+    handed)
     c.deref.ensures.value (c.in-Ok.ensures.machine judged handed at))
 
 pub returns-in-Err-clause-goes_on : goal.returns-in-Err-clause-goes_on
 returns-in-Err-clause-goes_on g c given handed s =
-    judged_failed g.R.Source.told c.args.self.now _ c.next.new.self.error given handed c.requires.reading refl refl refl s
-    (λ judged at. subst (λ (items : List ℕ). FailsAt (judged ++ slice_range items c.args.self.now.start c.args.self.now.end) handed c.next.new.self.error) c.deref.ensures.value (c.in-Err.ensures.fault judged handed at))
+    judged_failed g.R.Source.told c.args.self.now _ c.next.new.self.error given handed
+    c.requires.reading refl refl refl s
+    (λ judged at.
+    subst
+    (λ (items : List ℕ).
+    FailsAt (judged ++ slice_range items c.args.self.now.start c.args.self.now.end)
+    handed c.next.new.self.error) c.deref.ensures.value
+    (c.in-Err.ensures.fault judged handed at))
 
 pub returns-in-Err-clause-never_reads : goal.returns-in-Err-clause-never_reads
-returns-in-Err-clause-never_reads g c = failed_not_read c.next.new.self.error c.in-Err.ensures.device
+returns-in-Err-clause-never_reads g c =
+    failed_not_read c.next.new.self.error c.in-Err.ensures.device

@@ -1,21 +1,35 @@
-use Rattle.std.proofs.Common.{subst}
-use Rattle.capture3.specs.machinery.EntriesHistory.{Turns}
+use Rattle.capture3.proofs.Common.{subst, Turns}
 use Rattle.capture3.proofs.Lemmas.Reader.EntriesLemmas.{answers_again, answers_failure, answers_kind, answers_none}
 use Rattle.capture3.proofs.reader.entries.Entries.next.Goals as goal
 
 pub returns-in-Over-clause-answers : goal.returns-in-Over-clause-answers
-returns-in-Over-clause-answers g c given handed s = answers_none g.R.Source.told g.V.Visit.stands c.args.visitor.now c.args.self.now given handed c.in-Over.is s
+returns-in-Over-clause-answers g c given handed s =
+    answers_none g.R.Source.told g.V.Visit.stands c.args.visitor.now c.args.self.now given handed
+    c.in-Over.is s
 
 pub returns-in-Ok-clause-answers : goal.returns-in-Ok-clause-answers
 returns-in-Ok-clause-answers g c given handed s =
     let read = c.in-Ok.ensures in
-    answers_kind g.R.Source.told g.V.Visit.stands c.args.visitor.now c.next_entry.new.visitor c.args.self.now c.next_entry.new.self given handed c.in-Ok.kind read.some read.going
-    (subst (λ r. Turns g.R.Source.told g.V.Visit.stands c.args.self.now c.next_entry.new.self c.args.visitor.now c.next_entry.new.visitor given handed r) c.in-Ok.is (c.next_entry.ensures.turns given handed s))
+    answers_kind g.R.Source.told g.V.Visit.stands c.args.visitor.now c.next_entry.new.visitor
+    c.args.self.now c.next_entry.new.self given handed c.in-Ok.kind read.some read.going
+    (subst
+    (λ r.
+    Turns g.R.Source.told g.V.Visit.stands c.args.self.now c.next_entry.new.self
+    c.args.visitor.now c.next_entry.new.visitor given handed r) c.in-Ok.is
+    (c.next_entry.ensures.turns given handed s))
 
 pub returns-in-Err-clause-answers : goal.returns-in-Err-clause-answers
 returns-in-Err-clause-answers g c given handed s =
-    answers_failure g.R.Source.told g.V.Visit.stands c.args.visitor.now c.next_entry.new.visitor c.args.self.now c.next_entry.new.self given handed c.in-Err.field-0 c.failure.result c.failure.ensures
-    (subst (λ r. Turns g.R.Source.told g.V.Visit.stands c.args.self.now c.next_entry.new.self c.args.visitor.now c.next_entry.new.visitor given handed r) c.in-Err.is (c.next_entry.ensures.turns given handed s))
+    answers_failure g.R.Source.told g.V.Visit.stands c.args.visitor.now c.next_entry.new.visitor
+    c.args.self.now c.next_entry.new.self given handed c.in-Err.field-0 c.failure.result
+    c.failure.ensures
+    (subst
+    (λ r.
+    Turns g.R.Source.told g.V.Visit.stands c.args.self.now c.next_entry.new.self
+    c.args.visitor.now c.next_entry.new.visitor given handed r) c.in-Err.is
+    (c.next_entry.ensures.turns given handed s))
 
 pub returns-in-Failed-clause-answers : goal.returns-in-Failed-clause-answers
-returns-in-Failed-clause-answers g c given handed s = answers_again g.R.Source.told g.V.Visit.stands c.args.visitor.now c.args.self.now c.in-Failed.error given handed c.in-Failed.is s
+returns-in-Failed-clause-answers g c given handed s =
+    answers_again g.R.Source.told g.V.Visit.stands c.args.visitor.now c.args.self.now
+    c.in-Failed.error given handed c.in-Failed.is s

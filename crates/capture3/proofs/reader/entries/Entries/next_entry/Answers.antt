@@ -1,23 +1,46 @@
-use Rattle.std.proofs.Common.{arith, ◌∙◌, ap, subst, Err, Ok, Some}
-use Rattle.capture3.specs.machinery.EntriesHistory.{Turns}
+use Rattle.capture3.proofs.Common.{arith, ◌∙◌, ap, subst, Err, Ok, Some, Turns}
 use Rattle.capture3.proofs.Lemmas.Reader.EntriesLemmas.{read_more, too_long, turned_more}
 use Rattle.capture3.proofs.reader.entries.Entries.next_entry.Goals as goal
 
 pub returns-in-Err-clause-turns : goal.returns-in-Err-clause-turns
 returns-in-Err-clause-turns g c given handed s =
-    turned_more g.R.Source.told g.V.Visit.stands c.args.visitor.now c.turn.new.visitor c.args.self.now c.loop-self.self c.turn.new.self given handed _ (c.loop-self.invariant.has_read given handed s)
-    (λ so_far out at. subst (λ v. Turns g.R.Source.told g.V.Visit.stands c.loop-self.self c.turn.new.self v c.turn.new.visitor so_far out (Err c.in-Err.field-0)) c.loop-self.invariant.untold
-    (subst (λ r. Turns g.R.Source.told g.V.Visit.stands c.loop-self.self c.turn.new.self c.loop-self.visitor c.turn.new.visitor so_far out r) c.in-Err.is (c.turn.ensures.turns so_far out at)))
+    turned_more g.R.Source.told g.V.Visit.stands c.args.visitor.now c.turn.new.visitor
+    c.args.self.now c.loop-self.self c.turn.new.self given handed
+    _ (c.loop-self.invariant.has_read given handed s)
+    (λ so_far out at.
+    subst
+    (λ v.
+    Turns g.R.Source.told g.V.Visit.stands c.loop-self.self c.turn.new.self v
+    c.turn.new.visitor so_far out (Err c.in-Err.field-0))
+    c.loop-self.invariant.untold
+    (subst
+    (λ r.
+    Turns g.R.Source.told g.V.Visit.stands c.loop-self.self c.turn.new.self
+    c.loop-self.visitor c.turn.new.visitor so_far out r) c.in-Err.is
+    (c.turn.ensures.turns so_far out at)))
 
 pub returns-in-Ok-Some-clause-turns : goal.returns-in-Ok-Some-clause-turns
 returns-in-Ok-Some-clause-turns g c given handed s =
-    turned_more g.R.Source.told g.V.Visit.stands c.args.visitor.now c.turn.new.visitor c.args.self.now c.loop-self.self c.turn.new.self given handed _ (c.loop-self.invariant.has_read given handed s)
-    (λ so_far out at. subst (λ v. Turns g.R.Source.told g.V.Visit.stands c.loop-self.self c.turn.new.self v c.turn.new.visitor so_far out (Ok (Some c.in-Ok-Some.kind))) c.loop-self.invariant.untold
-    (subst (λ r. Turns g.R.Source.told g.V.Visit.stands c.loop-self.self c.turn.new.self c.loop-self.visitor c.turn.new.visitor so_far out r) (c.in-Ok-Some.is ∙ ap Ok c.in-Ok-Some.field-0-is) (c.turn.ensures.turns so_far out at)))
+    turned_more g.R.Source.told g.V.Visit.stands c.args.visitor.now c.turn.new.visitor
+    c.args.self.now c.loop-self.self c.turn.new.self given handed
+    _ (c.loop-self.invariant.has_read given handed s)
+    (λ so_far out at.
+    subst
+    (λ v.
+    Turns g.R.Source.told g.V.Visit.stands c.loop-self.self c.turn.new.self v
+    c.turn.new.visitor so_far out (Ok (Some c.in-Ok-Some.kind)))
+    c.loop-self.invariant.untold
+    (subst
+    (λ r.
+    Turns g.R.Source.told g.V.Visit.stands c.loop-self.self c.turn.new.self
+    c.loop-self.visitor c.turn.new.visitor so_far out r)
+    (c.in-Ok-Some.is ∙ ap Ok c.in-Ok-Some.field-0-is) (c.turn.ensures.turns so_far out at)))
 
 pub returns-clause-turns : goal.returns-clause-turns
 returns-clause-turns g c given handed s =
-    too_long g.R.Source.told g.V.Visit.stands c.args.visitor.now _ c.args.self.now c.loop-self.self _ given handed _ (c.loop-self.invariant.has_read given handed s) c.loop-self.invariant.reading (omega (arith, c.loop-self-test.false))
+    too_long g.R.Source.told g.V.Visit.stands c.args.visitor.now _ c.args.self.now c.loop-self.self
+    _ given handed _ (c.loop-self.invariant.has_read given handed s)
+    c.loop-self.invariant.reading (omega (arith, c.loop-self-test.false))
 
 pub loop-self-preserved : goal.loop-self-preserved
 loop-self-preserved g c =
@@ -25,7 +48,11 @@ loop-self-preserved g c =
     record {
       reading = c.in-Ok-None.ensures.reading c.in-Ok-None.field-0-is;
       has_read =
-          λ given handed s. read_more g.R.Source.told g.V.Visit.stands c.loop-self.visitor c.turn.new.visitor c.args.self.now c.loop-self.self c.turn.new.self given handed c.turn.result (c.in-Ok-None.is ∙ ap Ok c.in-Ok-None.field-0-is) (invariant.has_read given handed s) c.turn.ensures.turns;
+          λ given handed s.
+          read_more g.R.Source.told g.V.Visit.stands c.loop-self.visitor c.turn.new.visitor
+          c.args.self.now c.loop-self.self c.turn.new.self given handed c.turn.result
+          (c.in-Ok-None.is ∙ ap Ok c.in-Ok-None.field-0-is)
+          (invariant.has_read given handed s) c.turn.ensures.turns;
       untold = c.in-Ok-None.ensures.untold c.in-Ok-None.field-0-is ∙ invariant.untold;
       fewer = omega (arith, c.in-Ok-None.ensures.no_more c.in-Ok-None.field-0-is, invariant.fewer);
       read = c.in-Ok-None.ensures.read ∙ invariant.read;

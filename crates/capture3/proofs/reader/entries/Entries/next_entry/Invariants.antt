@@ -1,16 +1,14 @@
-use Rattle.std.proofs.Common.{◌≡◌, ◌≤◌, ◌+◌, ◌-◌, List, ℕ}
+use Rattle.capture3.proofs.Common.{◌≡◌, ◌≤◌, ◌+◌, ◌-◌, List, ℕ, Entry, Two, most_bytes, entries_left, HasRead, StandsFor}
 use Rattle.capture3.specs.declared.reader.entries.Stage.TheVariants.{Reading}
 use Rattle.capture3.specs.Entries.{block_size}
-use Rattle.capture3.specs.machinery.EntriesHistory.{entries_left, HasRead, StandsFor}
-use Rattle.capture3.specs.Entry.{Entry}
-use Rattle.capture3.specs.Capture.{Two}
-use Rattle.capture3.specs.Laws.{most_bytes}
 use Rattle.capture3.proofs.reader.entries.Entries.next_entry.Given as goal
 
 abbrev pub invariant-loop-self : goal.invariant-loop-self
 invariant-loop-self g l = record {
   reading : l.self.stage ≡ Reading;
-  has_read : (given : List ℕ) (handed : List Entry) → StandsFor g.R.Source.told l.initial.self given handed → HasRead g.R.Source.told l.initial.self l.self given handed;
+  has_read : (given : List ℕ) (handed : List Entry)
+      → StandsFor g.R.Source.told l.initial.self given handed
+      → HasRead g.R.Source.told l.initial.self l.self given handed;
   untold : l.visitor ≡ l.initial.visitor;
   fewer : entries_left l.self ≤ entries_left l.initial.self;
   read : g.R.Source.failures l.self.source.now ≡ g.R.Source.failures l.initial.self.source.now;

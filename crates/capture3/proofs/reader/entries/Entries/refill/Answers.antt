@@ -7,11 +7,20 @@ use Rattle.capture3.proofs.reader.entries.Entries.refill.Goals as goal
 pub returns-in-Ok-clause-has_read : goal.returns-in-Ok-clause-has_read
 returns-in-Ok-clause-has_read g c given handed s =
     let bytes = c.read_block.new.block in
-    let same : length bytes ≡ vec_len c.args.self.now.block = omega (arith, c.read_block.auto.block, c.deref_mut.ensures.len) in
-    let block = front_range _ c.in-Ok.count ∙ ap (take c.in-Ok.count) (with_items_is c.args.self.now.block bytes same) in
-    has_read g.R.Source.told c.args.self.now _ given (take c.in-Ok.count bytes) handed c.requires.reading c.requires.reading c.requires.judged c.requires.unopened refl refl refl block
-    (split_bytes bytes (take c.in-Ok.count bytes) (drop c.in-Ok.count bytes) (sym (take-append-drop c.in-Ok.count bytes)) c.read_block.ensures.fit).0 (omega (arith, length-take c.in-Ok.count bytes, c.in-Ok.ensures.within, same)) c.in-Ok.ensures.bytes.0 s
+    let same : length bytes ≡ vec_len c.args.self.now.block =
+    omega (arith, c.read_block.auto.block, c.deref_mut.ensures.len) in
+    let block =
+    front_range _ c.in-Ok.count
+    ∙ ap (take c.in-Ok.count) (with_items_is c.args.self.now.block bytes same) in
+    has_read g.R.Source.told c.args.self.now _ given (take c.in-Ok.count bytes) handed
+    c.requires.reading c.requires.reading c.requires.judged c.requires.unopened refl refl refl
+    block
+    (split_bytes bytes (take c.in-Ok.count bytes) (drop c.in-Ok.count bytes)
+    (sym (take-append-drop c.in-Ok.count bytes)) c.read_block.ensures.fit).0
+    (omega (arith, length-take c.in-Ok.count bytes, c.in-Ok.ensures.within, same))
+    c.in-Ok.ensures.bytes.0 s
 
 pub returns-in-Err-clause-has_read : goal.returns-in-Err-clause-has_read
 returns-in-Err-clause-has_read g c given handed s =
-    has_failed g.R.Source.told c.args.self.now _ given handed c.requires.reading refl refl refl c.requires.judged c.requires.unopened c.in-Err.ensures.bytes s
+    has_failed g.R.Source.told c.args.self.now _ given handed c.requires.reading refl refl refl
+    c.requires.judged c.requires.unopened c.in-Err.ensures.bytes s

@@ -1,7 +1,7 @@
-use Rattle.std.proofs.Common.{sym, subst, List, ℕ}
-use Rattle.capture3.specs.machinery.Spelled.{SpellsCall}
+use Rattle.capture3.proofs.Common.{sym, subst, List, ℕ, SpellsCall}
 use Rattle.capture3.proofs.reader.entry.CallRef.keep.Goals as goal
 
 pub invariant_of-result-clause-spells : goal.invariant_of-result-clause-spells
 invariant_of-result-clause-spells c =
-    subst (λ (body : List ℕ). ∥ SpellsCall c.args.self.now.id body ∥₁) (sym c.in_ok-body.ensures.items) c.args.self.now.spells
+    subst (λ (body : List ℕ). ∥ SpellsCall c.args.self.now.id body ∥₁)
+    (sym c.in_ok-body.ensures.items) c.args.self.now.spells

@@ -1,6 +1,4 @@
-use Rattle.std.proofs.Common.{ap, subst, sym, ◌∙◌, List, ℕ}
-use Rattle.capture3.specs.Bodies.{IsReply}
-use Rattle.capture3.specs.BodyProgram.{judge_reply}
+use Rattle.capture3.proofs.Common.{ap, subst, sym, ◌∙◌, List, ℕ, IsReply, judge_reply}
 use Rattle.capture3.proofs.reader.entry_parser.EntryParser.reply.Goals as goal
 
 pub returns-in-Ok-clause-ok : goal.returns-in-Ok-clause-ok
@@ -9,11 +7,20 @@ returns-in-Ok-clause-ok g c calls table =
     record {
       items = scanned.items;
       judged = ap (judge_reply calls) (sym c.body.ensures.body) ∙ scanned.accepted calls table;
-      is_reply = subst (λ (body : List ℕ). IsReply body (record { id = c.in-Ok.id; items = scanned.items })) c.body.ensures.body scanned.is_reply;
+      is_reply =
+          subst
+          (λ (body : List ℕ). IsReply body (record { id = c.in-Ok.id; items = scanned.items }))
+          c.body.ensures.body scanned.is_reply;
       adds = scanned.adds;
     }
 
 pub returns-in-Ok-clause-spells : goal.returns-in-Ok-clause-spells
 returns-in-Ok-clause-spells g c =
     let scanned = c.in-Ok.ensures.ok in
-    ∣ (scanned.items, subst (λ (body : List ℕ). IsReply body (record { id = c.in-Ok.id; items = scanned.items })) c.body.ensures.body scanned.is_reply) ∣₁
+    ∣ (
+      scanned.items,
+      subst
+          (λ (body : List ℕ).
+          IsReply body (record { id = c.in-Ok.id; items = scanned.items }))
+          c.body.ensures.body scanned.is_reply,
+    ) ∣₁

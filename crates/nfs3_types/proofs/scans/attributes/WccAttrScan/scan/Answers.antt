@@ -7,10 +7,13 @@ use Rattle.nfs3_types.proofs.scans.attributes.WccAttrScan.scan.Goals as goal
 
 pub returns-clause-ok : goal.returns-clause-ok
 unfolding wcc_attr time names
-returns-clause-ok g c = flat_scans g.V.Visit.stands wcc_attr _ c.args.input.now c.scan_plain.new.input c.args.visitor.now c.scan_plain.new.visitor c.in_ok-scan_plain.ensures.ok refl
+returns-clause-ok g c =
+    flat_scans g.V.Visit.stands wcc_attr _ c.args.input.now c.scan_plain.new.input
+    c.args.visitor.now c.scan_plain.new.visitor c.in_ok-scan_plain.ensures.ok refl
 
 pub returns-in_err-scan_plain-clause-err : goal.returns-in_err-scan_plain-clause-err
 unfolding wcc_attr time names
 returns-in_err-scan_plain-clause-err g c =
     let p = err_from_is_err_and c.from_residual.result c.from_residual.ensures.1 in
-    rw (p.1, p.2) (flat_stops wcc_attr _ c.args.input.now c.in_err-scan_plain.field-0.0 c.in_err-scan_plain.ensures.err refl)
+    rw (p.1, p.2) (flat_stops wcc_attr _ c.args.input.now c.in_err-scan_plain.field-0.0
+    c.in_err-scan_plain.ensures.err refl)

@@ -10,16 +10,20 @@ pub returns-in_err-scan_path-clause-err : goal.returns-in_err-scan_path-clause-e
 unfolding export names
 returns-in_err-scan_path-clause-err g c =
     let p = err_from_is_err_and c.from_residual.result c.from_residual.ensures.1 in
-    rw (p.1, p.2) (first_stops (opaque Text names.directory 1024) (linked names.group group) c.args.input.now c.in_err-scan_path.field-0.0 c.in_err-scan_path.ensures.err)
+    rw (p.1, p.2) (first_stops (opaque Text names.directory 1024) (linked names.group group)
+    c.args.input.now c.in_err-scan_path.field-0.0 c.in_err-scan_path.ensures.err)
 
 pub returns-clause-ok : goal.returns-clause-ok
 unfolding export names
 returns-clause-ok g c =
-    last_scans g.V.Visit.stands (opaque Text names.directory 1024) (linked names.group group) c.args.input.now c.scan_path.new.input c.scan_linked.new.input c.args.visitor.now c.scan_path.new.visitor c.scan_linked.new.visitor
+    last_scans g.V.Visit.stands (opaque Text names.directory 1024) (linked names.group group)
+    c.args.input.now c.scan_path.new.input c.scan_linked.new.input c.args.visitor.now
+    c.scan_path.new.visitor c.scan_linked.new.visitor
     c.scan_linked.result c.in_ok-scan_path.ensures.ok c.scan_linked.ensures.ok
 
 pub returns-clause-err : goal.returns-clause-err
 unfolding export names
 returns-clause-err g c =
-    last_stops g.V.Visit.stands (opaque Text names.directory 1024) (linked names.group group) c.args.input.now c.scan_path.new.input c.args.visitor.now c.scan_path.new.visitor
+    last_stops g.V.Visit.stands (opaque Text names.directory 1024) (linked names.group group)
+    c.args.input.now c.scan_path.new.input c.args.visitor.now c.scan_path.new.visitor
     c.scan_linked.result c.in_ok-scan_path.ensures.ok c.scan_linked.ensures.err

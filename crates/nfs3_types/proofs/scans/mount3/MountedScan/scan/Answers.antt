@@ -8,11 +8,14 @@ use Rattle.nfs3_types.proofs.scans.mount3.MountedScan.scan.Goals as goal
 pub returns-clause-ok : goal.returns-clause-ok
 unfolding mounted names
 returns-clause-ok g c =
-    last_scans g.V.Visit.stands (opaque Text names.hostname 255) (opaque Text names.directory 1024) c.args.input.now c.scan_text.new.input c.scan_path.new.input c.args.visitor.now c.scan_text.new.visitor c.scan_path.new.visitor
+    last_scans g.V.Visit.stands (opaque Text names.hostname 255) (opaque Text names.directory 1024)
+    c.args.input.now c.scan_text.new.input c.scan_path.new.input c.args.visitor.now
+    c.scan_text.new.visitor c.scan_path.new.visitor
     c.scan_path.result c.in_ok-scan_text.ensures.ok c.scan_path.ensures.ok
 
 pub returns-clause-err : goal.returns-clause-err
 unfolding mounted names
 returns-clause-err g c =
-    last_stops g.V.Visit.stands (opaque Text names.hostname 255) (opaque Text names.directory 1024) c.args.input.now c.scan_text.new.input c.args.visitor.now c.scan_text.new.visitor
+    last_stops g.V.Visit.stands (opaque Text names.hostname 255) (opaque Text names.directory 1024)
+    c.args.input.now c.scan_text.new.input c.args.visitor.now c.scan_text.new.visitor
     c.scan_path.result c.in_ok-scan_text.ensures.ok c.scan_path.ensures.err

@@ -1,5 +1,4 @@
-use Rattle.std.proofs.Common.{length, ap, arith}
-use Rattle.xdr3.specs.Visit.{AreWithinLimit}
+use Rattle.rpc_head.proofs.Common.{length, ap, arith, AreWithinLimit}
 use Rattle.rpc_head.proofs.Lengths.{body_length}
 use Rattle.rpc_head.proofs.values.credential.AuthSys.body_len.Goals as goal
 
@@ -17,7 +16,8 @@ overflow_add-result c = omega (arith, body_length c.args.self.now, c.requires)
 
 pub overflow_add-result-2 : goal.overflow_add-result-2
 unfolding AreWithinLimit
-overflow_add-result-2 c = omega (arith, body_length c.args.self.now, c.requires, c.as_slice.ensures.few)
+overflow_add-result-2 c =
+    omega (arith, body_length c.args.self.now, c.requires, c.as_slice.ensures.few)
 
 pub returns : goal.returns
 returns c = omega (arith, body_length c.args.self.now, ap length c.as_slice.ensures.words)

@@ -1,12 +1,15 @@
-use Rattle.xdr3.proofs.Lemmas.Shapes.Walks.{next_adds_some, on_err, steps_add}
-use Rattle.rpc_head.specs.Names.{head_names}
+use Rattle.rpc_head.proofs.Common.{next_adds_some, on_err, steps_add, head_names}
 use Rattle.rpc_head.proofs.values.credential.AuthSysWalk.walk.Goals as goal
 
 pub returns-clause-ok : goal.returns-clause-ok
 unfolding head_names
-returns-clause-ok g c = rw (← c.body_len.ensures) (steps_add g.V.Visit.stands c.args.visitor.now c.word.new.self c.walk.new.visitor _ _ c.in_ok-word.ensures.ok c.in_ok-walk.ensures.ok)
+returns-clause-ok g c =
+    rw (← c.body_len.ensures) (steps_add g.V.Visit.stands c.args.visitor.now c.word.new.self
+    c.walk.new.visitor _ _ c.in_ok-word.ensures.ok c.in_ok-walk.ensures.ok)
 
 pub returns-in_err-walk-clause-err : goal.returns-in_err-walk-clause-err
 unfolding head_names
 returns-in_err-walk-clause-err g c =
-    rw (← c.body_len.ensures) (on_err c.from_residual-in_err-walk.result (next_adds_some g.V.Visit.stands c.args.visitor.now c.word.new.self c.walk.new.visitor _ _ c.in_ok-word.ensures.ok c.in_err-walk.ensures.err))
+    rw (← c.body_len.ensures) (on_err c.from_residual-in_err-walk.result (next_adds_some
+    g.V.Visit.stands c.args.visitor.now c.word.new.self c.walk.new.visitor
+    _ _ c.in_ok-word.ensures.ok c.in_err-walk.ensures.err))

@@ -1,9 +1,5 @@
-use Rattle.std.proofs.Common.{◌≡◌, ◌≤◌, length, take}
-use Rattle.std.specs.List.{flat_map}
-use Rattle.xdr3.specs.Shape.{word}
+use Rattle.rpc_head.proofs.Common.{◌≡◌, ◌≤◌, length, take, flat_map, word, group_items, head_names}
 use Rattle.xdr3.proofs.Lemmas.Reading.Counted.{TimesSoFar}
-use Rattle.rpc_head.specs.Groups.{group_items}
-use Rattle.rpc_head.specs.Names.{head_names}
 use Rattle.rpc_head.proofs.values.credential.Gids.get.Given as goal
 
 abbrev pub invariant-loop-i : goal.invariant-loop-i
@@ -13,5 +9,6 @@ invariant-loop-i l = record {
   within : l.input.at ≤ length l.input.body;
   whole : length l.words ≡ 16;
   few : l.count ≤ 16;
-  so_far : TimesSoFar (word head_names.group) (flat_map group_items (take l.i l.words)) l.count l.i l.fn.input.body l.initial.input.at l.input.at;
+  so_far : TimesSoFar (word head_names.group) (flat_map group_items (take l.i l.words)) l.count l.i
+      l.fn.input.body l.initial.input.at l.input.at;
 }

@@ -1,0 +1,71 @@
+use Rattle.canon3.proofs.Common.{Ok, [], ◌∷◌, ◌++◌, length, arith, subst, sym, ◌<◌, ◌^◌, gave_both, Adds, source_of, error_is, HandsOut}
+use Rattle.canon3.specs.machinery.WritingSteps.{HasWritten}
+use Rattle.canon3.proofs.Lemmas.Writing.EntryWriterLemmas.{met_stops, written_goes_on}
+use Rattle.canon3.proofs.Lemmas.Order.Reaching.{first_reached}
+use Rattle.canon3.proofs.entries.entry_writer.write_next.Goals as goal
+
+pub returns-in-Some-entry-clause-goes_on : goal.returns-in-Some-entry-clause-goes_on
+unfolding Adds
+returns-in-Some-entry-clause-goes_on g c first old u =
+    let a = c.in_ok-next.ensures.answers u.given u.handed u.reads in
+    let out =
+    subst
+    (λ next.
+    HandsOut g.R.Source.told g.E.Visit.stands c.next.new.self c.args.writer.now
+    c.next.new.visitor (u.given ++ a.more) u.handed (Ok next)) c.in-Some.is a.hands_out
+    in
+    let (one, is, reached, adds, reads) = out in
+    let order = first_reached (u.given ++ a.more) (u.handed ++ one ∷ []) reached in
+    let few : length (u.handed ++ one ∷ []) < 2 ^ 32 = omega (arith, reads.few) in
+    written_goes_on g.E.EntryWriter.form c.requires.prefixes g.E.EntryWriter.before g.E.Visit.stands
+    g.E.EntryWriter.going g.R.Source.told first old c.next.new.self c.write_one.new.writer
+    c.write_one.new.counts (g.W.Sink.written c.write_one.new.sink) (u.given ++ a.more) u.handed
+    one c.write_one.result c.write_one.ensures.more c.write_one.ensures.error
+    (gave_both first (g.R.Source.told (source_of c.args.entries.now))
+    (g.R.Source.told (source_of c.next.new.self)) u.given a.more u.consumed a.consumed)
+    reached reads
+    (c.write_one.ensures.writes old u.handed one
+    (c.in-Some-entry.ensures.lent (u.given ++ a.more) u.handed one reads) order few
+    u.writes.came (adds (g.E.EntryWriter.before u.handed) u.writes.stands_for) u.writes.written)
+
+pub returns-in-None-clause-goes_on : goal.returns-in-None-clause-goes_on
+returns-in-None-clause-goes_on g c first old u =
+    let a = c.in_ok-next.ensures.answers u.given u.handed u.reads in
+    let out =
+    subst
+    (λ next.
+    HandsOut g.R.Source.told g.E.Visit.stands c.next.new.self c.args.writer.now
+    c.next.new.visitor (u.given ++ a.more) u.handed (Ok next)) c.in-None.is a.hands_out
+    in
+    record {
+      given = u.given ++ a.more;
+      handed = u.handed;
+      ended = record {
+        consumed =
+            gave_both first (g.R.Source.told (source_of c.args.entries.now))
+            (g.R.Source.told (source_of c.next.new.self)) u.given a.more u.consumed a.consumed;
+        ended = out.1;
+        typed = out.0;
+      };
+      writes =
+          subst
+          (λ writer.
+          HasWritten g.E.EntryWriter.form g.E.EntryWriter.before g.E.Visit.stands
+          g.E.EntryWriter.going writer c.args.counts.now old
+          (g.W.Sink.written c.args.sink.now) u.handed)
+          (sym (c.in_ok-next.ensures.untold c.in-None.is)) u.writes;
+    }
+
+pub returns-in_err-next-clause-goes_on : goal.returns-in_err-next-clause-goes_on
+returns-in_err-next-clause-goes_on g c first old u =
+    let a = c.in_err-next.ensures.answers u.given u.handed u.reads in
+    rw (error_is _ _ c.from_residual.ensures) (record {
+      given = u.given ++ a.more;
+      consumed =
+          gave_both first (g.R.Source.told (source_of c.args.entries.now))
+          (g.R.Source.told (source_of c.next.new.self)) u.given a.more u.consumed a.consumed;
+      stopped =
+          met_stops g.E.EntryWriter.form c.requires.prefixes c.in_err-next.field-0.0
+          (g.R.Source.told (source_of c.next.new.self)) old (g.W.Sink.written c.args.sink.now)
+          (u.given ++ a.more) u.handed a.hands_out.0 u.writes.written;
+    })

@@ -1,7 +1,0 @@
-use Rattle.std.proofs.Common.{ap, ◌∙◌, min}
-use Rattle.canon3.specs.Rank.{number_limit}
-use Rattle.canon3.proofs.Lemmas.Numbers.HandleTableLemmas.{count_gathered}
-use Rattle.canon3.proofs.handles.HandleTable.len.Goals as goal
-
-pub returns : goal.returns
-returns g c items h = c.len.ensures h.0 (c.self.view_is ∙ h.1) ∙ ap (λ n. min n number_limit) (count_gathered c.args.self.now items h)

@@ -1,7 +1,0 @@
-use Rattle.std.proofs.Common.{[], refl}
-use Rattle.canon3.specs.machinery.MessageWriter.{values_of}
-use Rattle.canon3.proofs.Lemmas.Writing.Opening.{begins}
-use Rattle.canon3.proofs.message_writer.MessageWriter.new.Goals as goal
-
-pub returns-clause-stands : goal.returns-clause-stands
-returns-clause-stands g c = begins _ (values_of []) (record { handles = ([], c.new.ensures, refl); verifiers = c.new-2.ensures; xids = c.new-3.ensures }) refl c.new-4.ensures

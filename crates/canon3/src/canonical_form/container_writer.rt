@@ -1,0 +1,115 @@
+//! What entries are written as, to a sink.
+
+ghost use Rattle.std.specs.Prelude.{◌≡◌, ◌++◌, IfErr, OnErr, OnOk};
+ghost use Rattle.std.specs.Io.KnownBytes.{Appends};
+ghost use Rattle.xdr3.specs.Item.{word_bytes};
+ghost use Rattle.canon3.specs.Bytes.{chunk_bytes, magic_before, record_bytes};
+ghost use Rattle.canon3.specs.EntryCounts.{connections_in};
+ghost use Rattle.canon3.specs.machinery.MessageWriter.{Before, HoldsBefore};
+ghost use Rattle.canon3.specs.machinery.Spelling.{spelling_of};
+ghost use Rattle.canon3.specs.WriteErrors.{CountsWriting, IsOfWriting};
+ghost use Rattle.canon3.specs.SinkWrites.{AppendsFront};
+
+use crate::canonical_form::message_writer::MessageWriter;
+use crate::canonical_form::spelling::Spelling;
+use crate::entries::entry_counts::EntryCounts;
+use crate::sink::Sink;
+use crate::sink::whole_writes::{write_all, write_both, write_record};
+use capture3::{Error, pack_chunk, pack_header};
+use record_mark::BODY_LIMIT;
+use std::hash::BuildHasher;
+
+/// Writes what an entry is written as. After an error a prefix of it was written.
+///
+/// # Errors
+///
+/// - `Write` if a write failed.
+/// - `Memory` if an allocation failed, or the message has more than 16,777,216 bytes.
+pub(crate) fn write_spelling<W: Sink, S: BuildHasher + Drop>(
+    sink: &mut W,
+    form: Spelling<'_>,
+    message_writer: &mut MessageWriter<S>,
+) -> Result<(), Error>
+    ensures ok { OnOk result
+        (Appends (W.written sink.old) (W.written sink.new)
+        (spelling_of form.entry message_writer.old)) }
+    ensures err { OnErr result
+        (AppendsFront (W.written sink.old) (W.written sink.new)
+        (spelling_of form.entry message_writer.old)) }
+    ensures holds { (before : Before) → HoldsBefore message_writer.old before
+        → HoldsBefore message_writer.new before }
+    ensures count { CountsWriting (W.failures sink.old) (W.failures sink.new) result }
+    ensures error { IfErr result IsOfWriting }
+{
+    match form {
+        Spelling::Zero => write_word(sink, 0),
+        Spelling::One => write_word(sink, 1),
+        Spelling::Message(body) => {
+            let Ok((len, rest)) = message_writer.compose_chunk(body) else {
+                return Err(Error::Memory);
+            };
+            write_both(sink, &message_writer.room[..len], rest)
+        }
+    }
+}
+
+/// Writes the magic (the first eight bytes of a capture), if no connection began. After an error a
+/// prefix of it was written.
+///
+/// # Errors
+///
+/// `Write` if a write failed.
+pub fn write_magic<W: Sink>(counts: &EntryCounts, sink: &mut W) -> Result<(), Error>
+    ensures ok { OnOk result
+        (Appends (W.written sink.old) (W.written sink.new)
+        (magic_before (connections_in counts.now))) }
+    ensures err { OnErr result
+        (AppendsFront (W.written sink.old) (W.written sink.new)
+        (magic_before (connections_in counts.now))) }
+    ensures count { CountsWriting (W.failures sink.old) (W.failures sink.new) result }
+    ensures error { IfErr result (λ error. error ≡ Error.Write) }
+{
+    if counts.connections() > 0 {
+        return Ok(());
+    }
+    write_all(sink, &pack_header())
+}
+
+/// Writes a word of the container. After an error a prefix of it was written.
+///
+/// # Errors
+///
+/// `Write` if a write failed.
+pub fn write_word<W: Sink>(sink: &mut W, n: u32) -> Result<(), Error>
+    ensures ok { OnOk result (Appends (W.written sink.old) (W.written sink.new) (word_bytes n)) }
+    ensures err { OnErr result
+        (AppendsFront (W.written sink.old) (W.written sink.new) (word_bytes n)) }
+    ensures count { CountsWriting (W.failures sink.old) (W.failures sink.new) result }
+    ensures error { IfErr result IsOfWriting }
+{
+    write_all(sink, &pack_chunk(n))
+}
+
+/// Writes a message as one chunk, which is one record of one fragment. After an error a prefix of
+/// it was written.
+///
+/// # Errors
+///
+/// - `Write` if a write failed.
+/// - `Memory` if the message has more than 16,777,216 bytes.
+// No message of a capture has more bytes than a record may have, and with numbers it has no more.
+pub fn write_message<W: Sink>(sink: &mut W, message: &[u8]) -> Result<(), Error>
+    ensures ok { OnOk result
+        (Appends (W.written sink.old) (W.written sink.new)
+        (chunk_bytes (record_bytes message.now))) }
+    ensures err { OnErr result
+        (AppendsFront (W.written sink.old) (W.written sink.new)
+        (chunk_bytes (record_bytes message.now))) }
+    ensures count { CountsWriting (W.failures sink.old) (W.failures sink.new) result }
+    ensures error { IfErr result IsOfWriting }
+{
+    if message.len() > BODY_LIMIT as usize {
+        return Err(Error::Memory);
+    }
+    write_record(sink, message)
+}

@@ -1,0 +1,112 @@
+//! What an entry is written as in the canonical form.
+
+ghost use Rattle.std.specs.Prelude.{◌≡◌, ◌≢◌, ◌<◌, ◌^◌, ◌++◌, ◌∷◌, List, [], length, IfErr, IfOk, MatchBool};
+ghost use Rattle.capture3.specs.Entry as spec;
+ghost use Rattle.canon3.specs.Laws.{AreFirst};
+ghost use Rattle.canon3.specs.machinery.MessageWriter.{Before, HoldsBefore, WriterStands, message_of, told_after, values_of};
+ghost use Rattle.canon3.specs.machinery.Spelling.{HasSpelled, spelling_of};
+ghost use Rattle.capture3.specs.Kept.{IsLent};
+ghost use Rattle.capture3.specs.Entry.{items_of};
+
+use crate::canonical_form::message_writer::{MessageWriter, after_xid};
+use crate::comparison::verdict::{SameError, Which, out_of_memory_in};
+use capture3::{EntryRef, Error};
+use std::alloc::AllocError;
+use std::hash::BuildHasher;
+
+/// What an entry is written as.
+#[derive(Clone, Copy)]
+pub(crate) enum Spelling<'a> {
+    /// The word 0.
+    Zero,
+    /// The word 1.
+    One,
+    /// The message with this body, in which the writer has replacements.
+    Message(&'a [u8]),
+}
+
+/// Returns what an entry is written as, whose items the writer visited. After an error nothing can
+/// follow.
+pub(crate) fn spelling_of_entry<'a, S: BuildHasher + Drop>(
+    message_writer: &mut MessageWriter<S>,
+    entry: EntryRef<'a>,
+) -> Result<Spelling<'a>, AllocError>
+    ensures { (entries : List spec.Entry) (one : spec.Entry) → IsLent entry.entry one
+        → AreFirst (entries ++ one ∷ []) → length (entries ++ one ∷ []) < 2 ^ 32
+        → WriterStands message_writer.old (told_after (values_of entries) (items_of one))
+        → IfOk result (λ form. HasSpelled message_writer.new form entries one) }
+{
+    message_writer.unless_failed()?;
+    match entry {
+        EntryRef::Begin => {
+            message_writer.begin_connection();
+            Ok(Spelling::One)
+        }
+        EntryRef::Call(call) => Ok(Spelling::Message(call.body)),
+        EntryRef::Reply(reply) => Ok(Spelling::Message(reply.body)),
+        EntryRef::Turn | EntryRef::Close | EntryRef::End => Ok(Spelling::Zero),
+    }
+}
+
+/// Returns whether two entries are written as the same bytes.
+///
+/// # Errors
+///
+/// `Memory` if an allocation fails.
+pub(crate) fn are_alike<S: BuildHasher + Drop>(
+    form: Spelling<'_>,
+    writer: &mut MessageWriter<S>,
+    other_form: Spelling<'_>,
+    other: &mut MessageWriter<S>,
+) -> Result<bool, SameError>
+    ensures alike { IfOk result (λ alike. MatchBool alike
+        (spelling_of form.entry writer.old ≡ spelling_of other_form.entry other.old)
+        (spelling_of form.entry writer.old ≢ spelling_of other_form.entry other.old)) }
+    ensures holds { (before : Before) → HoldsBefore writer.old before
+        → HoldsBefore writer.new before }
+    ensures other_holds { (before : Before) → HoldsBefore other.old before
+        → HoldsBefore other.new before }
+    ensures memory { IfErr result (λ error. error.error ≡ Error.Memory) }
+{
+    match form {
+        Spelling::Zero => Ok(matches!(other_form, Spelling::Zero)),
+        Spelling::One => Ok(matches!(other_form, Spelling::One)),
+        Spelling::Message(body) => match other_form {
+            Spelling::Message(other_body) => have_same_bytes(writer, body, other, other_body),
+            Spelling::Zero | Spelling::One => Ok(false),
+        },
+    }
+}
+
+/// Returns whether two messages have the same bytes with the writers' replacements. It composes
+/// them only if the replacements and what stays between them are not the same one by one.
+fn have_same_bytes<S: BuildHasher + Drop>(
+    writer: &mut MessageWriter<S>,
+    body: &[u8],
+    other: &mut MessageWriter<S>,
+    other_body: &[u8],
+) -> Result<bool, SameError>
+    ensures same { IfOk result (λ same. MatchBool same
+        (message_of writer.old body.now ≡ message_of other.old other_body.now)
+        (message_of writer.old body.now ≢ message_of other.old other_body.now)) }
+    ensures holds { (before : Before) → HoldsBefore writer.old before
+        → HoldsBefore writer.new before }
+    ensures other_holds { (before : Before) → HoldsBefore other.old before
+        → HoldsBefore other.new before }
+    ensures memory { IfErr result (λ error. error.error ≡ Error.Memory) }
+{
+    if writer.xid == other.xid
+        && writer
+            .patches
+            .are_alike(after_xid(body), &other.patches, after_xid(other_body))
+    {
+        return Ok(true);
+    }
+    let Ok(len) = writer.compose(body) else {
+        return Err(out_of_memory_in(Which::First));
+    };
+    let Ok(other_len) = other.compose(other_body) else {
+        return Err(out_of_memory_in(Which::Second));
+    };
+    Ok(writer.room[..len] == other.room[..other_len])
+}

@@ -1,0 +1,276 @@
+//! What is written of a capture while it is read, from a source to a sink.
+
+ghost use Rattle.std.specs.Prelude.{◌≡◌, ◌<◌, ◌≤◌, ◌+◌, ◌^◌, ◌++◌, ◌∷◌, ℕ, List, [], Option, None, bytes_eq, length, min, IfErr, IfOk, IsTrue, OnOk};
+ghost use Rattle.capture3.specs.Told.{GavePrefix, Told};
+ghost use Rattle.xdr3.specs.Item.{Item};
+ghost use Rattle.capture3.specs.Entries.{CountsReading, CountsReads, failure_of, loan_of, source_of};
+ghost use Rattle.capture3.specs.machinery.EntriesHistory.{entries_left, StandsFor};
+ghost use Rattle.capture3.specs.Entry as spec;
+ghost use Rattle.capture3.specs.Laws.{most_entries};
+ghost use Rattle.canon3.specs.EntryWriter.{KeepsPrefixes, WritesAll, WritesAllCounted, WritesGiven, WritesGivenCounted, WritesOne};
+ghost use Rattle.canon3.specs.Summary.{AreMessageCounts};
+ghost use Rattle.canon3.specs.machinery.WritingSteps.{WritesOn, EndsWriting, WritesToTheEnd, IsWriting, WritesMore};
+ghost use Rattle.canon3.specs.EntryCounts.{AreCounted, counted_steps};
+ghost use Rattle.canon3.specs.Rank.{distinct, number_limit};
+ghost use Rattle.canon3.specs.Values as values;
+ghost use Rattle.canon3.specs.WriteErrors.{CountsWriting, IsOfWriting};
+ghost use Rattle.canon3.specs.SinkWrites.{IsFlushed};
+
+use crate::entries::entry_counts::EntryCounts;
+use crate::entries::entry_kind::kind_of;
+use crate::sink::Sink;
+use crate::summary::{MessageCounts, Summary};
+use capture3::{Entries, EntryRef, Error, Source, new_block};
+use std::alloc::Global;
+use std::hash::BuildHasher;
+use xdr3::Visit;
+
+/// A writer of a capture's entries, one after another, in some form. It visits the items of each
+/// entry while it is read, and then writes it.
+pub trait EntryWriter: Visit {
+    /// The bytes that a list of entries is written as.
+    ghost form: { List spec.Entry → List ℕ };
+
+    /// The items that represent the entries that were written, before those of the next one.
+    ghost before: { List spec.Entry → List Item };
+
+    /// Holds of a writer that has not failed.
+    ghost going: { Self → Type 0 };
+
+    /// Writes what the entry adds to the form. Its items were visited.
+    ///
+    /// # Errors
+    ///
+    /// - `Write` if a write failed.
+    /// - `Memory` if an allocation failed.
+    ///
+    /// A prefix of the form is written then, and nothing can follow.
+    fn write<W: Sink>(
+        &mut self,
+        counts: &EntryCounts,
+        sink: &mut W,
+        entry: EntryRef<'_>,
+    ) -> Result<(), Error>
+        requires { counted_steps counts.now + 1 < 2 ^ 32 }
+        ensures writes { WritesOne form before Self.stands going self.old self.new counts.now
+            entry.entry (W.written sink.old) (W.written sink.new) result }
+        ensures count { CountsWriting (W.failures sink.old) (W.failures sink.new) result }
+        ensures error { IfErr result IsOfWriting };
+}
+
+/// A writer of a capture's entries that also counts the file handles in them.
+pub trait CountingWriter: EntryWriter {
+    /// Returns how many distinct file handles that are not empty there were, at most 4,294,967,295.
+    fn handles(&self) -> u32
+        ensures { (entries : List spec.Entry) → Self.going self.now
+            → Self.stands self.now (Self.before entries)
+            → result ≡ min (length (distinct bytes_eq (values.handles entries))) number_limit };
+}
+
+/// Reads a capture to its end, writes the form of its entries as they come, and flushes the sink.
+/// It keeps one block of the source's bytes, one record, the calls of the open connection, and what
+/// the writer keeps. `write_form` does the same without a count of file handles.
+///
+/// # Errors
+///
+/// - `Refused` with the first fault if the capture is not well formed. The form of the entries
+///   before it is written whole.
+/// - `Read` if a read failed. The form of the entries before it is written whole.
+/// - `Write` if a write or the flush failed, and `Memory` if an allocation failed. A prefix of the
+///   form is written.
+///
+/// After an error nothing is flushed.
+pub fn write_entries<R: Source, W: Sink, E: CountingWriter, S: BuildHasher + Drop>(
+    alloc: Global,
+    hasher: S,
+    source: &mut R,
+    sink: &mut W,
+    writer: &mut E,
+) -> Result<Summary, Error>
+    requires new { E.stands writer.old (E.before []) }
+    requires well { E.going writer.old }
+    requires empty { E.form [] ≡ [] }
+    requires prefixes { KeepsPrefixes E.form }
+    ensures writes { WritesGiven E.form (R.told source.old) (R.told source.new) (W.written sink.old)
+        (W.written sink.new) result }
+    ensures whole { (bytes : List ℕ) → GavePrefix (R.told source.old) (R.told source.new) bytes
+        → WritesAll E.form bytes (W.written sink.old) (W.written sink.new) result }
+    ensures flushes { OnOk result (IsFlushed (W.written sink.new) (W.flushed sink.new)) }
+    ensures read { CountsReading (R.failures source.old) (R.failures source.new) result }
+    ensures write { CountsWriting (W.failures sink.old) (W.failures sink.new) result }
+{
+    let counts = write_whole(alloc, hasher, source, sink, writer)?;
+    Ok(counts.summary(writer.handles()))
+}
+
+/// Reads a capture to its end, writes the form of its entries as they come, and flushes the sink.
+/// It does what `write_entries` does for a writer that counts no file handles.
+///
+/// # Errors
+///
+/// - `Refused` with the first fault if the capture is not well formed. The form of the entries
+///   before it is written whole.
+/// - `Read` if a read failed. The form of the entries before it is written whole.
+/// - `Write` if a write or the flush failed, and `Memory` if an allocation failed. A prefix of the
+///   form is written.
+///
+/// After an error nothing is flushed.
+pub fn write_form<R: Source, W: Sink, E: EntryWriter, S: BuildHasher + Drop>(
+    alloc: Global,
+    hasher: S,
+    source: &mut R,
+    sink: &mut W,
+    writer: &mut E,
+) -> Result<MessageCounts, Error>
+    requires new { E.stands writer.old (E.before []) }
+    requires well { E.going writer.old }
+    requires empty { E.form [] ≡ [] }
+    requires prefixes { KeepsPrefixes E.form }
+    ensures writes { WritesGivenCounted AreMessageCounts E.form (R.told source.old)
+        (R.told source.new) (W.written sink.old) (W.written sink.new) result }
+    ensures whole { (bytes : List ℕ) → GavePrefix (R.told source.old) (R.told source.new) bytes
+        → WritesAllCounted AreMessageCounts E.form bytes (W.written sink.old) (W.written sink.new)
+        result }
+    ensures flushes { OnOk result (IsFlushed (W.written sink.new) (W.flushed sink.new)) }
+    ensures read { CountsReading (R.failures source.old) (R.failures source.new) result }
+    ensures write { CountsWriting (W.failures sink.old) (W.failures sink.new) result }
+{
+    let counts = write_whole(alloc, hasher, source, sink, writer)?;
+    Ok(counts.message_counts())
+}
+
+/// Writes the form of a capture's entries, and returns what was counted.
+fn write_whole<R: Source, W: Sink, E: EntryWriter, S: BuildHasher + Drop>(
+    alloc: Global,
+    hasher: S,
+    source: &mut R,
+    sink: &mut W,
+    writer: &mut E,
+) -> Result<EntryCounts, Error>
+    requires new { E.stands writer.old (E.before []) }
+    requires well { E.going writer.old }
+    requires empty { E.form [] ≡ [] }
+    requires prefixes { KeepsPrefixes E.form }
+    ensures ends { EndsWriting E.form E.before E.stands E.going (R.told source.old)
+        (W.written sink.old) (R.told source.new) writer.new (W.written sink.new) result }
+    ensures flushes { OnOk result (IsFlushed (W.written sink.new) (W.flushed sink.new)) }
+    ensures read { CountsReading (R.failures source.old) (R.failures source.new) result }
+    ensures write { CountsWriting (W.failures sink.old) (W.failures sink.new) result }
+{
+    let block = match new_block(alloc) {
+        Ok(block) => block,
+        Err(_) => return Err(Error::Memory),
+    };
+    let mut entries = Entries::through(alloc, hasher, source, block);
+    let result = write_new(&mut entries, sink, writer);
+    entries.into_source();
+    result
+}
+
+/// Writes what a new reader returns, and flushes the sink.
+fn write_new<R: Source, W: Sink, E: EntryWriter, S: BuildHasher + Drop>(
+    entries: &mut Entries<'_, R, S>,
+    sink: &mut W,
+    writer: &mut E,
+) -> Result<EntryCounts, Error>
+    requires new { E.stands writer.old (E.before []) }
+    requires well { E.going writer.old }
+    requires empty { E.form [] ≡ [] }
+    requires prefixes { KeepsPrefixes E.form }
+    requires fresh { StandsFor R.told entries.old [] [] }
+    requires going { failure_of entries.old ≡ None }
+    ensures ends { EndsWriting E.form E.before E.stands E.going (R.told (source_of entries.old))
+        (W.written sink.old) (R.told (source_of entries.new)) writer.new (W.written sink.new)
+        result }
+    ensures flushes { OnOk result (IsFlushed (W.written sink.new) (W.flushed sink.new)) }
+    ensures read { CountsReads R.failures entries.old entries.new result }
+    ensures write { CountsWriting (W.failures sink.old) (W.failures sink.new) result }
+    ensures same_reference { loan_of entries.new ≡ loan_of entries.old }
+{
+    let mut counts = EntryCounts::new();
+    write_rest(entries, &mut counts, sink, writer)?;
+    match sink.flush_all() {
+        Ok(()) => Ok(counts),
+        Err(_) => Err(Error::Write),
+    }
+}
+
+/// Writes all entries that are left.
+fn write_rest<R: Source, W: Sink, E: EntryWriter, S: BuildHasher + Drop>(
+    entries: &mut Entries<'_, R, S>,
+    counts: &mut EntryCounts,
+    sink: &mut W,
+    writer: &mut E,
+) -> Result<(), Error>
+    requires going { failure_of entries.old ≡ None }
+    requires prefixes { KeepsPrefixes E.form }
+    requires room { counted_steps counts.old + entries_left entries.old ≤ most_entries }
+    ensures over { (first : Told) (old : Option (List ℕ))
+        → IsWriting E.form E.before E.stands E.going R.told first old entries.old writer.old
+        counts.old (W.written sink.old)
+        → WritesToTheEnd E.form E.before E.stands E.going R.told first old entries.new writer.new
+        counts.new
+        (W.written sink.new) result }
+    ensures read { CountsReads R.failures entries.old entries.new result }
+    ensures write { CountsWriting (W.failures sink.old) (W.failures sink.new) result }
+    ensures same_reference { loan_of entries.new ≡ loan_of entries.old }
+{
+    while write_next(entries, counts, sink, writer)? {}
+    Ok(())
+}
+
+/// Writes the next entry. Returns `false` at the end.
+fn write_next<R: Source, W: Sink, E: EntryWriter, S: BuildHasher + Drop>(
+    entries: &mut Entries<'_, R, S>,
+    counts: &mut EntryCounts,
+    sink: &mut W,
+    writer: &mut E,
+) -> Result<bool, Error>
+    requires going { failure_of entries.old ≡ None }
+    requires prefixes { KeepsPrefixes E.form }
+    requires room { counted_steps counts.old + entries_left entries.old ≤ most_entries }
+    ensures goes_on { (first : Told) (old : Option (List ℕ))
+        → IsWriting E.form E.before E.stands E.going R.told first old entries.old writer.old
+        counts.old (W.written sink.old)
+        → WritesOn E.form E.before E.stands E.going R.told first old entries.new writer.new
+        counts.new
+        (W.written sink.new) result }
+    ensures fewer { IfOk result
+        (λ more. IsTrue more → entries_left entries.new < entries_left entries.old) }
+    ensures going { OnOk result (failure_of entries.new ≡ None) }
+    ensures room { IfOk result
+        (λ more. IsTrue more
+        → counted_steps counts.new + entries_left entries.new ≤ most_entries) }
+    ensures read { CountsReads R.failures entries.old entries.new result }
+    ensures write { CountsWriting (W.failures sink.old) (W.failures sink.new) result }
+    ensures same_reference { loan_of entries.new ≡ loan_of entries.old }
+{
+    match entries.next(writer)? {
+        Some(_) => match entries.entry() {
+            Some(entry) => write_one(counts, sink, writer, entry),
+            // An entry was just returned.
+            None => unreachable!(),
+        },
+        None => Ok(false),
+    }
+}
+
+/// Writes the entry, and counts it.
+fn write_one<W: Sink, E: EntryWriter>(
+    counts: &mut EntryCounts,
+    sink: &mut W,
+    writer: &mut E,
+    entry: EntryRef<'_>,
+) -> Result<bool, Error>
+    requires { counted_steps counts.old + 1 < 2 ^ 32 }
+    ensures more { IfOk result IsTrue }
+    ensures few { counted_steps counts.new ≤ counted_steps counts.old + 1 }
+    ensures writes { WritesMore E.form E.before E.stands E.going writer.old writer.new counts.old
+        counts.new entry.entry (W.written sink.old) (W.written sink.new) result }
+    ensures count { CountsWriting (W.failures sink.old) (W.failures sink.new) result }
+    ensures error { IfErr result IsOfWriting }
+{
+    writer.write(counts, sink, entry)?;
+    counts.add(kind_of(entry));
+    Ok(true)
+}

@@ -1,0 +1,92 @@
+-- The names that most proofs of the crate cite, passed on from one place. Declares nothing.
+unfoldable pub use Rattle.procs3.specs.Table.{arguments_of, results_of}
+pub use Rattle.record_mark.proofs.Joins.{joining_runs, record_stops, too_long_stops}
+pub use Rattle.record_mark.proofs.Machines.{Leads, Tells, after-append, after_stopped, counted_runs, counted_stops, last_running-append, leads_within, nested_runs, nested_stops, not_runs, only_stops, ran_before, ran_to, tells}
+pub use Rattle.record_mark.proofs.Words.{IsPart, Joins-snoc, word_leads, word_runs, word_stops}
+pub use Rattle.record_mark.specs.Joining.{Between, Bytes, Header, Joined, Joining, TooLong, Whole, join_next}
+pub use Rattle.record_mark.specs.Machine.{Ends, Goes, Next, Run, Runs, Stopped, Stops, after, landed, last_running, within}
+pub use Rattle.record_mark.specs.RecordMark.{IsFragment, IsOpen, IsRecord, Marks}
+pub use Rattle.record_mark.specs.Taking.{IsRunning, IsWhole, Led, OutOfMemory, Taking, body_of, joined_body, joining_of, released}
+pub use Rattle.record_mark.specs.Word.{IsWord, Joins, word_next}
+unfoldable pub use Rattle.record_mark.specs.Word.{number}
+pub use Rattle.record_mark.specs.WordPart.{bytes_so_far}
+pub use Rattle.record_mark.specs.declared.word_part.WordPart.{WordPart}
+pub use Rattle.rpc_head.specs.MessageStart.{start_items}
+pub use Rattle.rpc_head.specs.Messages.{procedure_in}
+unfoldable pub use Rattle.rpc_head.specs.Messages.{call_layout, call_start, reply_layout, reply_start}
+pub use Rattle.rpc_head.specs.Names.{head_names}
+unfoldable pub use Rattle.rpc_head.specs.Shapes.{call_head, message_start, reply_head}
+pub use Rattle.rpc_head.specs.declared.values.call.ProcId.{ProcId}
+pub use Rattle.rpc_head.specs.declared.values.message_start.MessageStart.{MessageStart}
+pub use Rattle.std.proofs.Common.{Bool, Err, IfOk, List, None, Ok, Option, Result, Some, [], add-one, ap, append-nil, append_assoc, ap₂, arith, cond, drop, eq-eqb, eqb-true, false, get_or, if◌then◌else◌, inl, inr, is_some, le-ltb, length, length-append, length-drop, length-take, lt-ltb, ltb-false, ltb-true, map, nat_eq, nat_lt, ne_eqb, refl, slice_range, subst, suc, sym, take, take-append-drop, take_all, true, vec_len, zero, ℕ, ◌%◌, ◌++◌, ◌+◌, ◌-◌, ◌<◌, ◌==◌, ◌∙◌, ◌∷◌, ◌≡◌, ◌≢◌, ◌≤◌, ◌⊎◌}
+pub use Rattle.std.proofs.Math.Logic.{∥∥₁_elim}
+pub use Rattle.std.proofs.Props.{props}
+pub use Rattle.std.proofs.lemmas.Bool.{eqb-false, false≢true}
+pub use Rattle.std.proofs.lemmas.Grind.{common_steps}
+pub use Rattle.std.proofs.lemmas.List.{append_cancel_left}
+pub use Rattle.std.proofs.lemmas.Option.{slice_get_read}
+pub use Rattle.std.specs.Int.{swap_bytes, w32}
+pub use Rattle.std.specs.List.{concat, slice_get}
+pub use Rattle.std.specs.Prelude.{unwrap_or}
+pub use Rattle.std.specs.Result.{IsErrAnd, result_ok}
+pub use Rattle.xdr3.proofs.Lemmas.Reading.Complete.{complete}
+pub use Rattle.xdr3.proofs.Lemmas.Reading.Items.{length_of_spelling}
+pub use Rattle.xdr3.proofs.Lemmas.Reading.Reasons.{IsOfItem}
+pub use Rattle.xdr3.proofs.Lemmas.Shapes.Layouts.{reads_whole}
+pub use Rattle.xdr3.specs.Item.{AreBytes, Item, Spells, Word}
+unfoldable pub use Rattle.xdr3.specs.Item.{followed_by}
+pub use Rattle.xdr3.specs.Layout.{Layout, RefusesLayout, exactly}
+unfoldable pub use Rattle.xdr3.specs.Layout.{reading_layout}
+pub use Rattle.xdr3.specs.Reading.{refused, ◌>>=◌}
+unfoldable pub use Rattle.xdr3.specs.Reading.{reading}
+unfoldable pub use Rattle.xdr3.specs.Visit.{Adds}
+pub use Rattle.xdr3.specs.declared.reason.GetError.{GetError}
+pub use Rattle.xdr3.specs.declared.reason.Reason.{Reason}
+pub use Rattle.xdr3.specs.declared.reason.Reason.TheVariants.{AfterEnd, BadEnum, BadMagic, BadMark, CaptureCut, NoCall, RecordCut, RecordTooLong, RpcVersion, Short, TooManyBytes, TooManyConnections, Trailing, WrongSide, XidConflict}
+pub use Rattle.xdr3.specs.declared.reason.Stop.{Stop}
+pub use Rattle.capture3.specs.Bodies.{ACall, AReply, AcceptsCall, AcceptsReply, BadCall, BadReply, IsCall, IsReply, LongCall, LongReply, OtherCall, ReplyItems, Starts, Unasked, procedure_of, xid_in}
+pub use Rattle.capture3.specs.BodyProgram.{agreed, agrees, all_of_body, answering, read_whole}
+unfoldable pub use Rattle.capture3.specs.BodyProgram.{judge_call, judge_reply}
+pub use Rattle.capture3.specs.Capture.{AreStreams, IsCapture, IsConnection, One, Two, Version, digit, magic, magic_front, max_connections, total_size}
+pub use Rattle.capture3.specs.Chunks.{AreChunks, BeginsStream, IsChunk, IsStream, max_bytes}
+pub use Rattle.capture3.specs.ConnectionMachine.{Closes, Closing, InClient, InMixed, InServer, Opening, Refuses, client_said, conversing, ending, judge_replies, opened, opening_next, server_said, turning}
+pub use Rattle.capture3.specs.Connections.{BadSide, ConnectionShows, Context, InClientStream, InServerStream, MixedShows, NoLength, ShownFault, StreamsShow, TooMuch, calls_in_turn, client_position, client_refusal, refusal, replies_to, server_position, server_refusal}
+pub use Rattle.capture3.specs.Entry.{End, Entry}
+pub use Rattle.capture3.specs.FileMachine.{Parsing, closed, concluded, emitted, file_next, file_start, last_entries, parsed, reached, verdict, verdict_of}
+pub use Rattle.capture3.specs.FirstFault.{AfterConnections, ByteAfterEnd, ConnectionIsTooMany, DiffersFromMagic, FirstFault, IsClean, MagicDiffers, MarkIsBad, Rule, Shows, WithinConnection}
+pub use Rattle.capture3.specs.Laws.{AreWithinLimits, begins, most_bytes}
+pub use Rattle.capture3.specs.Reached.{AreFirstReached, AreWhole, BetweenConnections, InConnection, InMagic, IsLongestClean, Opens, Reached, ReachesInside}
+pub use Rattle.capture3.specs.Records.{AreMessages, FirstRecordFault, Holds, HoldsSoFar, Judgement, NextIsCut, NextIsTooLong, RecordFault, RefusesNext, StreamShows, fault_at}
+pub use Rattle.capture3.specs.SideMachine.{SideCloses, SideEnd, SideRefuses, Siding, side_next, siding_from}
+pub use Rattle.capture3.specs.SidedChunks.{AreMixed, BeginsMixed, IsSidedChunk, SidedChunk, Streams, carried_by, gathered, of_side, side_word, size, with_more}
+pub use Rattle.capture3.specs.SidedChunksMachine.{MixedCloses, MixedEnd, MixedPoint, MixedRefuses, Mixing, SideChunk, SideLength, SideWord, awaiting_side, measured, mixed_next, mixed_step, mixing_from, sided}
+pub use Rattle.capture3.specs.Sides.{Position, SideShows, file_fault, place_at, place_in}
+pub use Rattle.capture3.specs.StreamMachine.{Faulty, Held, Judge, Reading, StreamEnd, end_of, judged, left_in, recorded, rest_end, stream_end, stream_next, unread}
+pub use Rattle.capture3.specs.Told.{Gave, IsSpent, Told}
+pub use Rattle.capture3.specs.Typed.{Converses, HaveEntries, IsWellFormed, Typed, connection_entries, reply_entry}
+pub use Rattle.capture3.specs.declared.container.Container.{Container}
+pub use Rattle.capture3.specs.declared.container.Cursor.{Cursor}
+pub use Rattle.capture3.specs.declared.container.position.Event.{Event}
+pub use Rattle.capture3.specs.declared.container.position.Event.TheVariants.{Begin}
+pub use Rattle.capture3.specs.declared.container.position.Spot.{Spot}
+pub use Rattle.capture3.specs.declared.container.position.TheConstants.{MAGIC}
+pub use Rattle.capture3.specs.declared.container.position.Transition.{Transition}
+pub use Rattle.capture3.specs.declared.fault.Error.{Error}
+pub use Rattle.capture3.specs.declared.fault.Fault.{Fault}
+pub use Rattle.capture3.specs.declared.fault.Place.TheVariants.{File}
+pub use Rattle.capture3.specs.declared.fault.Side.{Side}
+pub use Rattle.capture3.specs.declared.fault.Side.TheVariants.{Client, Server}
+pub use Rattle.capture3.specs.declared.message.calls.NumberedCall.{NumberedCall}
+pub use Rattle.capture3.specs.declared.reader.entry.Kind.{Kind}
+pub use Rattle.capture3.specs.machinery.Calls.{FindsSame, Puts, found, numbered_calls, with_numbered_call}
+pub use Rattle.capture3.specs.machinery.Container.{AreStored, Arrives, FirstKept, InFirstKept, InNextKept, IsReady, IsStored, Leaves, NextKept, ShowsError, room_in, unpacking_in, unpacking_of}
+pub use Rattle.capture3.specs.machinery.ContainerMachine.{Length, Mark, Mixed, Unpacking, chunk_counted, connection_marked, in_side_chunk, mixed_at, mixed_ended, sides_counted, sides_marked, unpack_next}
+unfoldable pub use Rattle.capture3.specs.machinery.Counting.{home_of}
+pub use Rattle.capture3.specs.machinery.EntriesHistory.{HasRead, StandsFor, Turns, entries_left}
+pub use Rattle.capture3.specs.machinery.EntryParser.{FailsAt, GoesTo, HasCome, IsHeld, MeetsEvent, StandsAt, StandsOrRecalls}
+pub use Rattle.capture3.specs.machinery.FileStanding.{Agrees, EmitsOn, Judged, call_judged, client_entries, connection_begun, connection_closed, emitted_at, parsing_at, parsing_in, reply_judged, resumed, resumed_at, server_entries, turned, with_call, with_reply}
+pub use Rattle.capture3.specs.machinery.KeptStreams.{Recalls, ShowsFirst}
+pub use Rattle.capture3.specs.machinery.Messages.{IsTableOf, results_after}
+pub use Rattle.capture3.specs.machinery.Position.{AreEmpty, IsBeforeMark, IsEndSpot, StoredWith, opened_at, unpacking_at, version_of}
+pub use Rattle.capture3.specs.machinery.SideStart.{side_start}
+pub use Rattle.capture3.specs.machinery.Spelled.{SpellsCall, SpellsReply}

@@ -1,0 +1,17 @@
+use Rattle.listing3.proofs.Common.{◌+◌, ◌%◌, length, ap, refl}
+use Rattle.std.specs.Prelude.{◌^◌}
+use Rattle.xdr3.proofs.Lemmas.Shapes.Walks.{on_err}
+use Rattle.listing3.proofs.Lines.ItemsTexts.{adds_gap, keeps_still, same_text}
+use Rattle.listing3.proofs.items_text.ItemsText.leave_out.Goals as goal
+
+pub returns-clause-ok : goal.returns-clause-ok
+returns-clause-ok c =
+    adds_gap c.args.self.now c.append_name.new.self c.args.name.now c.args.bytes.now _ _ _
+    c.requires.whole c.in_ok-append_name.ensures.ok (ap length c.bytes.ensures) refl
+    (ap (λ n. (c.args.self.now.seen + n) % 2 ^ 64) c.encoded_size.ensures)
+
+pub returns-in_err-append_name-clause-err : goal.returns-in_err-append_name-clause-err
+returns-in_err-append_name-clause-err c =
+    on_err c.from_residual.result
+    (keeps_still c.args.self.now c.append_name.new.self
+    (same_text c.args.self.now.text c.append_name.new.self c.in_err-append_name.ensures.err))

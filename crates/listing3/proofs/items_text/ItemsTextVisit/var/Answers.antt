@@ -1,0 +1,11 @@
+use Rattle.listing3.proofs.Common.{refl, [], ◌∷◌, Opaque}
+use Rattle.xdr3.specs.Item.{Var}
+use Rattle.listing3.proofs.Lines.ItemsTexts.{adds_text, data_size}
+use Rattle.listing3.proofs.items_text.ItemsTextVisit.var.Goals as goal
+
+pub returns-clause-ok : goal.returns-clause-ok
+returns-clause-ok c =
+    adds_text c.args.self.now c.var.new.self _ _
+    (Opaque Var c.args.name.now c.args.bytes.now ∷ [])
+    (data_size Var c.args.name.now c.args.bytes.now c.encoded_size.result c.encoded_size.ensures)
+    c.in_ok-var.ensures.ok refl

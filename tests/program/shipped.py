@@ -1,0 +1,157 @@
+#!/usr/bin/env python3
+"""Tests of the launchers and of dist/, the programs that come with the repository.
+
+    python3 tests/program/shipped.py [PROGRAM] [--only TEXT] [-v]
+
+PROGRAM plays no part. Each test has a copy of the repository as a clone has it, with nothing built, and no `rt` on the PATH. The
+last line is 'N passed, M failed', and the status is 1 if any failed.
+"""
+import hashlib
+import os
+import pathlib
+import re
+import shutil
+import sys
+import tarfile
+import tempfile
+import time
+from collections.abc import Callable
+
+sys.path.insert(0, str(pathlib.Path(__file__).resolve().parents[1] / 'shared'))
+from running import Answer, Runs, ended, try_all, words_of  # noqa: E402
+
+TOP = pathlib.Path(__file__).resolve().parents[2]
+# what the examples' page says of this capture
+NULL = 'ok connections=1 calls=1 replies=1 handles=0\n'
+PROGRAMS = ('nfs3canon', 'nfs3mask')
+
+
+class Clone(Runs):
+    """A copy of the repository in which nothing is built, and runs there."""
+
+    def command(self, *words: str) -> Answer:
+        """Returns what a command ended with. Commands of the toolchain are not found."""
+        places = [place for place in os.environ['PATH'].split(':') if not pathlib.Path(place, 'rt').exists()]
+        return ended(words, self.folder, env={**os.environ, 'PATH': ':'.join([*places, self.path('.commands')])}).text('replace')
+
+    def change(self, name: str) -> None:
+        """Changes a file a little."""
+        self.write(name, (self.read(name) or b'') + b'\n')
+
+
+def checksums() -> dict[str, str]:
+    """Returns what dist/ says of itself."""
+    return dict(line.split(' ', 1) for line in (TOP / 'dist/MADE-OF').read_text().splitlines())
+
+
+def the_first_answer(clone: Clone) -> None:
+    """It comes at once, and the program that gives it is the one whose checksum is there."""
+    begun = time.monotonic()
+    clone.want('check', clone.command('./nfs3canon', 'check', 'examples/null.nfs3cap'), (0, NULL, ''))
+    clone.want('seconds', time.monotonic() - begun < 2, True)
+    clone.want('mask', clone.command('./nfs3mask', 'examples/null.nfs3cap', 'masked')[0], 0)
+    for name in PROGRAMS:
+        found = clone.read(f'crates/{name}/out/{name}') or b''
+        clone.want(name, hashlib.sha256(found).hexdigest(), checksums()[name])
+
+
+def tools_at_once(clone: Clone) -> None:
+    """The tools ask the program that comes with the repository."""
+    status, out, _ = clone.command('tools/verdicts', 'examples/bad_bool.pcap')
+    clone.want('verdicts', (status, 'server record 1 byte 28: BadBool, frame 5' in out), (1, True))
+
+
+def a_changed_source(clone: Clone) -> None:
+    """The program that comes with the repository does not stand for other sources: it is proved and built, which takes `rt`."""
+    for name in ('crates/xdr3/src/lib.rt', 'crates/canon3/specs/Rank.antt', 'crates/line3/proofs/Lib.antt', 'crates.txt'):
+        was = clone.read(name)
+        clone.change(name)
+        status, out, error = clone.command('./nfs3canon', 'check', 'examples/null.nfs3cap')
+        clone.want(name, (status, out, 'proving and building' in error, 'rt' in error), (1, '', True, True))
+        clone.write(name, was or b'')
+    clone.want('changed back', clone.command('./nfs3canon', 'check', 'examples/null.nfs3cap'), (0, NULL, ''))
+
+
+def a_source_that_plays_no_part(clone: Clone) -> None:
+    """Test crates and pages are not what the programs are made of."""
+    clone.change('crates/message_tests/src/lib.rt')
+    clone.change('README.md')
+    clone.want('check', clone.command('./nfs3canon', 'check', 'examples/null.nfs3cap'), (0, NULL, ''))
+
+
+def asked_to_prove(clone: Clone) -> None:
+    """`--prove` does not take what comes with the repository."""
+    status, out, error = clone.command('./nfs3canon', '--prove', 'check', 'examples/null.nfs3cap')
+    clone.want('prove', (status, out, 'proving and building' in error), (1, '', True))
+
+
+def a_damaged_program(clone: Clone) -> None:
+    """A file that is not the one whose checksum is there is not run."""
+    other = clone.read('dist/nfs3mask.xz')
+    for content in (b'', b'no program', other or b''):
+        clone.write('dist/nfs3canon.xz', content)
+        status, out, error = clone.command('./nfs3canon', 'check', 'examples/null.nfs3cap')
+        clone.want('damaged', (status, out, 'cannot be unpacked' in error), (1, '', True))
+        clone.want('what is left', os.listdir(clone.path('crates/nfs3canon/out')), [])
+
+
+def checked(clone: Clone) -> Answer:
+    """Returns what `dev/dist --check` says in the clone."""
+    return ended(['dev/dist', '--check'], clone.folder).text()
+
+
+def a_stale_folder(clone: Clone) -> None:
+    """dev/dist --check refuses a folder that was made of other sources, a damaged one, and none."""
+    for name in PROGRAMS:
+        os.makedirs(clone.path(f'crates/{name}/out'))
+        shutil.copy2(TOP / f'crates/{name}/out/{name}', clone.path(f'crates/{name}/out/{name}'))
+    clone.want('as it is', checked(clone)[::2], (0, ''))
+    clone.write('crates/nfs3mask/out/nfs3mask', b'another')
+    clone.want('another program', checked(clone), (1, '', 'dev/dist: dist/nfs3mask.xz is not the program that was built here\n'))
+    clone.change('crates/xdr3/src/lib.rt')
+    clone.want('stale', checked(clone), (1, '', 'dev/dist: dist/ is not made of these sources: run dev/dist\n'))
+    shutil.rmtree(clone.path('dist'))
+    clone.want('none', checked(clone), (1, '', 'dev/dist: dist/ is not made: run dev/dist\n'))
+
+
+def another_kit(clone: Clone) -> None:
+    """Programs that another kit made may differ in their bytes, so they are not compared, and that is said."""
+    made = (clone.read('dist/MADE-OF') or b'').decode()
+    clone.write('dist/MADE-OF', re.sub('^kit .*', 'kit another', made, flags=re.M).encode())
+    status, out, error = checked(clone)
+    clone.want('check', (status, out.count('could not be compared'), error), (0, 2, ''))
+
+
+def what_was_built_here(clone: Clone) -> None:
+    """dist/ of this repository is made of its sources, and has the programs that were built here."""
+    clone.want('dist', ended(['dev/dist', '--check'], TOP, limit=None).text()[::2], (0, ''))
+
+
+def a_release(clone: Clone) -> None:
+    """A release has the bytes of dist/, also from a clone in which nothing is built."""
+    os.mkdir(clone.path('release'))
+    clone.want('release', clone.command('tools/release', 'release')[::2], (0, ''))
+    for archive in pathlib.Path(clone.path('release')).glob('*.tar.xz'):
+        with tarfile.open(archive) as tar:
+            for name in PROGRAMS:
+                file = tar.extractfile(f'{archive.name.removesuffix(".tar.xz")}/libexec/nfs3canon/{name}')
+                clone.want(name, file and hashlib.sha256(file.read()).hexdigest(), checksums()[name])
+
+
+TESTS: tuple[Callable[[Clone], None], ...] = (
+    the_first_answer, tools_at_once, a_changed_source, a_source_that_plays_no_part, asked_to_prove, a_damaged_program, a_stale_folder,
+    another_kit, what_was_built_here, a_release)
+
+
+def tried(program: str, test: Callable[[Clone], None]) -> list[str]:
+    """What is wrong in a test, which has a clone of its own."""
+    with tempfile.TemporaryDirectory(prefix='nfs3canon') as folder:
+        top = pathlib.Path(folder, 'clone')
+        shutil.copytree(TOP, top, symlinks=True, ignore=shutil.ignore_patterns('out', '.git', '__pycache__'))
+        clone = Clone(program, str(top))
+        test(clone)
+        return clone.wrong
+
+
+if __name__ == '__main__':
+    try_all(words_of(__doc__), [(test.__name__, tried, test) for test in TESTS], 4)

@@ -1,0 +1,307 @@
+#!/usr/bin/env python3
+"""Tests that the pages, the examples and the sources agree: commands and their answers, counts, names, links, rooms of definitions.
+
+    python3 tests/sources/agreement.py [PROGRAM] [--only TEXT] [-v]
+
+PROGRAM is crates/nfs3canon/out/nfs3canon if none is named. The last line is 'N passed, M failed', and the status is 1
+if any failed.
+"""
+import os
+import pathlib
+import re
+import runpy
+import shutil
+import subprocess
+import sys
+from typing import NamedTuple
+
+sys.path.insert(0, str(pathlib.Path(__file__).resolve().parents[1] / 'shared'))
+import call_trees  # noqa: E402
+import crate_pages  # noqa: E402
+import pages  # noqa: E402
+from rows import rows_of  # noqa: E402
+from rooms import (crowded_folders, in_the_wrong_room, long_lines, of_private_fields, of_several_meanings, of_two_files,  # noqa: E402
+                   scans_without_values)
+from running import Answer, ended, program_named, try_all, words_of  # noqa: E402
+from scripts import TOP, Tools, tried  # noqa: E402
+import messages  # noqa: E402
+from messages import NFS, call, success  # noqa: E402
+
+README = (TOP / 'README.md').read_text()
+EXAMPLES = (TOP / 'examples/README.md').read_text()
+
+
+class Command(NamedTuple):
+    """A command line of a page, and the lines that it prints."""
+    line: str
+    printed: list[str]
+
+
+def console_of(text: str) -> list[Command]:
+    """The commands in the console blocks of a page."""
+    found = list[Command]()
+    for block in re.findall(r'^```console\n(.*?)^```$', text, re.M | re.S):
+        for line in block.splitlines():
+            if line.startswith('$ '):
+                found.append(Command(line[2:], []))
+            else:
+                found[-1].printed.append(line)
+    return found
+
+
+def is_printed(wanted: list[str], printed: list[str]) -> bool:
+    """Whether these lines are printed. A line `..` stands for any lines, and `..` at the end of a line for any rest of it."""
+    if not wanted:
+        return not printed
+    if wanted[0] == '..':
+        return any(is_printed(wanted[1:], printed[at:]) for at in range(len(printed) + 1))
+    if not printed:
+        return False
+    is_line = printed[0].startswith(wanted[0][:-2]) if wanted[0].endswith('..') else printed[0] == wanted[0]
+    return is_line and is_printed(wanted[1:], printed[1:])
+
+
+def commands_of_the_pages(tools: Tools) -> None:
+    """Each command of the top README and of that of the examples is run, in order, and prints the lines below it. The status is told by
+    what is printed."""
+    commands = console_of(README) + console_of(EXAMPLES)
+    tools.want('commands', (len(console_of(README)), len(commands)), (4, 13))
+    for command, wanted in commands:
+        here = {'/tmp/': tools.folder + '/', './nfs3canon': tools.program, './nfs3mask': program_named('nfs3mask', tools.program)}
+        words = command
+        for word, local in here.items():
+            words = words.replace(word, local)
+        words = re.sub(r'^tools/(verdicts|compare|procedures) ', r'tools/\1 --program %s ' % tools.program, words)
+        _, out, _ = ended(['sh', '-c', words], TOP, stderr=subprocess.STDOUT, limit=None).text()
+        printed = out.splitlines()
+        tools.want(command, 'as written' if is_printed(wanted, printed) else printed, 'as written')
+
+
+def contract_of_the_readme(tools: Tools) -> None:
+    """The clause and the definition that the README quotes are in the files that it names."""
+    quoted = re.search(r'^```text\n( *ensures .*?)\n\n(.*?)^```$', README, re.M | re.S)
+    files = re.findall(r'\(`(crates/[^`]*\.(?:rt|antt))`\)', README)
+    tools.want('a clause and a definition', (quoted is not None, len(files)), (True, 2))
+    for file, piece in zip(files, quoted.groups() if quoted else ()):
+        tools.want(file, piece in (TOP / file).read_text(), True)
+
+
+def lines_for_many_captures(tools: Tools) -> None:
+    """The README's lines without a comment, but `./test`, and the line of the manual for GNU parallel, which is run if it is there,
+    check the examples."""
+    parallel = re.findall(r'^parallel .*$', (TOP / 'man/verdicts.1').read_text().replace('\\-', '-'), re.M)
+    lines = [line.strip() for line in README.splitlines() if line.startswith('    ') and line.strip().startswith(('./', 'tools/'))] + parallel
+    tools.want('lines', [line.split()[0] for line in lines], ['./test', 'tools/verdicts', 'parallel'])
+    version = ['sh', '-c', 'parallel --version 2>&1 </dev/null']
+    here = {'tools/verdicts': 'tools/verdicts --program ' + tools.program, 'host1,host2': ':', '/opt/nfs3canon': str(TOP),
+            'runs/': 'examples/'}
+    last = {'tools/verdicts': ['13 ok, 0 in part, 7 refused, 0 errors'],
+            'parallel': [f'{ok} ok, 0 in part, {refused} refused, 0 errors' for ok, refused in
+                         [(0, 1)] * 4 + [(1, 1)] + [(12, 0)] * 3 + [(3, 0)] * 3]}
+    for line in lines[1:]:
+        if line.startswith('parallel') and b'GNU' not in ended(version, TOP).out:
+            continue
+        for word, local in here.items():
+            line = line.replace(word, local)
+        status, out, _ = ended(['sh', '-c', line], TOP, stderr=subprocess.DEVNULL, limit=None).text()
+        found = sorted(told for told in out.splitlines() if told.endswith(' errors'))
+        tools.want(line, (found, status), (last[line.split()[0]], 5 if line.startswith('parallel') else 1))
+
+
+def rows_of_the_examples() -> list[tuple[str, str, str]]:
+    """Of each capture and wrong recording of examples/README.md its name, what is printed of it, and the status."""
+    return re.findall(r'^\| `(\w+\.\w+)` \| .* \| `([^`]*)` \| (\d) \|$', (TOP / 'examples/README.md').read_text(), re.M)
+
+
+def examples_are_used(tools: Tools) -> None:
+    """Each file of examples/ is checked by its row there, is run or imported by examples_are_made_alike, or is in a command line of
+    a page that is run."""
+    used = {name for name, _, _ in rows_of_the_examples()} | {'README.md', 'make.py', 'messages.py', 'packets.py'}
+    used |= {name for command, _ in console_of(README + EXAMPLES) for name in re.findall(r'examples/(\w+\.\w+)', command)}
+    there = {path.name for path in (TOP / 'examples').iterdir()} - {'__pycache__'}
+    tools.want('files', sorted(there), sorted(used))
+
+
+def answers_of_the_examples(tools: Tools) -> None:
+    """Each capture of examples/ stands in its README with what `check` prints, each wrong recording with the verdict on its last
+    connection, and no other file does."""
+    rows, there = rows_of_the_examples(), [*(TOP / 'examples').glob('*.nfs3cap'), *(TOP / 'examples').glob('bad_*.pcap')]
+    tools.want('files', sorted(name for name, _, _ in rows), sorted(path.name for path in there))
+    for name, line, status in rows:
+        path = str(TOP / 'examples' / name)
+        if name.endswith('.pcap'):
+            found, out, error = tools.tool('verdicts', '--program', tools.program, path)
+            tools.want(name, (out.splitlines()[-2].endswith(line) and error, found), ('', int(status)))
+        else:
+            found, out, error = tools.run('check', path)
+            tools.want(name, (out + error, found), (line + '\n', int(status)))
+
+
+def examples_are_made_alike(tools: Tools) -> None:
+    """examples/make.py writes the captures and the wrong recordings that are there."""
+    for name in ('make.py', 'messages.py', 'packets.py'):
+        shutil.copy(TOP / 'examples' / name, tools.folder)
+    tools.want('make.py', ended([sys.executable, 'make.py'], tools.folder, limit=None), (0, b'', b''))
+    for path in [*(TOP / 'examples').glob('*.nfs3cap'), *(TOP / 'examples').glob('bad_*.pcap')]:
+        tools.want(path.name, tools.read(path.name), path.read_bytes())
+
+
+def pages_agree(tools: Tools) -> None:
+    """The reasons have the same names in docs/FORMATS.md, the man page and tools/explain, each has a row in captures.rows, and the
+    dumps are the bytes of a NULL call and its reply in both versions."""
+    formats = (TOP / 'docs/FORMATS.md').read_text()
+    reasons = re.findall(r'^\| \d+ \| `(\w+)` \|', formats, re.M)
+    tools.want('reasons', len(reasons), 19)
+    tools.want('man page', re.findall(r'^(\w+)\|', (TOP / 'man/nfs3canon.1').read_text(), re.M), reasons)
+    tools.want('explain', re.findall(r"'([A-Z]\w+)': ", (TOP / 'tools/explain').read_text()), reasons)
+    told = {row['line'].rpartition(' ')[2] for _, row in rows_of('captures.rows') if not row['line'].startswith('ok ')}
+    tools.want('rows', sorted(told), sorted(reasons))
+    rows = re.findall(r'^\| (\d+) \| ((?:[0-9a-f]{8} ?)+) \|', formats, re.M)
+    second = next(number for number, (at, _) in enumerate(rows) if number and at == '0')
+    null = [call(0xdeadbeef, NFS, 3, 0)], [success(0xdeadbeef)]
+    for dump, capture in ((rows[:second], messages.capture(null)), (rows[second:], messages.interleaved(messages.in_turn(*null)[::-1]))):
+        tools.want('dump', bytes.fromhex(''.join(words for _, words in dump)), capture)
+        sizes = [len(bytes.fromhex(words)) for _, words in dump]
+        tools.want('places of the dump', [int(at) for at, _ in dump], [sum(sizes[:at]) for at in range(len(sizes))])
+    if shutil.which('man'):
+        for page in (TOP / 'man').iterdir():
+            tools.want('warnings of ' + page.name, ended(['man', '--warnings', '-l', str(page)], TOP).error, b'')
+
+
+def pages_of_the_tools(tools: Tools) -> None:
+    """Each tool for recordings has a page of the manual with all its options, and prints its help."""
+    for name in ('from_pcap', 'where', 'verdicts', 'procedures', 'compare', 'explain', 'cut'):
+        page = (TOP / 'man' / (name + '.1')).read_text().replace('\\-', '-')
+        status, out, error = tools.tool(name, '--help')
+        tools.want('help of ' + name, (status, error, 'The status is 0' in out), (0, '', True))
+        options = set(re.findall(r'(?<![\w-])--?[a-z][a-z-]*', out.partition('options:')[2])) - {'-h', '--help', '--version', '-w', '-dc'}
+        tools.want('options of ' + name, sorted(option for option in options if option not in page), [])
+
+
+def believed(tools: Tools, *words: str) -> Answer:
+    return ended([str(TOP / 'dev/believed'), *words], tools.folder).text()
+
+
+def what_is_believed(tools: Tools) -> None:
+    """docs/PROOFS.md has the counts of dev/believed, which prints each definition once."""
+    rows = re.findall(r'^\| `(\w+::\w+)` \| \d+ \| [\d,]+ \| \d+ \|$', (TOP / 'docs/PROOFS.md').read_text(), re.M)
+    tools.want('calls', rows, ['nfs3canon::answered', 'canon3::check', 'canon3::canon', 'canon3::same', 'listing3::show', 'masking3::mask', 'packing3::Packing',
+                               'nfs3canon::run_check', 'program3::run_rewriting', 'nfs3canon::run_pack', 'nfs3mask::answered'])
+    counted = believed(tools, '--count', *rows)
+    tools.want('counts', (counted[0], counted[1] in (TOP / 'docs/PROOFS.md').read_text(), counted[2]), (0, True, ''))
+    for name, row in zip(rows, counted[1].splitlines()):
+        status, out, error = believed(tools, name)
+        heads = re.findall(r'^(?:  )?(?:abbrev pub|unfoldable pub|pub record|pub data) ', out, re.M)
+        tools.want(name, (status, error, len(heads)), (0, '', int(row.split()[3])))
+        tools.want('the count of ' + name, out.splitlines()[-1].split()[0], row.split()[3])
+    told = believed(tools, 'canon3::check')[1]
+    for name in ('Typed', 'FirstFault', 'IsSummary', 'status_words', 'Shape', 'in_window', 'handles', 'CountsReading'):
+        tools.want(name, len(re.findall(r'^ *(?:abbrev|unfoldable|pub) .*\b%s\b.* :' % name, told, re.M)) > 0, True)
+    for name in ('StandsFor', 'HoldsLast', 'Tallies'):
+        tools.want(name + ', which proofs use', name in told, False)
+    tools.want('a call that is not there', believed(tools, 'canon3::absent')[0], 1)
+
+
+def rooms_stand_apart(tools: Tools) -> None:
+    """What public calls believe, and machinery; each definition and each file of a crate has a name of its own; no folder of proofs is
+    crowded; and clauses are short and name no private field."""
+    tools.want('rooms', in_the_wrong_room(), [])
+    tools.want('names', of_several_meanings(), [])
+    tools.want('private fields in clauses', of_private_fields(), [])
+    tools.want('long lines of clauses', long_lines(), [])
+    tools.want('folders with too many files', crowded_folders(), [])
+    tools.want('files of machinery with the name of another', of_two_files(), [])
+    tools.want('scans without values', scans_without_values(), [])
+
+
+def pages_are_plain(tools: Tools) -> None:
+    """No sentence, bullet or section of a page is too long."""
+    tools.want('pages', pages.long_ones(), [])
+
+
+def tables_are_whole(tools: Tools) -> None:
+    """No row of a table stands outside it, and each row has the cells of its head."""
+    table = '| a | b |\n|---|--:|\n| 1 | 2 |\n'
+    for text, wrong in ((table, 0), (table + '| 3 | 4 \\| 5 |\n', 0), (table + '\n| 3 | 4 |\n| 5 | 6 |\n', 2), ('| 3 | 4 |\n\n' + table, 1),
+                        (table + '| 3 |\n', 1), (table + '| 3 | 4 | 5 |\n', 1), ('```\n| 3 | 4 |\n```\n', 0), (table + 'text\n| 3 | 4 |\n', 1)):
+        tools.want(text, len(pages.rows_outside_tables(text)), wrong)
+    tools.want('tables', pages.broken_tables(), [])
+
+
+def names_lead_somewhere(tools: Tools) -> None:
+    """Links and paths on the pages lead to files and headings."""
+    text = '# A head, `so`\n'
+    for more, wrong in (('[a](README.md)', 0), ('[a](#a-head-so)', 0), ('`crates/NAME/src`', 0), ('`crates/xdr3/specs/Shape`', 0), ('[a](NO.md)', 1),
+                        ('[a](#another)', 1), ('[a](README.md#another)', 1), ('`tests/absent.py`', 1)):
+        tools.want(more, len(pages.not_there(text + more, TOP)), wrong)
+    tools.want('names', pages.dead_names(), [])
+
+
+def trees_are_of_the_code(tools: Tools) -> None:
+    """Each function in a call tree of docs/ARCHITECTURE.md is in its file, and calls those below it."""
+    page = (TOP / 'docs/ARCHITECTURE.md').read_text()
+    tools.want('trees', len(list(call_trees.trees(page))), 2)
+    tools.want('calls', call_trees.calls_not_there(page), [])
+    planted = (('Entries::finish', 'Entries::failure', ['Entries::turn does not call Entries::failure',
+                                                        'Entries::failure does not call EntryParser::end']),
+               ('Position::take_mark                      capture3/src/container/position.rt', 'Position::take_mark',
+                ['Position::take_mark is not in capture3/src/container.rt']))
+    for old, new, wrong in planted:
+        tools.want(f'{new} for {old}', call_trees.calls_not_there(page.replace(old, new, 1)), wrong)
+
+
+PROMISES = re.compile(r'^## What is proved\n(.*?)(?=^## |\Z)', re.M | re.S)  # of the page of a crate
+
+
+def promises() -> dict[str, str]:
+    """Returns what is promised on the pages of the crates."""
+    texts = {path.parent.name: path.read_text() for path in sorted((TOP / 'crates').glob('*/README.md'))}
+    return {crate: found[1] for crate, text in texts.items() if (found := PROMISES.search(text))}
+
+
+def what_is_not_proved(tools: Tools) -> None:
+    """Each promise that is marked N on the page of its crate is in the list of docs/PROOFS.md of what is not proved."""
+    rows = re.findall(r'^\| ([^|:.;]*)[^|]*\|[^|]*\| N \|$', '\n'.join(promises().values()), re.M)
+    told = (TOP / 'docs/PROOFS.md').read_text().partition('## Not proved and not tested')[2].partition('\n## ')[0]
+    tools.want('rows', len(rows), 2)
+    for row in rows:
+        tools.want(row, row[0].lower() + row[1:] in told, True)
+
+
+def bugs_are_counted(tools: Tools) -> None:
+    """The page of each crate has the number of its must-fail edits; that of nfs3canon counts those of nfs3mask, too."""
+    counts = {path.parent.name: len(list(path.glob('*.edit'))) for path in (TOP / 'crates').glob('*/must-fail')}
+    counts['nfs3canon'] += counts.pop('nfs3mask')
+    found = {crate: re.findall(r'must refuse the (\d+) bugs', text) for crate, text in promises().items()}
+    tools.want('bugs', found, {crate: [str(count)] for crate, count in sorted(counts.items())})
+
+
+def clauses_of_each_function(tools: Tools) -> None:
+    """dev/api gives a function its own clauses: those before its body, or before the semicolon that no bracket encloses."""
+    members = runpy.run_path(str(TOP / 'dev/api'))['members']
+    lines = ['pub trait T {', '    fn first(&self, place: &u8) -> bool;', '', '    fn second(&self) -> u8', '        ensures one { x }',
+             '        ensures two { record { a = 1; b = 2;', '          c = 3 } };', '    fn third(&self) {', '    }', '    fn fourth(',
+             '        &self,', '    ) -> u8', '        ensures { x };', '}']
+    found = [(item.name, item.clauses) for item in members('T', lines, 0, True)]
+    tools.want('clauses', found, [('T::first', []), ('T::second', ['one', 'two']), ('T::third', []), ('T::fourth', ['ensures'])])
+
+
+def pages_of_the_crates(tools: Tools) -> None:
+    """Each library has a page, which quotes proved code and names files that exist; and the page of what they export is current."""
+    tools.want('crates without a page', crate_pages.without_a_page(), [])
+    tools.want('code that no proved caller has', crate_pages.not_quoted(), [])
+    tools.want('files that are not there', crate_pages.files_not_there(), [])
+    tools.want('docs/API.md is what dev/api prints', crate_pages.exports_are_current(), True)
+
+
+TESTS = [commands_of_the_pages, contract_of_the_readme, lines_for_many_captures, examples_are_used, answers_of_the_examples, examples_are_made_alike, pages_agree, pages_of_the_tools,
+         what_is_believed, rooms_stand_apart, pages_are_plain, tables_are_whole, names_lead_somewhere, trees_are_of_the_code, what_is_not_proved, bugs_are_counted,
+         clauses_of_each_function, pages_of_the_crates]
+
+
+def main() -> None:
+    try_all(words_of(__doc__), [(test.__name__, tried, test) for test in TESTS], os.cpu_count() or 2)
+
+
+if __name__ == '__main__':
+    main()

@@ -1,0 +1,267 @@
+"""Compares two ordinary runs: are they the same but for what two runs never share, and if not, what differs.
+
+    tools/compare [--mask CLASS,..] [--order strict|any] [--ignore PROCEDURE.FIELD,..] [--marks PATTERN] [--all] [--brief] [--html FILE]
+                  [--json FILE] [--junit FILE] A B
+
+A and B are recordings (pcap, pcapng; a pattern in quotes names the parts of one) or captures. Values that each run has its own
+of are masked first: of the classes below, those marked with a star by default. What is masked is always printed. Then
+`nfs3canon same` compares the masked captures, up to a renaming of xids, file handles and write verifiers: `same` is its word, and
+how many calls were compared follows it. If bytes are missing from a recording, equal runs are `same in part`, and what is missing
+is told.
+
+If the runs differ, calls are brought together over all connections and in any order. If nothing else than the order differs, they are
+`same in another order`: that is the word of `nfs3canon same` on both runs in the order of the first. File ids are zero then (and the
+class wcc, if that is not enough), and calls that only ask (GETATTR, LOOKUP ..) and that one run alone has are left out; all that is
+told. Otherwise each difference is printed as `diff` would: which call, which field and whose (`dir after.size`), both values, and the
+frames. Of values of over 60 characters it is the bytes round the first that differs. Messages of one procedure that differ in the same
+way are printed once, with their number. --brief prints a line for each.
+
+--order strict tries no other order. With --order any the status of `same in another order` is 0. --extra none leaves out no calls.
+
+--mask times,ids masks these classes alone, --mask +owners one more, --mask=-times one less, --mask none nothing; NAME=zero and
+NAME=number say how. --ignore NFSPROC3_GETATTR.obj.nlink,*.eof leaves fields out of what is printed and written of the differences, by
+their labels, or by the name of items, as `nlink`, whose ever they are; the verdict is that of the mask all the same.
+
+--marks compares the parts of a test run one by one, each as a run of its own. A part begins with a call of LOOKUP, CREATE or MKDIR whose
+name fits PATTERN (of the shell, as 'test_*'), and has that name. It has the calls that were sent up to the next mark, over all connections,
+and their replies. What is before the first mark is a part, too. A line for each part has its verdict. Then come the findings of those that
+differ, and last how many parts have which verdict. The status is 1 if a part differs, or is in one run alone.
+
+--junit writes a test case for the verdict, which fails if the status is 1, and then one that fails for each difference. Runs that cannot
+be compared are a case with an error.
+
+FILE is written beside its name, and gets it once it is whole. It is refused if it is an input, or begins as a recording or a
+capture. The status is 0 if the runs are the same under the mask (with --allow-losses also in part), 1 if they differ or are the
+same in part or in another order, 2 if a recording, a capture, FILE or the command line is refused, 3 if a file, a program or memory
+failed.
+"""
+import argparse
+import os
+import re
+import sys
+import tempfile
+from collections import Counter
+from contextlib import ExitStack
+from pathlib import Path
+from typing import NamedTuple
+
+from ..reporting import pages, summing, telling
+from ..comparison.classes import CLASSES, in_any_order, mask_word, told
+from ..comparison.comparing import Compared, Framing, Run
+from ..comparison.deciding import judged, run_of
+from ..comparison.ignoring import ignored_of, without
+from .messages import REFUSED, add_losses, add_options, advice_on, options_of, parser_of
+from ..comparison.orders import Choices
+from ..shared.outputs import check_output, held, write_file
+from ..reporting.pages import Content, Recorded
+from ..comparison.pairing import ASKING
+from ..comparison.part_by_part import PartByPart
+from ..recordings.parts import files_of
+from ..shared.places import Place, parse_fault
+from ..shared.printed import escaped
+from ..shared.programs import CHECKED, program_path, run_program
+from ..reporting.reports import Report, Size, json_of, json_of_parts, junit_of, junit_of_error, junit_of_parts
+from ..recordings.selection import count
+from ..comparison.shown import Around
+from ..recordings.taken import NotTaken, Taken, take
+from ..comparison.trial import Trial
+
+SAME, DIFFERENT = range(2)
+COUNTS = re.compile(r'ok connections=(\d+) calls=(\d+) ')
+FINDINGS_AT_MOST = 20
+AROUND = Around(3, pages.SHOWN_AT_MOST)  # on a page
+
+
+class Ended(Exception):
+    """The comparison cannot go on; its text is the message for the user."""
+
+    def __init__(self, status: int, text: str) -> None:
+        super().__init__(text)
+        self.status = status
+
+
+def classes_told() -> str:
+    """The classes of values, those masked by default with a star."""
+    rows = [f'  {one.name + ("*" if one.is_default else ""):<13} {one.way.value:<7} {one.meaning}' for one in CLASSES]
+    return '\n'.join(['classes of values:', *rows])
+
+
+def words_of(words: list[str]) -> argparse.Namespace:
+    parser = parser_of(__doc__, 'compare')
+    parser.epilog = classes_told()
+    parser.add_argument('--mask', type=mask_word, metavar='CLASS,..', help='the classes of values to mask')
+    parser.add_argument('--order', choices=('strict', 'any'), help='whether the order of calls counts; by default any is tried second')
+    parser.add_argument('--extra', choices=('asking', 'none'), default='asking',
+                        help='what is left out in any order if one run alone has it: calls that ask and change nothing, or none')
+    parser.add_argument('--ignore', type=ignored_of, action='extend', default=[], metavar='PROCEDURE.FIELD,..',
+                        help='fields that are left out of the explanation; * is any procedure')
+    parser.add_argument('--marks', metavar='PATTERN',
+                        help='compares the parts that begin at calls of LOOKUP, CREATE and MKDIR whose name fits a pattern of the shell')
+    parser.add_argument('--all', action='store_true',
+                        help=f'prints each finding by itself; by default, equal ones are one, and {FINDINGS_AT_MOST} are printed')
+    parser.add_argument('--brief', action='store_true', help='prints a line for each finding')
+    parser.add_argument('--html', metavar='FILE', help='writes a page for a browser with what differs and the calls around it')
+    parser.add_argument('--json', metavar='FILE', help='writes the verdict and all findings as JSON')
+    parser.add_argument('--junit', metavar='FILE', help='writes the verdict and the findings as JUnit XML')
+    add_options(parser)
+    add_losses(parser, 'same in part')
+    parser.add_argument('--program', help='the program, if it is not the one of this folder')
+    parser.add_argument('first', metavar='A')
+    parser.add_argument('second', metavar='B')
+    chosen = parser.parse_args(words)
+    if chosen.marks is not None and chosen.html:
+        parser.error('--html is not for parts: --marks has --json and --junit')
+    return chosen
+
+
+def tell(name: str, taken: Taken) -> None:
+    """Prints what is missing from a recording, and what is left out of it."""
+    lines = [*taken.notes, *(f'connection {connection.number} {note}' for connection in taken.connections for note in connection.notes),
+             *(f'left out: {line}' for line in taken.left_out)]
+    for line in lines:
+        print(f'{escaped(name)}: {line}', file=sys.stderr)
+
+
+def checked(program: str, taken: Taken, capture: str, name: str) -> Size:
+    """Returns how much there is. Ends with the fault, and its frame, if the capture is refused."""
+    answer = run_program(program, ['check', capture], CHECKED)
+    counts = COUNTS.match(answer.out)
+    if answer.status == 0 and counts:
+        return Size(int(counts[2]), int(counts[1]))
+    line = answer.error.strip()
+    fault = parse_fault(line)
+    frames = taken.frames(fault.place)[:1] if fault and isinstance(fault.place, Place) else []
+    raise Ended(REFUSED, f'{escaped(name)}: {line}' + ''.join(f' (frame {frame.number})' for frame in frames))
+
+
+def recorded_of(taken: Taken, name: str) -> Recorded:
+    files = files_of(name)
+    is_known = all(os.path.isfile(file) for file in files)
+    return Recorded(sum(map(os.path.getsize, files)) if is_known else None, taken.ends(), taken.parts)
+
+
+def write_page(path: str, inputs: list[str], content: Content) -> None:
+    write_file(path, (piece.encode(errors='backslashreplace') for piece in pages.page(content)), inputs)
+
+
+def losses_of(first: Taken, second: Taken) -> str:
+    """What is missing from both runs, or nothing."""
+    lost = (('first', first.missing), ('second', second.missing))
+    return ', '.join(f'{count(missing, "byte")} missing from the {name} run' for name, missing in lost if missing)
+
+
+class Whole(NamedTuple):
+    """Both runs as they were taken, checked and written as captures."""
+    names: list[str]
+    inputs: list[str]  # their files
+    taken: list[Taken]
+    trial: Trial
+    sizes: list[Size]
+    runs: list[Run]
+
+    def framings(self) -> list[Framing]:
+        return [run.frames for run in self.runs]
+
+
+def compared_runs(words: argparse.Namespace, stack: ExitStack) -> int:
+    program = program_path(words.program)
+    names = [words.first, words.second]
+    inputs = [file for name in names for file in files_of(name)]
+    for path in [path for path in (words.html, words.json, words.junit) if path]:
+        check_output(path, inputs)
+    with held():
+        folder = Path(stack.enter_context(tempfile.TemporaryDirectory(prefix='nfs3canon')))
+    runs = [stack.enter_context(take(name, options_of(words))) for name in names]
+    trial = Trial(program, folder, runs)
+    for taken, name in zip(runs, names):
+        tell(name, taken)
+    sizes = [checked(program, *one) for one in zip(runs, trial.captures, names)]
+    whole = Whole(names, inputs, runs, trial, sizes, [run_of(trial, *one) for one in zip(runs, trial.captures, names)])
+    masks = in_any_order(words.mask)
+    print(f'masked: {told(masks[0])}', flush=True)
+    choices = Choices(words.order, masks, frozenset() if words.extra == 'none' else ASKING, AROUND if words.html else None)
+    is_same = (compared_whole if words.marks is None else compared_by_parts)(words, whole, choices, losses_of(*runs))
+    return SAME if is_same else DIFFERENT
+
+
+def compared_whole(words: argparse.Namespace, whole: Whole, choices: Choices, losses: str) -> bool:
+    """Compares the runs as wholes. Returns whether they are the same."""
+    said = judged(whole.trial, whole.runs, whole.sizes, choices)
+    line = said.line(choices, whole.sizes[0], losses)
+    print(line, flush=True)
+    is_good = said.is_same and (words.allow_losses or not losses)
+    report = said.report(choices, whole.names, whole.sizes, (whole.taken[0].missing, whole.taken[1].missing))
+    explain(words, whole, line, report, said.found.compared, is_good)
+    return is_good
+
+
+def explain(words: argparse.Namespace, whole: Whole, line: str, report: Report, found: Compared, is_good: bool) -> None:
+    """Writes and prints what differs between two runs."""
+    compared, left_out = without(found, words.ignore)
+    if words.junit:
+        findings = compared.findings if is_told(words, report) else []
+        write_file(words.junit, [junit_of(line, report, findings, whole.framings(), is_good)], whole.inputs)
+    if words.html:
+        recorded = [recorded_of(*one) for one in zip(whole.taken, whole.names)]
+        write_page(words.html, whole.inputs, Content(line, report, compared, words.ignore, left_out, whole.runs, recorded))
+    if words.json:
+        write_file(words.json, json_of(report, compared, left_out, whole.framings()), whole.inputs)
+    print_found(words, whole, report, compared, left_out)
+
+
+def is_told(words: argparse.Namespace, report: Report) -> bool:
+    """Whether findings are told. Those that do not count in another order are if all are asked for."""
+    return report.same_under is None or bool(words.all)
+
+
+def print_found(words: argparse.Namespace, whole: Whole, report: Report, compared: Compared, left_out: Counter[tuple[str, str]]) -> None:
+    if report.verdict == 'same':
+        return
+    if is_told(words, report):
+        first, second = whole.framings()
+        for text in telling.of_compared(compared, first, second, None if words.all else FINDINGS_AT_MOST, left_out, words.brief):
+            print(text)
+    print(summing.of_compared(compared))
+
+
+def compared_by_parts(words: argparse.Namespace, whole: Whole, choices: Choices, losses: str) -> bool:
+    """Compares the parts that begin at marks. Returns whether all are the same."""
+    parts = PartByPart(whole.trial, whole.names, whole.runs, words.marks, choices).reports(words.ignore)
+    for part in parts:
+        print(part.line)
+    counts = '' if words.allow_losses else losses
+    if words.junit:
+        write_file(words.junit, [junit_of_parts(whole.names, counts, parts, whole.framings())], whole.inputs)
+    if words.json:
+        missing = [taken.missing for taken in whole.taken]
+        write_file(words.json, json_of_parts(words.marks, missing, parts, whole.framings()), whole.inputs)
+    for part in parts:
+        if part.report and part.report.verdict != 'same' and is_told(words, part.report):
+            print(part.label)
+            print_found(words, whole, part.report, part.compared, part.left_out)
+    if losses:
+        print(f'compared in part: {losses}')
+    print(summing.of_parts([part.word() for part in parts]))
+    return not counts and all(part.is_good for part in parts)
+
+
+def write_error(words: argparse.Namespace, message: str) -> None:
+    """Writes for those who read JUnit XML that the runs could not be compared."""
+    if words.junit:
+        names = [words.first, words.second]
+        write_file(words.junit, [junit_of_error(names, message)], [file for name in names for file in files_of(name)])
+
+
+def main(words: list[str]) -> int:
+    chosen, stack = words_of(words), ExitStack()
+    try:
+        return compared_runs(chosen, stack)
+    except Ended as end:
+        write_error(chosen, str(end))
+        print(end, file=sys.stderr)
+        return end.status
+    except NotTaken as refused:
+        write_error(chosen, advice_on(refused, 'compare'))
+        raise
+    finally:
+        stack.close()

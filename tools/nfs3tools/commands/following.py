@@ -1,0 +1,486 @@
+"""Judges the connections of a recording while it is made: each once it is closed, and open ones again and again, to see faults early.
+
+A connection that is open is judged in sections. The program is given all whole records of the section each time that it has twice the
+bytes, and in turn with the others. Once a section has 8 MiB and no fault, it is forgotten, but for the calls without a reply, which are
+put before the next section. So little is kept of a connection that is open for days.
+"""
+import collections
+import contextlib
+import dataclasses
+import itertools
+import os
+import select as waits
+import signal
+import stat
+import time
+import typing
+
+from ..captures.container import Streamed, capture_of
+from .judging import HEADS, Before, State, Verdict, error_of, of_left_out, row_of, status_of_states, sums_of_counts, tell_notes, verdict_of
+from ..recordings.kinds import MAGICS
+from .messages import advice_on, words_of
+from ..shared.outputs import held
+from ..shared.printed import escaped
+from ..shared.programs import CHECKED, Died, run_program
+from ..recordings.frames import NANOSECONDS, Frame, NoRecording, Recording, Source, opened
+from ..recordings.records import Window, end_of_whole, xids
+from ..recordings.segments import ACK, RST, Segment, Segments
+from ..recordings.selection import Kept, Options, Selected, select
+from ..recordings.streams import Connection, Connections, Spool, Stored, Stream
+from ..recordings.taken import NotTaken, Taken, TakenStream, add, notes_of, taken_connection, whole
+from ..recordings.unpacking import Damaged
+
+FIRST_SIZE = 1 << 16  # bytes of a section that is judged for the first time, if it has not had its turn before
+SECTION = 8 << 20  # bytes of a section that is forgotten once it is judged
+KEPT_AT_MOST = 8 * SECTION  # bytes of a connection; then it is judged as at the end
+CARRIED_AT_MOST = 32 << 20  # bytes of calls without a reply that are put before a section, in the temporary file
+CALLS_AT_MOST = 16_384  # the number of these calls
+HELD_BY_ALL = 12 << 20  # bytes behind gaps
+OPEN_AT_MOST = 2_048  # connections; the one without segments for the longest time is judged as at the end
+REMEMBERED = 1_024  # connections that were judged, whose last segments are no new connection
+BETWEEN_TURNS = NANOSECONDS // 4
+WAITING = NANOSECONDS  # from the first new bytes to a turn
+LATE = 10 * NANOSECONDS  # after which the missing bytes of a closed connection do not come any more
+LATE_FRAMES = 10_000  # the same
+LOOK_EVERY = 1_000  # frames
+READ_AT_ONCE = 1 << 16
+IDLE = 1.0  # seconds without input, after which all that is new is judged
+POLL = 0.1  # seconds between looks at a file that grows
+WIDTHS = (9, 10, 21, 21, 9, 9, 0)  # of the columns
+
+
+# --- The input ---
+
+class Growing:
+    """Bytes of a file that grows, as they come. None come after the end, or once `wakes` can be read. `idle` is called after each second
+    without any."""
+
+    def __init__(self, number: int, wakes: int, is_waited_for: bool, idle: typing.Callable[[], None]) -> None:
+        self.number, self.wakes, self.is_waited_for, self.idle = number, wakes, is_waited_for, idle
+
+    def read(self, size: int, /) -> bytes:
+        """Raises `Damaged` if the file cannot be read."""
+        since, wait = time.monotonic(), IDLE
+        while True:
+            ready = waits.select([self.wakes, *([] if wait == POLL else [self.number])], [], [], wait)[0]
+            if self.wakes in ready:
+                return b''
+            if ready or wait == POLL:
+                piece = self.piece(min(size, READ_AT_ONCE))
+                if piece or not self.is_waited_for:
+                    return piece
+                wait = POLL
+            if time.monotonic() >= since + IDLE:
+                self.idle()
+                since = time.monotonic()
+
+    def piece(self, size: int) -> bytes:
+        try:
+            return os.read(self.number, size)
+        except OSError as failed:
+            raise Damaged(failed.strerror or str(failed)) from failed
+
+
+@contextlib.contextmanager
+def ended_by_signals() -> typing.Iterator[int]:
+    """SIGINT and SIGTERM are told by what can be read from the number of a pipe. The next one ends the tool."""
+    reader, writer = os.pipe()
+    before = {number: signal.getsignal(number) for number in (signal.SIGINT, signal.SIGTERM)}
+
+    def stop(*_: object) -> None:
+        restore()
+        os.write(writer, b'\0')
+
+    def restore() -> None:
+        for number, handler in before.items():
+            signal.signal(number, handler)
+
+    try:
+        for number, handler in before.items():
+            if handler is not signal.SIG_IGN:
+                signal.signal(number, stop)
+        yield reader
+    finally:
+        restore()
+        os.close(reader)
+        os.close(writer)
+
+
+# --- Connections that are open ---
+
+@dataclasses.dataclass
+class Open:
+    """A connection that is not judged for good.
+
+    number: from 1 in the order of first bytes, 0 if nothing of it is taken yet
+    before: what was judged of it and is forgotten; `carried` and `known` have the calls without a reply among that, and their xids
+    next_size: how many bytes its section has when it is judged again
+    doubted: a fault that may go away, since the call of a reply may come yet
+    sent: how many bytes each end had sent when the connection was reset, as far as that segment shows
+    walked: up to where the stored bytes of each end were seen to be whole records, after that
+    """
+    connection: Connection
+    number: int = 0
+    before: Before = Before()
+    carried: Stored | None = None
+    known: frozenset[int] = frozenset()
+    next_size: int = dataclasses.field(default_factory=lambda: FIRST_SIZE)
+    doubted: str | None = None
+    is_reset: bool = False
+    sent: list[int] = dataclasses.field(default_factory=lambda: [0, 0])
+    walked: list[int] = dataclasses.field(default_factory=lambda: [0, 0])
+    time: int = 0
+    frame: int = 0
+
+    @property
+    def size(self) -> int:
+        """The bytes of its section."""
+        return sum(stream.stored.size - stream.begin for stream in self.connection.streams)
+
+    @property
+    def is_complete(self) -> bool:
+        """Whether it is closed by both sides or reset, and no byte is missing. A segment that resets it need not show all that was
+        sent, but a record of which the end is missing does."""
+        if not self.connection.is_closed or self.lacks:
+            return False
+        if not self.is_reset:
+            return all(stream.end is not None for stream in self.connection.streams)
+        return all(stream.next >= sent for stream, sent in zip(self.connection.streams, self.sent)) and self.has_whole_records()
+
+    @property
+    def lacks(self) -> bool:
+        """Whether bytes that may come yet are missing."""
+        return any(stream.held.begins or stream.gap_at_end() for stream in self.connection.streams)
+
+    def has_whole_records(self) -> bool:
+        """Whether no stream ends inside a record, as far as it is known where its records begin."""
+        for end, stream in enumerate(self.connection.streams):
+            if stream.is_begin and len(stream.runs) == 1:
+                begin = max(self.walked[end], stream.begin)
+                self.walked[end] = end_of_whole(Window(stream.stored), begin, stream.stored.size)
+                if self.walked[end] < stream.stored.size:
+                    return False
+        return True
+
+    def reset(self, side: int, segment: Segment) -> None:
+        """Takes the segment by which an end resets the connection. It has the numbers of the next bytes of both ends."""
+        self.is_reset = True
+        for end, sequence in ((side, segment.sequence), *([(1 - side, segment.acknowledged)] if segment.flags & ACK else [])):
+            stream = self.connection.streams[end]
+            position = stream.position(sequence)
+            if stream.first is not None and stream.is_likely(position):
+                self.sent[end] = max(self.sent[end], position if stream.end is None else min(position, stream.end))
+
+    def is_over(self, midstream: bool) -> bool:
+        """Whether nothing that comes can be of use: without --midstream after bytes that are missing for good, or if the beginning is."""
+        streams = self.connection.streams
+        return self.size > KEPT_AT_MOST or not midstream and (
+            any(stream.runs and (stream.runs[0].gap or len(stream.runs) > 1) for stream in streams)
+            or self.size >= FIRST_SIZE and not any(stream.is_begin for stream in streams))
+
+    def client_stream(self, client: TakenStream) -> Streamed:
+        """The stream of a section, after the calls that have no reply in earlier ones."""
+        if self.carried is None:
+            return client
+        return Joined([TakenStream(self.carried, None, whole(self.carried)), client])
+
+
+class Joined:
+    """Streams one after the other."""
+
+    def __init__(self, streams: list[TakenStream]) -> None:
+        self.streams, self.size = streams, sum(stream.size for stream in streams)
+
+    def blocks(self) -> typing.Iterator[bytes]:
+        """Iterates over the bytes of each in order."""
+        return itertools.chain.from_iterable(stream.blocks() for stream in self.streams)
+
+
+class Following:
+    """Takes the frames of a recording, and calls `say` with each verdict as soon as it is known."""
+
+    def __init__(self, recording: str, program: str, options: Options, say: typing.Callable[[Verdict], None]) -> None:
+        self.recording, self.program, self.options, self.say = recording, program, options, say
+        self.segments, self.connections = Segments(), Connections(True, HELD_BY_ALL)
+        self.open: dict[int, Open] = {}
+        self.judged: collections.OrderedDict[int, Connection] = collections.OrderedDict()
+        self.waiting: dict[int, int] = {}  # since when a connection has bytes that are not judged
+        self.taken = self.numbered = self.next_turn = self.next_look = self.looked = 0
+
+    def take(self, frame: Frame) -> None:
+        segment = self.segments.segment(frame)
+        if segment is not None:
+            self.take_segment(segment, frame.number, frame.time)
+        if self.waiting and frame.time >= self.next_turn:
+            self.give_turn(frame.time)
+        if frame.time >= self.next_look or frame.number >= self.looked + LOOK_EVERY:
+            self.look_round(frame.number, frame.time)
+
+    def take_segment(self, segment: Segment, number: int, time: int) -> None:
+        before = self.connections.sides.get(segment.key)
+        connection = self.connections.take(segment, number, time, True)
+        if before and before[0] is not connection:
+            self.end(before[0].number)
+        if connection.is_judged:
+            self.judged.move_to_end(connection.number)
+            return
+        one = self.open.get(connection.number) or self.begin(connection, number)
+        one.time, one.frame = time, number
+        if segment.payload:
+            self.grown(one)
+        if segment.flags & RST:
+            one.reset(self.connections.sides[segment.key][1], segment)
+        if connection.is_closed and not connection.is_judged and one.is_complete:
+            self.end(connection.number)
+
+    def begin(self, connection: Connection, number: int) -> Open:
+        one = self.open[connection.number] = Open(connection, frame=number)
+        if len(self.open) > OPEN_AT_MOST:
+            self.end(min(self.open.values(), key=lambda other: other.frame).connection.number)
+        return one
+
+    def grown(self, one: Open) -> None:
+        """Gives a connection its number with its first bytes, and judges it if its section has grown enough."""
+        if not one.number and any(stream.stored.size and (self.options.midstream or stream.is_begin) for stream in one.connection.streams):
+            self.give_number(one)
+        if one.is_over(self.options.midstream):
+            self.end(one.connection.number)
+        elif one.size >= one.next_size:
+            self.judge(one)
+        else:
+            self.waiting.setdefault(one.connection.number, one.time)
+
+    def give_number(self, one: Open) -> None:
+        self.numbered += 1
+        one.number = self.numbered
+
+    def give_turn(self, time: int) -> None:
+        """Judges the connection that waits for the longest time, if it does for a second."""
+        number, since = next(iter(self.waiting.items()))
+        if not since <= time < since + WAITING:
+            one = self.open[number]
+            self.judge(one)
+            self.next_turn = time + BETWEEN_TURNS * (1 + one.size // (SECTION // 2))
+
+    def judge_waiting(self) -> None:
+        """Judges all connections that have new bytes."""
+        for number in list(self.waiting):
+            self.judge(self.open[number])
+
+    def look_round(self, number: int, time: int) -> None:
+        """Judges the connections that are closed, and whose missing bytes have not come."""
+        self.next_look, self.looked = time + NANOSECONDS, number
+        for one in list(self.open.values()):
+            is_late = not one.time <= time < one.time + LATE or number >= one.frame + LATE_FRAMES
+            if one.connection.is_closed and is_late:
+                self.end(one.connection.number)
+
+    # --- Judging ---
+
+    def judge(self, one: Open) -> None:
+        """Judges the whole records of a section. A fault is the verdict on the connection, unless the call of a reply may come yet."""
+        self.waiting.pop(one.connection.number, None)
+        one.next_size = one.size + SECTION // 8 if one.size >= SECTION else min(max(2 * one.size, FIRST_SIZE), SECTION)
+        is_begun = all(stream.is_begin for stream in one.connection.streams if stream.stored.size)
+        if one.lacks or not one.number or not is_begun and one.size < FIRST_SIZE:
+            return
+        selected = select(one.connection, self.options._replace(whole_records=False), one.known, goes_on=True)
+        streams = streams_of(one.connection, selected)
+        for stream, kept in zip(streams, selected.kept):
+            cut_to_whole(stream, kept)
+        if not any(kept.ranges for kept in selected.kept):
+            return
+        verdict = self.verdict(one, selected)
+        if verdict.state in ('ok', 'in part'):
+            one.doubted = None
+            if one.size >= SECTION and all(map(is_sure_of_end, streams, selected.kept)):
+                self.tell(one, verdict)
+                forget_section(one, selected, verdict, self.connections.spool)
+        elif verdict.reason == 'NoCall' and one.doubted != verdict.place:
+            one.doubted = verdict.place
+            self.waiting[one.connection.number] = one.time
+        else:
+            self.conclude(one, verdict._replace(notes=[]))
+
+    def tell(self, one: Open, verdict: Verdict) -> None:
+        """Tells what is missing from a section that is forgotten, or was left out of it."""
+        for note in verdict.notes:
+            self.say(Verdict(self.recording, one.number, state='note', message=note))
+
+    def verdict(self, one: Open, selected: Selected) -> Verdict:
+        """The verdict on what is selected of a section, after what was judged before."""
+        begin, taken = time.monotonic(), Taken(self.connections.spool, True, True)
+        if one.before == Before() and not any(kept.ranges for kept in selected.kept):
+            add(taken, one.connection, selected, self.options)
+            return of_left_out(self.recording, taken.left_out[0])
+        connection = taken_connection(1, one.connection, selected)
+        taken.connections.append(connection)
+        pair = one.client_stream(connection.client), connection.server
+        with held():  # so that an interrupt from the keyboard does not reach the program
+            answer = run_program(self.program, ['check', '/dev/stdin'], CHECKED, capture_of([pair]))
+        verdict = verdict_of(self.recording, taken, connection, answer, one.before)
+        return verdict._replace(connection=one.number, notes=connection.notes, seconds=time.monotonic() - begin)
+
+    def end(self, number: int) -> None:
+        """Judges a connection of which nothing more comes."""
+        one = self.open.get(number)
+        if one is None:
+            return
+        for stream in one.connection.streams:
+            stream.finish()
+        selected = select(one.connection, self.options, one.known)
+        if not one.number and any(kept.ranges for kept in selected.kept):
+            self.give_number(one)
+        self.conclude(one, self.verdict(one, selected))
+
+    def conclude(self, one: Open, verdict: Verdict) -> None:
+        """Keeps nothing of a connection but that it was judged."""
+        connection = one.connection
+        self.say(verdict)
+        self.taken += verdict.connection is not None
+        del self.open[connection.number]
+        self.waiting.pop(connection.number, None)
+        connection.is_judged = True
+        for stream in connection.streams:
+            stream.close()
+        if one.carried:
+            one.carried.close()
+        self.judged[connection.number] = connection
+        if len(self.judged) > REMEMBERED:
+            self.connections.forget(self.judged.popitem(last=False)[1])
+
+    def finish(self) -> None:
+        """Judges all connections that are open."""
+        for number in list(self.open):
+            self.end(number)
+
+
+def streams_of(connection: Connection, selected: Selected) -> tuple[Stream, Stream]:
+    """The streams of the client and of the server."""
+    return connection.streams[selected.client], connection.streams[1 - selected.client]
+
+
+def cut_to_whole(stream: Stream, kept: Kept) -> None:
+    """Leaves out the record that is not whole yet."""
+    if kept.ranges:
+        begin, end = kept.ranges.pop()
+        end = end_of_whole(Window(stream.stored), begin, end)
+        kept.ranges += [(begin, end)] if end > begin else []
+
+
+def is_sure_of_end(stream: Stream, kept: Kept) -> bool:
+    """Whether it is known where the last record of a stream ends."""
+    if not stream.runs or not kept.ranges:
+        return not stream.runs or stream.is_begin and len(stream.runs) == 1
+    return kept.ranges[-1][0] >= stream.runs[-1].begin
+
+
+def forget_section(one: Open, selected: Selected, verdict: Verdict, spool: Spool) -> None:
+    """Forgets what was judged of a section, but for the calls without a reply."""
+    connection, streams = one.connection, streams_of(one.connection, selected)
+    client, server = (TakenStream(stream.stored, None, kept.ranges) for stream, kept in zip(streams, selected.kept))
+    earlier = [TakenStream(one.carried, None, whole(one.carried))] if one.carried else []
+    calls, left_out = without_reply([*earlier, client], server)
+    carried = Stored(spool)
+    for taken, low, high in calls:
+        carried.append(taken.read(low, high - low))
+    one.known = frozenset(xid for _, xid, _ in xids(Window(carried), 0, carried.size))
+    if one.carried:
+        one.carried.close()
+    one.carried = carried
+    one.before = Before(verdict.calls or 0, verdict.replies or 0, verdict.missing, len(calls))
+    connection.client = selected.client
+    for stream, kept in zip(streams, selected.kept):
+        if stream.runs:
+            begin = kept.ranges[-1][1] if kept.ranges else stream.begin
+            stream.conflicts = stream.conflict = 0  # which are told
+            stream.drop(end_of_whole(Window(stream.stored), begin, stream.stored.size))
+    streams[0].lacks |= left_out
+    one.next_size = one.size + FIRST_SIZE
+
+
+Call = tuple[TakenStream, int, int]  # where it begins and ends in a stream
+
+
+def without_reply(streams: list[TakenStream], server: TakenStream) -> tuple[list[Call], bool]:
+    """The last calls of those that have fewer replies than their xid has calls, as many as are kept, and whether others are left out."""
+    replies = collections.Counter(xid for _, xid, _ in xids(Window(server), 0, server.size))
+    calls, is_any_left_out = collections.deque[Call](maxlen=CALLS_AT_MOST), False
+    for stream in streams:
+        for extent, xid, _ in xids(Window(stream), 0, stream.size):
+            if replies.get(xid, 0):
+                replies[xid] -= 1
+            else:
+                is_any_left_out |= len(calls) == CALLS_AT_MOST
+                calls.append((stream, extent.begin, extent.end))
+    sizes = itertools.accumulate(end - begin for _, begin, end in reversed(calls))
+    number = sum(1 for _ in itertools.takewhile(lambda size: size <= CARRIED_AT_MOST, sizes))
+    return list(calls)[len(calls) - number:], is_any_left_out or number < len(calls)
+
+
+# --- The command ---
+
+class Lines:
+    """Prints a line for each verdict as it comes, and counts them."""
+
+    def __init__(self) -> None:
+        self.counts: collections.Counter[State] = collections.Counter()
+        self.print(HEADS)
+
+    def say(self, verdict: Verdict) -> None:
+        tell_notes([verdict])
+        self.counts[verdict.state] += 1
+        if verdict.state not in ('skipped', 'note'):
+            self.print(row_of(verdict))
+
+    def print(self, cells: tuple[str, ...]) -> None:
+        print('  '.join(cell.ljust(width) for cell, width in zip(cells, WIDTHS)), flush=True)
+
+
+def follow(recording: str, program: str, options: Options, allows_losses: bool) -> int:
+    """Judges a recording while it is made, and returns the status of the tool."""
+    lines = Lines()
+    following = Following(recording, program, options, lines.say)
+    try:
+        with contextlib.closing(following.connections.spool), opened_for_following(recording) as file, ended_by_signals() as wakes:
+            is_waited_for = recording != '-' and stat.S_ISREG(os.fstat(file.fileno()).st_mode)
+            take_all(following, Growing(file.fileno(), wakes, is_waited_for, following.judge_waiting))
+    except NotTaken as refused:
+        lines.say(error_of(recording, advice_on(refused, 'verdicts')))
+    except Died as died:
+        raise Died(f'{escaped(recording)}: {died}') from died
+    print(sums_of_counts(lines.counts))
+    return status_of_states(lines.counts, allows_losses)
+
+
+@contextlib.contextmanager
+def opened_for_following(path: str) -> typing.Iterator[typing.IO[bytes]]:
+    """Opens a recording. Raises `NotTaken` if it cannot be opened."""
+    with contextlib.ExitStack() as stack:
+        try:
+            file = stack.enter_context(opened(path))
+        except OSError as failed:
+            raise NotTaken(words_of(failed)) from failed
+        yield file
+
+
+def take_all(following: Following, growing: Growing) -> None:
+    """Takes the frames of a recording up to its end, and tells what is wrong with it."""
+    try:
+        source = Source(growing)
+        if source.peek(8) in MAGICS:
+            raise NotTaken('it is a capture, and only a recording can be followed')
+        recording = Recording(source)
+    except NoRecording as refused:
+        raise NotTaken(str(refused), refused.packed_by) from refused
+    except Damaged as damaged:
+        raise NotTaken(str(damaged)) from damaged
+    for frame in recording.frames():
+        following.take(frame)
+    following.finish()
+    for note in [*notes_of(following.segments), *([recording.cut] if recording.cut else [])]:
+        following.say(Verdict(following.recording, state='note', message=note))
+    if recording.damage:
+        following.say(error_of(following.recording, recording.damage))
+    elif not following.taken:
+        following.say(error_of(following.recording, 'no connection to judge'))

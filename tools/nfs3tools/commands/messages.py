@@ -1,0 +1,202 @@
+"""How the tools speak and end: messages on standard error, a status, and never a traceback."""
+import argparse
+import os
+import re
+import signal
+import sys
+import typing
+
+from ..shared.outputs import ENDING, Refused
+from ..shared.places import NoPlace
+from ..shared.printed import escaped, printable
+from ..shared.programs import Died, FilterRefused, Missing
+from ..recordings.selection import Options
+from ..recordings.taken import NotTaken, Taken
+from ..shared.version import version
+
+ABSENT, REFUSED, FAILED, INTERRUPTED = 1, 2, 3, 130  # ABSENT: no such place
+
+
+INSTALLED = 'nfs3-'  # begins the names under which the tools are installed
+# How a tool reads a recording from standard input.
+READING = {'from_pcap': '- OUT', 'where': '- PLACE', 'explain': '- PLACE', 'verdicts': '-', 'procedures': '-', 'cut': '- PLACE OUT'}
+
+
+def run(name: str, main: typing.Callable[[list[str]], int]) -> int:
+    """Runs a tool with the words of its command line, and returns its status: 2 if an input or an output is refused, 3 if a file, a
+    device, a program or memory fails, also one of the standard streams."""
+    try:
+        end_by_signals()
+        status = status_of(name, main)
+        ignore_signals()
+    except KeyboardInterrupt:
+        status = INTERRUPTED
+    drop_unwritten()
+    return status
+
+
+def status_of(name: str, main: typing.Callable[[list[str]], int]) -> int:
+    closed = [named for named, stream in (('standard output', sys.stdout), ('standard error', sys.stderr)) if stream is None]
+    occupy_closed_streams()
+    if closed:
+        return ended(name, f'{closed[0]} is closed', FAILED)
+    try:
+        status = exit_status(main)
+        flush_all()
+        return status
+    except NotTaken as refused:
+        return ended(name, advice_on(refused, name), REFUSED)
+    except (NoPlace, Missing, FilterRefused, Refused) as refused:
+        return ended(name, str(refused), REFUSED)
+    except BrokenPipeError:
+        return FAILED
+    except OSError as failed:
+        return ended(name, words_of(failed), FAILED)
+    except Died as died:
+        return ended(name, str(died), FAILED)
+    except MemoryError:
+        return ended(name, 'out of memory', FAILED)
+
+
+def exit_status(main: typing.Callable[[list[str]], int]) -> int:
+    """The status of a tool, which may end while its command line is read."""
+    try:
+        return main(sys.argv[1:])
+    except SystemExit as end:
+        return end.code if isinstance(end.code, int) else 0
+
+
+# --- The standard streams ---
+
+def occupy_closed_streams() -> None:
+    """Makes sure that no other file gets the number of a standard stream. Standard input that is closed cannot be read."""
+    while (number := os.open(os.devnull, os.O_WRONLY)) <= 2:
+        pass
+    os.close(number)
+    for stream, number in (('stdin', 0), ('stdout', 1), ('stderr', 2)):
+        if getattr(sys, stream) is None:
+            setattr(sys, stream, open(number, 'w' if number else 'r', closefd=False))
+
+
+def flush_all() -> None:
+    """Raises `OSError`, with the name of the stream, if what was printed cannot be written."""
+    for stream, named in ((sys.stdout, 'standard output'), (sys.stderr, 'standard error')):
+        try:
+            stream.flush()
+        except BrokenPipeError:
+            raise
+        except OSError as failed:
+            raise OSError(failed.errno, failed.strerror, named) from failed
+
+
+def drop_unwritten() -> None:
+    """Leaves nothing that Python would try to write at its end, and then tell of in its own way."""
+    for stream in (sys.stdout, sys.stderr):
+        try:
+            stream.flush()
+        except OSError:
+            os.dup2(os.open(os.devnull, os.O_WRONLY), stream.fileno())
+
+
+def end_by_signals() -> None:
+    """The tool ends by these signals as after a failure, unless whoever started it has them ignored."""
+    for number in ENDING:
+        if signal.getsignal(number) is not signal.SIG_IGN:
+            signal.signal(number, interrupted)
+
+
+def advice_on(refused: NotTaken, name: str) -> str:
+    """Why a file is not taken, and what to type if it is compressed: for the tool that was called, by the name by which it was."""
+    if not refused.packed_by:
+        return str(refused)
+    called, unpack = os.path.basename(sys.argv[0]), f'{refused.packed_by} -dc'
+    tool = called if called.startswith(INSTALLED) else f'tools/{name}'
+    line = f'{unpack} FILE | {tool} {READING[name]}' if name in READING else f'{tool} <({unpack} A) <({unpack} B)'
+    return f'{refused}: decompress it first, as in `{line}`'
+
+
+def interrupted(*_: object) -> None:
+    ignore_signals()
+    raise KeyboardInterrupt
+
+
+def ignore_signals() -> None:
+    """Those that come while the tool ends change nothing."""
+    for number in ENDING:
+        signal.signal(number, signal.SIG_IGN)
+
+
+# --- Messages ---
+
+def words_of(failed: OSError) -> str:
+    """What failed, with the name of the file if there is one."""
+    words = failed.strerror or str(failed)
+    return f'{escaped(os.fsdecode(failed.filename))}: {words}' if isinstance(failed.filename, (str, bytes)) and failed.filename else words
+
+
+def ended(name: str, message: str, status: int) -> int:
+    """Prints how a tool ends, and returns its status, which is another if that cannot be printed."""
+    try:
+        print(f'{name}: {printable(message)}', file=sys.stderr, flush=True)
+    except OSError:
+        return FAILED
+    return status
+
+
+class Parser(argparse.ArgumentParser):
+    """A parser of command lines that repeats no control characters, and fails if it cannot print."""
+
+    def error(self, message: str) -> typing.NoReturn:
+        super().error(printable(message))
+
+    def _print_message(self, message: str, file: typing.IO[str] | None = None) -> None:
+        (file or sys.stderr).write(message)
+
+
+def parser_of(text: str | None, words: str) -> argparse.ArgumentParser:
+    """A parser of command lines, whose help is the text of a module. A tool that is called by the name under which it is installed has that
+    name in it, and so have the others."""
+    called = os.path.basename(sys.argv[0])
+    if called.startswith(INSTALLED):
+        text, words = re.sub(r'\btools/(\w+)', lambda found: installed_name(found[1]), text or ''), called
+    parser = Parser(prog=words, description=text, formatter_class=argparse.RawDescriptionHelpFormatter)
+    parser.add_argument('--version', action='version', version=f'{words} {version()}')
+    return parser
+
+
+def installed_name(tool: str) -> str:
+    """Returns the name under which a tool is installed: plain names as `where` and `compare` are others' as well."""
+    return INSTALLED + tool.replace('_', '-')
+
+
+def add_options(parser: argparse.ArgumentParser) -> None:
+    """The options of how a recording is taken."""
+    parser.add_argument('--filter', metavar='FILTER', help='takes the connections for which a display filter of Wireshark is true')
+    parser.add_argument('--midstream', action='store_true',
+                        help='takes connections whose beginning or end was not recorded, and goes on after missing bytes')
+    parser.add_argument('--whole-records', action='store_true', help='ends each stream after its last whole record')
+
+
+def add_losses(parser: argparse.ArgumentParser, words: str) -> None:
+    """The option that takes runs in part as whole ones."""
+    parser.add_argument('--allow-losses', action='store_true', help=f'takes `{words}` as the status 0')
+
+
+def options_of(chosen: argparse.Namespace) -> Options:
+    return Options(chosen.midstream, chosen.whole_records, chosen.filter)
+
+
+def lines_of(taken: Taken) -> list[str]:
+    """What is told of a recording: a line for each connection that is taken or left out, and for what is missing."""
+    lines = [*taken.notes]
+    for connection in taken.connections:
+        sizes = f'{connection.client.size} and {connection.server.size} bytes'
+        lines.append(f'connection {connection.number}: {connection.ends}: client {connection.client_end} {connection.why}, {sizes}')
+        lines += [f'connection {connection.number} {note}' for note in connection.notes]
+    return lines + [f'left out: {line}' for line in taken.left_out]
+
+
+def tell(taken: Taken) -> None:
+    """Prints that on standard error."""
+    for line in lines_of(taken):
+        print(line, file=sys.stderr)

@@ -1,0 +1,226 @@
+"""Judges each connection of recordings and captures by itself.
+
+    tools/verdicts [--junit FILE] [--json FILE] [-j N] RECORDING|CAPTURE ..
+    tcpdump -i any -U -w - port 2049 | tools/verdicts --follow -
+
+Each connection is a capture of its own, which `nfs3canon check` judges, so a fault in one hides nothing of another. Printed is
+a table with a row for each: the recording, the connection's number and ends, its calls and replies, and the verdict: `ok`, or
+the place and reason of its first fault with the frame that carries it. If bytes of the connection are missing from the recording,
+the verdict is `ok in part`, with the calls that were judged and the bytes that are missing. What is missing, and which connections
+are left out, is told on standard error. A recording that cannot be read has a row, too, and the others are judged still.
+
+The recordings are taken as by `tools/from_pcap` (--midstream, --whole-records, --filter, patterns in quotes for the parts of one
+recording); `-` is standard input. --junit writes the verdicts as JUnit XML, as Jenkins and GitLab take it, and --json as a list
+with an object for each row and for each note on a recording. N recordings are judged at once, as many as there are processors if
+it is not said.
+
+--follow judges one recording while it is made: `-`, a fifo or a file that grows. The line of a connection is printed once it is closed,
+or once a fault of it is seen; at the end, or at SIGINT or SIGTERM, the others are judged. The manual page says when a fault is seen.
+
+FILE is written beside its name, and gets it once it is whole. It is refused if it is an input, or begins as a recording or a
+capture. The status is 0 if all are ok (with --allow-losses also if they are ok in part), 1 if one is not, 2 if the command line
+or FILE is refused or the program is missing, 3 if FILE cannot be written or a program died.
+"""
+import concurrent.futures
+import contextlib
+import functools
+import json
+import os
+import signal
+import sys
+import time
+import typing
+import xml.etree.ElementTree
+
+from .following import follow
+from .judging import HEADS, Verdict, error_of, of_left_out, row_of, status_of, sums_of, tell_notes, told, verdict_of
+from .messages import add_losses, add_options, advice_on, options_of, parser_of, words_of
+from ..shared.outputs import check_output, write_file
+from ..recordings.parts import files_of
+from ..shared.places import Place, parse_fault
+from ..shared.printed import columns, escaped, printable
+from ..shared.programs import CHECKED, Died, FilterRefused, Missing, program_path, run_program
+from ..recordings.selection import Options
+from ..recordings.taken import NotTaken, Taken, TakenConnection, take
+
+CONNECTIONS_AT_ONCE = 32  # of a recording
+Look = typing.Callable[[Taken, list[Verdict]], object]
+
+
+class Judge(typing.NamedTuple):
+    """How recordings are judged: by which program, taken how, and how many connections at once."""
+    program: str
+    options: Options
+    at_once: int
+    shows_progress: bool
+
+    def verdicts(self, recording: str, look: Look | None = None) -> list[Verdict]:
+        """The verdicts on a recording or capture. What cannot be read is an error among them. `look` is called with them and with what
+        is taken."""
+        try:
+            with take(recording, self.options, shows_progress=self.shows_progress) as taken:
+                verdicts = self.of_taken(recording, taken)
+                if look:
+                    look(taken, verdicts)
+                return verdicts
+        except NotTaken as refused:
+            return [error_of(recording, advice_on(refused, 'verdicts'))]
+        except (FilterRefused, Missing) as refused:
+            return [error_of(recording, str(refused))]
+        except OSError as failed:
+            return [error_of(recording, words_of(failed))]
+        except Died as died:
+            raise Died(f'{escaped(recording)}: {died}') from died
+        except MemoryError:
+            return [error_of(recording, 'out of memory')]
+
+    def of_taken(self, recording: str, taken: Taken) -> list[Verdict]:
+        with concurrent.futures.ThreadPoolExecutor(self.at_once) as threads:
+            verdicts = list(threads.map(functools.partial(self.of_connection, recording, taken), taken.connections))
+        verdicts += [of_left_out(recording, left_out) for left_out in taken.left_out]
+        if taken.damage and not taken.is_recording:
+            verdicts += self.of_container(recording, verdicts)
+        elif taken.damage:
+            verdicts.append(error_of(recording, taken.damage))
+        elif not taken.connections and taken.is_recording:
+            verdicts.append(error_of(recording, 'no connection to judge'))
+        return [Verdict(recording, state='note', message=note) for note in taken.notes] + verdicts
+
+    def of_connection(self, recording: str, taken: Taken, connection: TakenConnection) -> Verdict:
+        begin = time.monotonic()
+        answer = run_program(self.program, ['check', '/dev/stdin'], CHECKED, connection.capture())
+        verdict = verdict_of(recording, taken, connection, answer)
+        return verdict._replace(notes=connection.notes, seconds=time.monotonic() - begin)
+
+    def of_container(self, recording: str, others: list[Verdict]) -> list[Verdict]:
+        """The verdict on a capture that is not whole, unless it is that on one of its connections."""
+        answer = run_program(self.program, ['check', *files_of(recording)], CHECKED)
+        fault = parse_fault(answer.error)
+        if fault is None:
+            return [error_of(recording, told(answer))]
+        at = fault.place.connection if isinstance(fault.place, Place) else None
+        if at is not None and any(other.connection == at for other in others):
+            return []
+        return [Verdict(recording, at, state='refused', message=str(fault), place=str(fault.place), reason=fault.reason)]
+
+
+# --- The command ---
+
+def main(words: list[str]) -> int:
+    parser = parser_of(__doc__, 'verdicts')
+    parser.add_argument('recordings', metavar='RECORDING|CAPTURE', nargs='+')
+    parser.add_argument('--junit', metavar='FILE', help='writes the verdicts as JUnit XML')
+    parser.add_argument('--json', metavar='FILE', help='writes the verdicts as JSON')
+    parser.add_argument('-j', metavar='N', type=positive, help='judges N recordings at once')
+    parser.add_argument('--follow', action='store_true', help='judges one recording while it is made, and prints each verdict at once')
+    parser.add_argument('--program', metavar='PROGRAM', help='nfs3canon')
+    add_options(parser)
+    add_losses(parser, 'ok in part')
+    chosen = parser.parse_args(words)
+    if chosen.follow:
+        if len(chosen.recordings) > 1 or any((chosen.j, chosen.junit, chosen.json, chosen.filter)):
+            parser.error('--follow takes one recording, and none of -j, --junit, --json and --filter')
+        return follow(chosen.recordings[0], program_path(chosen.program), options_of(chosen), chosen.allow_losses)
+    recordings_at_once = chosen.j or os.cpu_count() or 1
+    at_once = max(1, min(CONNECTIONS_AT_ONCE, recordings_at_once // len(chosen.recordings)))
+    inputs = [file for recording in chosen.recordings for file in files_of(recording)]
+    for path in [path for path in (chosen.junit, chosen.json) if path]:
+        check_output(path, inputs)
+    judge = Judge(program_path(chosen.program), options_of(chosen), at_once, len(chosen.recordings) == 1)
+    try:
+        verdicts = list(judged(judge, chosen.recordings, recordings_at_once))
+    except concurrent.futures.BrokenExecutor as broken:
+        raise OSError('a process that judged a recording was killed, as when memory runs out') from broken
+    print_table(verdicts)
+    if chosen.junit:
+        write_file(chosen.junit, [junit_of(verdicts, chosen.allow_losses)], inputs)
+    if chosen.json:
+        write_file(chosen.json, [json_of(verdicts)], inputs)
+    return status_of(verdicts, chosen.allow_losses)
+
+
+def positive(word: str) -> int:
+    if int(word) < 1:
+        raise ValueError
+    return int(word)
+
+
+def judged(judge: Judge, recordings: list[str], at_once: int) -> typing.Iterator[Verdict]:
+    """Iterates over the verdicts in the order of the recordings, which processes of their own judge if they are several."""
+    processes, is_shown = min(at_once, len(recordings)), sys.stderr.isatty()
+    with contextlib.ExitStack() as pools:
+        map_all: typing.Callable[..., typing.Iterator[list[Verdict]]] = map
+        if processes > 1 and '-' not in recordings:
+            pool = concurrent.futures.ProcessPoolExecutor(processes, initializer=leave_interrupts)
+            pools.callback(pool.shutdown, cancel_futures=True)
+            map_all = pool.map
+        for number, verdicts in enumerate(map_all(judge.verdicts, recordings), 1):
+            if is_shown and len(recordings) > 1:
+                print(f'\r{number} of {len(recordings)} recordings', end='' if number < len(recordings) else '\r\x1b[K',
+                      file=sys.stderr, flush=True)
+            yield from verdicts
+
+
+def leave_interrupts() -> None:
+    """An interrupt from the keyboard is for the process that waits for this one."""
+    signal.signal(signal.SIGINT, signal.SIG_IGN)
+    signal.signal(signal.SIGHUP, signal.SIG_IGN)
+    signal.signal(signal.SIGTERM, signal.SIG_DFL)
+
+
+# --- What is printed and written ---
+
+def print_table(verdicts: list[Verdict]) -> None:
+    """Prints a row for each verdict but those on connections that are left out, which with all notes go to standard error."""
+    tell_notes(verdicts)
+    for line in columns([HEADS, *(row_of(verdict) for verdict in verdicts if verdict.state not in ('skipped', 'note'))]):
+        print(line)
+    print(sums_of(verdicts))
+
+
+def junit_of(verdicts: list[Verdict], allows_losses: bool) -> bytes:
+    """The verdicts as JUnit XML: a suite with a test case for each, and the notes on whole recordings as the suite's output."""
+    element = xml.etree.ElementTree.SubElement
+    suites = xml.etree.ElementTree.Element('testsuites')
+    elements = {'ok': None, 'in part': None if allows_losses else 'failure', 'refused': 'failure', 'error': 'error', 'skipped': 'skipped'}
+    cases = [verdict for verdict in verdicts if verdict.state != 'note']
+    found = [elements[verdict.state] for verdict in cases]
+    suite = element(suites, 'testsuite', name='nfs3canon', tests=str(len(cases)), failures=str(found.count('failure')),
+                    errors=str(found.count('error')), skipped=str(found.count('skipped')),
+                    time=f'{sum(verdict.seconds for verdict in verdicts):.3f}')
+    number = sum(verdict.state == 'in part' for verdict in cases)
+    element(element(suite, 'properties'), 'property', name='in part', value=str(number))
+    for verdict, tag in zip(cases, found):
+        case = element(suite, 'testcase', classname=escaped(verdict.recording), name=name_of(verdict),
+                       time=f'{verdict.seconds:.3f}')
+        if tag:
+            element(case, tag, {'type': 'in part'} if verdict.state == 'in part' else {}, message=printable(verdict.message))
+        told = [verdict.message] * (verdict.state == 'in part') + verdict.notes
+        if told:
+            element(case, 'system-out').text = '\n'.join(map(printable, told))
+    notes = [printable(f'{escaped(verdict.recording)}: {verdict.message}') for verdict in verdicts if verdict.state == 'note']
+    if notes:
+        element(suite, 'system-out').text = '\n'.join(notes)
+    return bytes(xml.etree.ElementTree.tostring(suites, encoding='utf-8', xml_declaration=True)) + b'\n'
+
+
+def name_of(verdict: Verdict) -> str:
+    if verdict.connection is None:
+        return printable(verdict.message) if verdict.state in ('skipped', 'in part') else 'as a whole'
+    ends = f' {verdict.client} to {verdict.server}' if verdict.client else ''
+    return f'connection {verdict.connection}{ends}'
+
+
+def json_of(verdicts: list[Verdict]) -> bytes:
+    return json.dumps(objects_of(verdicts), indent=1).encode() + b'\n'
+
+
+def objects_of(verdicts: list[Verdict]) -> list[dict[str, object]]:
+    """The verdicts as objects of JSON."""
+    rows = []
+    for verdict in verdicts:
+        row = verdict._asdict()
+        row.update(recording=escaped(verdict.recording), frames=[frame._asdict() for frame in verdict.frames],
+                   seconds=round(verdict.seconds, 3))
+        rows.append(row)
+    return rows

@@ -1,0 +1,136 @@
+"""Two runs compared part by part, each part as a run of its own.
+
+Parts of one name belong together. The program judges each under a renaming of its own, so which objects were reached before a part does not
+matter. Many parts are judged at once, as one capture with the connections of all: if these are the same under one renaming, each part is.
+"""
+import tempfile
+from collections import Counter
+from collections.abc import Iterator, Sequence
+from contextlib import contextmanager
+from dataclasses import replace
+from functools import cache
+from pathlib import Path
+
+from .comparing import Apart, Compared, Finding, Run
+from .ignoring import Ignored, without
+from .deciding import Judged, judged, run_of, same_of
+from ..captures.listings import Message
+from .marks import MarkedRun, Part, is_cut_by_records
+from .orders import Choices
+from .outlines import Outlines
+from ..reporting.reports import PartReport
+from .trial import Trial
+
+AT_ONCE, FEWER = 64, 8  # how many parts are judged at once, and by what that is divided if they are not the same
+CONNECTIONS_AT_MOST = 4_000  # of a run in parts that are judged at once
+Both = tuple[Part, Part]
+
+
+class Places:
+    """The paths of what is found in the parts of a run, by the whole run."""
+
+    def __init__(self, run: Run, marked: MarkedRun, messages: Sequence[Message]) -> None:
+        outlines = marked.outlines() if messages else Outlines((), {})
+        replies = cache(outlines.exchanges_of_replies)
+        self.exchanges = dict[str, int]()
+        for message in messages:
+            place = outlines.place_of(message.connection)
+            self.exchanges[message.place] = (outlines.starts[place] + message.record - 1 if message.is_call
+                                             else replies(place)[message.record])
+        self.apart = Apart(run, outlines, set(self.exchanges.values()))
+
+    def path(self, message: Message) -> str | None:
+        return self.apart.path(self.exchanges[message.place])
+
+
+class PartByPart:
+    """Two runs that are cut at marks, and their parts."""
+
+    def __init__(self, whole: Trial, names: Sequence[str], runs: Sequence[Run], pattern: str, choices: Choices) -> None:
+        self.whole, self.names, self.runs, self.choices = whole, names, runs, choices
+        self.are_wholes_same = whole.same(whole.masked(whole.captures, choices.masks[0])) == 'same'
+        listings = whole.canonical(whole.captures)
+        first = MarkedRun(whole.runs[0], listings[0], pattern)
+        is_cut_alike = self.are_wholes_same and not first.has_silly_names() and all(map(is_cut_by_records, whole.runs))
+        self.marked = first, first if is_cut_alike else MarkedRun(whole.runs[1], listings[1], pattern)
+
+    def reports(self, ignored: Sequence[Ignored]) -> list[PartReport]:
+        """Judges all parts. Returns what is said of each: in the order of the first run, and then those that only the second run has."""
+        first, second = ({part.name: part for part in marked.parts} for marked in self.marked)
+        both = [(part, second[name]) for name, part in first.items() if name in second]
+        found = {pair[0].name: one for pair, one in self.judged(both)}
+        compared = dict(zip(found, self.with_paths([one.found.compared for one in found.values()])))
+        return [self.report(first.get(name), second.get(name), found.get(name), *without(compared.get(name, Compared()), ignored))
+                for name in (*first, *(name for name in second if name not in first))]
+
+    def report(self, one: Part | None, other: Part | None, said: Judged | None, compared: Compared,
+               left_out: Counter[tuple[str, str]]) -> PartReport:
+        part = one or other
+        assert part
+        name = part.name.name and part.name.name[1:-1]
+        if one is None or other is None or said is None:
+            only = 'first' if one else 'second'
+            line = f'{part.name}: only in the {only} run: {part.size()}'
+            return PartReport(str(part.name), name, part.name.number, line, False, only, None, compared, left_out)
+        report = said.report(self.choices, self.names, [one.size(), other.size()])
+        line = f'{part.name}: {said.line(self.choices, part.size())}'
+        return PartReport(str(part.name), name, part.name.number, line, said.is_same, None, report, compared, left_out)
+
+    def judged(self, pairs: Sequence[Both], at_once: int = AT_ONCE) -> Iterator[tuple[Both, Judged]]:
+        """Judges parts, so many at once. If these are not the same, they are judged by fewer at once, and in the end each by itself. If the
+        runs are the same, a part of the same messages in both is: one renaming of the runs renames each part."""
+        if self.are_wholes_same and all(one.has_messages_of(other) for one, other in pairs):
+            yield from ((pair, same_of([part.size() for part in pair], self.choices.order)) for pair in pairs)
+            return
+        for some in (pairs[at:at + at_once] for at in range(0, len(pairs), at_once)):
+            if at_once == 1:
+                yield some[0], self.alone(*some[0])
+            elif self.are_same(some):
+                yield from ((pair, same_of([part.size() for part in pair], self.choices.order)) for pair in some)
+            else:
+                yield from self.judged(some, at_once // FEWER)
+
+    def are_same(self, pairs: Sequence[Both]) -> bool:
+        """Returns whether all these parts are the same. False if one is not, or if it is not known: if one has not as many connections in
+        both runs, so that a connection could stand for one of another part, or if all have too many."""
+        connections = [[part.size().connections for part in parts] for parts in zip(*pairs)]
+        if connections[0] != connections[1] or sum(connections[0]) > CONNECTIONS_AT_MOST:
+            return False
+        with self.trial(pairs) as trial:
+            return trial.same(trial.masked(trial.captures, self.choices.masks[0])) == 'same'
+
+    def alone(self, one: Part, other: Part) -> Judged:
+        """Judges a part. The places of what is found are those in the whole runs."""
+        with self.trial([(one, other)]) as trial:
+            runs = [run_of(trial, *each) for each in zip(trial.runs, trial.captures, self.names)]
+            said = judged(trial, runs, [one.size(), other.size()], self.choices)
+        compared = said.found.compared
+        findings = [replace(finding, first=finding.first and one.in_the_whole(finding.first),
+                            second=finding.second and other.in_the_whole(finding.second)) for finding in compared.findings]
+        found = replace(said.found, compared=replace(compared, findings=findings))
+        return said._replace(verdict=said.verdict.partition(' at ')[0], found=found)
+
+    @contextmanager
+    def trial(self, pairs: Sequence[Both]) -> Iterator[Trial]:
+        """A trial of some parts of both runs. Its captures are removed in the end."""
+        with tempfile.TemporaryDirectory(dir=self.whole.folder) as folder:
+            yield Trial(self.whole.program, Path(folder), [marked.taken_of(parts) for marked, parts in zip(self.marked, zip(*pairs))])
+
+    def with_paths(self, compared: Sequence[Compared]) -> list[Compared]:
+        """Returns what was found in the parts with the paths that are known from the whole runs."""
+        messages: tuple[list[Message], list[Message]] = ([], [])
+        for message, is_second in map(named_by, (finding for one in compared for finding in one.findings)):
+            messages[is_second].append(message)
+        places = [Places(run, marked, some) for run, marked, some in zip(self.runs, self.marked, messages)]
+
+        def with_path(finding: Finding) -> Finding:
+            message, is_second = named_by(finding)
+            return finding if finding.kind in ('order', 'connection') else replace(finding, path=places[is_second].path(message))
+        return [replace(one, findings=list(map(with_path, one.findings))) for one in compared]
+
+
+def named_by(finding: Finding) -> tuple[Message, bool]:
+    """Returns the message by which a finding is named, and whether it is of the second run."""
+    message = finding.first or finding.second
+    assert message
+    return message, finding.first is None

@@ -1,0 +1,71 @@
+"""Both runs as captures in a folder, and what the programs say of them."""
+from collections.abc import Sequence
+from pathlib import Path
+
+from .classes import Mask
+from .masking import write_masked
+from .outlines import Outlines, When
+from .pairing import InOrder, Listing, Pairing, Relaxed, paired
+from ..shared.places import Place
+from ..shared.programs import CHECKED, COMPARED, lines_of_program, run_program
+from .reordered import write_in_order
+from ..recordings.taken import Taken
+
+
+def when_of(taken: Taken) -> When | None:
+    """Returns what tells the first frame of a call, if frames are noted."""
+    def when(connection: int, record: int) -> int:
+        return min((frame.number for frame in taken.frames(Place(connection, 'client', record))), default=0)
+    return when if taken.has_frames else None
+
+
+class Trial:
+    """Two runs, which are written as captures. What is made of them is written beside them, each under a new name."""
+
+    def __init__(self, program: str, folder: Path, runs: Sequence[Taken]) -> None:
+        self.program, self.folder, self.runs, self.made = program, folder, runs, 0
+        self.captures = self.named()
+        for taken, capture in zip(runs, self.captures):
+            taken.write_capture(capture)
+
+    def named(self) -> list[str]:
+        """Returns two new names."""
+        self.made += 1
+        return [str(self.folder / f'{letter}{self.made}') for letter in 'ab']
+
+    def masked(self, captures: Sequence[str], mask: Mask) -> list[str]:
+        names = self.named()
+        for capture, name in zip(captures, names):
+            write_masked(self.program, capture, name, mask)
+        return names
+
+    def same(self, masked: Sequence[str]) -> str:
+        """Returns what the program says of two captures: `same`, or where they differ."""
+        return run_program(self.program, ['same', *masked], COMPARED).out.strip()
+
+    def listing(self, capture: str) -> Listing:
+        return lambda: lines_of_program(self.program, ['show', capture])
+
+    def canonical(self, masked: Sequence[str]) -> tuple[Listing, Listing]:
+        """Returns the listings of two captures in canonical form."""
+        names = self.named()
+        for capture, name in zip(masked, names):
+            run_program(self.program, ['canon', capture, name], CHECKED)
+        return self.listing(names[0]), self.listing(names[1])
+
+    def paired(self, masks: Sequence[Mask], lonely: frozenset[str]) -> Pairing:
+        """Brings the exchanges of both runs together, by what they have in common under the first mask, or else under the second."""
+        mask, *more = masks
+        listings = self.canonical(self.masked(self.captures, mask))
+        here, there = (Outlines(listing(), mask, when_of(taken)) for listing, taken in zip(listings, self.runs))
+        relaxed = (lambda: Relaxed(more[0], self.canonical(self.masked(self.captures, more[0])))) if more else None
+        return paired(here, there, listings, lonely, relaxed)
+
+    def in_one_order(self, pairing: Pairing) -> list[str]:
+        """Writes both runs in the order of the first one, without the exchanges that have no partner. Returns the captures' names."""
+        names = self.named()
+        sides = ((pairing.here, pairing.order_of_first(), pairing.only_first()),
+                 (pairing.there, pairing.order_of_second(), pairing.only_second()))
+        for taken, name, (outlines, order, only) in zip(self.runs, names, sides):
+            write_in_order(taken, InOrder(outlines, order), InOrder(outlines, only), name)
+        return names

@@ -1,0 +1,1 @@
+"""What is taken of a recording: its files, frames, segments, streams and records."""

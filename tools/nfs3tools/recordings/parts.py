@@ -1,0 +1,53 @@
+"""The files that an argument names: one, or the parts of one recording, as `tcpdump -C`, `-G` and `-W` write them.
+
+An argument that is the name of no file is a pattern, as `run.pcap*`. In quotes the shell leaves it to the tool.
+"""
+import glob
+import os
+import re
+import shlex
+import typing
+
+from ..shared.printed import escaped
+from .frames import NoRecording, Recording, Source, opened
+from .unpacking import Damaged
+
+
+class Part(typing.NamedTuple):
+    """A part of a recording: its file, and how many frames the parts before it have."""
+    path: str
+    before: int
+
+
+def files_of(path: str) -> list[str]:
+    """Returns the files that an argument names, sorted by their names; itself if no pattern helps."""
+    if path == '-' or os.path.lexists(path):
+        return [path]
+    return sorted(glob.glob(path)) or [path]
+
+
+def in_order(files: list[str]) -> list[str]:
+    """Returns parts in the order of the times of their first frames, and of their numbers if these are equal.
+
+    Raises `NoRecording` if one is none, and `OSError`.
+    """
+    return sorted(files, key=lambda file: (first_time(file), len(file), file)) if len(files) > 1 else files
+
+
+def first_time(path: str) -> int:
+    """The time of the first frame, 0 if there is none."""
+    with opened(path) as file:
+        try:
+            return next((frame.time for frame in Recording(Source(file)).frames()), 0)
+        except (NoRecording, Damaged) as refused:
+            raise NoRecording(f'{escaped(path)}: {refused}') from refused
+
+
+def pattern_beside(path: str) -> str | None:
+    """Returns a pattern in quotes for a file and those beside it whose names differ in a last number alone, if there are any."""
+    if path == '-':
+        return None
+    base = re.sub(r'\d+$', '', path)
+    numbered = re.compile(re.escape(base) + r'\d*')
+    others = [file for file in glob.glob(glob.escape(base) + '*') if numbered.fullmatch(file) and file != path]
+    return shlex.quote(glob.escape(base) + '*') if others and os.path.basename(base) else None

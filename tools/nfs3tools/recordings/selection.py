@@ -1,0 +1,205 @@
+"""Which bytes of a connection are kept: what to do without its beginning, and about bytes that are missing."""
+import dataclasses
+import typing
+
+from ..shared.places import SIDES, Side
+from .records import Search, Window, end_of_whole, xids
+from .streams import Connection, Gap, Stream
+
+SERVER_PORTS = {'2049', '20048', '111'}  # NFS, MOUNT as Linux has it, and the port mapper
+REPLY = 1  # mtype
+
+
+class Options(typing.NamedTuple):
+    """How a recording is taken. None of these changes what is taken of a capture.
+
+    midstream: takes connections whose beginning or end was not recorded, and goes on after bytes that are missing
+    whole_records: ends each stream after its last whole record
+    filter: a display filter of Wireshark that is true of whole connections, or None; needs tshark
+    """
+    midstream: bool = False
+    whole_records: bool = False
+    filter: str | None = None
+
+
+@dataclasses.dataclass
+class Kept:
+    """The ranges of a stream's stored bytes that are kept, whether any of its bytes are not, how many the recording lacks, and what is
+    told of it."""
+    ranges: list[tuple[int, int]] = dataclasses.field(default_factory=list)
+    lacks: bool = False
+    missing: int = 0
+    notes: list[str] = dataclasses.field(default_factory=list)
+
+    @property
+    def size(self) -> int:
+        return sum(end - begin for begin, end in self.ranges)
+
+
+class Selected(typing.NamedTuple):
+    """What is kept of a connection: which of its ends is the client, how that is known, and what of both streams."""
+    client: int
+    why: str
+    kept: tuple[Kept, Kept]
+
+
+class Part(typing.NamedTuple):
+    """A run of stored bytes, and the gap after it."""
+    begin: int
+    end: int
+    gap_after: Gap | None
+
+
+def parts_of(stream: Stream) -> list[Part]:
+    ends = [run.begin for run in stream.runs[1:]] + [stream.stored.size]
+    gaps = [run.gap for run in stream.runs[1:]] + [stream.gap_at_end()]
+    return [Part(run.begin, end, gap) for run, end, gap in zip(stream.runs, ends, gaps)]
+
+
+def gaps_of(stream: Stream) -> list[Gap]:
+    return [gap for gap in [*(run.gap for run in stream.runs), stream.gap_at_end()] if gap]
+
+
+def missing_of(stream: Stream) -> int:
+    """The bytes of a stream that were sent and are not in the recording, as far as it shows."""
+    return sum(gap.size for gap in gaps_of(stream))
+
+
+def select(connection: Connection, options: Options, known: typing.Iterable[int] = (), goes_on: bool = False) -> Selected:
+    """Chooses what is kept of a connection. `known` has the xids of calls that were kept before. If it goes on, a record that is cut at
+    its end is kept."""
+    client, why = client_of(connection, options)
+    streams = connection.streams[client], connection.streams[1 - client]
+    choose = keep_midstream if options.midstream else keep_front
+    calls, replies = (choose(stream, side, options, connection.is_closed or goes_on) for stream, side in zip(streams, SIDES))
+    if calls.lacks and replies.ranges:
+        leave_out_replies(streams, calls, replies, known)
+    for stream, kept in zip(streams, (calls, replies)):
+        if stream.conflicts:
+            kept.notes.append(f'{count(stream.conflicts, "frame")} {plural(stream.conflicts, "repeats", "repeat")} bytes with '
+                              f'other content, first frame {stream.conflict}; the bytes that came first are taken')
+    return Selected(client, why, (calls, replies))
+
+
+def client_of(connection: Connection, options: Options) -> tuple[int, str]:
+    """Which end is the client, and how that is known: by the SYN, else by its calls, the ports, or the first payload."""
+    if connection.client is not None:
+        return connection.client, 'by the SYN'
+    served = [end.rpartition(':')[2] in SERVER_PORTS for end in connection.ends]
+    guess = served.index(False) if served[0] != served[1] else None
+    if options.midstream:
+        likely = guess or 0
+        for side in (likely, 1 - likely):
+            if has_calls(connection.streams[side]):
+                return side, 'by its calls'
+    return (guess, 'by the ports') if guess is not None else (connection.first_payload or 0, 'by the first payload')
+
+
+def has_calls(stream: Stream) -> bool:
+    """Whether calls follow one another in a run of the stream."""
+    return any(Search(stream.stored, 'client', part.begin, part.end).first() is not None for part in parts_of(stream))
+
+
+def keep_front(stream: Stream, side: Side, options: Options, is_closed: bool) -> Kept:
+    """Keeps a stream from its beginning up to the first gap."""
+    kept, parts, gaps = Kept(lacks=stream.lacks or not stream.is_begin, missing=missing_of(stream)), parts_of(stream), gaps_of(stream)
+    if not stream.is_begin:
+        if stream.stored.size:
+            kept.missing += stream.stored.size
+            kept.notes.append(f'{side}: its beginning is not in the recording, so nothing of it is taken (--midstream does)')
+        return kept
+    if gaps:
+        kept.lacks = True
+        kept.notes.append(f'{side}: {told_of(gaps[0])}; the stream ends there')
+    if parts and not (gaps and gaps[0].position == 0):
+        keep_up_to_whole(stream, parts[0], side, kept, bool(gaps) or options.whole_records)
+    return kept
+
+
+def keep_midstream(stream: Stream, side: Side, options: Options, is_closed: bool) -> Kept:
+    """Keeps of each run of a stream what follows from the first record on."""
+    kept, gaps, parts = Kept(missing=missing_of(stream)), gaps_of(stream), parts_of(stream)
+    kept.lacks, left_out = bool(gaps) or stream.lacks or not stream.is_begin, 0
+    for part in parts:
+        is_first = part is parts[0] and not stream.runs[0].gap
+        begin = part.begin if is_first and stream.is_begin else Search(stream.stored, side, part.begin, part.end).first()
+        if is_first and begin != part.begin:
+            skipped = part.end if begin is None else begin
+            kept.notes.append(f'{side}: the first {count(skipped, "byte")} '
+                              f'{plural(skipped, "is", "are")} left out, since no record of a whole run begins there')
+        elif begin is None:
+            left_out += part.end - part.begin
+        else:
+            left_out += begin - part.begin
+        if begin is not None:
+            is_open = part is parts[-1] and not is_closed
+            dropped = keep_up_to_whole(stream, part._replace(begin=begin), side, kept,
+                                       bool(part.gap_after) or is_open or options.whole_records, not part.gap_after)
+            left_out += dropped if part.gap_after else 0
+    if gaps:
+        kept.notes.append(f'{side}: {told_of_all(gaps)}; {count(left_out, "byte")} of torn records '
+                          f'{plural(left_out, "is", "are")} left out')
+    return kept
+
+
+def keep_up_to_whole(stream: Stream, part: Part, side: Side, kept: Kept, is_whole: bool, is_told: bool = True) -> int:
+    """Keeps a run, if asked only up to the end of its last whole record, and gives how many bytes that leaves out."""
+    end = end_of_whole(Window(stream.stored), part.begin, part.end) if is_whole else part.end
+    dropped = part.end - end
+    if end > part.begin:
+        kept.ranges.append((part.begin, end))
+    if dropped:
+        kept.lacks = True
+        if is_told:
+            kept.notes.append(f'{side}: the last {dropped:,} bytes are no whole record, and are dropped')
+    return dropped
+
+
+def leave_out_replies(streams: tuple[Stream, Stream], calls: Kept, replies: Kept, before: typing.Iterable[int]) -> None:
+    """Leaves out the replies whose calls are not kept and were not kept before."""
+    window = Window(streams[0].stored)
+    known = {*before, *(xid for begin, end in calls.ranges for _, xid, _ in xids(window, begin, end))}
+    window, ranges, left_out = Window(streams[1].stored), list[tuple[int, int]](), 0
+    for begin, end in replies.ranges:
+        kept, count_of_range = with_calls(window, begin, end, known)
+        ranges += kept
+        left_out += count_of_range
+    replies.ranges = ranges
+    if left_out:
+        replies.notes.append(f'server: {left_out:,} ' + plural(
+            left_out, 'reply to a call that is not in the recording is left out',
+            'replies to calls that are not in the recording are left out'))
+
+
+def with_calls(window: Window, begin: int, end: int, known: set[int]) -> tuple[list[tuple[int, int]], int]:
+    """The ranges of a run without the replies to calls that are not known, and how many these are."""
+    ranges, left_out = list[tuple[int, int]](), 0
+    for extent, xid, mtype in xids(window, begin, end):
+        if mtype == REPLY and xid not in known and not extent.is_too_long:
+            left_out += 1
+        elif ranges and ranges[-1][1] == extent.begin:
+            ranges[-1] = ranges[-1][0], extent.end
+        else:
+            ranges.append((extent.begin, extent.end))
+    return ranges, left_out
+
+
+# --- Words ---
+
+def plural(number: int, one: str, several: str) -> str:
+    return one if number == 1 else several
+
+
+def count(number: int, one: str) -> str:
+    return f'{number:,} {plural(number, one, one + "s")}'
+
+
+def told_of(gap: Gap) -> str:
+    return (f'{count(gap.size, "byte")} {plural(gap.size, "is", "are")} missing from the recording after the first '
+            f'{gap.position:,}, before frame {gap.frame}')
+
+
+def told_of_all(gaps: list[Gap]) -> str:
+    if len(gaps) == 1:
+        return told_of(gaps[0])
+    return f'{told_of(gaps[0])}, and {sum(gap.size for gap in gaps[1:]):,} more in {count(len(gaps) - 1, "place")}'

@@ -1,0 +1,481 @@
+"""What is taken of a recording or of a capture: its connections, each with the streams of both sides.
+
+    with take('run.pcap', Options(midstream=True)) as taken:
+        for connection in taken.connections:
+            print(connection.number, connection.client_end, connection.server_end, connection.client.size)
+        taken.write_capture('run.nfs3cap')
+        taken.frames(Place(1, 'server', 7, 24))     # the frames of the recording that carry this byte
+
+`take` reads pcap and pcapng (also compressed, `-` for standard input, and the parts of one recording by a pattern) and captures
+(`NFS3CAP1`, `NFS3CAP2`). Places of
+`check`, `show` and `same` on the file that `write_capture` writes are places of `taken`: connections have the numbers of
+`TakenConnection.number`, and records are those of its streams.
+"""
+import array
+import bisect
+import contextlib
+import itertools
+import sys
+import tempfile
+import time
+import typing
+
+from ..captures.container import CHUNK, MOST_BYTES, MOST_CONNECTIONS, BadCapture, Container, capture_of, place_in
+from .kinds import MAGICS
+from ..shared.outputs import CAPTURE, write_file
+from .parts import Part, files_of, in_order, pattern_beside
+from ..shared.places import SIDES, FilePlace, NoPlace, Place, Side
+from ..shared.programs import chosen_frames
+from .frames import NoRecording, Recording, Source, opened
+from .records import Extent, Window, body_of, extents, extent_of, fragments
+from .segments import Segments
+from .selection import Options, Selected, count, plural, select
+from .streams import Brought, Connection, Connections, Frames, Spool, Stored
+from .unpacking import READ_AT_ONCE, Damaged, Readable
+
+FRAMES_A_STEP = 1_000
+NOTHING, NOTHING_MORE = Brought(0, 0, 0), Brought(sys.maxsize, 0, 0)
+__all__ = ['FrameRef', 'LeftOut', 'NotTaken', 'Options', 'Record', 'Taken', 'TakenConnection', 'TakenStream', 'take']
+
+
+class NotTaken(Exception):
+    """The file is no recording or capture; its text is the message for the user. `packed_by` is the program that compressed it, if that
+    is known and the file is not one of several parts."""
+
+    def __init__(self, text: str, packed_by: str | None = None) -> None:
+        super().__init__(text)
+        self.packed_by = packed_by
+
+
+class FrameRef(typing.NamedTuple):
+    """A frame of the recording: its number, from 1 as Wireshark counts, also through all parts of a recording, and its time in
+    nanoseconds since 1970 (UTC), 0 if it has none."""
+    number: int
+    time: int
+
+
+class Record(typing.NamedTuple):
+    """A record of a stream: its number, from 1, and its body, the bytes of its fragments joined."""
+    number: int
+    body: bytes
+
+
+class TakenStream:
+    """The bytes of one side that are taken. They stay in memory if they are few, else in a temporary file."""
+    __slots__ = 'stored', 'noted', 'ranges', 'begins', 'size', 'index'
+
+    def __init__(self, stored: Stored, frames: Frames | None, ranges: list[tuple[int, int]]) -> None:
+        self.stored, self.noted, self.ranges = stored, frames, ranges
+        self.begins = list(itertools.accumulate((end - begin for begin, end in ranges), initial=0))
+        self.size = self.begins[-1]  # bytes
+        self.index: array.array[int] | None = None  # where the records begin
+
+    def read(self, begin: int, size: int) -> bytes:
+        """Returns the bytes from `begin` on: `size` of them, or fewer at the stream's end."""
+        return b''.join(self.stored.read(low, high - low) for low, high in self.ranges_of(begin, begin + size))
+
+    def ranges_of(self, begin: int, end: int) -> typing.Iterator[tuple[int, int]]:
+        """Iterates over the ranges of the stored bytes in which these bytes are."""
+        end, part = min(end, self.size), bisect.bisect_right(self.begins, begin) - 1
+        while begin < end:
+            part_end = min(end, self.begins[part + 1])
+            shift = self.ranges[part][0] - self.begins[part]
+            yield begin + shift, part_end + shift
+            begin, part = part_end, part + 1
+
+    def part(self, runs: typing.Iterable[tuple[int, int]]) -> 'TakenStream':
+        """Returns a stream of some of the bytes: of runs from where each begins to where it ends, in their order."""
+        ranges = [piece for begin, end in runs for piece in self.ranges_of(begin, end)]
+        return TakenStream(self.stored, self.noted, ranges)
+
+    def blocks(self) -> typing.Iterator[bytes]:
+        """Iterates over all bytes in order, in blocks of 65,536 and a last one."""
+        for begin in range(0, self.size, CHUNK):
+            yield self.read(begin, CHUNK)
+
+    def records(self) -> typing.Iterator[Record]:
+        """Iterates over the records in order. The last one may be cut."""
+        window = Window(self)
+        for number, extent in enumerate(extents(window, 0, self.size), 1):
+            yield Record(number, body_of(window, extent))
+
+    def extent(self, number: int) -> Extent | None:
+        """Returns where a record stands, if there is one of this number, from 1."""
+        window = Window(self)
+        if self.index is None:
+            self.index = array.array('Q', (extent.begin for extent in extents(window, 0, self.size)))
+        return extent_of(window, self.index[number - 1], self.size) if 0 < number <= len(self.index) else None
+
+    def brought(self) -> typing.Iterator[Brought]:
+        """Iterates over the frames that brought the bytes, in order of the bytes, if frames are noted. Each has the place of its first byte
+        in the stream, which for the first of them may be before the stream."""
+        for (low, high), at in zip(self.ranges, self.begins):
+            if self.noted is not None:
+                shift, found = at - low, self.noted.between(low, high)
+                yield from found if not shift else (brought._replace(begin=brought.begin + shift) for brought in found)
+
+    def completions(self) -> typing.Iterator[tuple[int, int]]:
+        """Iterates over the records in order: how many bytes each has with its marks, and the time of the frame that completed it, 0 if
+        that has none or is not noted. Of the frames that brought bytes of a record the one with the largest number completed it. The last
+        record may be cut."""
+        brought, held = self.brought(), NOTHING
+        following = next(brought, NOTHING_MORE)
+        for extent in extents(Window(self), 0, self.size):
+            begin, end = extent[:2]
+            last = held if following.begin > begin else NOTHING
+            while following.begin < end:
+                held, following = following, next(brought, NOTHING_MORE)
+                last = held if held.number > last.number else last
+            yield end - begin, last.time
+
+    def first_frames(self) -> typing.Iterator[int]:
+        """Iterates over the records in order: the number of the frame that brought the first byte of each, 0 if frames are not noted."""
+        brought, held = self.brought(), NOTHING
+        following = next(brought, NOTHING_MORE)
+        for extent in extents(Window(self), 0, self.size):
+            while following.begin <= extent.begin:
+                held, following = following, next(brought, NOTHING_MORE)
+            yield held.number
+
+    def count_records(self) -> int:
+        """Returns the number of records, of which the last may be cut."""
+        return sum(1 for _ in extents(Window(self), 0, self.size))
+
+    def frames(self, begin: int, end: int) -> list[FrameRef]:
+        """Returns the frames that brought the bytes, in order of their numbers, each once."""
+        if self.noted is None:
+            return []
+        brought = itertools.chain.from_iterable(self.noted.between(*piece) for piece in self.ranges_of(begin, end))
+        return sorted({FrameRef(one.number, one.time) for one in brought})
+
+
+class TakenConnection(typing.NamedTuple):
+    """A connection that is taken.
+
+    number: from 1, as in places
+    stream_number: Wireshark's tcp.stream, from 0; None if read from a capture
+    client_end, server_end: as '192.0.2.7:700' or '[2001:db8::7]:700'; '' if read from a capture
+    ends: both, first the one that sent the first segment, as '192.0.2.7:700 and 192.0.2.1:2049'
+    why: how it is known which end is the client, as 'by the SYN'; '' if read from a capture
+    notes: what was left out of its streams, each beginning with the side, as 'client: 12 bytes are missing ..'
+    missing: the bytes of both sides that were sent and are not in the recording, as far as it shows
+    """
+    number: int
+    stream_number: int | None
+    client_end: str
+    server_end: str
+    ends: str
+    why: str
+    client: TakenStream
+    server: TakenStream
+    notes: list[str]
+    missing: int = 0
+
+    def stream(self, side: Side) -> TakenStream:
+        """Returns the stream of one side."""
+        return self.client if side == 'client' else self.server
+
+    def capture(self) -> typing.Iterator[bytes]:
+        """Iterates over the bytes of a capture of this connection alone."""
+        return capture_of([(self.client, self.server)])
+
+
+class LeftOut(typing.NamedTuple):
+    """A connection that is not taken: its ends, why, how many bytes are missing if that is why, else 0, and whether it begins before the
+    recording."""
+    ends: str
+    why: str
+    missing: int = 0
+    is_begun_before: bool = False
+
+    def __str__(self) -> str:
+        return f'{self.ends}: {self.why}'
+
+
+class Taken:
+    """The connections of a recording or capture. As a context manager it removes the temporary files at its end.
+
+    left_out: the connections that are not taken
+    notes: what is told of the whole recording or capture, a sentence each
+    damage: why what follows could not be read, or None; a recording that ends in the middle of a frame is not damaged
+    is_recording: False if read from a capture
+    has_frames: whether the frames of bytes are noted
+    parts: those of a recording that has several, in order
+    """
+
+    def __init__(self, spool: Spool, is_recording: bool, has_frames: bool) -> None:
+        self.spool, self.is_recording, self.has_frames = spool, is_recording, has_frames
+        self.connections: list[TakenConnection] = []
+        self.left_out: list[LeftOut] = []
+        self.notes: list[str] = []
+        self.damage: str | None = None
+        self.parts: list[Part] = []
+
+    @property
+    def missing(self) -> int:
+        """The bytes of all connections that are missing from the recording."""
+        return sum(one.missing for one in self.connections) + sum(one.missing for one in self.left_out)
+
+    def pairs(self) -> list[tuple[TakenStream, TakenStream]]:
+        return [(connection.client, connection.server) for connection in self.connections]
+
+    def write_capture(self, path: str, inputs: typing.Iterable[str] = ()) -> None:
+        """Writes the connections as a capture of version 1, in chunks of 65,536 bytes.
+
+        An older capture may be replaced.
+
+        Raises `NotTaken` if they are more than a capture may have, and what `write_file` does; then the file is as it was.
+        """
+        size = sum(stream.size for pair in self.pairs() for stream in pair)
+        if len(self.connections) > MOST_CONNECTIONS:
+            raise NotTaken(f'{len(self.connections)} connections are more than the {MOST_CONNECTIONS} of a capture')
+        if size > MOST_BYTES:
+            raise NotTaken(f'{size} bytes of streams are more than the {MOST_BYTES} of a capture')
+        write_file(path, capture_of(self.pairs()), inputs, (CAPTURE,))
+
+    def frames(self, place: Place | FilePlace) -> list[FrameRef]:
+        """Returns the frames that carry a byte, or all frames that carry a record if the place names no byte.
+
+        The frame of a byte is the first that brought it, not a retransmission. At the end of a body it is that of the
+        last byte. Returns an empty list if no frames are noted.
+
+        Raises `NoPlace` if there is no such record or byte.
+        """
+        if isinstance(place, FilePlace):
+            found = place_in(self.pairs(), place.byte)
+            if found is None:
+                raise NoPlace(f'byte {place.byte} of the capture is not of a stream, so no frame carries it')
+            index, side, at = found
+            return self.connections[index].stream(SIDES[side]).frames(at, at + 1)
+        stream, extent = self.record_at(place)
+        return stream.frames(*bytes_of(stream, extent, place))
+
+    def record_at(self, place: Place) -> tuple[TakenStream, Extent]:
+        """Returns the stream of a record, and where the record is in it. Raises `NoPlace` if there is no such record."""
+        if not 0 < place.connection <= len(self.connections):
+            raise NoPlace(f'there is no connection {place.connection}')
+        stream = self.connections[place.connection - 1].stream(place.side)
+        extent = stream.extent(place.record)
+        if extent is None:
+            raise NoPlace(f'there is no {place._replace(byte=None)}')
+        return stream, extent
+
+    def all_frames(self) -> typing.Iterator[FrameRef]:
+        """Iterates over the frames that brought bytes of the connections, stream by stream, if frames are noted."""
+        for stream in itertools.chain.from_iterable(self.pairs()):
+            if stream.noted is not None:
+                yield from (FrameRef(brought.number, brought.time) for brought in stream.noted.noted_from(0))
+
+    def ends(self) -> tuple[FrameRef, FrameRef] | None:
+        """Returns the first and the last of these frames, if there are some."""
+        first = min(self.all_frames(), default=None)
+        return None if first is None else (first, max(self.all_frames()))
+
+    def __enter__(self) -> 'Taken':
+        return self
+
+    def __exit__(self, *_: object) -> None:
+        self.spool.close()
+
+
+def bytes_of(stream: TakenStream, extent: Extent, place: Place) -> tuple[int, int]:
+    """The bytes of a stream that a place names: the whole record, or the byte of its body."""
+    if place.byte is None:
+        return extent.begin, extent.end
+    left, last = place.byte, extent.begin
+    for begin, end in fragments(Window(stream), extent):
+        if left < end - begin:
+            return begin + left, begin + left + 1
+        left, last = left - (end - begin), max(last, end - 1)
+    if left:
+        raise NoPlace(f'there is no {place}: the body is shorter')
+    return last, last + 1
+
+
+# --- Taking ---
+
+def take(path: str, options: Options = Options(), frames: bool = True, shows_progress: bool = True) -> Taken:
+    """Reads a recording or a capture, `-` for standard input. A path that is the name of no file is a pattern, whose files are parts of
+    one recording, in the order of the times of their first frames. `frames` says whether the frames of bytes are noted, which
+    takes 24 bytes of a temporary file for each frame; `shows_progress` whether their number is shown on a terminal meanwhile.
+
+    Raises `NotTaken`, `Missing` and `FilterRefused` (of `programs`), and `OSError` if a file cannot be read or a temporary
+    file not be written.
+    """
+    progress, files = Progress(shows_progress), files_of(path)
+    if len(files) > 1:
+        return take_parts(files, options, frames, progress)
+    with contextlib.ExitStack() as stack:
+        taken = take_from(*opened_for(files[0], options, stack), options, frames, progress)
+    begun = sum(left_out.is_begun_before for left_out in taken.left_out)
+    pattern = pattern_beside(files[0]) if begun else None
+    if pattern:
+        taken.notes.append(f'it begins in the middle of {count(begun, "connection")}: if it is a part of a recording, as of '
+                           f'`tcpdump -C`, name all parts in its place, as {pattern}')
+    return taken
+
+
+def take_parts(files: list[str], options: Options, keeps_frames: bool, progress: 'Progress') -> Taken:
+    """Takes several files as the parts of one recording."""
+    taking = Taking(keeps_frames, progress)
+    try:
+        for path in in_order(files):
+            with contextlib.ExitStack() as stack:
+                source, chosen = opened_for(path, options, stack)
+                taking.taken.parts.append(Part(path, taking.count))
+                taking.add(Recording(source), chosen, f'{path}: ')
+    except (NoRecording, Damaged) as refused:
+        raise NotTaken(str(refused)) from refused
+    return taking.ended(options)
+
+
+def opened_for(path: str, options: Options, stack: contextlib.ExitStack) -> tuple[Source, set[int] | None]:
+    """Opens a recording, and asks tshark for the frames that a filter chooses, if there is one. It reads a copy if that is of standard
+    input or compressed. Raises `NotTaken` if what is compressed cannot be copied as a whole."""
+    source = Source(stack.enter_context(opened(path)))
+    if options.filter is None:
+        return source, None
+    if path == '-' or source.is_unpacked:
+        try:
+            copy = stack.enter_context(copied(source))
+        except Damaged as damaged:
+            raise NotTaken(str(damaged)) from damaged
+        path, source = copy.name, Source(copy)
+    return source, chosen_frames(path, options.filter)
+
+
+@contextlib.contextmanager
+def copied(content: Readable) -> typing.Iterator[typing.IO[bytes]]:
+    """A temporary file with what is read."""
+    with tempfile.NamedTemporaryFile(prefix='nfs3canon') as copy:
+        while block := content.read(READ_AT_ONCE):
+            copy.write(block)
+        copy.flush()
+        copy.seek(0)
+        yield copy
+
+
+def take_from(source: Source, chosen: set[int] | None, options: Options, keeps_frames: bool, progress: 'Progress') -> Taken:
+    """Takes what is read; of a recording only the frames that are chosen, if `chosen` is not None."""
+    try:
+        if source.peek(8) in MAGICS:
+            return of_capture(source)
+        taking = Taking(keeps_frames, progress)
+        taking.add(Recording(source), chosen)
+        return taking.ended(options)
+    except NoRecording as refused:
+        raise NotTaken(str(refused), refused.packed_by) from refused
+    except Damaged as damaged:
+        raise NotTaken(str(damaged)) from damaged
+
+
+def of_capture(source: Source) -> Taken:
+    """The connections of a capture, up to the first that is not whole."""
+    taken = Taken(Spool(), False, False)
+    try:
+        for streams in Container(source, taken.spool).connections():
+            client, server = (TakenStream(stored, None, whole(stored)) for stored in streams)
+            taken.connections.append(TakenConnection(len(taken.connections) + 1, None, '', '', '', '', client, server, []))
+    except BadCapture:
+        taken.damage = 'the capture is not whole, or has a word that cannot stand there'
+    except Damaged as damaged:
+        taken.damage = str(damaged)
+    return taken
+
+
+def whole(stored: Stored) -> list[tuple[int, int]]:
+    return [(0, stored.size)] if stored.size else []
+
+
+class Taking:
+    """Takes the frames of a recording, or of its parts one after the other."""
+
+    def __init__(self, keeps_frames: bool, progress: 'Progress') -> None:
+        self.segments, self.connections, self.progress = Segments(), Connections(keeps_frames), progress
+        self.taken = Taken(self.connections.spool, True, keeps_frames)
+        self.count = 0  # frames
+
+    def add(self, recording: Recording, chosen: set[int] | None, name: str = '') -> None:
+        """Takes a part, of which only the frames that are chosen count, if `chosen` is not None. A name stands before what is told."""
+        before, segments, connections = self.count, self.segments, self.connections
+        for frame in recording.frames():
+            segment = segments.segment(frame)
+            if segment is not None:
+                connections.take(segment, before + frame.number, frame.time, chosen is None or frame.number in chosen)
+            if not frame.number % FRAMES_A_STEP:
+                self.progress.step(before + frame.number)
+        self.count += recording.count
+        self.taken.notes += [name + note for note in (recording.cut, recording.damage) if note]
+        if recording.damage and not self.taken.damage:
+            self.taken.damage = name + recording.damage
+
+    def ended(self, options: Options) -> Taken:
+        """What is taken. Nothing is added after this."""
+        self.progress.end()
+        self.taken.notes += notes_of(self.segments)
+        for connection in self.connections.finish():
+            add(self.taken, connection, select(connection, options), options)
+        return self.taken
+
+
+def notes_of(segments: Segments) -> list[str]:
+    notes = list[str]()
+    if segments.cut:
+        notes.append(f'{count(segments.cut, "frame")} {plural(segments.cut, "was", "were")} recorded in part only (the snap '
+                     f'length, as of `tcpdump -s`); what they lack is missing')
+    if segments.lying:
+        notes.append(f'{count(segments.lying, "frame")} {plural(segments.lying, "has", "have")} headers that do not fit '
+                     f'{plural(segments.lying, "its", "their")} length, and {plural(segments.lying, "is", "are")} passed over')
+    if segments.given_up:
+        notes.append(f'{count(segments.given_up, "datagram")} {plural(segments.given_up, "is", "are")} given up, of which more '
+                     f'fragments came than an eighth of {plural(segments.given_up, "its", "their")} bytes')
+    for link, number in segments.links.items():
+        notes.append(f'{count(number, "frame")} of the link type {link} {plural(number, "is", "are")} passed over')
+    return notes
+
+
+def add(taken: Taken, connection: Connection, selected: Selected, options: Options) -> None:
+    """Takes a connection, or says why it is left out."""
+    ends = ' and '.join(connection.ends)
+    if not any(kept.ranges for kept in selected.kept):
+        is_for_losses = connection.client is not None or options.midstream
+        missing = sum(kept.missing for kept in selected.kept) if is_for_losses else 0
+        is_begun_before = connection.client is None and connection.first_payload is not None
+        taken.left_out.append(LeftOut(ends, why_left_out(connection, options), missing, is_begun_before))
+        return
+    taken.connections.append(taken_connection(len(taken.connections) + 1, connection, selected))
+
+
+def taken_connection(number: int, connection: Connection, selected: Selected) -> TakenConnection:
+    """What is taken of a connection."""
+    streams = connection.streams[selected.client], connection.streams[1 - selected.client]
+    client, server = (TakenStream(stream.stored, stream.frames, kept.ranges) for stream, kept in zip(streams, selected.kept))
+    notes, missing = [note for kept in selected.kept for note in kept.notes], sum(kept.missing for kept in selected.kept)
+    return TakenConnection(number, connection.number, connection.ends[selected.client], connection.ends[1 - selected.client],
+                           ' and '.join(connection.ends), selected.why, client, server, notes, missing)
+
+
+def why_left_out(connection: Connection, options: Options) -> str:
+    if connection.first_payload is None and not any(stream.gap_at_end() for stream in connection.streams):
+        return 'no payload'
+    if connection.client is None and not options.midstream:
+        return 'no SYN in the recording, so its streams may begin inside a record (--midstream takes it)'
+    if options.midstream:
+        return 'no place was found from which its records follow one another'
+    return 'its first bytes are missing from the recording'
+
+
+class Progress:
+    """How many frames were read, on standard error if that is a terminal."""
+
+    def __init__(self, is_shown: bool) -> None:
+        self.told, self.is_shown = time.monotonic(), is_shown and sys.stderr.isatty()
+
+    def step(self, number: int) -> None:
+        if self.is_shown and time.monotonic() > self.told + 0.2:
+            self.told = time.monotonic()
+            print(f'\r{number} frames', end='', file=sys.stderr, flush=True)
+
+    def end(self) -> None:
+        if self.is_shown:
+            print('\r\x1b[K', end='', file=sys.stderr, flush=True)

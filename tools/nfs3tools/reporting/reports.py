@@ -1,0 +1,188 @@
+"""A comparison as JSON, and as JUnit XML."""
+import json
+import xml.etree.ElementTree
+from collections import Counter
+from collections.abc import Iterable, Iterator, Sequence
+from typing import Any, NamedTuple
+
+from ..comparison.classes import Mask
+from ..comparison.comparing import Compared, Finding, Framing
+from ..comparison.differing import Difference
+from ..captures.listings import Message
+from ..shared.printed import escaped, printable
+from ..recordings.selection import count
+from .summing import IN_ANOTHER_ORDER
+from .telling import brief_of, folded, of_group
+
+
+CASES_AT_MOST = 1_000  # of findings
+
+
+class Size(NamedTuple):
+    """How much a run has."""
+    calls: int
+    connections: int
+
+    def __str__(self) -> str:
+        return f'{count(self.calls, "call")} in {count(self.connections, "connection")}'
+
+
+class Report(NamedTuple):
+    """What is said of two runs as a whole: what `same` says of them, what is masked, and of both their names, how much they have, and
+    how many bytes are missing from them; and the mask under which they are the same in another order, if they are."""
+    verdict: str
+    mask: Mask
+    names: tuple[str, str]
+    sizes: tuple[Size, Size]
+    missing: tuple[int, int]
+    same_under: Mask | None = None
+
+    def word(self) -> str:
+        """Returns the verdict as a word."""
+        verdict = IN_ANOTHER_ORDER if self.same_under is not None else self.verdict.partition(' at ')[0]
+        return f'{verdict} in part' if verdict.startswith('same') and any(self.missing) else verdict
+
+
+class PartReport(NamedTuple):
+    """What is said of a part of two runs.
+
+    label: its name as it is printed
+    name, number: the name of its mark, None before the first mark, and how often parts had that name so far
+    line: what is printed of it
+    is_good: whether it is the same, if the order counts as was asked for
+    only: 'first' or 'second' if one run alone has it
+    report, compared, left_out: if both runs have it, as of whole runs
+    """
+    label: str
+    name: str | None
+    number: int
+    line: str
+    is_good: bool
+    only: str | None
+    report: Report | None
+    compared: Compared
+    left_out: Counter[tuple[str, str]]
+
+    def word(self) -> str:
+        return self.report.word() if self.report else f'only in the {self.only} run'
+
+
+def json_of(report: Report, compared: Compared, left_out: Counter[tuple[str, str]], framings: Sequence[Framing]) -> Iterator[bytes]:
+    """The comparison, in pieces: an object, each of whose findings is a line. Without findings there need be no framings."""
+    runs = zip(report.names, report.sizes, report.missing, compared.lonely, compared.left_out)
+    head = {
+        'verdict': report.word(), 'place': report.verdict.partition(' at ')[2] or None, 'mask': words_of(report.mask),
+        'same_under': report.same_under and words_of(report.same_under),
+        'runs': [{'name': name, **size._asdict(), 'missing': missing, 'only': only, 'left_out': dict(left)}
+                 for name, size, missing, only, left in runs],
+        'order': {'together': compared.exchanges, 'calls': compared.moved, 'replies': compared.late,
+                  'connections': compared.late_connections, 'on_another_connection': compared.elsewhere},
+        'fields': counts_of(compared.fields()), 'ignored': counts_of(left_out)}
+    yield json.dumps(head, indent=1).removesuffix('\n}').encode() + b',\n "findings": ['
+    for number, finding in enumerate(compared.findings):
+        yield b',\n  ' if number else b'\n  '
+        yield json.dumps(of_finding(finding, *framings)).encode()
+    yield b'\n ]\n}\n'
+
+
+def json_of_parts(marks: str, missing: Sequence[int], parts: Sequence[PartReport], framings: Sequence[Framing]) -> Iterator[bytes]:
+    """The comparison of parts, in pieces: an object with a list of the parts. What is said of a part is an object as of whole runs."""
+    yield json.dumps({'marks': marks, 'missing': list(missing)}, indent=1).removesuffix('\n}').encode() + b',\n "parts": ['
+    for turn, part in enumerate(parts):
+        head = {'name': part.name, 'number': part.number, 'verdict': part.word(), 'only': part.only}
+        yield (b',\n' if turn else b'\n') + json.dumps(head).removesuffix('}').encode() + b', "comparison": '
+        yield from json_of(part.report, part.compared, part.left_out, framings) if part.report else [b'null\n']
+        yield b'}'
+    yield b'\n ]\n}\n'
+
+
+def words_of(mask: Mask) -> dict[str, str]:
+    return {name: way.value for name, way in mask.items()}
+
+
+def counts_of(fields: Counter[tuple[str, str]]) -> list[dict[str, Any]]:
+    return [{'procedure': procedure, 'field': field, 'count': number} for (procedure, field), number in fields.most_common()]
+
+
+def of_finding(finding: Finding, first: Framing, second: Framing) -> dict[str, Any]:
+    message = finding.first or finding.second
+    assert message
+    return {'kind': finding.kind, 'procedure': message.procedure, 'is_call': message.is_call, 'path': finding.path,
+            'first': of_message(finding.first, first), 'second': of_message(finding.second, second), 'remark': finding.remark,
+            'differences': [of_difference(one) for one in finding.differences]}
+
+
+def of_message(message: Message | None, framing: Framing) -> dict[str, Any] | None:
+    return None if message is None else {'place': message.place, 'frames': list(framing(message))}
+
+
+def of_difference(difference: Difference) -> dict[str, Any]:
+    """The values are whole, as the listing spells them."""
+    parting = difference.apart and {
+        'at': difference.apart.at, 'offset': difference.apart.offset, 'differing': difference.apart.differing,
+        'sizes': difference.apart.sizes}
+    return {'field': difference.field, 'label': difference.label, 'first': difference.first, 'second': difference.second,
+            'remark': difference.remark, 'names': [name or None for name in difference.meanings], 'apart': parting}
+
+
+# --- JUnit XML ---
+
+class Suite:
+    """A suite of test cases about two runs."""
+
+    def __init__(self, names: Sequence[str]) -> None:
+        self.root, self.names = xml.etree.ElementTree.Element('testsuites'), names
+        self.suite = xml.etree.ElementTree.SubElement(self.root, 'testsuite', name='nfs3canon compare')
+
+    def add(self, name: str, tag: str | None = None, message: str = '', text: Iterable[str] = (), **attributes: str) -> None:
+        """Adds a case, which passed if there is no tag."""
+        element = xml.etree.ElementTree.SubElement
+        case = element(self.suite, 'testcase', classname=' | '.join(map(escaped, self.names)), name=printable(name))
+        lines = '\n'.join(map(printable, text))
+        if tag:
+            element(case, tag, attributes, message=printable(message)).text = lines or None
+        elif lines:
+            element(case, 'system-out').text = lines
+
+    def written(self) -> bytes:
+        for tag, total in (('failure', 'failures'), ('error', 'errors'), ('skipped', 'skipped')):
+            self.suite.set(total, str(len(self.suite.findall(f'testcase/{tag}'))))
+        self.suite.set('tests', str(len(self.suite)))
+        return bytes(xml.etree.ElementTree.tostring(self.root, encoding='utf-8', xml_declaration=True)) + b'\n'
+
+
+def junit_of(line: str, report: Report, findings: Sequence[Finding], framings: Sequence[Framing], is_good: bool) -> bytes:
+    """The verdict as a case, which passed if it is good, and else each finding as one that failed. Findings that say the same are one."""
+    suite, groups = Suite(report.names), [] if is_good else folded(findings)
+    more = [f'{len(groups) - CASES_AT_MOST:,} more findings have no case'] if len(groups) > CASES_AT_MOST else []
+    if is_good:
+        suite.add('the runs are the same', text=[line])
+    else:
+        suite.add('the runs are the same', 'failure', line, more, type=report.word())
+    for group in groups[:CASES_AT_MOST]:
+        said = brief_of(group, *framings)
+        suite.add(said.partition(' | ')[0], 'failure', said, of_group(group, *framings), type=group[0].kind)
+    return suite.written()
+
+
+def junit_of_parts(names: Sequence[str], losses: str, parts: Sequence[PartReport], framings: Sequence[Framing]) -> bytes:
+    """A case for each part, which passed if the part is good, with what differs. Before them one for what is missing, if that counts."""
+    suite = Suite(names)
+    if losses:
+        suite.add('the runs are whole', 'failure', losses, type='same in part')
+    for part in parts:
+        if part.is_good:
+            suite.add(part.label, text=[part.line])
+        else:
+            groups = folded(part.compared.findings)
+            texts = [line for group in groups[:CASES_AT_MOST] for line in of_group(group, *framings)]
+            more = [f'{len(groups) - CASES_AT_MOST:,} more findings'] if len(groups) > CASES_AT_MOST else []
+            suite.add(part.label, 'failure', part.line, [*texts, *more], type=part.word())
+    return suite.written()
+
+
+def junit_of_error(names: Sequence[str], message: str) -> bytes:
+    """Runs that were not compared, as a case with an error."""
+    suite = Suite(names)
+    suite.add('the runs are the same', 'error', message)
+    return suite.written()

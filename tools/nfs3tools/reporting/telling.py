@@ -1,0 +1,144 @@
+"""What is printed of a comparison."""
+from collections import Counter
+from collections.abc import Iterable, Iterator, Sequence
+
+from ..comparison import apart
+from ..comparison.comparing import Compared, Finding, Framing
+from ..comparison.differing import Difference
+from ..captures.listings import Message
+
+LONGEST_VALUE, LONGEST_NAME = 128, 1024  # characters, as the listing spells them
+LONGEST_LIST = 4  # frames
+FIELDS_AT_MOST = 12
+
+
+def shortened(value: str) -> str:
+    """Returns a value as it is printed alone. Handles and names are whole."""
+    most = LONGEST_NAME if value.startswith('"') else LONGEST_VALUE
+    return value if len(value) <= most else f'{value[:most]}.. ({len(value)} characters)'
+
+
+def frames_of(message: Message | None, framing: Framing) -> str:
+    """Returns the numbers of the frames that carry a message, or nothing of a capture."""
+    numbers: Sequence[int] = framing(message) if message else []
+    if not numbers:
+        return ''
+    some = ', '.join(str(number) for number in numbers[:LONGEST_LIST])
+    return f' (frame {some}{" .." if len(numbers) > LONGEST_LIST else ""})'
+
+
+def of_difference(difference: Difference) -> Iterator[str]:
+    """Two lines, as `diff` has them, and a remark after the second."""
+    remark = f'    # {remark_on(difference)}' if remark_on(difference) else ''
+    if difference.first is not None:
+        yield f'  - {difference.label}={value_of(difference, 0)}' + (remark if difference.second is None else '')
+    if difference.second is not None:
+        yield f'  + {difference.label}={value_of(difference, 1)}{remark}'
+
+
+def remark_on(difference: Difference) -> str:
+    parts = [apart.told(difference.apart)] if difference.apart else []
+    return '; '.join([*parts, *filter(None, [difference.remark])])
+
+
+def value_of(difference: Difference, number: int) -> str:
+    """Returns a value as it is printed, with its name if it has one: that of the first run, of number 0, or of the second."""
+    if difference.apart:
+        return difference.apart.shown[number]
+    value, meaning = (difference.first, difference.second)[number], difference.meanings[number]
+    return shortened(value or '') + (f' ({meaning})' if meaning else '')
+
+
+def folded(findings: Iterable[Finding]) -> list[list[Finding]]:
+    """Returns the findings in groups that say the same of one procedure, each with its first finding's place among the others."""
+    groups: dict[object, list[Finding]] = {}
+    for number, finding in enumerate(findings):
+        groups.setdefault(said_by(finding) or number, []).append(finding)
+    return list(groups.values())
+
+
+def said_by(finding: Finding) -> object:
+    """Returns what a finding says: of renamed values, of which each finding has others, only what they have in common. Calls of one run
+    alone say which file they ask for. Returns None for what is said of a connection."""
+    message = finding.first or finding.second
+    if message is None or finding.kind in ('order', 'connection'):
+        return None
+    said = tuple((one.label, one.alike) if one.alike else (one.label, one.first, one.second, one.remark) for one in finding.differences)
+    path = finding.path if finding.kind == 'only' else None
+    return finding.kind, finding.first is None, message.procedure, message.is_call, path, finding.remark, said
+
+
+def what_of(findings: Sequence[Finding]) -> str:
+    """Which messages they are, and the path of the first."""
+    finding, paths = findings[0], {finding.path for finding in findings}
+    message = finding.first or finding.second
+    assert message
+    path = f' {finding.path}' if finding.path else ''
+    if len(findings) == 1:
+        return f'{message.procedure}{"" if message.is_call else " reply"}{path}'
+    what = f'{len(findings):,} {"calls" if message.is_call else "replies"} of {message.procedure}'
+    known = f' on {len(paths - {None}):,} paths' if len(paths - {None}) > 1 else ''
+    return f'{what}{path}, first' if len(paths) == 1 else f'{what}{known}, first{path}'
+
+
+def heading_of(findings: Sequence[Finding], first: Framing, second: Framing) -> str:
+    """Which messages they are, and the places of the first in both runs."""
+    finding = findings[0]
+    one, other = finding.first, finding.second
+    message, run = one or other, 'first' if one else 'second'
+    assert message
+    if finding.kind == 'order':
+        return f'connection {message.connection}'
+    if one and other:
+        return f'{what_of(findings)}: {one.place}{frames_of(one, first)} | {other.place}{frames_of(other, second)}'
+    if finding.kind == 'connection':
+        return f'only in the {run} run: connection {message.connection}'
+    return f'only in the {run} run: {what_of(findings)}: {message.place}{frames_of(message, first if one else second)}'
+
+
+def of_group(findings: Sequence[Finding], first: Framing, second: Framing) -> Iterator[str]:
+    yield heading_of(findings, first, second)
+    if findings[0].remark:
+        yield f'  {findings[0].remark}'
+    for difference in findings[0].differences:
+        yield from of_difference(difference)
+
+
+def brief_of(findings: Sequence[Finding], first: Framing, second: Framing) -> str:
+    """One line for findings that say the same."""
+    finding = findings[0]
+    said = [*([finding.remark] if finding.remark else []), *map(brief_difference, finding.differences)]
+    return ': '.join([heading_of(findings, first, second), *(['; '.join(said)] if said else [])])
+
+
+def brief_difference(difference: Difference) -> str:
+    """A difference in a part of a line. If one run alone has the item, it is as in `of_difference`."""
+    if difference.second is None:
+        return f'-{difference.label}={value_of(difference, 0)}'
+    if difference.first is None:
+        return f'+{difference.label}={value_of(difference, 1)}'
+    remark = f' ({remark_on(difference)})' if remark_on(difference) else ''
+    return f'{difference.label}={value_of(difference, 0)} -> {value_of(difference, 1)}{remark}'
+
+
+def of_compared(compared: Compared, first: Framing, second: Framing, most: int | None, left_out: Counter[tuple[str, str]],
+                is_brief: bool = False) -> Iterator[str]:
+    """The findings, those together that say the same, up to `most` of such groups, or each by itself, and each in a line if that is asked
+    for. Then which fields differ how often, and which were left out."""
+    groups = [[finding] for finding in compared.findings] if most is None else folded(compared.findings)
+    for group in groups[:most]:
+        yield from [brief_of(group, first, second)] if is_brief else of_group(group, first, second)
+    if most is not None and len(groups) > most:
+        yield f'.. and {len(groups) - most:,} more (--all prints them)'
+    fields = compared.fields()
+    if fields:
+        more = ', ..' if len(fields) > FIELDS_AT_MOST else ''
+        yield f'fields that differ, and how often: {told(fields.most_common(FIELDS_AT_MOST))}{more}'
+    if left_out:
+        yield f'left out by --ignore, and how often: {told(left_out.most_common())}'
+    elif not compared.findings:
+        yield 'no field of messages that belong together differs; only which messages share a value, or empty connections, can'
+
+
+def told(fields: Iterable[tuple[tuple[str, str], int]]) -> str:
+    return ', '.join(f'{name} of {procedure} {count:,}' for (procedure, name), count in fields)

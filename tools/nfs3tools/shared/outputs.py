@@ -1,0 +1,271 @@
+"""Files that the tools write. `write_file` is the only way, and has the manners of OUT of nfs3canon.
+
+A regular file is written beside its name, where its owner alone may open it, and gets the name once it is whole and safe on the disk.
+A device, a pipe and the tool's own standard output are written as they are. Inputs, recordings and captures are never replaced.
+"""
+import contextlib
+import errno
+import os
+import secrets
+import signal
+import stat
+import sys
+import typing
+
+from ..recordings.kinds import MAGICS, PACKED_BY, PCAP, SECTION
+from .printed import escaped
+
+PART = '.nfs3canon-'  # begins the name of a file that is being written
+TRIES = 16  # such names
+AT_ONCE = 1 << 16  # bytes that are written
+OWNER_ALONE, EVERYBODY, PERMISSIONS, WRITERS = 0o600, 0o666, 0o777, 0o222
+ENDING = {signal.SIGHUP, signal.SIGINT, signal.SIGTERM}
+# What a file may be that is not to be lost by a slip of the hand.
+RECORDING, CAPTURE, COMPRESSED = 'a recording', 'a capture', 'a compressed file, which may be a recording'
+
+
+class Refused(Exception):
+    """A file is not to be written; its text is the message for the user."""
+
+
+def write_file(path: str, blocks: typing.Iterable[bytes], inputs: typing.Iterable[str] = (), replaces: tuple[str, ...] = ()) -> None:
+    """Writes a file. `replaces` has what it may replace although it would be refused: of RECORDING, CAPTURE and COMPRESSED.
+
+    Raises `Refused`, and `OSError`; then what has the name is as it was.
+    """
+    try:
+        found = check_output(path, inputs, replaces)
+        if found is None:
+            write_new(path, blocks)
+        elif is_standard_output(found):
+            sys.stdout.flush()
+            write_all(1, blocks)
+        elif stat.S_ISREG(found.st_mode):
+            replace(path, found, blocks)
+        else:
+            with opened(path, found, os.O_WRONLY | os.O_APPEND) as number:
+                write_all(number, blocks)
+    except BrokenPipeError:
+        raise
+    except OSError as failed:
+        is_own = failed.filename in (None, os.path.realpath(path)) or PART in str(failed.filename)
+        raise OSError(failed.errno, failed.strerror or str(failed), path if is_own else failed.filename) from failed
+
+
+def check_output(path: str, inputs: typing.Iterable[str] = (), replaces: tuple[str, ...] = ()) -> os.stat_result | None:
+    """Returns what has the name of an output, or `None` for a new name. Makes nothing.
+
+    Raises `Refused` if it is an input, or begins as what is not to be replaced, and `OSError`, also for a link that leads to nothing.
+    """
+    try:
+        found = os.stat(path)
+    except FileNotFoundError:
+        if is_there(path):
+            raise
+        return None
+    if stat.S_ISREG(found.st_mode):
+        if any(is_read_from(one, found) for one in inputs):
+            raise Refused(f'{escaped(path)} is an input, and is not replaced')
+        kind = kind_of(path, found)
+        if kind and kind not in replaces:
+            raise Refused(f'{escaped(path)} is {kind}, and is not replaced')
+    return found
+
+
+def is_there(path: str) -> bool:
+    """Whether anything has a name, be it a link that leads to nothing."""
+    try:
+        os.lstat(path)
+    except FileNotFoundError:
+        return False
+    return True
+
+
+def is_read_from(given: str, found: os.stat_result) -> bool:
+    """Whether an input, `-` for standard input, is this file. One of which nothing can be known is not read either."""
+    try:
+        return os.path.samestat(os.fstat(0) if given == '-' else os.stat(given), found)
+    except (OSError, ValueError):
+        return False
+
+
+def is_standard_output(found: os.stat_result) -> bool:
+    """Whether a tool prints to this file, which is known by its number: its name may lie."""
+    try:
+        return os.path.samestat(os.fstat(1), found)
+    except OSError:
+        return False
+
+
+def kind_of(path: str, found: os.stat_result) -> str | None:
+    """Returns what a file begins as, if that is not to be replaced."""
+    with opened(path, found, os.O_RDONLY | os.O_NONBLOCK) as number:
+        begin = os.read(number, 8)
+    if begin[:4] in PCAP or begin[:4] == SECTION:
+        return RECORDING
+    if begin in MAGICS:
+        return CAPTURE
+    return COMPRESSED if begin.startswith(tuple(PACKED_BY)) else None
+
+
+@contextlib.contextmanager
+def opened(path: str, found: os.stat_result, flags: int) -> typing.Iterator[int]:
+    """Opens the file that was found under a name, and no other. Nothing is made or emptied."""
+    number = os.open(path, flags | os.O_NOCTTY)
+    try:
+        if not os.path.samestat(os.fstat(number), found):
+            raise another(path)
+        yield number
+    finally:
+        os.close(number)
+
+
+def another(path: str) -> OSError:
+    return FileExistsError(errno.EEXIST, 'another file has got the name', path)
+
+
+def write_all(number: int, blocks: typing.Iterable[bytes]) -> None:
+    """Writes many small blocks at once. After a failure or a signal nothing is left that waits to be written."""
+    gathered = bytearray()
+    for block in blocks:
+        gathered += block
+        if len(gathered) >= AT_ONCE:
+            write_whole(number, gathered)
+            gathered = bytearray()
+    write_whole(number, gathered)
+
+
+def write_whole(number: int, block: bytes | bytearray) -> None:
+    left = memoryview(block)
+    while left:
+        left = left[os.write(number, left):]
+
+
+# --- Beside the name ---
+
+class Part(typing.NamedTuple):
+    """A file that is not whole yet: its path and the number under which it is open."""
+    path: str
+    number: int
+
+    def make_safe(self, mode: int) -> None:
+        """Gives the whole file its permissions, and makes its bytes safe on the disk."""
+        if os.fstat(self.number).st_mode & PERMISSIONS != mode:
+            os.fchmod(self.number, mode)
+        os.fsync(self.number)
+
+    def remove(self) -> None:
+        """Removes what has not got another name. If that fails it stays, as after a signal that nothing can hold."""
+        with contextlib.suppress(OSError):
+            os.unlink(self.path)
+
+
+@contextlib.contextmanager
+def held() -> typing.Iterator[None]:
+    """The signals that end a tool wait until this is over."""
+    before = signal.pthread_sigmask(signal.SIG_BLOCK, ())
+    try:
+        signal.pthread_sigmask(signal.SIG_BLOCK, ENDING)
+        yield
+    finally:
+        signal.pthread_sigmask(signal.SIG_SETMASK, before)
+
+
+@contextlib.contextmanager
+def part_of(path: str, mode: int = OWNER_ALONE) -> typing.Iterator[Part]:
+    """A new file beside a path. In the end its name is removed, whatever fails and whichever signals come."""
+    made: list[Part] = []
+    try:
+        with held():
+            made.append(made_beside(path, mode))
+        yield made[0]
+    finally:
+        with held():
+            for part in made:
+                os.close(part.number)
+                part.remove()
+
+
+def made_beside(path: str, mode: int) -> Part:
+    """Makes a new file in the folder of the path, with a short name that is random."""
+    for _ in range(TRIES):
+        name = free_name(path)
+        with contextlib.suppress(FileExistsError):
+            return Part(name, os.open(name, os.O_WRONLY | os.O_CREAT | os.O_EXCL, mode))
+    raise FileExistsError(errno.EEXIST, 'no free name beside it', path)
+
+
+def free_name(path: str) -> str:
+    return os.path.join(os.path.dirname(path), PART + secrets.token_hex(8))
+
+
+def write_new(path: str, blocks: typing.Iterable[bytes]) -> None:
+    """Whatever has got the name meanwhile is left alone."""
+    mode = mode_of_new(path)
+    with part_of(path) as part:
+        write_all(part.number, blocks)
+        part.make_safe(mode)
+        with held():
+            appear(part, path)
+
+
+def appear(part: Part, path: str) -> None:
+    try:
+        os.link(part.path, path)
+    except FileExistsError:
+        raise
+    except OSError:
+        # Without hard links there is no way to look for the name and to give it at once.
+        if is_there(path):
+            raise another(path) from None
+        os.rename(part.path, path)
+
+
+def mode_of_new(path: str) -> int:
+    """Returns the permissions that a new file gets in the folder of a path. Only a file tells them, since a folder may have rules of its
+    own beside the umask."""
+    with part_of(path, EVERYBODY) as probe:
+        return os.fstat(probe.number).st_mode & PERMISSIONS
+
+
+def replace(path: str, found: os.stat_result, blocks: typing.Iterable[bytes]) -> None:
+    """Replaces the regular file that was found under a name. It stays open meanwhile, so that no other file gets its number."""
+    if not found.st_mode & WRITERS:
+        raise PermissionError(errno.EACCES, os.strerror(errno.EACCES), path)
+    target = os.path.realpath(path)
+    with opened(path, found, os.O_WRONLY | os.O_NONBLOCK) as number:
+        look_again(target, found)
+        mode = mode_of_new(target)
+        with part_of(target) as part:
+            write_all(part.number, blocks)
+            part.make_safe(mode_of_replaced(part, os.fstat(number), mode))
+            with held():
+                look_again(target, found)
+                os.rename(part.path, target)
+
+
+def look_again(target: str, found: os.stat_result) -> None:
+    """Another file that has got the name meanwhile, or to which the text of a link leads that is none, is left alone."""
+    if not os.path.samestat(os.lstat(target), found):
+        raise another(target)
+
+
+def mode_of_replaced(part: Part, old: os.stat_result, new: int) -> int:
+    """Gives a file the owner and the group of the old one as far as that can be, and returns its permissions: nobody gets more than the
+    old one gave, of whichever group they are."""
+    owner, group, others = (old.st_mode >> shift & 7 for shift in (6, 3, 0))
+    if is_given(part, old.st_uid, old.st_gid):
+        return old.st_mode & PERMISSIONS
+    if is_given(part, old.st_uid, -1):
+        return owner << 6 | group & others
+    common = owner & group & others
+    return new & (OWNER_ALONE | common << 3 | common)
+
+
+def is_given(part: Part, owner: int, group: int) -> bool:
+    """Gives a file an owner and a group, -1 for the one that it has."""
+    try:
+        os.fchown(part.number, owner, group)
+    except OSError:
+        return False
+    return True

@@ -1,0 +1,156 @@
+"""Running the built programs, and tshark. Each is asked how it ended."""
+import contextlib
+import io
+import pathlib
+import shutil
+import signal
+import subprocess
+import tempfile
+import typing
+
+from .outputs import write_whole
+from .printed import escaped, printable
+
+TOP = pathlib.Path(__file__).resolve().parents[3]
+# How the programs answer: by which status, and how standard output begins then.
+CHECKED, COMPARED, MASKED = {0: 'ok ', 2: ''}, {0: 'same\n', 1: 'differ at '}, {0: 'ok '}
+COMMANDS = ('check', 'same', 'show')
+PIPE_SIZE = 1 << 16  # of Linux
+Stream = typing.IO[bytes] | int
+MOST_STATUS = 125  # of a program itself; a shell and a loader have those above for one that cannot run
+
+
+class Missing(Exception):
+    """A program is not there; its text is the message for the user."""
+
+
+class Died(Exception):
+    """A program did not end as one that has done its work; the text is the message for the user."""
+
+
+class Answer(typing.NamedTuple):
+    """What a run ended with: its status, and what it printed."""
+    status: int
+    out: str
+    error: str
+
+
+def program_path(named: str | None = None) -> str:
+    """The program: the one that is named, else the one built here, else the launcher that builds it, else the one beside which
+    the tools are installed, else the one on the PATH.
+
+    Raises `Missing`.
+    """
+    here = [TOP / 'crates/nfs3canon/out/nfs3canon', TOP / 'nfs3canon', TOP.parent.parent / 'libexec/nfs3canon/nfs3canon']
+    for name in [named] if named else [*map(str, here), 'nfs3canon']:
+        found = shutil.which(name)
+        if found:
+            return found
+    raise Missing(f'{escaped(named or "nfs3canon")} is missing')
+
+
+def program_beside(program: str, name: str) -> str:
+    """Another program: what is beside the given one, or in its own crate's folder or under its own launcher, else on the PATH.
+
+    Raises `Missing`.
+    """
+    path = pathlib.Path(program).resolve()
+    own = path.parents[2] / name / 'out' / name if path.parent.name == 'out' else path.parent / name
+    for place in (str(own), str(TOP / name), name):
+        found = shutil.which(place)
+        if found:
+            return found
+    raise Missing(f'{name} is missing')
+
+
+def made_programs(names: typing.Iterable[str]) -> None:
+    """Has the launchers make the programs of this repository that are not there: they unpack or build them.
+
+    Raises `Missing`.
+    """
+    for name in names:
+        # (without words a program prints its usage)
+        launcher = shutil.which(TOP / name)
+        if launcher is None:
+            raise Missing(f'{name} is missing')
+        done = subprocess.run([launcher], stdin=subprocess.DEVNULL, stdout=subprocess.DEVNULL, stderr=subprocess.PIPE, check=False)
+        if not (TOP / f'crates/{name}/out/{name}').exists():
+            raise Missing(f'{name} cannot be made: ' + done.stderr.decode(errors='replace').strip().rpartition('\n')[2])
+
+
+def run_program(program: str, words: list[str], expected: typing.Mapping[int, str], content: typing.Iterable[bytes] = ()) -> Answer:
+    """Runs the program with the content as its standard input, which it may leave unread. `expected` has each status that is an answer,
+    and how its standard output begins then.
+
+    Raises `Died` if it ends in another way.
+    """
+    with tempfile.TemporaryFile() as out, tempfile.TemporaryFile() as error:
+        with begun([program, *words], stdin=subprocess.PIPE, stdout=out, stderr=error) as process:
+            assert process.stdin is not None
+            with contextlib.suppress(BrokenPipeError):
+                for block in content:
+                    write_whole(process.stdin.fileno(), block)
+        answer = Answer(process.returncode, *map(text_of, (out, error)))
+    if answer.status not in expected or not answer.out.startswith(expected[answer.status]):
+        raise died([program, *words], answer.status, answer.error)
+    return answer
+
+
+def lines_of_program(program: str, words: list[str], expected: int = 0,
+                     stdin: Stream = subprocess.DEVNULL) -> typing.Iterator[str]:
+    """Iterates over the lines that a program prints.
+
+    Raises `Died` after the last of them unless its status is the one that is expected.
+    """
+    with tempfile.TemporaryFile() as error:
+        with begun([program, *words], stdin=stdin, stdout=subprocess.PIPE, stderr=error) as process:
+            assert process.stdout is not None
+            with io.TextIOWrapper(process.stdout, encoding='latin-1', newline='\n') as lines:
+                while some := lines.readlines(PIPE_SIZE):
+                    if some[-1][-1] != '\n':
+                        some.pop()
+                    yield from some
+        if process.returncode != expected:
+            raise died([program, *words], process.returncode, text_of(error))
+
+
+def begun(command: list[str], stdin: Stream, stdout: Stream, stderr: Stream) -> 'subprocess.Popen[bytes]':
+    """Raises `Died` if the program cannot be started, as when memory is short."""
+    try:
+        return subprocess.Popen(command, bufsize=PIPE_SIZE, stdin=stdin, stdout=stdout, stderr=stderr)
+    except OSError as failed:
+        raise Died(f'{escaped(command[0])} cannot be started: {failed.strerror or failed}') from failed
+
+
+def text_of(file: typing.IO[bytes]) -> str:
+    file.seek(0)
+    return file.read().decode(errors='replace')
+
+
+def died(command: list[str], status: int, error: str) -> Died:
+    """Says which program ended how, and what it said last."""
+    name = ' '.join([pathlib.Path(command[0]).name, *(word for word in command[1:2] if word in COMMANDS)])
+    how = f'was killed by signal {-status} ({signal.strsignal(-status)})' if status < 0 else f'ended with status {status}'
+    return Died(f'{escaped(name)} {how}' + ''.join(f': {printable(line)}' for line in error.splitlines()[-1:]))
+
+
+def chosen_frames(recording: str, display_filter: str) -> set[int]:
+    """The numbers of the frames for which a display filter of Wireshark is true.
+
+    Raises `Missing` if tshark is not there, and `FilterRefused`.
+    """
+    if not shutil.which('tshark'):
+        raise Missing('tshark is missing, which --filter needs')
+    words = ['tshark', '-n', '-r', recording, '-Y', f'tcp && ({display_filter})', '-T', 'fields', '-e', 'frame.number']
+    with begun(words, stdin=subprocess.DEVNULL, stdout=subprocess.PIPE, stderr=subprocess.PIPE) as process:
+        out, error = (piece.decode(errors='replace') for piece in process.communicate())
+    complaints = [line for line in error.splitlines() if line and not line.startswith('Running as user "root"')]
+    if process.returncode < 0 or process.returncode > MOST_STATUS:
+        raise died(words[:1], process.returncode, error)
+    if process.returncode not in (0, 2) or process.returncode and not out:
+        raise FilterRefused('; '.join(map(printable, complaints)) or f'tshark ended with status {process.returncode}')
+    return set(map(int, out.split()))
+
+
+class FilterRefused(Exception):
+    """tshark does not take the filter or the recording; its text is what tshark said."""
