@@ -127,7 +127,7 @@ def what_is_refused(tools: Tools) -> None:
             (('a.pcap', 'connection 2 client record 1', 'new'), 1, 'cut: there is no connection 2\n'),
             (('a.pcap', 'connection 0 client record 1', 'new'), 1, 'cut: there is no connection 0\n'),
             (('a.pcap', 'file 12: BadMark', 'new'), 2, 'cut: no record: file 12\n'),
-            (('a.pcap', 'somewhere', 'new'), 2, 'cut: no place: somewhere\n'),
+            (('a.pcap', 'somewhere', 'new'), 2, 'cut: no position: somewhere\n'),
             (('a.pcap', 'connection 1 client record 1', 'a.pcap'), 2, 'cut: a.pcap is an input, and is not replaced\n'),
             (('old', 'connection 1 client record 1', 'a.pcap'), 2, 'cut: a.pcap is a recording, and is not replaced\n'),
             (('old', 'connection 1 client record 1', './old'), 2, 'cut: ./old is an input, and is not replaced\n'),

@@ -181,7 +181,7 @@ def recordings_of_all_kinds(tools: Tools) -> None:
             piped = ended(['bash', '-c', f'exec "$@" <(cat {name}) "{place}"', 'bash', str(TOP / 'tools/explain')], tools.folder).text()
             tools.want('a pipe', piped[:2], tools.tool('explain', name, place)[:2])
     tools.want('no place', tools.tool('explain', '-', stdin=pcap(frames)),
-               (2, '', 'explain: PLACE has to be an argument if FILE is standard input\n'))
+               (2, '', 'explain: POSITION has to be an argument if FILE is standard input\n'))
 
 
 def options_of_recordings(tools: Tools) -> None:

@@ -568,7 +568,7 @@ def as_json(place: Findings) -> None:
     place.put('a', run(b'x', 2, b'o' * 40, more=1))
     place.put('b', run(b'x', 13, b'o' * 38))
     def at(side: str, record: int) -> dict[str, object]:
-        return {'place': f'connection 1 {side} record {record}', 'frames': []}
+        return {'position': f'connection 1 {side} record {record}', 'frames': []}
     def finding(kind: str, procedure: str, path: str | None, *, is_call: bool = True, **more: object) -> dict[str, object]:
         return {'kind': kind, 'procedure': procedure, 'is_call': is_call, 'path': path, 'remark': '', 'differences': [], **more}
     status = {'field': 'status', 'label': 'status', 'first': '2', 'second': '13', 'remark': '', 'names': ['NFS3ERR_NOENT', 'NFS3ERR_ACCES'],
@@ -576,7 +576,7 @@ def as_json(place: Findings) -> None:
     data = {'field': 'data', 'label': 'data', 'first': '6f' * 40, 'second': '6f' * 38, 'remark': '', 'names': [None, None],
             'apart': {'at': 38, 'offset': 1_038, 'differing': 0, 'sizes': [40, 38]}}
     wanted: dict[str, Any] = {
-        'verdict': 'differ', 'place': 'connection 1 client record 3', 'mask': {'times': 'zero', 'ids': 'number'},
+        'verdict': 'differ', 'position': 'connection 1 client record 3', 'mask': {'times': 'zero', 'ids': 'number'},
         'same_under': None,
         'runs': [{'name': 'a', 'calls': 4, 'connections': 1, 'missing': 0, 'only': 1, 'left_out': {}},
                  {'name': 'b', 'calls': 3, 'connections': 1, 'missing': 0, 'only': 0, 'left_out': {}}],
@@ -596,7 +596,7 @@ def as_json(place: Findings) -> None:
         **wanted, 'findings': wanted['findings'][1:], 'fields': wanted['fields'][1:], 'ignored': wanted['fields'][:1]})
     place.want('status', place.compare('--mask', 'none', '--json', 'out.json', 'a', 'a')[0], 0)
     place.want('same', json.loads(place.read('out.json') or b''), {
-        **wanted, 'verdict': 'same', 'place': None, 'mask': {}, 'order': {**wanted['order'], 'together': 4},
+        **wanted, 'verdict': 'same', 'position': None, 'mask': {}, 'order': {**wanted['order'], 'together': 4},
         'runs': [{**wanted['runs'][0], 'only': 0}] * 2, 'fields': [], 'findings': []})
 
 
@@ -611,7 +611,7 @@ def json_of_recordings(place: Findings) -> None:
     place.put('a', asked_for((b'1', 3), (b'2', 3), more=2))
     place.put('b', asked_for((b'1', 2), (b'2', 2), more=2))
     place.compare('--json', 'out.json', 'a', 'b')
-    place.want('each', [finding['first']['place'] for finding in json.loads(place.read('out.json') or b'')['findings']],
+    place.want('each', [finding['first']['position'] for finding in json.loads(place.read('out.json') or b'')['findings']],
                [f'connection 1 server record {record}' for record in (3, 4, 5, 6)])
 
 

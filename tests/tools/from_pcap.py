@@ -411,7 +411,7 @@ def who_is_the_client(tools: Tools) -> None:
     for talk, first in ((Talk(), 1), (Talk(port=111, service=900), 1)):
         frames = [*exchange(talk, calls=[])]
         lines = tools.taken('no calls', pcap(frames), [], midstream=True)
-        tools.want('no calls', lines, ['left out: %s: no place was found from which its records follow one another'
+        tools.want('no calls', lines, ['left out: %s: no position was found from which its records follow one another'
                                        % ' and '.join(ends_of(talk, first))])
     garbage = [Talk(service=900).frame(0, ACK, stream(REPLIES))]
     tools.taken('replies alone', pcap(garbage), [], midstream=True)

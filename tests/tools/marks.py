@@ -370,7 +370,7 @@ def files_for_others(place: Comparisons) -> None:
     place.want('one alone', third, None)
     place.want('same', (second['verdict'], second['findings'], [run['calls'] for run in second['runs']]), ('same', [], [2, 2]))
     place.want('differ', [(finding['first'], finding['differences'][0]['label']) for finding in first['findings']], [
-        ({'place': 'connection 1 server record 2', 'frames': [7]}, 'obj.mode')])
+        ({'position': 'connection 1 server record 2', 'frames': [7]}, 'obj.mode')])
     root = xml.etree.ElementTree.fromstring((place.read('junit') or b'').decode())
     cases = [(case.get('name'), [(item.get('type'), item.get('message')) for item in case if item.tag == 'failure'])
              for case in root.iter('testcase')]

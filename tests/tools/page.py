@@ -326,7 +326,7 @@ def findings_that_say_the_same(place: Pages) -> None:
     place.want('others', (len(others), others[0].text(), others[-1].text()), (
         300, '/m/f1: connection 1 server record 5 | connection 1 server record 5',
         '/m/f300: connection 1 server record 603 | connection 1 server record 603'))
-    place.want('more', (article.all('summary')[0].text(), article.all('p')[-1].text()), ('351 places more', '.. and 51 more'))
+    place.want('more', (article.all('summary')[0].text(), article.all('p')[-1].text()), ('351 positions more', '.. and 51 more'))
     place.want('how many', page.all('h2')[1].text(), '352 findings, 1 if those that say the same are one')
 
 

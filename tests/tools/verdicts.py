@@ -86,7 +86,7 @@ def places_that_are_not_there(tools: Tools) -> None:
             ('file 8', 1, 'byte 8 of the capture is not of a stream, so no frame carries it'),
             ('file 15', 1, 'byte 15 of the capture is not of a stream, so no frame carries it'),
             ('file 999999', 1, 'byte 999999 of the capture is not of a stream, so no frame carries it'),
-            ('somewhere', 2, 'no place: somewhere')):
+            ('somewhere', 2, 'no position: somewhere')):
         tools.want(place, where(tools, place), (status, [], f'where: {message}\n'))
 
 
@@ -96,7 +96,7 @@ def places_by_standard_input(tools: Tools, frames: list[bytes]) -> None:
     tools.want('a place from standard input', answer[1].splitlines()[-1:], ['frame.number == 4'])
     answer = tools.tool('where', '-', 'connection 1 client record 1 byte 0', stdin=pcap(frames))
     tools.want('a recording from standard input', answer[1].splitlines()[-1:], ['frame.number == 4'])
-    for words, message in ((('-',), 'where: PLACE has to be an argument if the recording is standard input\n'),
+    for words, message in ((('-',), 'where: POSITION has to be an argument if the recording is standard input\n'),
                            (('b.nfs3cap', 'file 8'), 'where: b.nfs3cap is a capture, which has no frames\n')):
         shutil.copy(TOP / 'examples/null.nfs3cap', tools.path('b.nfs3cap'))
         tools.want(message, tools.tool('where', *words), (2, '', message))
@@ -211,13 +211,13 @@ def recordings_that_are_compressed(tools: Tools) -> None:
     told = ': it is compressed by %s: decompress it first, as in `%s`'
     for words, line in (
             (('from_pcap', 'a.lz4', 'out'), told % ('lz4', 'lz4 -dc FILE | tools/from_pcap - OUT')),
-            (('where', 'a.lz4', 'file 20'), told % ('lz4', 'lz4 -dc FILE | tools/where - PLACE')),
+            (('where', 'a.lz4', 'file 20'), told % ('lz4', 'lz4 -dc FILE | tools/where - POSITION')),
             (('compare', '--program', tools.program, 'a.lz4', 'a.lz4'), told % ('lz4', 'tools/compare <(lz4 -dc A) <(lz4 -dc B)'))):
         tools.want(words[0], tools.tool(*words), (2, '', words[0] + line + '\n'))
     tools.want('verdicts', ': ' + verdicts(tools, 'a.lz4')[1][0][-1], told % ('lz4', 'lz4 -dc FILE | tools/verdicts -'))
     os.symlink(TOP / 'tools/where', tools.path('nfs3-where'))
     done = ended([tools.path('nfs3-where'), 'a.lz4', 'file 20'], tools.folder)
-    tools.want('installed', '`lz4 -dc FILE | nfs3-where - PLACE`' in done.error.decode(), True)
+    tools.want('installed', '`lz4 -dc FILE | nfs3-where - POSITION`' in done.error.decode(), True)
 
 
 # --- verdicts ---
@@ -411,7 +411,7 @@ def files_for_others(tools: Tools) -> None:
     tools.want('what is told', [text.splitlines()[:2] for text in told],
                [[in_part, 'client: 344 bytes are missing from the recording after the first 344, before frame 5; the stream ends there']])
     rows = json.loads(tools.read('x.json') or b'[]')
-    tools.want('JSON', [(row['state'], row['connection'], row['tcp_stream'], row['place'], row['reason'], row['frames']) for row in rows], [
+    tools.want('JSON', [(row['state'], row['connection'], row['tcp_stream'], row['position'], row['reason'], row['frames']) for row in rows], [
         ('ok', 1, 0, None, None, []),
         ('refused', 2, 1, 'server record 2 byte 0', 'NoCall', [{'number': 13, 'time': 1_000_012_000}]),
         ('in part', 1, 0, None, None, []), ('skipped', None, None, None, None, []), ('error', None, None, None, None, [])])

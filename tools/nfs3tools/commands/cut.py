@@ -2,8 +2,8 @@
 
     tools/cut [--origins] RECORDING|CAPTURE 'connection 1 server record 7 byte 24' OUT
 
-OUT has all calls and replies of the connection that have the xid of the message at PLACE, as they were recorded. PLACE is a line of `check`
-or `same`, or of `show`, as tools/explain takes it. It names a record, of which any byte may be named.
+OUT has all calls and replies of the connection that have the xid of the message at POSITION, as they were recorded. POSITION is a line of
+`check` or `same`, or of `show`, as tools/explain takes it. It names a record, of which any byte may be named.
 
 --origins takes the exchanges too that gave the file handles of these calls, up to the MNT call that gave the first: of each handle the one
 that made its object, or else the first that reached it. They are on the connections on which they were recorded. RECORDING has to be one
@@ -14,8 +14,8 @@ or the reason for which the message was refused before.
 
 A recording is taken as by tools/from_pcap (--midstream, --whole-records, --filter, a pattern in quotes for the parts of one recording).
 OUT is written beside its name, and gets it once it is whole. It is refused if it is an input or begins as a recording; an older capture is
-replaced. The status is 0 if OUT was written, 1 if there is no such place, 2 if PLACE, RECORDING, FILTER or OUT is refused or a program is
-missing, 3 if a file, a program or memory failed.
+replaced. The status is 0 if OUT was written, 1 if there is no such position, 2 if POSITION, RECORDING, FILTER or OUT is refused or a
+program is missing, 3 if a file, a program or memory failed.
 """
 import os
 import tempfile
@@ -113,7 +113,7 @@ def lines_of(taken: Taken, cuts: list[Cut]) -> Iterator[str]:
 def main(words: list[str]) -> int:
     parser = parser_of(__doc__, 'cut')
     parser.add_argument('recording', metavar='RECORDING|CAPTURE')
-    parser.add_argument('place', metavar='PLACE')
+    parser.add_argument('place', metavar='POSITION')
     parser.add_argument('out', metavar='OUT')
     parser.add_argument('--origins', action='store_true', help='takes the exchanges too that gave the file handles')
     parser.add_argument('--program', metavar='PROGRAM', help='nfs3canon')

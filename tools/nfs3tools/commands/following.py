@@ -296,8 +296,8 @@ class Following:
             if one.size >= SECTION and all(map(is_sure_of_end, streams, selected.kept)):
                 self.tell(one, verdict)
                 forget_section(one, selected, verdict, self.connections.spool)
-        elif verdict.reason == 'NoCall' and one.doubted != verdict.place:
-            one.doubted = verdict.place
+        elif verdict.reason == 'NoCall' and one.doubted != verdict.position:
+            one.doubted = verdict.position
             self.waiting[one.connection.number] = one.time
         else:
             self.conclude(one, verdict._replace(notes=[]))

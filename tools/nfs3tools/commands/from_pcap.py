@@ -19,7 +19,7 @@ taken for the client (it sent the SYN; else, with --midstream, calls come from i
 If bytes are missing from the recording, the stream ends before them, after its last whole record. The replies to calls that
 are missing are left out. Both are told.
 
---midstream takes connections whose beginning was not recorded: each stream begins at the first place from which record
+--midstream takes connections whose beginning was not recorded: each stream begins at the first position from which record
 follows record up to the end of the stream or to missing bytes. It does the same after missing bytes, and it leaves out a
 record at the end of a connection that goes on after the recording.
 

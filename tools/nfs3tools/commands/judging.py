@@ -19,7 +19,7 @@ COUNTS = re.compile(r'ok connections=1 calls=(\d+) replies=(\d+) handles=\d+\n')
 class Verdict(typing.NamedTuple):
     """What is said of a connection, or of a recording or capture as a whole (then the connection is None). A note is no verdict.
 
-    place: where its first fault is, without the connection; reason: that of the program; message: all of it in words
+    position: where its first fault is, without the connection; reason: that of the program; message: all of it in words
     missing: how many of its bytes the recording lacks
     """
     recording: str
@@ -31,7 +31,7 @@ class Verdict(typing.NamedTuple):
     replies: int | None = None
     state: State = 'ok'
     message: str = 'ok'
-    place: str | None = None
+    position: str | None = None
     reason: str | None = None
     missing: int = 0
     frames: list[FrameRef] = []
@@ -65,10 +65,10 @@ def verdict_of(recording: str, taken: Taken, connection: TakenConnection, answer
     is_call = fault.place.side == 'client'
     there = fault.place._replace(connection=connection.number, record=fault.place.record - before.carried * is_call)
     frames = taken.frames(there)
-    place = str(there._replace(connection=1, record=there.record + (before.calls if is_call else before.replies)))
-    place = place.removeprefix('connection 1 ')
-    message = f'{place}: {fault.reason}' + ''.join(f', frame {frame.number}' for frame in frames)
-    return verdict._replace(state='refused', message=message, place=place, reason=fault.reason, frames=frames)
+    position = str(there._replace(connection=1, record=there.record + (before.calls if is_call else before.replies)))
+    position = position.removeprefix('connection 1 ')
+    message = f'{position}: {fault.reason}' + ''.join(f', frame {frame.number}' for frame in frames)
+    return verdict._replace(state='refused', message=message, position=position, reason=fault.reason, frames=frames)
 
 
 def in_part(calls: int, missing: int) -> str:

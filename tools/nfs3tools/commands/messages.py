@@ -14,12 +14,12 @@ from ..recordings.selection import Options
 from ..recordings.taken import NotTaken, Taken
 from ..shared.version import version
 
-ABSENT, REFUSED, FAILED, INTERRUPTED = 1, 2, 3, 130  # ABSENT: no such place
+ABSENT, REFUSED, FAILED, INTERRUPTED = 1, 2, 3, 130  # ABSENT: no such position
 
 
 INSTALLED = 'nfs3-'  # begins the names under which the tools are installed
 # How a tool reads a recording from standard input.
-READING = {'from_pcap': '- OUT', 'where': '- PLACE', 'explain': '- PLACE', 'verdicts': '-', 'procedures': '-', 'cut': '- PLACE OUT'}
+READING = {'from_pcap': '- OUT', 'where': '- POSITION', 'explain': '- POSITION', 'verdicts': '-', 'procedures': '-', 'cut': '- POSITION OUT'}
 
 
 def run(name: str, main: typing.Callable[[list[str]], int]) -> int:

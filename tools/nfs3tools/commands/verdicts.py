@@ -5,7 +5,7 @@
 
 Each connection is a capture of its own, which `nfs3canon check` judges, so a fault in one hides nothing of another. Printed is
 a table with a row for each: the recording, the connection's number and ends, its calls and replies, and the verdict: `ok`, or
-the place and reason of its first fault with the frame that carries it. If bytes of the connection are missing from the recording,
+the position and reason of its first fault with the frame that carries it. If bytes of the connection are missing from the recording,
 the verdict is `ok in part`, with the calls that were judged and the bytes that are missing. What is missing, and which connections
 are left out, is told on standard error. A recording that cannot be read has a row, too, and the others are judged still.
 
@@ -101,7 +101,7 @@ class Judge(typing.NamedTuple):
         at = fault.place.connection if isinstance(fault.place, Place) else None
         if at is not None and any(other.connection == at for other in others):
             return []
-        return [Verdict(recording, at, state='refused', message=str(fault), place=str(fault.place), reason=fault.reason)]
+        return [Verdict(recording, at, state='refused', message=str(fault), position=str(fault.place), reason=fault.reason)]
 
 
 # --- The command ---

@@ -1,21 +1,21 @@
-"""Tells which frames of a recording carry a place of its capture.
+"""Tells which frames of a recording carry a position of its capture.
 
     tools/where RECORDING 'connection 1 server record 7 byte 24'
     nfs3canon check CAPTURE 2>&1 | tools/where RECORDING
 
 RECORDING is what `tools/from_pcap` made the capture of; its options have to be the same here (--midstream, --whole-records,
---filter), since they decide on the numbers of connections and records. If RECORDING is `-`, PLACE has to be an argument.
+--filter), since they decide on the numbers of connections and records. If RECORDING is `-`, POSITION has to be an argument.
 
-PLACE is a line of `check` or `same` (`connection 1 server record 7 byte 24: BadEnum`, `differ at connection 2 client record 3`,
+POSITION is a line of `check` or `same` (`connection 1 server record 7 byte 24: BadEnum`, `differ at connection 2 client record 3`,
 also with `first: ` or `second: ` before it) or of `show`, whose first three words name a record; a byte of the capture, as
 `file 12`, is taken too. If no byte is named, the frames of the whole record are told. The frame of a byte is the first that
 brought it, not a retransmission; of a datagram that came in fragments it is the frame with the last of them.
 
-Printed are the place with the number of the connection as Wireshark counts it, the frames with their times, and a display
+Printed are the position with the number of the connection as Wireshark counts it, the frames with their times, and a display
 filter to paste. If RECORDING is a pattern in quotes for the parts of one recording, frames are counted through all parts, and
 there is a filter for each part that has such frames, with its own numbers.
 
-The status is 0, 1 if the capture has no such place, 2 if PLACE, RECORDING or FILTER is refused, 3 if a file or memory failed.
+The status is 0, 1 if the capture has no such position, 2 if POSITION, RECORDING or FILTER is refused, 3 if a file or memory failed.
 """
 import datetime
 import sys
@@ -34,11 +34,11 @@ SHOWN_AT_MOST = 12  # frames of which the time is printed
 def main(words: list[str]) -> int:
     parser = parser_of(__doc__, 'where')
     parser.add_argument('recording', metavar='RECORDING')
-    parser.add_argument('place', metavar='PLACE', nargs='?')
+    parser.add_argument('place', metavar='POSITION', nargs='?')
     add_options(parser)
     chosen = parser.parse_args(words)
     if chosen.place is None and chosen.recording == '-':
-        return ended('where', 'PLACE has to be an argument if the recording is standard input', REFUSED)
+        return ended('where', 'POSITION has to be an argument if the recording is standard input', REFUSED)
     place = parse_place(chosen.place if chosen.place is not None else sys.stdin.buffer.read().decode(errors='replace'))
     with take(chosen.recording, options_of(chosen)) as taken:
         if not taken.is_recording:

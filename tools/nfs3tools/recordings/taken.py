@@ -7,8 +7,8 @@
         taken.frames(Place(1, 'server', 7, 24))     # the frames of the recording that carry this byte
 
 `take` reads pcap and pcapng (also compressed, `-` for standard input, and the parts of one recording by a pattern) and captures
-(`NFS3CAP1`, `NFS3CAP2`). Places of
-`check`, `show` and `same` on the file that `write_capture` writes are places of `taken`: connections have the numbers of
+(`NFS3CAP1`, `NFS3CAP2`). Positions of
+`check`, `show` and `same` on the file that `write_capture` writes are positions of `taken`: connections have the numbers of
 `TakenConnection.number`, and records are those of its streams.
 """
 import array
@@ -461,7 +461,7 @@ def why_left_out(connection: Connection, options: Options) -> str:
     if connection.client is None and not options.midstream:
         return 'no SYN in the recording, so its streams may begin inside a record (--midstream takes it)'
     if options.midstream:
-        return 'no place was found from which its records follow one another'
+        return 'no position was found from which its records follow one another'
     return 'its first bytes are missing from the recording'
 
 

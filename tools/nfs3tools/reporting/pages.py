@@ -307,7 +307,7 @@ class Body:
 
     def others(self, group: Sequence[Finding]) -> Iterator[str]:
         """The places of the findings that say the same as the first."""
-        yield f'<details class=others><summary>{count(len(group) - 1, "place")} more</summary><ol start=2>'
+        yield f'<details class=others><summary>{count(len(group) - 1, "position")} more</summary><ol start=2>'
         for finding in group[1:1 + self.others_at_most]:
             both = ((finding.first, self.runs[0]), (finding.second, self.runs[1]))
             places = ' | '.join(f'{message.place}{telling.frames_of(message, run.frames)}' for message, run in both if message)

@@ -71,7 +71,7 @@ def json_of(report: Report, compared: Compared, left_out: Counter[tuple[str, str
     """The comparison, in pieces: an object, each of whose findings is a line. Without findings there need be no framings."""
     runs = zip(report.names, report.sizes, report.missing, compared.lonely, compared.left_out)
     head = {
-        'verdict': report.word(), 'place': report.verdict.partition(' at ')[2] or None, 'mask': words_of(report.mask),
+        'verdict': report.word(), 'position': report.verdict.partition(' at ')[2] or None, 'mask': words_of(report.mask),
         'same_under': report.same_under and words_of(report.same_under),
         'runs': [{'name': name, **size._asdict(), 'missing': missing, 'only': only, 'left_out': dict(left)}
                  for name, size, missing, only, left in runs],
@@ -113,7 +113,7 @@ def of_finding(finding: Finding, first: Framing, second: Framing) -> dict[str, A
 
 
 def of_message(message: Message | None, framing: Framing) -> dict[str, Any] | None:
-    return None if message is None else {'place': message.place, 'frames': list(framing(message))}
+    return None if message is None else {'position': message.place, 'frames': list(framing(message))}
 
 
 def of_difference(difference: Difference) -> dict[str, Any]:

@@ -1,4 +1,4 @@
-"""Places of a capture, as the program prints them."""
+"""Positions of a capture, as the program prints them."""
 import re
 import typing
 
@@ -7,7 +7,7 @@ SIDES: tuple[Side, Side] = ('client', 'server')
 
 
 class NoPlace(Exception):
-    """A text that names no place."""
+    """A text that names no position."""
 
 
 class Place(typing.NamedTuple):
@@ -44,9 +44,9 @@ LISTED = re.compile(r'(\d{1,18}) (client|server) (\d{1,18})(?= |\s*$)')
 
 
 def parse_place(text: str) -> Place | FilePlace:
-    """Reads a place from a line of `check`, of `same`, or of `show`.
+    """Reads a position from a line of `check`, of `same`, or of `show`.
 
-    A line of `check` or `same` may have `first: `, `second: ` or `differ at ` before the place, and a reason after it. A
+    A line of `check` or `same` may have `first: `, `second: ` or `differ at ` before the position, and a reason after it. A
     line of `show` begins with the numbers of its connection and record.
 
     Raises `NoPlace` if there is none.
@@ -55,7 +55,7 @@ def parse_place(text: str) -> Place | FilePlace:
     if listed:
         return Place(int(listed[1]), side_of(listed[2]), int(listed[3]))
     if not found:
-        raise NoPlace('no place: ' + text.strip()[:200])
+        raise NoPlace('no position: ' + text.strip()[:200])
     if found[5] is not None:
         return FilePlace(int(found[5]))
     return Place(int(found[1]), side_of(found[2]), int(found[3]), None if found[4] is None else int(found[4]))
