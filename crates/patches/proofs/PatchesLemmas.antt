@@ -1,5 +1,5 @@
 -- Bodies with replacements, as more of them is noted.
-use Rattle.std.proofs.Common.{◌≡◌, ℕ, ◌+◌, ◌<◌, ◌≤◌, List, [], ◌∷◌, ◌++◌, length, min, get_or, take, drop, ap, sym, ◌∙◌, arith, length-append, length-drop, length-take}
+use Rattle.std.proofs.Common.{◌≡◌, ℕ, ◌+◌, ◌<◌, ◌≤◌, List, [], ◌∷◌, ◌++◌, length, min, get_or, take, drop, ap, ap₂, sym, ◌∙◌, arith, length-append, length-drop, length-take}
 use Rattle.std.proofs.lemmas.List.{append_assoc, drop_all, drop_more, take-take, take_min, append-nil, drop-append-le, take-append-le, take_all}
 use Rattle.std.proofs.Math.Seq.{take-append-add}
 use Rattle.patches.specs.declared.part.Part.{Part}
@@ -91,8 +91,7 @@ covered-append (first ∷ parts) part = omega (arith, covered-append parts part)
 
 pub makes-kept : (noted : Noted) (count : ℕ) (body more form : List ℕ) → Makes noted body form
     → length more ≡ count
-    → Makes (record { parts = noted.parts; kept = noted.kept + count }) (body ++ more)
-    (form ++ more)
+    → Makes (record noted { kept = noted.kept + count }) (body ++ more) (form ++ more)
 makes-kept noted count body more form m l = record {
   covers = omega (arith, m.covers, l, length-append body more);
   makes =
@@ -101,11 +100,11 @@ makes-kept noted count body more form m l = record {
       ∙ ap (λ (b : List ℕ). b ++ more) m.makes);
 }
 
-pub makes-replaced : (noted : Noted) (parts : List Part) (part : Part) (body gone form : List ℕ)
-    → Makes noted body form → parts ≡ noted.parts ++ part ∷ [] → part.keeps ≡ noted.kept
-    → length gone ≡ part.skips
-    → Makes (record { parts = parts; kept = 0 }) (body ++ gone) (form ++ replacement part)
-makes-replaced noted parts part body gone form m e k l = record {
+pub makes-replaced : (noted new : Noted) (part : Part) (body gone form : List ℕ)
+    → Makes noted body form → new.parts ≡ noted.parts ++ part ∷ [] → new.kept ≡ 0
+    → part.keeps ≡ noted.kept → length gone ≡ part.skips
+    → Makes new (body ++ gone) (form ++ replacement part)
+makes-replaced noted new part body gone form m e none k l = record {
   covers =
       omega (
         arith,
@@ -115,9 +114,10 @@ makes-replaced noted parts part body gone form m e k l = record {
         length-append body gone,
         covered-append noted.parts part,
         ap covered_by e,
+        none,
       );
   makes =
-      ap (λ (ps : List Part). patched_by ps 0 (body ++ gone)) e
+      ap₂ (λ (ps : List Part) (kept : ℕ). patched_by ps kept (body ++ gone)) e none
       ∙ (patched-replaced noted.parts part body gone
       (m.covers ∙ ap (λ (n : ℕ). covered_by noted.parts + n) (sym k)) l
       ∙ ap (λ (b : List ℕ). b ++ replacement part)

@@ -1,15 +1,26 @@
 -- What is replaced in a body of bytes.
-use Rattle.std.specs.Prelude.{◌≡◌, ℕ, ◌+◌, List, [], ◌∷◌, ◌++◌, length, take, drop}
+use Rattle.std.specs.Prelude.{◌≡◌, ℕ, ◌+◌, List, [], ◌∷◌, ◌++◌, length, take, drop, vec_capacity}
 use Rattle.patches.specs.declared.part.Part.{Part}
+use Rattle.patches.specs.declared.patches.Patches.TheInside.{Inside}
 
 -- the bytes that are written in place of others
 abbrev pub replacement : Part → List ℕ
 replacement part = take part.len part.bytes
 
--- Parts of a body, one after another, and how many bytes stay after the last one.
+-- Parts of a body, one after another, how many bytes stay after the last one, and how many parts
+-- the memory has room for.
 pub record Noted : Type 0 where
   pub parts : List Part
   pub kept : ℕ
+  pub capacity : ℕ
+
+-- what contracts see of patches
+abbrev pub noted_of : Inside → Noted
+noted_of patches = record {
+  parts = patches.parts.items;
+  kept = patches.kept;
+  capacity = vec_capacity patches.parts;
+}
 
 -- the body with its replacements
 abbrev pub patched_by : List Part → (kept : ℕ) → (body : List ℕ) → List ℕ

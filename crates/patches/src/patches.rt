@@ -1,6 +1,6 @@
 //! Replacements in a body of bytes, noted before the body is at hand.
 
-ghost use Rattle.std.specs.Prelude.{◌≡◌, ◌≤◌, ◌<◌, ◌+◌, ◌-◌, ◌*◌, ◌^◌, ◌++◌, ℕ, List, [], IfOk, IsTrue, OnErr, OnOk, drop, length, min, take, vec_len};
+ghost use Rattle.std.specs.Prelude.{◌≡◌, ◌≤◌, ◌<◌, ◌+◌, ◌-◌, ◌*◌, ◌^◌, ◌++◌, ℕ, List, [], IfOk, IsTrue, OnErr, OnOk, drop, length, min, take, vec_capacity, vec_len};
 ghost use Rattle.patches.specs.Patches.{patched, replacement, Makes};
 
 use crate::part::{MOST, Part, after, front, is_alike, put_part};
@@ -18,11 +18,11 @@ pub struct Patches {
 }
 
 impl Model for Patches {
-    ghost use Rattle.patches.specs.Patches.{Noted};
+    ghost use Rattle.patches.specs.Patches.{Noted, noted_of};
 
     ghost Value = { Noted };
 
-    ghost view = { λ p. record { parts = p.parts.items; kept = p.kept } };
+    ghost view = { noted_of };
 }
 
 impl Patches {
@@ -58,13 +58,16 @@ impl Patches {
     ///
     /// # Errors
     ///
-    /// `AllocError` if an allocation fails. Nothing is noted then.
+    /// `AllocError` if the memory has no room for one more part, and cannot grow. Nothing is noted
+    /// then.
     #[inline(always)]
     pub fn replace(&mut self, skipped: usize, bytes: &[u8; 8], len: usize) -> Result<(), AllocError>
         ensures ok { (body gone form : List ℕ) → Makes self.old body form
             → length gone ≡ skipped
             → OnOk result (Makes self.new (body ++ gone) (form ++ take len bytes.now)) }
-        ensures err { OnErr result (self.new ≡ self.old) }
+        ensures err { OnErr result
+            ((self.new.parts ≡ self.old.parts) × (self.new.kept ≡ self.old.kept)) }
+        ensures short { OnErr result (self.old.capacity ≤ length self.old.parts) }
     {
         self.parts.push(Part {
             keeps: self.kept,
@@ -81,13 +84,16 @@ impl Patches {
     ///
     /// # Errors
     ///
-    /// `AllocError` if an allocation fails.
+    /// `AllocError` if the buffer's capacity is too small for the longest form that so many parts
+    /// may have, and cannot grow.
     pub fn write(&self, body: &[u8], room: &mut Vec<u8>, at: usize) -> Result<usize, AllocError>
         requires { at ≤ vec_len room.old }
         ensures within { IfOk result (λ end. end ≤ vec_len room.new) }
         ensures written { IfOk result (λ end. take end room.new.items
             ≡ take at room.old.items ++ patched self.now body.now) }
         ensures kept { take at room.new.items ≡ take at room.old.items }
+        ensures short { OnErr result
+            (vec_capacity room.old < at + (length body.now + 8 * length self.now.parts)) }
     {
         let (end, rest) = self.write_front(body, room, at)?;
         Ok(put_bytes(room, end, rest))
@@ -99,7 +105,8 @@ impl Patches {
     ///
     /// # Errors
     ///
-    /// `AllocError` if an allocation fails.
+    /// `AllocError` if the buffer's capacity is too small for the longest form that so many parts
+    /// may have, and cannot grow.
     pub fn write_front<'b>(
         &self,
         body: &'b [u8],
@@ -112,6 +119,8 @@ impl Patches {
             ≡ take at room.old.items ++ patched self.now body.now) }
         ensures from { IfOk result (λ r. at ≤ r.0) }
         ensures kept { take at room.new.items ≡ take at room.old.items }
+        ensures short { OnErr result
+            (vec_capacity room.old < at + (length body.now + 8 * length self.now.parts)) }
     {
         make_room(room, at, most_bytes(body.len(), self.parts.len()))?;
         Ok(self.put(body, room, at))

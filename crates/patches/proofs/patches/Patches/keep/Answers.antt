@@ -1,5 +1,5 @@
 use Rattle.std.proofs.Common.{◌≡◌, ◌+◌, ◌++◌, ℕ, arith, subst, sym, length-append}
-use Rattle.patches.specs.Patches.{Makes, Noted}
+use Rattle.patches.specs.Patches.{Makes, Noted, noted_of}
 use Rattle.patches.proofs.PatchesLemmas.{makes-kept}
 use Rattle.patches.proofs.patches.Patches.keep.Goals as goal
 
@@ -9,9 +9,6 @@ returns c body more form makes l few =
     let sum : c.saturating_add-self-inside.result ≡ c.self.inside.kept + c.args.count =
     omega (arith, was.covers, l, few, length-append body more, c.saturating_add-self-inside.ensures)
     in
-    subst
-    (λ (kept : ℕ).
-    Makes (record { parts = c.self.inside.parts.items; kept = kept }) (body ++ more)
+    subst (λ (kept : ℕ). Makes (record (noted_of c.self.inside) { kept = kept }) (body ++ more)
     (form ++ more)) (sym sum)
-    (makes-kept (record { parts = c.self.inside.parts.items; kept = c.self.inside.kept })
-    c.args.count body more form was l)
+    (makes-kept (noted_of c.self.inside) c.args.count body more form was l)
