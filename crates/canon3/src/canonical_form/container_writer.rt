@@ -1,7 +1,8 @@
 //! What entries are written as, to a sink.
 
-ghost use Rattle.std.specs.Prelude.{◌≡◌, ◌++◌, IfErr, OnErr, OnOk};
+ghost use Rattle.std.specs.Prelude.{◌≡◌, ◌<◌, ◌++◌, ◌⊎◌, length, IfErr, OnErr, OnOk};
 ghost use Rattle.std.specs.Io.KnownBytes.{Appends};
+ghost use Rattle.record_mark.specs.RecordMark.{max_body};
 ghost use Rattle.xdr3.specs.Item.{word_bytes};
 ghost use Rattle.canon3.specs.Bytes.{chunk_bytes, magic_before, record_bytes};
 ghost use Rattle.canon3.specs.EntryCounts.{connections_in};
@@ -85,7 +86,7 @@ pub fn write_word<W: Sink>(sink: &mut W, n: u32) -> Result<(), Error>
     ensures err { OnErr result
         (AppendsFront (W.written sink.old) (W.written sink.new) (word_bytes n)) }
     ensures count { CountsWriting (W.failures sink.old) (W.failures sink.new) result }
-    ensures error { IfErr result IsOfWriting }
+    ensures error { IfErr result (λ error. error ≡ Error.Write) }
 {
     write_all(sink, &pack_chunk(n))
 }
@@ -106,7 +107,8 @@ pub fn write_message<W: Sink>(sink: &mut W, message: &[u8]) -> Result<(), Error>
         (AppendsFront (W.written sink.old) (W.written sink.new)
         (chunk_bytes (record_bytes message.now))) }
     ensures count { CountsWriting (W.failures sink.old) (W.failures sink.new) result }
-    ensures error { IfErr result IsOfWriting }
+    ensures error { IfErr result (λ error. (error ≡ Error.Write)
+        ⊎ ((error ≡ Error.Memory) × (max_body < length message.now))) }
 {
     if message.len() > BODY_LIMIT as usize {
         return Err(Error::Memory);

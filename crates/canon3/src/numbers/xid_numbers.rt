@@ -1,6 +1,6 @@
 //! Numbers of xids by their first appearance.
 
-ghost use Rattle.std.specs.Prelude.{◌≡◌, ◌<◌, ◌^◌, ◌+◌, ◌++◌, ◌∷◌, min, true, false, nat_eq, List, [], ℕ, length, IfOk, IfSome, IsTrue, IsFalse, None, OnOk};
+ghost use Rattle.std.specs.Prelude.{◌≡◌, ◌<◌, ◌^◌, ◌+◌, ◌++◌, ◌∷◌, min, true, false, nat_eq, List, [], ℕ, length, IfOk, IfSome, IsOk, IsTrue, IsFalse, None, OnOk};
 ghost use Rattle.std.specs.Int.{swap_bytes, w32};
 ghost use Rattle.std.specs.List.{list_any, position_or_len};
 ghost use Rattle.canon3.specs.Rank.{rank, HoldsDistinct, number_limit, with_key};
@@ -152,6 +152,7 @@ fn number_among<S: BuildHasher + Drop>(
     ensures number { IfOk result (λ n. n
         ≡ min (1 + (counted + position_or_len (nat_eq xid) others.old.keys)) number_limit) }
     ensures given { OnOk result (others.new.keys ≡ with_key nat_eq others.old.keys xid) }
+    ensures known { list_any (nat_eq xid) others.old.keys ≡ true → IsOk result }
 {
     let (index, _) = others.insert_full(xid)?;
     Ok(number_after(counted, index))
@@ -179,12 +180,15 @@ impl<S: BuildHasher + Drop> XidNumbers<S> {
     }
 
     /// Returns the xid's number: 1 plus the number of distinct xids given before its first time, at
-    /// most 4,294,967,295. If an allocation fails, the table is unchanged.
+    /// most 4,294,967,295. If an allocation fails, the table is unchanged. An xid that was given
+    /// before never fails.
     pub(crate) fn number_of(&mut self, xid: u32) -> Result<u32, AllocError>
         ensures number { (given : List ℕ) → HoldsDistinct nat_eq self.old given
             → IfOk result (λ n. n ≡ min (rank nat_eq xid (given ++ xid ∷ [])) number_limit) }
         ensures given { (given : List ℕ) → HoldsDistinct nat_eq self.old given
             → OnOk result (HoldsDistinct nat_eq self.new (given ++ xid ∷ [])) }
+        ensures known { (given : List ℕ) → HoldsDistinct nat_eq self.old given
+            → list_any (nat_eq xid) given ≡ true → IsOk result }
     {
         if let Some(index) = self.counted.position(xid) {
             return Ok(index + 1);

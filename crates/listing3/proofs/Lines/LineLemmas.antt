@@ -148,8 +148,7 @@ text_still xid old new kept (_ ∷ items) t = tt
 module _ {H : Type 0} (gathers : H → List Item → Type 0) (writer : LineWriter H)
     (text : ItemsText) where
   abbrev pub with_text : LineWriter H
-  with_text =
-      record { handles = writer.handles; xid = writer.xid; items = text; head = writer.head }
+  with_text = record writer { items = text }
 
   pub adds_plain : SkipsOthers gathers → (i : Item) → handles_in (i ∷ []) ≡ []
       → IsLater writer.xid i → Adds TextStands writer.items text (i ∷ [])
@@ -181,20 +180,10 @@ module _ {H : Type 0} (gathers : H → List Item → Type 0) (writer : LineWrite
 pub adds_xid : {H : Type 0} (gathers : H → List Item → Type 0) → SkipsOthers gathers
     → (writer : LineWriter H) (name : List ℕ) (n : ℕ) → writer.xid ≡ None
     → Adds (LineStands gathers) writer
-    (record {
-      handles = writer.handles;
-      xid = Some n;
-      items = writer.items;
-      head = writer.head;
-    }) (Word name n ∷ [])
+    (record writer { xid = Some n }) (Word name n ∷ [])
 adds_xid gathers skips writer name n none =
     adds gathers writer
-    (record {
-      handles = writer.handles;
-      xid = Some n;
-      items = writer.items;
-      head = writer.head;
-    }) (Word name n ∷ [])
+    (record writer { xid = Some n }) (Word name n ∷ [])
     (λ front h. skips writer.handles front (Word name n ∷ []) refl h) text
   where
     text : (items : List Item) → IsTextOf writer.xid writer.items items

@@ -4,7 +4,7 @@ use Rattle.canon3.proofs.Common.{nat_eq, list_any, position_or_len, Decides-eqb,
 use Rattle.std.specs.Int.{swap_bytes, from_be_bytes, to_be_bytes, to_le_bytes, w32}
 use Rattle.std.proofs.lemmas.List.Folds.{list_any-append}
 use Rattle.std.proofs.lemmas.Nat.{be_bytes_4, from_be_bytes-to_be_bytes_4}
-use Rattle.canon3.proofs.Lemmas.Numbers.RankLemmas.{by_test, distinct-push, equivalence, rank-push}
+use Rattle.canon3.proofs.Lemmas.Numbers.RankLemmas.{any-distinct, by_test, distinct-push, equivalence, rank-push}
 
 -- ---- four bytes in reverse
 
@@ -177,6 +177,15 @@ module _ (given : List ℕ) (x : ℕ) (counted others : List ℕ)
       → counted ++ with_key nat_eq others x ≡ distinct nat_eq (given ++ x ∷ [])
   other_held absent =
       given_more (counted ++ with_key nat_eq others x) (found_other x counted others absent).1
+
+  pub given_other : list_any (nat_eq x) counted ≡ false → list_any (nat_eq x) given ≡ true
+      → list_any (nat_eq x) others ≡ true
+  given_other absent there =
+      sym
+      (list_any-append (nat_eq x) counted others
+      ∙ ap (λ b. b || list_any (nat_eq x) others) absent)
+      ∙ (ap (list_any (nat_eq x)) holds
+      ∙ any-distinct nat_eq (equivalence nat_eq Decides-eqb) x given [] there)
 
   pub number_next : (n : ℕ) → list_any (nat_eq x) counted ≡ false → others ≡ []
       → n ≡ length (counted ++ x ∷ []) → n < 2 ^ 32

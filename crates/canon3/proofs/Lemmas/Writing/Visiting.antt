@@ -196,28 +196,11 @@ uncapped same decides l x n few e =
 
 module _ {S H : Type 0} (n : MessageWriter S H) (noted : Noted) where
   abbrev pub with_patches : MessageWriter S H
-  with_patches =
-      record {
-        handles = n.handles;
-        verfs = n.verfs;
-        xids = n.xids;
-        xid = n.xid;
-        patches = noted;
-        room = n.room;
-        stage = n.stage;
-      }
+  with_patches = record n { patches = noted }
 
   follows_plain : (i : Item) (table : List ℕ) (number : ℕ) (stage : Stage) → IsPlain i
       → Follows n
-      (record {
-        handles = n.handles;
-        verfs = n.verfs;
-        xids = table;
-        xid = number;
-        patches = noted;
-        room = n.room;
-        stage = stage;
-      }) i
+      (record n { xids = table; xid = number; patches = noted; stage = stage }) i
   follows_plain i table number stage plain = record {
     handles =
         λ hs h.
@@ -333,26 +316,10 @@ module _ {S H : Type 0} (n : MessageWriter S H) where
       → ((given : List ℕ) → HoldsDistinct nat_eq n.xids given
       → HoldsDistinct nat_eq table (given ++ x ∷ [])) → (name : List ℕ)
       → Adds WriterStands n
-      (record {
-        handles = n.handles;
-        verfs = n.verfs;
-        xids = table;
-        xid = number;
-        patches = n.patches;
-        room = n.room;
-        stage = Goes;
-      }) (Word name x ∷ [])
+      (record n { xids = table; xid = number; stage = Goes }) (Word name x ∷ [])
   adds_xid table x number begins is given name =
       adds_by n
-      (record {
-        handles = n.handles;
-        verfs = n.verfs;
-        xids = table;
-        xid = number;
-        patches = n.patches;
-        room = n.room;
-        stage = Goes;
-      }) (Word name x)
+      (record n { xids = table; xid = number; stage = Goes }) (Word name x)
       (follows_plain n n.patches (Word name x) table number Goes tt) (λ going e. absurd cc)
       (λ before items going u.
       xid_spelled table name x number before items begins is given u.spelled)
@@ -394,15 +361,7 @@ module _ {S H : Type 0} (n : MessageWriter S H) (noted : Noted) (stage : Stage) 
       → IsSpelled n.stage n.xids n.xid n.patches before items
       → IsSpelled stage n.xids n.xid noted before (items ++ more))
       → Adds WriterStands n
-      (record {
-        handles = n.handles;
-        verfs = n.verfs;
-        xids = n.xids;
-        xid = n.xid;
-        patches = noted;
-        room = n.room;
-        stage = stage;
-      }) more
+      (record n { patches = noted; stage = stage }) more
   unfolding Adds
   adds_more went spells all stands going =
       let b = stands (went going) in
@@ -498,15 +457,7 @@ module _ {S H : Type 0} where
   pub adds_number_run : (n : MessageWriter S H) (noted : Noted) (name : List ℕ)
       (all : List PlainField) (run : List ℕ) → n.stage ≡ Begins
       → Adds WriterStands n
-      (record {
-        handles = n.handles;
-        verfs = n.verfs;
-        xids = n.xids;
-        xid = n.xid;
-        patches = noted;
-        room = n.room;
-        stage = Goes;
-      })
+      (record n { patches = noted; stage = Goes })
       (Hyper name (big_number 8 run) ∷ run_items all (drop 8 run))
   adds_number_run n noted name all run begins =
       let more = run_items all (drop 8 run) in
@@ -525,27 +476,11 @@ module _ {S H : Type 0} (n : MessageWriter S H) (noted : Noted) where
       → ReplacesRun n.patches noted (4 + (length handle + residue (length handle))) put
       → (name : List ℕ)
       → Adds WriterStands n
-      (record {
-        handles = table;
-        verfs = n.verfs;
-        xids = n.xids;
-        xid = n.xid;
-        patches = noted;
-        room = n.room;
-        stage = n.stage;
-      }) (Opaque Handle name handle ∷ [])
+      (record n { handles = table; patches = noted }) (Opaque Handle name handle ∷ [])
   adds_handle table [] put number some is given is_put replaces name = absurd (some refl)
   adds_handle table (b ∷ bs) put number some is given is_put replaces name =
       adds n
-      (record {
-        handles = table;
-        verfs = n.verfs;
-        xids = n.xids;
-        xid = n.xid;
-        patches = noted;
-        room = n.room;
-        stage = n.stage;
-      }) (Opaque Handle name (b ∷ bs))
+      (record n { handles = table; patches = noted }) (Opaque Handle name (b ∷ bs))
       (Opaque Handle name (word_bytes number))
       (record {
         handles = given;
@@ -564,26 +499,10 @@ module _ {S H : Type 0} (n : MessageWriter S H) (noted : Noted) where
       → HoldsDistinct bytes_eq table (vs ++ verifier ∷ []))
       → put ≡ big_bytes 8 number → ReplacesRun n.patches noted 8 put → (name : List ℕ)
       → Adds WriterStands n
-      (record {
-        handles = n.handles;
-        verfs = table;
-        xids = n.xids;
-        xid = n.xid;
-        patches = noted;
-        room = n.room;
-        stage = n.stage;
-      }) (WriteVerf name verifier ∷ [])
+      (record n { verfs = table; patches = noted }) (WriteVerf name verifier ∷ [])
   adds_verifier table verifier put number is given is_put replaces name =
       adds n
-      (record {
-        handles = n.handles;
-        verfs = table;
-        xids = n.xids;
-        xid = n.xid;
-        patches = noted;
-        room = n.room;
-        stage = n.stage;
-      }) (WriteVerf name verifier) (WriteVerf name put)
+      (record n { verfs = table; patches = noted }) (WriteVerf name verifier) (WriteVerf name put)
       (record {
         handles = λ hs h. subst (HoldsHandles n.handles) (sym (append-nil hs)) h;
         verifiers = given;

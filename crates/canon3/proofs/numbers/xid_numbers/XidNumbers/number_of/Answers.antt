@@ -1,7 +1,7 @@
 use Rattle.std.proofs.Common.{◌≡◌, ◌++◌, ◌∷◌, [], List, ℕ, ◌+◌, length, min, nat_eq, ap, refl, sym, ◌∙◌}
 use Rattle.canon3.proofs.Common.{position_or_len, number_limit, rank, with_key}
 use Rattle.std.proofs.lemmas.Result.{IfOk-weaker, on_ok_weaker}
-use Rattle.canon3.proofs.Lemmas.Numbers.XidNumbersLemmas.{known_held, next_held, no_others, number_known, number_next, number_other, other_held}
+use Rattle.canon3.proofs.Lemmas.Numbers.XidNumbersLemmas.{given_other, known_held, next_held, no_others, number_known, number_next, number_other, other_held}
 use Rattle.canon3.proofs.numbers.xid_numbers.XidNumbers.number_of.Goals as goal
 
 pub returns-in-Some-clause-number : goal.returns-in-Some-clause-number
@@ -38,6 +38,12 @@ returns-then-not-is_empty-clause-given g c given h =
     ∙ other_held given c.args.xid c.self.inside.counted c.self.inside.others.keys
     (c.self.view_is ∙ h) absent)
     c.number_among.ensures.given
+
+pub returns-then-not-is_empty-clause-known : goal.returns-then-not-is_empty-clause-known
+returns-then-not-is_empty-clause-known g c given h there =
+    c.number_among.ensures.known
+    (given_other given c.args.xid c.self.inside.counted c.self.inside.others.keys
+    (c.self.view_is ∙ h) (c.in_default.ensures.absent refl) there)
 
 pub returns-then-append-clause-number : goal.returns-then-append-clause-number
 returns-then-append-clause-number g c given h =
@@ -82,3 +88,9 @@ returns-clause-given g c given h =
     ∙ other_held given c.args.xid c.self.inside.counted c.self.inside.others.keys
     (c.self.view_is ∙ h) absent))
     c.number_among-2.ensures.given
+
+pub returns-clause-known : goal.returns-clause-known
+returns-clause-known g c given h there =
+    c.number_among-2.ensures.known
+    (given_other given c.args.xid c.self.inside.counted c.self.inside.others.keys
+    (c.self.view_is ∙ h) (c.in_default.ensures.absent refl) there)
