@@ -1,5 +1,5 @@
 -- The same of the rules of connections and of files.
-use Rattle.capture3.proofs.Common.{◌≡◌, ◌⊎◌, inl, inr, ℕ, suc, ◌+◌, ◌<◌, List, [], ◌∷◌, ◌++◌, length, refl, sym, ap, ap₂, subst, ◌∙◌, append_assoc, append-nil, arith, length-append, Bool, true, false, cond, nat_lt, le-ltb, Goes, Ends, Run, Runs, Stops, Stopped, landed, after, Between, IsWord, Joins, after-append, nested_stops, Item, TooManyConnections, AfterEnd, Fault, Client, Server, ReplyItems, Version, One, Two, magic, max_connections, total_size, AreStreams, IsConnection, Streams, size, AreMixed, IsStream, Entry, AfterConnections, Rule, MagicDiffers, MarkIsBad, ConnectionIsTooMany, WithinConnection, ByteAfterEnd, judge_call, MixedEnd, MixedCloses, MixedRefuses, mixed_next, mixing_from, judge_replies, Opening, InClient, InServer, InMixed, Closing, Closes, Refuses, turning, ending, server_said, client_said, conversing, opening_next, opened, Judgement, RecordFault, Reading, StreamEnd, Held, Faulty, stream_next, stream_end, unread, Position, place_at, file_fault, SideShows, connection_entries, SideEnd, SideCloses, SideRefuses, side_next, siding_from}
+use Rattle.capture3.proofs.Common.{◌≡◌, ◌⊎◌, inl, inr, ℕ, suc, ◌+◌, ◌<◌, List, [], ◌∷◌, ◌++◌, length, refl, sym, ap, ap₂, subst, ◌∙◌, append_assoc, append-nil, arith, length-append, Bool, true, false, cond, nat_lt, le-ltb, Goes, Ends, Run, Runs, Stops, Stopped, landed, after, Between, IsWord, Joins, after-append, nested_stops, Item, TooManyConnections, AfterEnd, Fault, Client, Server, ReplyItems, Version, One, Two, magic, max_connections, total_size, AreStreams, IsConnection, Streams, size, AreMixed, IsStream, Entry, AfterConnections, Rule, MagicDiffers, MarkIsBad, ConnectionIsTooMany, WithinConnection, ByteAfterEnd, judge_call, MixedEnd, MixedCloses, MixedRefuses, mixed_next, mixing_from, judge_replies, Opening, InClient, InServer, InMixed, Closing, Closes, Refuses, turning, ending, server_said, client_said, conversing, opening_next, opened, Judgement, RecordFault, Reading, StreamEnd, Held, Faulty, stream_next, stream_end, unread, Position, place_at, file_fault, SideShows, connection_entries, SideEnd, SideCloses, SideRefuses, side_next, siding_from, parsing_in}
 use Rattle.capture3.specs.Connections.{Context, ShownFault, refusal, client_refusal, server_refusal, client_position, server_position, calls_in_turn, replies_to, ServerShows, StreamsShow, InClientStream, InServerStream, ConnectionShows}
 use Rattle.capture3.specs.FileMachine.{Mark, Inside, Parsing, marked, closed, file_next, file_start, parsed}
 use Rattle.capture3.proofs.Lemmas.Sides.SideRules.{RefusedSide, ClosedSide, side_closed_or, side_over}
@@ -391,26 +391,10 @@ AnyRefusal shown = Unit {0}
 
 -- at a connection word
 abbrev pub at_mark : Version → ℕ → ℕ → ℕ → List Entry → Parsing
-at_mark version at total number entries =
-    record {
-      version = version;
-      at = at;
-      total = total;
-      number = number;
-      entries = entries;
-      spot = Mark [];
-    }
+at_mark version at total number entries = parsing_in version at total number entries (Mark [])
 
 abbrev pub inside_at : Version → ℕ → ℕ → ℕ → List Entry → Opening → Parsing
-inside_at version at total number entries o =
-    record {
-      version = version;
-      at = at;
-      total = total;
-      number = number;
-      entries = entries;
-      spot = Inside o;
-    }
+inside_at version at total number entries o = parsing_in version at total number entries (Inside o)
 
 pub closed_ends : (version : Version) (number : ℕ) (entries : List Entry) (x : Closing)
     → RefusedClosing x

@@ -1,6 +1,6 @@
 -- A rule of one side: where it holds of bytes, the machine stops with its fault, or had stopped
 -- before.
-use Rattle.capture3.proofs.Common.{◌≡◌, ◌⊎◌, inl, inr, ℕ, zero, suc, ◌+◌, ◌<◌, ◌≤◌, List, [], ◌∷◌, ◌++◌, length, refl, sym, ap, ap₂, subst, ◌∙◌, append_assoc, arith, length-append, Result, Ok, Err, Bool, true, false, cond, nat_lt, ltb-false, lt-ltb, concat, Goes, Ends, Run, Runs, Stops, Stopped, landed, after, Joining, Between, Header, Bytes, Whole, TooLong, join_next, IsWord, Joins, after-append, nested_runs, TooManyBytes, RecordTooLong, RecordCut, Stop, Fault, max_bytes, IsChunk, AreChunks, IsStream, Reading, judged, recorded, stream_next, unread, record_stops, too_long_stops, joining_runs, side_start}
+use Rattle.capture3.proofs.Common.{◌≡◌, ◌⊎◌, inl, inr, ℕ, zero, suc, ◌+◌, ◌<◌, ◌≤◌, List, [], ◌∷◌, ◌++◌, length, refl, sym, ap, ap₂, subst, ◌∙◌, append_assoc, arith, length-append, Result, Ok, Err, Bool, true, false, cond, nat_lt, ltb-false, lt-ltb, concat, Goes, Ends, Run, Runs, Stops, Stopped, landed, after, Joining, Between, Header, Bytes, Whole, TooLong, join_next, IsWord, Joins, after-append, nested_runs, TooManyBytes, RecordTooLong, RecordCut, Stop, Fault, max_bytes, IsChunk, AreChunks, IsStream, Reading, judged, recorded, stream_next, unread, record_stops, too_long_stops, joining_runs, side_start, siding_in}
 use Rattle.record_mark.specs.RecordMark.{Marks, IsOpen, IsTooLong}
 use Rattle.capture3.specs.Records.{RecordFault, fault_at, StreamShows, IsCut}
 use Rattle.capture3.specs.Sides.{Position, file_fault, place_in, PassesBytes, CutsRecord, ShowsRecord, SideShows}
@@ -145,7 +145,7 @@ RefusedSide (SideRefuses fault) = Unit {0}
 
 -- at a length word
 abbrev pub at_length : {M : Type 0} → ℕ → ℕ → Reading M → Siding M
-at_length at total reading = record { at = at; total = total; reading = reading; point = Length [] }
+at_length at total reading = siding_in at total reading (Length [])
 
 -- a length word within the limit, or past it
 header_or : {M : Type 0} (judge : Judged M) (position : Position) (at total n : ℕ) (r : Reading M)
@@ -166,12 +166,7 @@ header_or {M} judge position at total (suc left) r header word some =
         ∙ ap
         (λ b.
         landed (cond b (Ends (SideRefuses (file_fault at TooManyBytes)))
-        (Goes (record {
-          at = at + 4 + suc left;
-          total = total + suc left;
-          reading = r;
-          point = Chunk left;
-        })))) e)
+        (Goes (siding_in (at + 4 + suc left) (total + suc left) r (Chunk left))))) e)
     go false e = inl (ltb-false max_bytes (total + suc left) e)
 
 -- after a chunk's length word and some of its bytes
@@ -181,12 +176,8 @@ InsideChunk {M} judge position at total r got left run =
     ((t : Reading M) × (total + (length got + left) ≤ max_bytes)
     × (after (stream_next judge.decide) (Runs r) got ≡ Runs t)
     × (run
-    ≡ Runs (record {
-      at = at + 4 + (length got + left);
-      total = total + (length got + left);
-      reading = t;
-      point = awaiting left;
-    })))
+    ≡ Runs (siding_in (at + 4 + (length got + left)) (total + (length got + left)) t
+    (awaiting left))))
     ⊎ Gone RefusedSide run
 
 chunk_or : {M : Type 0} (judge : Judged M) (position : Position) (at total : ℕ) (r : Reading M)
@@ -429,12 +420,8 @@ counted_passes position at total (suc left) r some passes =
     ap
     (λ b.
     landed (cond b (Ends (SideRefuses (file_fault at TooManyBytes))) (Goes
-    (record {
-      at = at + 4 + suc left;
-      total = total + suc left;
-      reading = r;
-      point = Chunk left;
-    })))) (lt-ltb max_bytes (total + suc left) passes)
+    (siding_in (at + 4 + suc left) (total + suc left) r (Chunk left)))))
+    (lt-ltb max_bytes (total + suc left) passes)
 
 passes_over : {M : Type 0} (judge : Judged M) (position : Position) (bytes : List ℕ) (fault : Fault)
     → PassesBytes position bytes fault
