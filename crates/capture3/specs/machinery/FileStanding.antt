@@ -17,7 +17,7 @@ use Rattle.capture3.specs.BodyProgram.{judge_call, judge_reply}
 use Rattle.capture3.specs.ConnectionMachine.{InClient, InServer, InMixed, client_said}
 use Rattle.capture3.specs.FileMachine as parsing
 use Rattle.capture3.specs.FileMachine.{Parsing, parsing_in}
-use Rattle.capture3.specs.StreamMachine.{stream_end}
+use Rattle.capture3.specs.StreamMachine.{stream_end, reading_with}
 use Rattle.capture3.specs.Records.{fault_at}
 use Rattle.capture3.specs.Sides.{place_at}
 use Rattle.capture3.specs.SideMachine as siding
@@ -38,8 +38,7 @@ pub record Judged : Type 0 where
 
 -- at a point of a stream of version 1
 abbrev pub siding_at : {M : Type 0} → (at total : ℕ) → List M → Joining → siding.Point → Siding M
-siding_at at total messages joining point =
-    siding_in at total (record { messages = messages; joining = joining }) point
+siding_at at total messages joining point = siding_in at total (reading_with messages joining) point
 
 -- the machine for the file, by the part that is open
 abbrev pub resumed_at : (at total connections : ℕ) → Joining → Opened → Judged → Parsing

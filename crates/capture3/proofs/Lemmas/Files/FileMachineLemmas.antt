@@ -1,6 +1,6 @@
 -- The machine for a file against connections, entries and rules.
 use Rattle.std.proofs.Common.{◌≡◌, ◌≢◌, ◌⊎◌, inl, inr, ℕ, zero, suc, ◌+◌, ◌<◌, ◌≤◌, List, [], ◌∷◌, ◌++◌, length, refl, sym, ap, ap₂, ⊎_elim, subst, ◌∙◌, append_assoc, append-nil, arith, length-append, Bool, true, false, cond, nat_lt, nat_eq, ltb-true, ltb-false, lt-ltb, eqb-true, eq-eqb, ne_eqb}
-use Rattle.capture3.proofs.Common.{eqb-false, append_cancel_left, Goes, Ends, Run, Runs, Stops, landed, after, IsWord, Joins, word_next, Leads, leads_within, Tells, after-append, nested_runs, nested_stops, IsPart, word_leads, word_runs, word_stops, Joins-snoc, AreBytes, BadMagic, BadMark, AfterEnd, TooManyConnections, Fault, Streams, size, max_bytes, Context, ShownFault, refusal, ConnectionShows, Entry, Opening, Closing, Closes, Refuses, opening_next, opened, file_fault, connection_entries, HaveEntries, Version, One, Two, digit, magic_front, magic, max_connections, total_size, IsConnection, DiffersFromMagic, AfterConnections, Rule, MagicDiffers, MarkIsBad, ConnectionIsTooMany, WithinConnection, ByteAfterEnd, Opens, parsing_in}
+use Rattle.capture3.proofs.Common.{eqb-false, append_cancel_left, Goes, Ends, Run, Runs, Stops, landed, after, IsWord, Joins, word_next, Leads, leads_within, Tells, after-append, nested_runs, nested_stops, IsPart, word_leads, word_runs, word_stops, Joins-snoc, AreBytes, BadMagic, BadMark, AfterEnd, TooManyConnections, Fault, Streams, size, max_bytes, Context, ShownFault, refusal, ConnectionShows, Entry, Opening, Closing, Closes, Refuses, opening_next, opened, file_fault, connection_entries, HaveEntries, Version, One, Two, digit, magic_front, magic, max_connections, total_size, IsConnection, DiffersFromMagic, AfterConnections, Rule, MagicDiffers, MarkIsBad, ConnectionIsTooMany, WithinConnection, ByteAfterEnd, Opens, parsing_in, context_at}
 use Rattle.record_mark.specs.Word.{number as word_number}
 use Rattle.capture3.specs.FileMachine.{Spot, Magic, Digit, Mark, Inside, Ended, Parsing, magic_left, marked, closed, spot_step, file_next, file_start, parsed}
 use Rattle.capture3.proofs.Lemmas.Container.BytesOf.{split_bytes}
@@ -43,7 +43,7 @@ pub record InConnection (version : Version) (bytes : List ℕ) (at total number 
   pub at_is : at ≡ length front + 4
   pub total_is : total ≡ total_size connections
   pub number_is : number ≡ suc (length connections)
-  pub inside : HasOpening version (record { number = number; start = at; before = total }) rest o
+  pub inside : HasOpening version (context_at number at total) rest o
 
 -- whole connections, and the last word 0
 pub record AtEnd (version : Version) (bytes : List ℕ) (at total number : ℕ) (entries : List Entry) :
@@ -308,7 +308,7 @@ mark_cases version bytes front word at total number entries connections split op
       total_is = total_is;
       number_is = omega arith;
       inside =
-          nothing_opened version (record { number = suc number; start = at + 4; before = total })
+          nothing_opened version (context_at (suc number) (at + 4) total)
           (omega (arith, opens.small));
     }
 mark_cases version bytes front word at total number entries connections split opens one at_is
@@ -347,16 +347,14 @@ marked_leads version bytes front word at total number entries connections (suc (
     opens is) refl (omega arith) (ap (λ n. refusal (file_fault n BadMark)) at_is)
 
 context_is : {at total count n s b : ℕ} → count ≡ n → at ≡ s → total ≡ b
-    → ◌≡◌ {A = Context} (record { number = count; start = at; before = total })
-    (record { number = n; start = s; before = b })
-context_is e f g = λ i. record { number = e i; start = f i; before = g i }
+    → ◌≡◌ {A = Context} (context_at count at total) (context_at n s b)
+context_is e f g = λ i. context_at (e i) (f i) (g i)
 
 closed_leads : (version : Version) (bytes rest : List ℕ) (at total number : ℕ)
     (entries : List Entry) (o : Opening) (before : List ℕ)
     (h : InConnection version before at total number entries o)
-    → bytes ≡ h.front ++ h.mark ++ rest
-    → (x : Closing)
-    → EndsConnection version (record { number = number; start = at; before = total }) rest x
+    → bytes ≡ h.front ++ h.mark ++ rest → (x : Closing)
+    → EndsConnection version (context_at number at total) rest x
     → Leads Stands Rule bytes (closed version number entries x)
 closed_leads version bytes rest at total number entries o before h split (Closes end sum more) c =
     record {
@@ -365,8 +363,8 @@ closed_leads version bytes rest at total number entries o before h split (Closes
       split = sym (append-nil bytes);
       short = omega arith;
       opens =
-          Opens-snoc version (record { number = number; start = at; before = total }) bytes h.front
-          h.mark rest h.connections entries more end sum split h.opens h.one h.few h.total_is c;
+          Opens-snoc version (context_at number at total) bytes h.front h.mark rest h.connections
+          entries more end sum split h.opens h.one h.few h.total_is c;
       at_is =
           omega (
             arith,
@@ -420,7 +418,7 @@ spot_leads version bytes at total number entries (Inside o) byte are h =
     let more : bytes ++ byte ∷ [] ≡ h.front ++ h.mark ++ (h.rest ++ byte ∷ []) =
     ap (λ (b : List ℕ). b ++ byte ∷ []) h.split
     ∙ append_assoc (h.front ++ h.mark) h.rest (byte ∷ []) in
-    let context : Context = record { number = number; start = at; before = total } in
+    let context : Context = context_at number at total in
     leads_within (HasOpening version context) (EndsConnection version context) Stands Rule
     (λ p. parsing_in version at total number entries (Inside p)) (closed version number entries)
     (h.rest ++ byte ∷ [])
@@ -524,7 +522,7 @@ begins version at total number entries word is few =
 -- a connection, whole or not
 inside_runs : (version : Version) (at total number : ℕ) (entries : List Entry) (word rest : List ℕ)
     (o : Opening) → IsWord word 1 → number < max_connections
-    → HasOpening version (record { number = suc number; start = at + 4; before = total }) rest o
+    → HasOpening version (context_at (suc number) (at + 4) total) rest o
     → after file_next (Runs (parsing_in version at total number entries (Mark []))) (word ++ rest)
     ≡ Runs (parsing_in version (at + 4) total (suc number) entries (Inside o))
 inside_runs version at total number entries word rest o is few h =
@@ -533,13 +531,12 @@ inside_runs version at total number entries word rest o is few h =
     ∙ nested_runs (opening_next (suc number)) file_next
     (λ p. parsing_in version (at + 4) total (suc number) entries (Inside p))
     (closed version (suc number) entries) (λ s byte. refl) rest
-    (opened version (at + 4) total) o (opening_runs version
-    (record { number = suc number; start = at + 4; before = total }) rest o h)
+    (opened version (at + 4) total) o
+    (opening_runs version (context_at (suc number) (at + 4) total) rest o h)
 
 inside_closes : (version : Version) (at total number end sum : ℕ) (entries more : List Entry)
     (word rest : List ℕ) → IsWord word 1 → number < max_connections
-    → ClosesConnection version (record { number = suc number; start = at + 4; before = total }) rest
-    end sum more
+    → ClosesConnection version (context_at (suc number) (at + 4) total) rest end sum more
     → after file_next (Runs (parsing_in version at total number entries (Mark []))) (word ++ rest)
     ≡ Runs (parsing_in version end sum (suc number) (entries ++ more) (Mark []))
 inside_closes version at total number end sum entries more word rest is few h =
@@ -548,9 +545,8 @@ inside_closes version at total number end sum entries more word rest is few h =
     ∙ nested_stops (opening_next (suc number)) file_next
     (λ p. parsing_in version (at + 4) total (suc number) entries (Inside p))
     (closed version (suc number) entries) (λ s byte. refl) rest
-    (opened version (at + 4) total) (Closes end sum more) (opening_closes version
-    (record { number = suc number; start = at + 4; before = total }) rest end sum more
-    h)
+    (opened version (at + 4) total) (Closes end sum more)
+    (opening_closes version (context_at (suc number) (at + 4) total) rest end sum more h)
 
 connections_run : (version : Version) (connections : List Streams)
     (at total number end sum count : ℕ) (before entries : List Entry) (bytes : List ℕ)

@@ -1,5 +1,5 @@
 -- What a clean prefix reaches, by its parts and by the machine.
-use Rattle.capture3.proofs.Common.{◌≡◌, inl, inr, ℕ, suc, ◌+◌, List, [], ◌∷◌, ◌++◌, length, map, refl, sym, ap, subst, ◌∙◌, append_assoc, append-nil, arith, BeginsStream, Context, client_position, server_position, calls_in_turn, replies_to, SideWord, SideLength, SideChunk, MixedPoint, Mixing, ReachesInside, AreWhole, InMagic, BetweenConnections, InConnection, Reading, Judgement, HoldsSoFar, Position, reply_entry, Streams, BeginsMixed, size, gathered, with_more, Version, One, Two, digit, magic_front, magic, total_size, parsing_in, siding_in, mixing_in}
+use Rattle.capture3.proofs.Common.{◌≡◌, inl, inr, ℕ, suc, ◌+◌, List, [], ◌∷◌, ◌++◌, length, map, refl, sym, ap, subst, ◌∙◌, append_assoc, append-nil, arith, BeginsStream, Context, client_position, server_position, calls_in_turn, replies_to, SideWord, SideLength, SideChunk, MixedPoint, Mixing, ReachesInside, AreWhole, InMagic, BetweenConnections, InConnection, Reading, Judgement, HoldsSoFar, Position, reply_entry, Streams, BeginsMixed, size, gathered, with_more, Version, One, Two, digit, magic_front, magic, total_size, parsing_in, siding_in, mixing_in, context_at, reading_with}
 use Rattle.capture3.specs.Entry.{Entry, Begin, Call, Turn}
 use Rattle.capture3.specs.ConnectionMachine.{Opening, InClient, InServer, InMixed, opening_entries}
 use Rattle.capture3.specs.FileMachine.{Spot, Magic, Digit, Mark, Inside, Ended, Parsing, emitted}
@@ -21,7 +21,7 @@ side_begun {M} judge position bytes stream messages (inl b) h =
     let read = has_read judge stream messages h in
     let s : Siding M =
     siding_in (position.start + length b.front) (position.before + length stream)
-    (record { messages = messages; joining = read.0 }) (Length b.part) in (
+    (reading_with messages read.0) (Length b.part) in (
       s,
       record {
         front = b.front;
@@ -41,8 +41,8 @@ side_begun {M} judge position bytes stream messages (inr b) h =
     let s : Siding M =
     siding_in (position.start + length bytes + suc b.left)
     (position.before + length stream + suc b.left)
-    (record { messages = messages; joining = read.0 }) (Chunk b.left) in
-    let reading : Reading M = record { messages = messages; joining = read.0 } in (
+    (reading_with messages read.0) (Chunk b.left) in
+    let reading : Reading M = reading_with messages read.0 in (
       s,
       record {
         front = b.front;
@@ -378,11 +378,7 @@ whole_stands bytes entries
 whole_stands bytes entries
     (InConnection version front mark rest connections before more split opens one few inside are) =
     let context : Context =
-    record {
-      number = suc (length connections);
-      start = length front + 4;
-      before = total_size connections;
-    } in
+    context_at (suc (length connections)) (length front + 4) (total_size connections) in
     let o = opening_begun version context rest more inside in
     record {
       state =
@@ -424,8 +420,7 @@ spot_whole version bytes at total number entries (Inside o) h =
     InConnection version h.front h.mark h.rest h.connections entries (opening_entries o) h.split
     h.opens h.one h.few
     (subst (λ (n : ℕ). ReachesInside version n h.rest (opening_entries o)) h.total_is
-    (begun_opening version (record { number = number; start = at; before = total }) h.rest o
-    h.inside)) refl
+    (begun_opening version (context_at number at total) h.rest o h.inside)) refl
 spot_whole version bytes at total number entries Ended h =
     subst (AreWhole bytes) (sym (append-nil entries))
     (BetweenConnections version h.front h.last h.connections h.split h.opens (inr h.closes))

@@ -1,6 +1,6 @@
 -- The machine for a capture file goes as the one that takes the capture apart, with its records
 -- judged.
-use Rattle.capture3.proofs.Common.{Entry, parsing_in, ◌≡◌, ℕ, zero, suc, ◌+◌, Bool, true, false, cond, nat_eq, nat_lt, List, [], ◌∷◌, ◌++◌, length, Result, Ok, Err, refl, sym, ap, subst, ◌∙◌, add-one, arith, length-append, Stop, BadMagic, TooManyConnections, TooManyBytes, RecordCut, RecordTooLong, Item, Joining, Between, Header, Bytes, Joined, Whole, TooLong, join_next, Next, Goes, Ends, Runs, Stops, after, landed, within, word_next, not_runs, only_stops, Side, Client, Server, Begin, ReplyItems, ShownFault, refusal, judge_call, judge_reply, Version, One, Two, Mixing, MixedEnd, MixedCloses, MixedRefuses, mixed_step, InClient, InServer, InMixed, conversing, ending, judge_replies, opened, turning, judged, recorded, Siding, SideEnd, SideRefuses, Reason, Parsing, file_next, Fault, file_fault, place_at, unpacking_with, siding_in, fault_in_record}
+use Rattle.capture3.proofs.Common.{Entry, parsing_in, ◌≡◌, ℕ, zero, suc, ◌+◌, Bool, true, false, cond, nat_eq, nat_lt, List, [], ◌∷◌, ◌++◌, length, Result, Ok, Err, refl, sym, ap, subst, ◌∙◌, add-one, arith, length-append, Stop, BadMagic, TooManyConnections, TooManyBytes, RecordCut, RecordTooLong, Item, Joining, Between, Header, Bytes, Joined, Whole, TooLong, join_next, Next, Goes, Ends, Runs, Stops, after, landed, within, word_next, not_runs, only_stops, Side, Client, Server, Begin, ReplyItems, ShownFault, refusal, judge_call, judge_reply, Version, One, Two, Mixing, MixedEnd, MixedCloses, MixedRefuses, mixed_step, InClient, InServer, InMixed, conversing, ending, judge_replies, opened, turning, judged, recorded, Siding, SideEnd, SideRefuses, Reason, Parsing, file_next, Fault, file_fault, place_at, unpacking_with, siding_in, fault_in_record, reading_with}
 use Rattle.capture3.specs.SideMachine as siding
 use Rattle.capture3.specs.declared.fault.Place.TheVariants as places
 use Rattle.capture3.specs.FileMachine as parsing
@@ -120,8 +120,8 @@ in_client j connections n =
 
 client_word_follows : (at total connections records : ℕ) (joining : Joining) (j : Judged) (w : ℕ)
     → records ≡ length j.calls
-    → in_client j connections (siding.counted (place_at connections Client) at total
-    (record { messages = j.calls; joining = joining }) w)
+    → in_client j connections
+    (siding.counted (place_at connections Client) at total (reading_with j.calls joining) w)
     ≡ resumed j (chunk_counted at total connections records Client joining w)
 client_word_follows at total connections records Between j zero is = refl
 client_word_follows at total connections records (Header body part) j zero is =
@@ -144,7 +144,7 @@ client_length_follows : (at total connections records : ℕ) (joining : Joining)
     (n : Next (List ℕ) ℕ) → records ≡ length j.calls
     → in_client j connections (within (λ p. siding_at at total j.calls joining (siding.Length p))
     (siding.counted (place_at connections Client) at total
-    (record { messages = j.calls; joining = joining })) n)
+    (reading_with j.calls joining)) n)
     ≡ resumed j (within (λ p. unpacking_with at total connections records (Length Client p) joining)
     (chunk_counted at total connections records Client joining) n)
 client_length_follows at total connections records joining j (Goes p) is = refl
@@ -164,8 +164,7 @@ client_chunk_follows : (at total connections records left : ℕ) (j : Judged)
     (n : Next Joining Joined) → records ≡ length j.calls
     → in_client j connections (within (λ r. siding_in at total r (siding.awaiting left))
     (λ shown. Ends (SideRefuses (place_at connections Client shown)))
-    (within (λ s. record { messages = j.calls; joining = s })
-    (recorded judge_call j.calls) n))
+    (within (reading_with j.calls) (recorded judge_call j.calls) n))
     ≡ resumed j (within (in_chunk at total connections records Client left)
     (record_joined at total connections records Client left) n)
 client_chunk_follows at total connections records zero j (Goes s) is = refl
@@ -186,7 +185,7 @@ in_server j connections n =
 server_word_follows : (at total connections records : ℕ) (joining : Joining) (j : Judged) (w : ℕ)
     → records ≡ length j.replies
     → in_server j connections (siding.counted (place_at connections Server) at total
-    (record { messages = j.replies; joining = joining }) w)
+    (reading_with j.replies joining) w)
     ≡ resumed j (chunk_counted at total connections records Server joining w)
 server_word_follows at total connections records Between j zero is = refl
 server_word_follows at total connections records (Header body part) j zero is =
@@ -209,7 +208,7 @@ server_length_follows : (at total connections records : ℕ) (joining : Joining)
     (n : Next (List ℕ) ℕ) → records ≡ length j.replies
     → in_server j connections (within (λ p. siding_at at total j.replies joining (siding.Length p))
     (siding.counted (place_at connections Server) at total
-    (record { messages = j.replies; joining = joining })) n)
+    (reading_with j.replies joining)) n)
     ≡ resumed j (within (λ p. unpacking_with at total connections records (Length Server p) joining)
     (chunk_counted at total connections records Server joining) n)
 server_length_follows at total connections records joining j (Goes p) is = refl
@@ -229,8 +228,7 @@ server_chunk_follows : (at total connections records left : ℕ) (j : Judged)
     (n : Next Joining Joined) → records ≡ length j.replies
     → in_server j connections (within (λ r. siding_in at total r (siding.awaiting left))
     (λ shown. Ends (SideRefuses (place_at connections Server shown)))
-    (within (λ s. record { messages = j.replies; joining = s })
-    (recorded (judge_replies j.calls) j.replies) n))
+    (within (reading_with j.replies) (recorded (judge_replies j.calls) j.replies) n))
     ≡ resumed j (within (in_chunk at total connections records Server left)
     (record_joined at total connections records Server left) n)
 server_chunk_follows at total connections records zero j (Goes s) is = refl

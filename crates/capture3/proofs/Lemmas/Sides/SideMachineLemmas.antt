@@ -1,5 +1,5 @@
 -- The machine for one side against chunks, records and messages.
-use Rattle.capture3.proofs.Common.{◌≡◌, inl, inr, ℕ, zero, suc, ◌+◌, ◌<◌, ◌≤◌, List, [], ◌∷◌, ◌++◌, length, refl, sym, ap, ap₂, subst, ◌∙◌, append_assoc, append-nil, arith, length-append, Bool, true, false, cond, nat_lt, ltb-true, ltb-false, le-ltb, concat, Goes, Ends, Runs, Stops, landed, after, IsWord, Joins, number, word_next, Joining, Between, Header, Bytes, IsOpen, AreBytes, RecordCut, TooManyBytes, max_bytes, IsChunk, AreChunks, IsStream, Judgement, Holds, RecordFault, StreamShows, fault_at, Reading, stream_next, unread, Position, file_fault, place_in, SideShows, Leads, leads_within, after-append, nested_runs, nested_stops, counted_runs, counted_stops, ran_to, side_start, siding_in}
+use Rattle.capture3.proofs.Common.{◌≡◌, inl, inr, ℕ, zero, suc, ◌+◌, ◌<◌, ◌≤◌, List, [], ◌∷◌, ◌++◌, length, refl, sym, ap, ap₂, subst, ◌∙◌, append_assoc, append-nil, arith, length-append, Bool, true, false, cond, nat_lt, ltb-true, ltb-false, le-ltb, concat, Goes, Ends, Runs, Stops, landed, after, IsWord, Joins, number, word_next, Joining, Between, Header, Bytes, IsOpen, AreBytes, RecordCut, TooManyBytes, max_bytes, IsChunk, AreChunks, IsStream, Judgement, Holds, RecordFault, StreamShows, fault_at, Reading, stream_next, unread, Position, file_fault, place_in, SideShows, Leads, leads_within, after-append, nested_runs, nested_stops, counted_runs, counted_stops, ran_to, side_start, siding_in, reading_with}
 use Rattle.record_mark.proofs.Words.{IsPart, word_leads, word_runs, word_stops, Joins-snoc, concat-snoc}
 use Rattle.capture3.specs.SideMachine.{Point, Length, Chunk, Siding, SideEnd, SideCloses, SideRefuses, awaiting, closing, counted, side_next}
 use Rattle.capture3.proofs.Lemmas.Container.BytesOf.{split_bytes, AreBytes-append, chunk_bytes}
@@ -74,8 +74,7 @@ carried_bytes bytes front header got stream byte split chunks are =
 -- the word 0 in an open record
 open_cut : {M : Type 0} {messages : List M} {joining : Joining} (judge : Judged M)
     (position : Position) (bytes stream body : List ℕ) → IsStream bytes stream
-    → (read : HasRead judge.says stream (record { messages = messages; joining = joining }))
-    → IsOpen read.last body
+    → (read : HasRead judge.says stream (reading_with messages joining)) → IsOpen read.last body
     → EndsSide judge.says position bytes
     (SideRefuses (place_in position (fault_at messages (length body) RecordCut)))
 open_cut {messages = messages} judge position bytes stream body closed read is_open =
@@ -100,7 +99,7 @@ open_cut {messages = messages} judge position bytes stream body closed read is_o
 
 closing_ends : {M : Type 0} (judge : Judged M) (position : Position) (bytes stream : List ℕ)
     (at total : ℕ) (messages : List M) (joining : Joining) → IsStream bytes stream
-    → HasRead judge.says stream (record { messages = messages; joining = joining })
+    → HasRead judge.says stream (reading_with messages joining)
     → at + 4 ≡ position.start + length bytes → total ≡ position.before + length stream
     → total ≤ max_bytes
     → EndsSide judge.says position bytes (closing (place_in position) at total messages joining)
@@ -525,7 +524,7 @@ pub side_closes : {M : Type 0} (judge : Judged M) (position : Position) (bytes :
     ≡ Stops (SideCloses at total messages)
 side_closes {M} judge position bytes at total messages h =
     let c = h.closed in
-    let whole : Reading M = record { messages = messages; joining = Between } in
+    let whole : Reading M = reading_with messages Between in
     let at_is : position.start + length c.front + 4 ≡ at =
     omega (arith, h.at_is, ap length c.split, length-append c.front c.last, c.closes.0) in
     later judge position bytes c.front c.last h.stream whole (position.start + length c.front)

@@ -1,6 +1,6 @@
 -- A rule of one side: where it holds of bytes, the machine stops with its fault, or had stopped
 -- before.
-use Rattle.capture3.proofs.Common.{◌≡◌, ◌⊎◌, inl, inr, ℕ, zero, suc, ◌+◌, ◌<◌, ◌≤◌, List, [], ◌∷◌, ◌++◌, length, refl, sym, ap, ap₂, subst, ◌∙◌, append_assoc, arith, length-append, Result, Ok, Err, Bool, true, false, cond, nat_lt, ltb-false, lt-ltb, concat, Goes, Ends, Run, Runs, Stops, Stopped, landed, after, Joining, Between, Header, Bytes, Whole, TooLong, join_next, IsWord, Joins, after-append, nested_runs, TooManyBytes, RecordTooLong, RecordCut, Stop, Fault, max_bytes, IsChunk, AreChunks, IsStream, Reading, judged, recorded, stream_next, unread, record_stops, too_long_stops, joining_runs, side_start, siding_in}
+use Rattle.capture3.proofs.Common.{◌≡◌, ◌⊎◌, inl, inr, ℕ, zero, suc, ◌+◌, ◌<◌, ◌≤◌, List, [], ◌∷◌, ◌++◌, length, refl, sym, ap, ap₂, subst, ◌∙◌, append_assoc, arith, length-append, Result, Ok, Err, Bool, true, false, cond, nat_lt, ltb-false, lt-ltb, concat, Goes, Ends, Run, Runs, Stops, Stopped, landed, after, Joining, Between, Header, Bytes, Whole, TooLong, join_next, IsWord, Joins, after-append, nested_runs, TooManyBytes, RecordTooLong, RecordCut, Stop, Fault, max_bytes, IsChunk, AreChunks, IsStream, Reading, judged, recorded, stream_next, unread, record_stops, too_long_stops, joining_runs, side_start, siding_in, reading_with}
 use Rattle.record_mark.specs.RecordMark.{Marks, IsOpen, IsTooLong}
 use Rattle.capture3.specs.Records.{RecordFault, fault_at, StreamShows, IsCut}
 use Rattle.capture3.specs.Sides.{Position, file_fault, place_in, PassesBytes, CutsRecord, ShowsRecord, SideShows}
@@ -19,41 +19,34 @@ AnyFault fault = Unit {0}
 -- after so many records
 abbrev pub Recorded : {M : Type 0} → ℕ → Run (Reading M) RecordFault → Type 0
 Recorded {M} n run = ((messages : List M) × (length messages ≡ n)
-    × (run ≡ Runs (record { messages = messages; joining = Between }))) ⊎ Gone AnyFault run
+    × (run ≡ Runs (reading_with messages Between))) ⊎ Gone AnyFault run
 
 records_or : {M : Type 0} (judge : Judged M) (bodies : List (List ℕ)) (before : List M)
     (stream : List ℕ) (n : ℕ) → n ≡ length before + length bodies → Marks stream bodies
-    → Recorded n (after (stream_next judge.decide)
-    (Runs (record { messages = before; joining = Between })) stream)
+    → Recorded n (after (stream_next judge.decide) (Runs (reading_with before Between)) stream)
 records_or judge [] before stream n size h =
     inl (
       before,
       omega arith,
-      ap
-          (after (stream_next judge.decide)
-          (Runs (record { messages = before; joining = Between }))) h,
+      ap (after (stream_next judge.decide) (Runs (reading_with before Between))) h,
     )
 records_or {M} judge (body ∷ bodies) before stream n size h =
     subst (Recorded n) (sym steps) (go (judge.decide before body) (λ m.
     records_or judge bodies (before ++ m ∷ []) h.1 n
     (omega (arith, length-append before (m ∷ []))) h.4))
   where
-    steps : after (stream_next judge.decide)
-        (Runs (record { messages = before; joining = Between })) stream
+    steps : after (stream_next judge.decide) (Runs (reading_with before Between)) stream
         ≡ after (stream_next judge.decide) (landed (judged before (judge.decide before body))) h.1
     steps =
-        ap
-        (after (stream_next judge.decide)
-        (Runs (record { messages = before; joining = Between }))) h.2
-        ∙ after-append (stream_next judge.decide)
-        (Runs (record { messages = before; joining = Between })) h.0 h.1
+        ap (after (stream_next judge.decide) (Runs (reading_with before Between))) h.2
+        ∙ after-append (stream_next judge.decide) (Runs (reading_with before Between)) h.0 h.1
         ∙ ap (λ r. after (stream_next judge.decide) r h.1)
         (record_closes judge before h.0 (Whole body) (record_stops h.0 body h.3))
 
     go : (r : Result M Stop)
         → ((m : M)
-        → Recorded n (after (stream_next judge.decide)
-        (Runs (record { messages = before ++ m ∷ []; joining = Between })) h.1))
+        → Recorded n
+        (after (stream_next judge.decide) (Runs (reading_with (before ++ m ∷ []) Between)) h.1))
         → Recorded n (after (stream_next judge.decide) (landed (judged before r)) h.1)
     go (Ok m) more = more m
     go (Err stop) more =
@@ -109,7 +102,7 @@ open_in last body (inr o) = (Bytes body o.0 o.1, refl, joining_runs last (Bytes 
 -- after a stream that is cut, a record is open
 abbrev Opened : {M : Type 0} → ℕ → List ℕ → Run (Reading M) RecordFault → Type 0
 Opened {M} n body run = ((messages : List M) × (j : Joining) × (length messages ≡ n) × IsIn body j
-    × (run ≡ Runs (record { messages = messages; joining = j }))) ⊎ Gone AnyFault run
+    × (run ≡ Runs (reading_with messages j))) ⊎ Gone AnyFault run
 
 cut_or : {M : Type 0} (judge : Judged M) (stream : List ℕ) (fault : RecordFault)
     (h : IsCut stream fault)
@@ -129,9 +122,8 @@ cut_or {M} judge stream fault h =
           r.1,
           o.1,
           ap (λ run. after (stream_next judge.decide) run h.last) r.2
-              ∙ nested_runs join_next (stream_next judge.decide)
-              (λ j. record { messages = r.0; joining = j }) (recorded judge.decide r.0)
-              (λ j byte. refl) h.last Between o.0 o.2,
+              ∙ nested_runs join_next (stream_next judge.decide) (reading_with r.0)
+              (recorded judge.decide r.0) (λ j byte. refl) h.last Between o.0 o.2,
         )
     go (inr gone) =
         inr (gone_more (stream_next judge.decide) AnyFault
@@ -357,16 +349,14 @@ word_some word n h = omega (arith, h.0)
 -- a stream is whole with its messages, or it was refused
 abbrev pub ClosedSide : {M : Type 0} → Judged M → List ℕ → ℕ → ℕ → Run (Siding M) (SideEnd M)
     → Type 0
-ClosedSide {M} judge stream end sum run =
-    ((messages : List M)
+ClosedSide {M} judge stream end sum run = ((messages : List M)
     × (after (stream_next judge.decide) (Runs unread) stream
-    ≡ Runs (record { messages = messages; joining = Between }))
+    ≡ Runs (reading_with messages Between))
     × (run ≡ Stops (SideCloses end sum messages))) ⊎ Gone RefusedSide run
 
 closing_or : {M : Type 0} (judge : Judged M) (stream : List ℕ) (position : Position)
     (at total end : ℕ) (messages : List M) (joining : Joining) → end ≡ at + 4
-    → after (stream_next judge.decide) (Runs unread) stream
-    ≡ Runs (record { messages = messages; joining = joining })
+    → after (stream_next judge.decide) (Runs unread) stream ≡ Runs (reading_with messages joining)
     → ClosedSide judge stream end total
     (Stops (closing (place_in position) at total messages joining))
 closing_or judge stream position at total end messages Between is e =
@@ -487,7 +477,7 @@ cuts_over {M} judge position bytes fault h =
         → closing (place_in position) (position.start + length h.closed.front)
         (position.before + length h.stream) t.messages t.joining ≡ SideRefuses fault
     here t e (inl o) =
-        let same : t ≡ record { messages = o.0; joining = o.1 } = let f = o.4 in cc in
+        let same : t ≡ reading_with o.0 o.1 = let f = o.4 in cc in
         ap
         (λ (s : Reading M).
         closing (place_in position) (position.start + length h.closed.front)
