@@ -1,5 +1,5 @@
 -- What the definitions say of small captures.
-use Rattle.capture3.proofs.Common.{◌≡◌, [], ◌∷◌, ◌++◌, refl, Ok, Err, reading_layout, reading, number, call_layout, call_start, reply_layout, reply_start, arguments_of, results_of, Client, Server, judge_call, judge_reply, reached, verdict, BadMagic, CaptureCut, BadMark, AfterEnd, TooManyBytes, RecordCut, RecordTooLong, Short, BadEnum, WrongSide, NoCall}
+use Rattle.capture3.proofs.Common.{◌≡◌, [], ◌∷◌, ◌++◌, refl, Ok, Err, reading_layout, reading, number, call_layout, call_start, reply_layout, reply_start, arguments_of, results_of, Client, Server, judge_call, judge_reply, reached, verdict, BadMagic, CaptureCut, BadMark, AfterEnd, TooManyBytes, RecordCut, RecordTooLong, Short, BadEnum, WrongSide, NoCall, file_fault, fault_in_record}
 use Rattle.record_mark.specs.RecordMark.{is_last, length_of}
 use Rattle.rpc_head.specs.Shapes.{accept, call_head, credential, deny, message_start, reply_head, verifier}
 use Rattle.capture3.specs.declared.fault.Place.TheVariants.{File, Record}
@@ -16,70 +16,63 @@ pub empty_streams : verdict (magic_1 ++ word_1 ++ word_0 ++ word_0 ++ word_0)
 unfolding number
 empty_streams = refl
 
-pub bad_magic : verdict (78 ∷ 70 ∷ 83 ∷ 51 ∷ 67 ∷ 65 ∷ 80 ∷ 51 ∷ [])
-    ≡ Err (record { place = File 7; reason = BadMagic })
+pub bad_magic : verdict (78 ∷ 70 ∷ 83 ∷ 51 ∷ 67 ∷ 65 ∷ 80 ∷ 51 ∷ []) ≡ Err (file_fault 7 BadMagic)
 bad_magic = refl
 
-pub bad_mark : verdict (magic_1 ++ word_2) ≡ Err (record { place = File 8; reason = BadMark })
+pub bad_mark : verdict (magic_1 ++ word_2) ≡ Err (file_fault 8 BadMark)
 unfolding number
 bad_mark = refl
 
-pub after_end : verdict (magic_1 ++ word_0 ++ 7 ∷ [])
-    ≡ Err (record { place = File 12; reason = AfterEnd })
+pub after_end : verdict (magic_1 ++ word_0 ++ 7 ∷ []) ≡ Err (file_fault 12 AfterEnd)
 unfolding number
 after_end = refl
 
-pub cut : verdict (magic_1 ++ word_1 ++ 0 ∷ [])
-    ≡ Err (record { place = File 13; reason = CaptureCut })
+pub cut : verdict (magic_1 ++ word_1 ++ 0 ∷ []) ≡ Err (file_fault 13 CaptureCut)
 unfolding number
 cut = refl
 
 pub too_many_bytes : verdict (magic_1 ++ word_1 ++ 64 ∷ 0 ∷ 0 ∷ 1 ∷ [])
-    ≡ Err (record { place = File 12; reason = TooManyBytes })
+    ≡ Err (file_fault 12 TooManyBytes)
 unfolding number
 too_many_bytes = refl
 
 pub too_long : verdict (magic_1 ++ word_1 ++ (0 ∷ 0 ∷ 0 ∷ 4 ∷ []) ++ 129 ∷ 0 ∷ 0 ∷ 1 ∷ [])
-    ≡ Err (record { place = Record 1 Client 1 0; reason = RecordTooLong })
+    ≡ Err (fault_in_record 1 Client 1 0 RecordTooLong)
 unfolding number is_last length_of
 too_long = refl
 
 -- a chunk of eight bytes: a fragment header of 4 with four bytes, and the stream's end
 pub record_cut : verdict
     (magic_1 ++ word_1 ++ (0 ∷ 0 ∷ 0 ∷ 8 ∷ []) ++ (0 ∷ 0 ∷ 0 ∷ 4 ∷ []) ++ word_1 ++ word_0)
-    ≡ Err (record { place = Record 1 Client 1 4; reason = RecordCut })
+    ≡ Err (fault_in_record 1 Client 1 4 RecordCut)
 unfolding number is_last length_of
 record_cut = refl
 
 -- an empty record is refused at its last byte
 pub short_record : verdict (magic_1 ++ word_1 ++ (0 ∷ 0 ∷ 0 ∷ 4 ∷ []) ++ 128 ∷ 0 ∷ 0 ∷ 0 ∷ [])
-    ≡ Err (record { place = Record 1 Client 1 0; reason = Short })
+    ≡ Err (fault_in_record 1 Client 1 0 Short)
 unfolding number is_last length_of judge_call reading message_start
 short_record = refl
 
 -- a record whose mtype is 2
-pub bad_mtype : verdict bad_mtype_bytes
-    ≡ Err (record { place = Record 1 Client 1 4; reason = BadEnum })
+pub bad_mtype : verdict bad_mtype_bytes ≡ Err (fault_in_record 1 Client 1 4 BadEnum)
 unfolding number is_last length_of judge_call reading message_start
 bad_mtype = refl
 
 -- it is reported at the record's last byte, and not before
-pub bad_mtype_cut : verdict bad_mtype_cut_bytes
-    ≡ Err (record { place = File 27; reason = CaptureCut })
+pub bad_mtype_cut : verdict bad_mtype_cut_bytes ≡ Err (file_fault 27 CaptureCut)
 unfolding number is_last length_of
 bad_mtype_cut = refl
 
 -- a reply in the server stream to no call
 pub no_call : verdict (magic_1 ++ word_1 ++ word_0 ++ (0 ∷ 0 ∷ 0 ∷ 28 ∷ [])
-    ++ (128 ∷ 0 ∷ 0 ∷ 24 ∷ []) ++ null_reply)
-    ≡ Err (record { place = Record 1 Server 1 0; reason = NoCall })
+    ++ (128 ∷ 0 ∷ 0 ∷ 24 ∷ []) ++ null_reply) ≡ Err (fault_in_record 1 Server 1 0 NoCall)
 unfolding number is_last length_of judge_reply reading message_start
 no_call = refl
 
 -- a call there
 pub wrong_side : verdict (magic_1 ++ word_1 ++ word_0 ++ (0 ∷ 0 ∷ 0 ∷ 44 ∷ [])
-    ++ (128 ∷ 0 ∷ 0 ∷ 40 ∷ []) ++ null_call)
-    ≡ Err (record { place = Record 1 Server 1 4; reason = WrongSide })
+    ++ (128 ∷ 0 ∷ 0 ∷ 40 ∷ []) ++ null_call) ≡ Err (fault_in_record 1 Server 1 4 WrongSide)
 unfolding number is_last length_of judge_reply reading message_start
 wrong_side = refl
 
@@ -95,7 +88,7 @@ pub smallest_mixed : verdict (magic_2 ++ word_0) ≡ Ok (End ∷ [])
 unfolding number
 smallest_mixed = refl
 
-pub magic_2_alone : verdict magic_2 ≡ Err (record { place = File 8; reason = CaptureCut })
+pub magic_2_alone : verdict magic_2 ≡ Err (file_fault 8 CaptureCut)
 magic_2_alone = refl
 
 pub empty_mixed : verdict (magic_2 ++ word_1 ++ word_0 ++ word_0)
@@ -103,23 +96,21 @@ pub empty_mixed : verdict (magic_2 ++ word_1 ++ word_0 ++ word_0)
 unfolding number
 empty_mixed = refl
 
-pub bad_side : verdict (magic_2 ++ word_1 ++ word_3)
-    ≡ Err (record { place = File 12; reason = BadMark })
+pub bad_side : verdict (magic_2 ++ word_1 ++ word_3) ≡ Err (file_fault 12 BadMark)
 unfolding number
 bad_side = refl
 
-pub no_length : verdict (magic_2 ++ word_1 ++ word_1 ++ word_0)
-    ≡ Err (record { place = File 16; reason = BadMark })
+pub no_length : verdict (magic_2 ++ word_1 ++ word_1 ++ word_0) ≡ Err (file_fault 16 BadMark)
 unfolding number
 no_length = refl
 
 pub bad_side_after_chunks : verdict (magic_2 ++ word_1 ++ client_chunk ++ server_chunk ++ word_3)
-    ≡ Err (record { place = File 100; reason = BadMark })
+    ≡ Err (file_fault 100 BadMark)
 unfolding number
 bad_side_after_chunks = refl
 
 pub too_many_mixed : verdict (magic_2 ++ word_1 ++ word_1 ++ 64 ∷ 0 ∷ 0 ∷ 1 ∷ [])
-    ≡ Err (record { place = File 16; reason = TooManyBytes })
+    ≡ Err (file_fault 16 TooManyBytes)
 unfolding number
 too_many_mixed = refl
 
@@ -137,18 +128,16 @@ unfolding number is_last length_of judge_call judge_reply reading reading_layout
 null_mixed_swapped = refl
 
 -- a record at fault is reported at the side word 0, and not before
-pub bad_mtype_mixed : verdict bad_mtype_mixed_bytes
-    ≡ Err (record { place = Record 1 Client 1 4; reason = BadEnum })
+pub bad_mtype_mixed : verdict bad_mtype_mixed_bytes ≡ Err (fault_in_record 1 Client 1 4 BadEnum)
 unfolding number is_last length_of judge_call reading message_start
 bad_mtype_mixed = refl
 
-pub bad_mtype_mixed_cut : verdict bad_mtype_mixed_cut_bytes
-    ≡ Err (record { place = File 35; reason = CaptureCut })
+pub bad_mtype_mixed_cut : verdict bad_mtype_mixed_cut_bytes ≡ Err (file_fault 35 CaptureCut)
 unfolding number is_last length_of
 bad_mtype_mixed_cut = refl
 
 pub call_answered_by_call : verdict call_answered_by_call_bytes
-    ≡ Err (record { place = Record 1 Server 1 4; reason = WrongSide })
+    ≡ Err (fault_in_record 1 Server 1 4 WrongSide)
 unfolding number is_last length_of judge_call judge_reply reading reading_layout message_start
     call_layout call_start call_head credential verifier arguments_of
 call_answered_by_call = refl

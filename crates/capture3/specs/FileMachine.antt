@@ -31,6 +31,18 @@ pub record Parsing : Type 0 where
   pub entries : List Entry
   pub spot : Spot
 
+-- the machine at this spot
+abbrev pub parsing_in : Version → (at total number : ℕ) → List Entry → Spot → Parsing
+parsing_in version at total number entries spot =
+    record {
+      version = version;
+      at = at;
+      total = total;
+      number = number;
+      entries = entries;
+      spot = spot;
+    }
+
 -- a byte of the magic has come, and this is left of it
 abbrev pub magic_left : List ℕ → Spot
 magic_left [] = Digit
@@ -39,110 +51,42 @@ magic_left (due ∷ more) = Magic due more
 -- a connection word has come
 abbrev pub marked : Version → ℕ → ℕ → ℕ → List Entry → ℕ → Next Parsing ShownFault
 marked version at total number entries zero =
-    Goes (record {
-      version = version;
-      at = at + 4;
-      total = total;
-      number = number;
-      entries =
-          entries;
-      spot = Ended;
-    })
+    Goes (parsing_in version (at + 4) total number entries Ended)
 marked version at total number entries (suc zero) =
-    cond (nat_lt number max_connections) (Goes (record {
-      version = version;
-      at = at + 4;
-      total =
-          total;
-      number = suc number;
-      entries = entries;
-      spot =
-          Inside (opened version (at + 4) total);
-    }))
+    cond (nat_lt number max_connections)
+    (Goes (parsing_in version (at + 4) total (suc number) entries
+    (Inside (opened version (at + 4) total))))
     (Ends (refusal (file_fault at TooManyConnections)))
 marked version at total number entries (suc (suc other)) = Ends (refusal (file_fault at BadMark))
 
 -- a connection has ended
 abbrev pub closed : Version → ℕ → List Entry → Closing → Next Parsing ShownFault
 closed version number entries (Closes at total more) =
-    Goes (record {
-      version = version;
-      at = at;
-      total = total;
-      number = number;
-      entries =
-          entries ++ more;
-      spot = Mark [];
-    })
+    Goes (parsing_in version at total number (entries ++ more) (Mark []))
 closed version number entries (Refuses shown) = Ends shown
 
 abbrev pub spot_step : Version → ℕ → ℕ → ℕ → List Entry → Spot → ℕ → Next Parsing ShownFault
 spot_step version at total number entries (Magic due more) byte =
-    cond (nat_eq byte due) (Goes (record {
-      version = version;
-      at = at + 1;
-      total = total;
-      number =
-          number;
-      entries = entries;
-      spot =
-          magic_left more;
-    })) (Ends (refusal (file_fault at BadMagic)))
+    cond (nat_eq byte due)
+    (Goes (parsing_in version (at + 1) total number entries (magic_left more)))
+    (Ends (refusal (file_fault at BadMagic)))
 spot_step version at total number entries Digit byte =
-    cond (nat_eq byte (digit One)) (Goes (record {
-      version = One;
-      at = at + 1;
-      total =
-          total;
-      number = number;
-      entries = entries;
-      spot = Mark [];
-    }))
-    (cond (nat_eq byte (digit Two)) (Goes (record {
-      version = Two;
-      at = at + 1;
-      total =
-          total;
-      number = number;
-      entries = entries;
-      spot =
-          Mark [];
-    })) (Ends (refusal (file_fault at BadMagic))))
+    cond (nat_eq byte (digit One)) (Goes (parsing_in One (at + 1) total number entries (Mark [])))
+    (cond (nat_eq byte (digit Two)) (Goes (parsing_in Two (at + 1) total number entries (Mark [])))
+    (Ends (refusal (file_fault at BadMagic))))
 spot_step version at total number entries (Mark part) byte =
-    within (λ p. record {
-      version = version;
-      at = at;
-      total = total;
-      number = number;
-      entries =
-          entries;
-      spot = Mark p;
-    }) (marked version at total number entries) (word_next part byte)
+    within (λ p. parsing_in version at total number entries (Mark p))
+    (marked version at total number entries) (word_next part byte)
 spot_step version at total number entries (Inside o) byte =
-    within (λ p. record {
-      version = version;
-      at = at;
-      total = total;
-      number = number;
-      entries =
-          entries;
-      spot = Inside p;
-    }) (closed version number entries) (opening_next number o byte)
+    within (λ p. parsing_in version at total number entries (Inside p))
+    (closed version number entries) (opening_next number o byte)
 spot_step version at total number entries Ended byte = Ends (refusal (file_fault at AfterEnd))
 
 abbrev pub file_next : Parsing → ℕ → Next Parsing ShownFault
 file_next s byte = spot_step s.version s.at s.total s.number s.entries s.spot byte
 
 abbrev pub file_start : Parsing
-file_start = record {
-  version = One;
-  at = 0;
-  total = 0;
-  number = 0;
-  entries = [];
-  spot =
-      magic_left magic_front;
-}
+file_start = parsing_in One 0 0 0 [] (magic_left magic_front)
 
 -- the machine after these bytes
 abbrev pub parsed : List ℕ → Run Parsing ShownFault

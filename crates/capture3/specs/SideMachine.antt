@@ -24,6 +24,11 @@ pub record Siding (M : Type 0) : Type 0 where
   pub reading : Reading M
   pub point : Point
 
+-- the machine at this point
+abbrev pub siding_in : {M : Type 0} → (at total : ℕ) → Reading M → Point → Siding M
+siding_in at total reading point =
+    record { at = at; total = total; reading = reading; point = point }
+
 pub data SideEnd (M : Type 0) : Type 0 where
   SideCloses : (at total : ℕ) → (messages : List M) → SideEnd M
   SideRefuses : Fault → SideEnd M
@@ -47,32 +52,15 @@ abbrev pub counted : {M : Type 0} → (RecordFault → Fault) → ℕ → ℕ �
 counted place at total reading zero = Ends (closing place at total reading.messages reading.joining)
 counted place at total reading (suc left) =
     cond (nat_lt max_bytes (total + suc left)) (Ends (SideRefuses (file_fault at TooManyBytes)))
-    (Goes (record {
-      at = at + 4 + suc left;
-      total = total + suc left;
-      reading = reading;
-      point =
-          Chunk left;
-    }))
+    (Goes (siding_in (at + 4 + suc left) (total + suc left) reading (Chunk left)))
 
 abbrev pub side_step : {M : Type 0} → Judge M → (RecordFault → Fault) → ℕ → ℕ → Reading M → Point
     → ℕ → Next (Siding M) (SideEnd M)
 side_step judge place at total reading (Length part) byte =
-    within (λ p. record {
-      at = at;
-      total = total;
-      reading = reading;
-      point =
-          Length p;
-    }) (counted place at total reading) (word_next part byte)
+    within (λ p. siding_in at total reading (Length p)) (counted place at total reading)
+    (word_next part byte)
 side_step judge place at total reading (Chunk left) byte =
-    within (λ r. record {
-      at = at;
-      total = total;
-      reading = r;
-      point =
-          awaiting left;
-    }) (λ shown. Ends (SideRefuses (place shown)))
+    within (λ r. siding_in at total r (awaiting left)) (λ shown. Ends (SideRefuses (place shown)))
     (stream_next judge reading byte)
 
 abbrev pub side_next : {M : Type 0} → Judge M → (RecordFault → Fault) → Siding M → ℕ
@@ -80,5 +68,4 @@ abbrev pub side_next : {M : Type 0} → Judge M → (RecordFault → Fault) → 
 side_next judge place s byte = side_step judge place s.at s.total s.reading s.point byte
 
 abbrev pub siding_from : {M : Type 0} → ℕ → ℕ → Siding M
-siding_from start before =
-    record { at = start; total = before; reading = unread; point = Length [] }
+siding_from start before = siding_in start before unread (Length [])

@@ -24,6 +24,11 @@ pub record Mixing : Type 0 where
   pub streams : Streams
   pub point : MixedPoint
 
+-- the machine at this point
+abbrev pub mixing_in : (at total : ℕ) → Streams → MixedPoint → Mixing
+mixing_in at total streams point =
+    record { at = at; total = total; streams = streams; point = point }
+
 -- the side word 0 has come: where the next part of the file begins, the capture's stream bytes, and
 -- the streams; or a fault is shown
 pub data MixedEnd : Type 0 where
@@ -38,10 +43,9 @@ awaiting_side side (suc left) = SideChunk side left
 -- a side word has come
 abbrev pub sided : ℕ → ℕ → Streams → ℕ → Next Mixing MixedEnd
 sided at total streams zero = Ends (MixedCloses (at + 4) total streams)
-sided at total streams (suc zero) =
-    Goes (record { at = at + 4; total = total; streams = streams; point = SideLength Client [] })
+sided at total streams (suc zero) = Goes (mixing_in (at + 4) total streams (SideLength Client []))
 sided at total streams (suc (suc zero)) =
-    Goes (record { at = at + 4; total = total; streams = streams; point = SideLength Server [] })
+    Goes (mixing_in (at + 4) total streams (SideLength Server []))
 sided at total streams (suc (suc (suc other))) = Ends (MixedRefuses (file_fault at BadMark))
 
 -- a length word has come
@@ -49,40 +53,18 @@ abbrev pub measured : ℕ → ℕ → Streams → Side → ℕ → Next Mixing M
 measured at total streams side zero = Ends (MixedRefuses (file_fault at BadMark))
 measured at total streams side (suc left) =
     cond (nat_lt max_bytes (total + suc left)) (Ends (MixedRefuses (file_fault at TooManyBytes)))
-    (Goes (record {
-      at = at + 4 + suc left;
-      total = total + suc left;
-      streams = streams;
-      point =
-          SideChunk side left;
-    }))
+    (Goes (mixing_in (at + 4 + suc left) (total + suc left) streams (SideChunk side left)))
 
 -- one byte more
 abbrev pub mixed_step : ℕ → ℕ → Streams → MixedPoint → ℕ → Next Mixing MixedEnd
 mixed_step at total streams (SideWord part) byte =
-    within (λ p. record {
-      at = at;
-      total = total;
-      streams = streams;
-      point =
-          SideWord p;
-    }) (sided at total streams) (word_next part byte)
+    within (λ p. mixing_in at total streams (SideWord p)) (sided at total streams)
+    (word_next part byte)
 mixed_step at total streams (SideLength side part) byte =
-    within (λ p. record {
-      at = at;
-      total = total;
-      streams = streams;
-      point =
-          SideLength side p;
-    }) (measured at total streams side) (word_next part byte)
+    within (λ p. mixing_in at total streams (SideLength side p)) (measured at total streams side)
+    (word_next part byte)
 mixed_step at total streams (SideChunk side left) byte =
-    Goes (record {
-      at = at;
-      total = total;
-      streams = with_more streams side (byte ∷ []);
-      point =
-          awaiting_side side left;
-    })
+    Goes (mixing_in at total (with_more streams side (byte ∷ [])) (awaiting_side side left))
 
 -- the same by where the machine stands
 abbrev pub mixed_next : Mixing → ℕ → Next Mixing MixedEnd
@@ -90,5 +72,4 @@ mixed_next s byte = mixed_step s.at s.total s.streams s.point byte
 
 -- at a connection's first side word
 abbrev pub mixing_from : ℕ → ℕ → Mixing
-mixing_from start before =
-    record { at = start; total = before; streams = gathered []; point = SideWord [] }
+mixing_from start before = mixing_in start before (gathered []) (SideWord [])

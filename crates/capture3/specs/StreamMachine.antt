@@ -14,8 +14,12 @@ pub record Reading (M : Type 0) : Type 0 where
   pub messages : List M
   pub joining : Joining
 
+-- after these messages, in a record
+abbrev pub reading_with : {M : Type 0} → List M → Joining → Reading M
+reading_with messages joining = record { messages = messages; joining = joining }
+
 abbrev pub judged : {M : Type 0} → List M → Result M Stop → Next (Reading M) RecordFault
-judged messages (Ok m) = Goes (record { messages = messages ++ m ∷ []; joining = Between })
+judged messages (Ok m) = Goes (reading_with (messages ++ m ∷ []) Between)
 judged messages (Err stop) = Ends (fault_at messages stop.at stop.reason)
 
 abbrev pub recorded : {M : Type 0} → Judge M → List M → Joined → Next (Reading M) RecordFault
@@ -24,14 +28,10 @@ recorded judge messages (TooLong at) = Ends (fault_at messages at RecordTooLong)
 
 abbrev pub stream_next : {M : Type 0} → Judge M → Reading M → ℕ → Next (Reading M) RecordFault
 stream_next judge s byte =
-    within (λ j. record {
-      messages = s.messages;
-      joining =
-          j;
-    }) (recorded judge s.messages) (join_next s.joining byte)
+    within (reading_with s.messages) (recorded judge s.messages) (join_next s.joining byte)
 
 abbrev pub unread : {M : Type 0} → Reading M
-unread = record { messages = []; joining = Between }
+unread = reading_with [] Between
 
 -- its messages, or the messages before its first fault
 pub data StreamEnd (M : Type 0) : Type 0 where

@@ -19,6 +19,7 @@ use Rattle.capture3.specs.SidedChunks.{size}
 use Rattle.capture3.specs.declared.container.position.Position.{Position}
 use Rattle.capture3.specs.machinery.Position.{room_of, AreEmpty, IsBeforeMark, ShowsFault, StoredAt, StoredWith, unpacking_at}
 use Rattle.capture3.specs.machinery.ContainerMachine.{Unpacking, Unpacked, Has, HasStreams, unpack_next}
+use Rattle.capture3.specs.Sides.{fault_in_record}
 
 -- with a record its body, and else no whole record
 abbrev pub Leaves : Option Event → Taking → Type 0
@@ -125,32 +126,22 @@ Recalled cursor old new streams left taking next _ = ⊥
 abbrev pub IsCutInRecord : Position → Side → Joining → Error → Type 0
 IsCutInRecord position side joining error =
     (joining ≢ Between)
-    × (error ≡ errors.Refused (record {
-      place =
-          places.Record position.connections side (position.records + 1)
-          (length (joined_body joining));
-      reason = RecordCut;
-    }))
+    × (error
+    ≡ errors.Refused (fault_in_record position.connections side (position.records + 1)
+    (length (joined_body joining)) RecordCut))
 
 -- the fault of the record after the cursor, unless memory ran out
 abbrev pub RecallFails : Cursor → Position → sided.Streams → Error → Type 0
 RecallFails cursor position streams (errors.Refused fault) =
     ((at : ℕ) × (n : ℕ)
     × (after join_next (Runs Between) (take n (rest_of cursor streams)) ≡ Stops (TooLong at))
-    × (fault ≡ record {
-      place =
-          places.Record position.connections cursor.side (position.records + 1) at;
-      reason =
-          RecordTooLong;
-    }))
+    × (fault
+    ≡ fault_in_record position.connections cursor.side (position.records + 1) at RecordTooLong))
     ⊎ ((j : Joining) × (j ≢ Between)
     × (after join_next (Runs Between) (rest_of cursor streams) ≡ Runs j)
-    × (fault ≡ record {
-      place =
-          places.Record position.connections cursor.side (position.records + 1)
-          (length (joined_body j));
-      reason = RecordCut;
-    }))
+    × (fault
+    ≡ fault_in_record position.connections cursor.side (position.records + 1)
+    (length (joined_body j)) RecordCut))
 RecallFails cursor position streams errors.Memory = Unit {0}
 RecallFails cursor position streams _ = ⊥
 

@@ -17,6 +17,7 @@ use Rattle.capture3.specs.Capture.{Version, One, Two, digit}
 use Rattle.capture3.specs.SidedChunksMachine.{MixedPoint, SideWord, Mixing, MixedEnd, MixedCloses, MixedRefuses, mixed_step, awaiting_side, measured, sided}
 use Rattle.capture3.specs.SidedChunksMachine as mixing
 use Rattle.capture3.specs.SidedChunks.{Streams, gathered}
+use Rattle.capture3.specs.Sides.{file_fault, fault_in_record}
 
 -- the part that is open: bytes of the magic that are due, its last byte, a connection word's bytes
 -- so far, the bytes so far of a chunk's length word, a chunk and how many bytes it has left after
@@ -42,6 +43,18 @@ pub record Unpacking : Type 0 where
   pub opened : Opened
   pub joining : Joining
 
+-- the machine with this part and this record open
+abbrev pub unpacking_with : (at total connections records : ℕ) → Opened → Joining → Unpacking
+unpacking_with at total connections records opened joining =
+    record {
+      at = at;
+      total = total;
+      connections = connections;
+      records = records;
+      opened = opened;
+      joining = joining;
+    }
+
 -- Something is whole, and after it stands this: an event, with the body where it is a record, or
 -- both streams of a connection of version 2, which come as no event. Or the byte shows a fault.
 pub data Unpacked : Type 0 where
@@ -51,12 +64,12 @@ pub data Unpacked : Type 0 where
 
 -- a fault at a byte of the file
 abbrev pub at_byte : ℕ → Reason → Unpacked
-at_byte at reason = Refuses (record { place = places.File at; reason = reason })
+at_byte at reason = Refuses (file_fault at reason)
 
 -- a fault of a record
 abbrev pub in_record : ℕ → Side → ℕ → ℕ → Reason → Unpacked
 in_record connection side record_number byte reason =
-    Refuses (record { place = places.Record connection side record_number byte; reason = reason })
+    Refuses (fault_in_record connection side record_number byte reason)
 
 -- the bytes of the magic that are left before its last
 abbrev pub left_of_magic : List ℕ → Opened
@@ -71,68 +84,28 @@ awaiting_chunk side (suc left) = Chunk side left
 -- in a chunk with so many bytes to come
 abbrev pub in_chunk : (at total connections records : ℕ) → Side → ℕ → Joining → Unpacking
 in_chunk at total connections records side left joining =
-    record {
-      at = at;
-      total = total;
-      connections = connections;
-      records = records;
-      opened =
-          awaiting_chunk side left;
-      joining = joining;
-    }
+    unpacking_with at total connections records (awaiting_chunk side left) joining
 
 -- before a connection word
 abbrev pub before_mark : Version → (at total connections records : ℕ) → Joining → Unpacking
 before_mark version at total connections records joining =
-    record {
-      at = at;
-      total = total;
-      connections = connections;
-      records = records;
-      opened =
-          Mark version [];
-      joining = joining;
-    }
+    unpacking_with at total connections records (Mark version []) joining
 
 -- before a stream's first length word, after a word
 abbrev pub before_stream : (at total connections : ℕ) → Joining → Side → Unpacking
 before_stream at total connections joining side =
-    record {
-      at = at + 4;
-      total = total;
-      connections = connections;
-      records = 0;
-      opened =
-          Length side [];
-      joining = joining;
-    }
+    unpacking_with (at + 4) total connections 0 (Length side []) joining
 
 -- version 2: before a connection's first side word, after a word
 abbrev pub before_sides : (at total connections : ℕ) → Joining → Unpacking
 before_sides at total connections joining =
-    record {
-      at = at + 4;
-      total = total;
-      connections = connections;
-      records = 0;
-      opened =
-          Mixed (gathered []) (SideWord []);
-      joining = joining;
-    }
+    unpacking_with (at + 4) total connections 0 (Mixed (gathered []) (SideWord [])) joining
 
 -- version 2: before the length word after a side word
 abbrev pub before_side_length : (at total connections records : ℕ) → Streams → Side → Joining
     → Unpacking
 before_side_length at total connections records streams side joining =
-    record {
-      at = at;
-      total = total;
-      connections = connections;
-      records = records;
-      opened =
-          Mixed streams (mixing.SideLength side []);
-      joining = joining;
-    }
+    unpacking_with at total connections records (Mixed streams (mixing.SideLength side [])) joining
 
 -- a connection's first part, by the version
 abbrev pub begun_at : Version → (at total connections : ℕ) → Joining → Unpacking
@@ -143,15 +116,7 @@ begun_at Two at total connections joining = before_sides at total connections jo
 abbrev pub connection_marked : Version → (at total connections records : ℕ) → Joining → ℕ
     → Next Unpacking Unpacked
 connection_marked version at total connections records joining zero =
-    Goes (record {
-      at = at + 4;
-      total = total;
-      connections = connections;
-      records =
-          records;
-      opened = Ended version;
-      joining = joining;
-    })
+    Goes (unpacking_with (at + 4) total connections records (Ended version) joining)
 connection_marked version at total connections records joining (suc zero) =
     cond (nat_lt connections 65535)
     (Ends (Has Begin [] (begun_at version at total (connections + 1) joining)))
@@ -177,15 +142,8 @@ chunk_counted at total connections records side joining zero =
     Ends (stream_ended at total connections records side joining)
 chunk_counted at total connections records side joining (suc left) =
     cond (nat_lt 1073741824 (total + suc left)) (Ends (at_byte at TooManyBytes))
-    (Goes (record {
-      at = at + 4 + suc left;
-      total = total + suc left;
-      connections =
-          connections;
-      records = records;
-      opened = Chunk side left;
-      joining = joining;
-    }))
+    (Goes (unpacking_with (at + 4 + suc left) (total + suc left) connections records
+    (Chunk side left) joining))
 
 -- a record has ended
 abbrev pub record_joined : (at total connections records : ℕ) → Side → ℕ → Joined
@@ -198,15 +156,7 @@ record_joined at total connections records side left (TooLong byte) =
 -- version 2: among the chunks of both sides
 abbrev pub mixed_at : (connections records : ℕ) → Joining → Mixing → Unpacking
 mixed_at connections records joining m =
-    record {
-      at = m.at;
-      total = m.total;
-      connections = connections;
-      records = records;
-      opened =
-          Mixed m.streams m.point;
-      joining = joining;
-    }
+    unpacking_with m.at m.total connections records (Mixed m.streams m.point) joining
 
 -- the side word 0 has come, or a fault
 abbrev pub mixed_ended : (connections : ℕ) → Joining → MixedEnd → Next Unpacking Unpacked
@@ -218,15 +168,7 @@ mixed_ended connections joining (MixedRefuses fault) = Ends (Refuses fault)
 abbrev pub in_side_chunk : (at total connections records : ℕ) → Streams → Side → ℕ → Joining
     → Unpacking
 in_side_chunk at total connections records streams side left joining =
-    record {
-      at = at;
-      total = total;
-      connections = connections;
-      records = records;
-      opened =
-          Mixed streams (awaiting_side side left);
-      joining = joining;
-    }
+    unpacking_with at total connections records (Mixed streams (awaiting_side side left)) joining
 
 -- a side word has come
 abbrev pub sides_marked : (at total connections records : ℕ) → Streams → Joining → ℕ
@@ -247,15 +189,7 @@ abbrev pub open_step : (at total connections records : ℕ) → Joining → Open
     → Next Unpacking Unpacked
 open_step at total connections records joining (Magic due more) byte =
     cond (nat_eq byte due)
-    (Goes (record {
-      at = at + 1;
-      total = total;
-      connections = connections;
-      records =
-          records;
-      opened = left_of_magic more;
-      joining = joining;
-    }))
+    (Goes (unpacking_with (at + 1) total connections records (left_of_magic more) joining))
     (Ends (at_byte at BadMagic))
 open_step at total connections records joining Digit byte =
     cond (nat_eq byte (digit One))
@@ -264,26 +198,10 @@ open_step at total connections records joining Digit byte =
     (Goes (before_mark Two (at + 1) total connections records joining))
     (Ends (at_byte at BadMagic)))
 open_step at total connections records joining (Mark version part) byte =
-    within (λ p. record {
-      at = at;
-      total = total;
-      connections = connections;
-      records =
-          records;
-      opened = Mark version p;
-      joining = joining;
-    })
+    within (λ p. unpacking_with at total connections records (Mark version p) joining)
     (connection_marked version at total connections records joining) (word_next part byte)
 open_step at total connections records joining (Length side part) byte =
-    within (λ p. record {
-      at = at;
-      total = total;
-      connections = connections;
-      records =
-          records;
-      opened = Length side p;
-      joining = joining;
-    })
+    within (λ p. unpacking_with at total connections records (Length side p) joining)
     (chunk_counted at total connections records side joining) (word_next part byte)
 open_step at total connections records joining (Chunk side left) byte =
     within (in_chunk at total connections records side left)
@@ -299,13 +217,4 @@ unpack_next u byte = open_step u.at u.total u.connections u.records u.joining u.
 
 -- before the first byte
 abbrev pub unpacking_start : Unpacking
-unpacking_start =
-    record {
-      at = 0;
-      total = 0;
-      connections = 0;
-      records = 0;
-      opened =
-          left_of_magic MAGIC;
-      joining = Between;
-    }
+unpacking_start = unpacking_with 0 0 0 0 (left_of_magic MAGIC) Between

@@ -37,6 +37,7 @@ use Rattle.capture3.specs.machinery.Position.{unpacking_at}
 use Rattle.capture3.specs.machinery.Spelled.{SpellsCall, SpellsReply}
 use Rattle.capture3.specs.machinery.FileStanding.{Judged, parsing_at, resumed, Agrees, AgreesOn, emitted_at, EmitsOn}
 use Rattle.capture3.specs.machinery.ContainerMachine.{Unpacking, Unpacked, Has, HasStreams, before_mark}
+use Rattle.capture3.specs.Sides.{fault_in_record}
 
 -- these bytes have led the machine for the file here, and these entries are whole
 pub record StandsAt (position : Position) (taking : Taking) (streams : Streams)
@@ -191,24 +192,15 @@ pub record JudgesReply {V : Type 0} (stands : V → List Item → Type 0) (was n
 
 -- the body was refused, unless memory ran out
 abbrev pub RefusesBody : {X : Type 0} → Position → Side → Result X Stop → Error → Type 0
-RefusesBody position side judged (errors.Refused fault) =
-    (stop : Stop) × (judged ≡ Err stop)
-    × (fault ≡ record {
-      place =
-          places.Record position.connections side position.records stop.at;
-      reason = stop.reason;
-    })
+RefusesBody position side judged (errors.Refused fault) = (stop : Stop) × (judged ≡ Err stop)
+    × (fault ≡ fault_in_record position.connections side position.records stop.at stop.reason)
 RefusesBody position side judged errors.Memory = Unit {0}
 RefusesBody position side judged _ = ⊥
 
 -- the fault of the record that became whole last, or that memory ran out
 abbrev pub error_at : Position → Side → GetError → Error
 error_at position side (gets.Stop stop) =
-    errors.Refused (record {
-      place =
-          places.Record position.connections side position.records stop.at;
-      reason = stop.reason;
-    })
+    errors.Refused (fault_in_record position.connections side position.records stop.at stop.reason)
 error_at position side gets.Memory = errors.Memory
 
 -- the bytes are refused, or memory ran out: no device failed

@@ -16,15 +16,16 @@ use Rattle.capture3.specs.Entry as entries
 use Rattle.capture3.specs.BodyProgram.{judge_call, judge_reply}
 use Rattle.capture3.specs.ConnectionMachine.{InClient, InServer, InMixed, client_said}
 use Rattle.capture3.specs.FileMachine as parsing
-use Rattle.capture3.specs.FileMachine.{Parsing, Spot}
-use Rattle.capture3.specs.StreamMachine.{stream_end}
+use Rattle.capture3.specs.FileMachine.{Parsing, parsing_in}
+use Rattle.capture3.specs.StreamMachine.{stream_end, reading_with}
 use Rattle.capture3.specs.Records.{fault_at}
 use Rattle.capture3.specs.Sides.{place_at}
 use Rattle.capture3.specs.SideMachine as siding
-use Rattle.capture3.specs.SideMachine.{Siding}
+use Rattle.capture3.specs.SideMachine.{Siding, siding_in}
 use Rattle.capture3.specs.Typed.{connection_entries, reply_entry}
 use Rattle.capture3.specs.machinery.ContainerMachine.{Opened, Magic, Digit, Mark, Length, Chunk, Mixed, Ended, Unpacking, Unpacked, Has, HasStreams, Refuses}
 use Rattle.capture3.specs.SidedChunks.{Streams}
+use Rattle.capture3.specs.SidedChunksMachine.{mixing_in}
 
 -- What has been judged: where the open connection begins and the stream bytes before it, the
 -- entries of whole connections, and the open connection's calls and replies.
@@ -37,29 +38,9 @@ pub record Judged : Type 0 where
 
 -- at a point of a stream of version 1
 abbrev pub siding_at : {M : Type 0} → (at total : ℕ) → List M → Joining → siding.Point → Siding M
-siding_at at total messages joining point =
-    record {
-      at = at;
-      total = total;
-      reading =
-          record { messages = messages; joining = joining };
-      point = point;
-    }
+siding_at at total messages joining point = siding_in at total (reading_with messages joining) point
 
--- the machine for the file, at this spot
-abbrev pub parsing_in : Version → (at total connections : ℕ) → List Entry → Spot → Parsing
-parsing_in version at total connections entries spot =
-    record {
-      version = version;
-      at = at;
-      total = total;
-      number = connections;
-      entries =
-          entries;
-      spot = spot;
-    }
-
--- the same by the part that is open
+-- the machine for the file, by the part that is open
 abbrev pub resumed_at : (at total connections : ℕ) → Joining → Opened → Judged → Parsing
 resumed_at at total connections joining (Magic due more) j =
     parsing_in One at total connections j.entries (parsing.Magic due more)
@@ -82,13 +63,8 @@ resumed_at at total connections joining (Chunk Server left) j =
     (parsing.Inside
     (InServer j.calls (siding_at at total j.replies joining (siding.Chunk left))))
 resumed_at at total connections joining (Mixed streams point) j =
-    parsing_in Two j.start j.before connections j.entries (parsing.Inside (InMixed (record {
-      at =
-          at;
-      total = total;
-      streams = streams;
-      point = point;
-    })))
+    parsing_in Two j.start j.before connections j.entries
+    (parsing.Inside (InMixed (mixing_in at total streams point)))
 resumed_at at total connections joining (Ended version) j =
     parsing_in version at total connections j.entries parsing.Ended
 

@@ -13,7 +13,7 @@ use Rattle.capture3.specs.BodyProgram.{judge_call}
 use Rattle.capture3.specs.machinery.Messages.{IsTableOf}
 use Rattle.capture3.specs.ConnectionMachine.{judge_replies}
 use Rattle.capture3.specs.FileMachine.{Parsing, file_next, parsed, emitted}
-use Rattle.capture3.specs.StreamMachine.{Reading, Held, rest_end, stream_end}
+use Rattle.capture3.specs.StreamMachine.{Reading, Held, rest_end, stream_end, reading_with}
 use Rattle.record_mark.specs.Joining.{Between}
 use Rattle.capture3.specs.machinery.FileStanding.{Judged, conversed, client_entries, server_entries}
 use Rattle.capture3.specs.SidedChunks.{Streams}
@@ -22,7 +22,7 @@ use Rattle.record_mark.specs.Machine.{Ends}
 
 -- after these messages, before the next record
 abbrev pub between_records : {M : Type 0} → List M → Reading M
-between_records messages = record { messages = messages; joining = Between }
+between_records messages = reading_with messages Between
 
 -- After so many bytes of the side's stream: what is to be said of its rest is what is to be said of
 -- all of it.

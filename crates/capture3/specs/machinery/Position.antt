@@ -3,7 +3,7 @@ use Rattle.std.specs.Prelude.{◌≡◌, ◌≢◌, ◌≤◌, ◌<◌, ℕ, ◌
 use Rattle.record_mark.specs.Machine.{Next, Ends, Run, Runs, Stops, after, landed}
 use Rattle.record_mark.specs.Joining.{Joining, Between}
 use Rattle.record_mark.specs.Taking.{joined_body}
-use Rattle.capture3.specs.machinery.ContainerMachine.{Unpacking, Unpacked, Opened, Has, HasStreams, Refuses, left_of_magic, awaiting_chunk, unpack_next}
+use Rattle.capture3.specs.machinery.ContainerMachine.{Unpacking, Unpacked, Opened, Has, HasStreams, Refuses, left_of_magic, awaiting_chunk, unpack_next, unpacking_with}
 use Rattle.capture3.specs.machinery.ContainerMachine as unpacking
 use Rattle.capture3.specs.declared.container.position.TheConstants.{MAGIC}
 use Rattle.capture3.specs.declared.fault.Error.{Error}
@@ -81,15 +81,7 @@ opened_at streams (Ended version) at = unpacking.Ended (version_of version)
 -- the position, the streams and the open record, as the machine has them
 abbrev pub unpacking_at : Position → sided.Streams → Joining → Unpacking
 unpacking_at p streams joining =
-    record {
-      at = p.at;
-      total = p.total;
-      connections = p.connections;
-      records = p.records;
-      opened =
-          opened_at streams p.spot p.at;
-      joining = joining;
-    }
+    unpacking_with p.at p.total p.connections p.records (opened_at streams p.spot p.at) joining
 
 -- some of the bytes lead the machine to the fault
 abbrev pub ShowsFault : Unpacking → List ℕ → Error → Type 0

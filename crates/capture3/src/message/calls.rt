@@ -1,6 +1,6 @@
 //! The calls of a connection.
 
-ghost use Rattle.std.specs.Prelude.{◌≡◌, [], IfOk, IsTrue};
+ghost use Rattle.std.specs.Prelude.{◌≡◌, [], IfOk, IsOk, IsSome, IsTrue};
 ghost use Rattle.capture3.specs.machinery.Calls.{found, Gains};
 ghost use Rattle.capture3.specs.BodyProgram.{agrees};
 
@@ -35,11 +35,12 @@ pub(crate) trait CallTable: KnownCalls {
         ensures { Self.calls self.new ≡ [] };
 
     /// Adds a call if its xid is new. Returns `false` if an earlier call has the same xid but
-    /// another procedure; the calls are unspecified after that.
+    /// another procedure; the calls are unspecified after that. An xid that is there never fails.
     fn admit(&mut self, xid: u32, id: ProcId) -> Result<bool, AllocError>
         ensures agrees { IfOk result (λ is. is ≡ agrees (found (Self.calls self.old) xid) id) }
         ensures added { IfOk result
-            (λ is. IsTrue is → Gains (Self.calls self.old) xid id (Self.calls self.new)) };
+            (λ is. IsTrue is → Gains (Self.calls self.old) xid id (Self.calls self.new)) }
+        ensures known { IsSome (found (Self.calls self.old) xid) → IsOk result };
 }
 
 /// A plain list of calls, which is searched from its front.

@@ -1,6 +1,6 @@
 //! The calls of a connection, whose xids mostly count up.
 
-ghost use Rattle.std.specs.Prelude.{◌≡◌, ◌≤◌, ◌<◌, [], None, IfOk, IfSome, IsFalse, IsTrue, OnOk, Some, length};
+ghost use Rattle.std.specs.Prelude.{◌≡◌, ◌≤◌, ◌<◌, [], None, IfOk, IfSome, IsFalse, IsOk, IsSome, IsTrue, OnOk, Some, length};
 ghost use Rattle.capture3.specs.machinery.Calls.{all_calls, found, numbered_calls, AreAbove, FindsSame, Gains, AreAtHome, Puts};
 ghost use Rattle.capture3.specs.machinery.Counting.{home_of};
 ghost use Rattle.capture3.specs.BodyProgram.{agrees};
@@ -73,6 +73,8 @@ impl<S: BuildHasher + Drop> CountedCalls<S> {
         ensures added { IfOk result (λ is. IsTrue is
             → Gains (all_calls self.old.line.items self.old.others.entries) xid id
             (all_calls self.new.line.items self.new.others.entries)) }
+        ensures known { IsSome (found (all_calls self.old.line.items self.old.others.entries) xid)
+            → IsOk result }
     {
         self.nearest = self.nearest.min(self.counting.home(xid));
         let other = self.others.insert(xid, id)?;
@@ -174,6 +176,8 @@ impl<S: BuildHasher + Drop> CountedCalls<S> {
         ensures added { IfOk result (λ is. IsTrue is
             → Gains (all_calls self.old.line.items self.old.others.entries) xid id
             (all_calls self.new.line.items self.new.others.entries)) }
+        ensures known { IsSome (found (all_calls self.old.line.items self.old.others.entries) xid)
+            → IsOk result }
     {
         self.start_with(xid);
         if self.counting.home(xid) >= self.nearest {
@@ -216,6 +220,8 @@ impl<S: BuildHasher + Drop> CountedCalls<S> {
         ensures added { IfOk result (λ is. IsTrue is
             → Gains (all_calls self.old.line.items self.old.others.entries) xid id
             (all_calls self.new.line.items self.new.others.entries)) }
+        ensures known { IsSome (found (all_calls self.old.line.items self.old.others.entries) xid)
+            → IsOk result }
     {
         if let Some(other) = self.in_line(xid) {
             return Ok(is_none_or(Some(other), id));

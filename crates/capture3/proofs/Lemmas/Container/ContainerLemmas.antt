@@ -1,7 +1,7 @@
 -- Containers, as the machine has them: chunks' bytes at once, and step after step.
 use Rattle.std.proofs.Common.{◌≡◌, subst, [], false, is_some, take_all, ℕ, zero, suc, ◌<◌, ◌+◌, ◌-◌, ◌≤◌, Option, Some, None, Result, Ok, Err, IfOk, IfErr, List, length, take, drop, refl, sym, ap, ◌∙◌, arith, length-take, length-drop, OnOk, ◌++◌}
 use Rattle.std.proofs.Math.Seq.{take-add, take-take}
-use Rattle.capture3.proofs.Common.{RecordTooLong, Joining, Between, Whole, TooLong, join_next, Next, Runs, Stops, after, Run, Taking, IsRunning, joining_of, body_of, Error, Side, Event, Streams, size, with_more, Cursor, Spot, Version, Two, after-append, counted_runs, counted_stops, Transition, AreStored, unpacking_of, Arrives, ShowsError, Leaves, WordPart, bytes_so_far}
+use Rattle.capture3.proofs.Common.{RecordTooLong, Joining, Between, Whole, TooLong, join_next, Next, Runs, Stops, after, Run, Taking, IsRunning, joining_of, body_of, Error, Side, Event, Streams, size, with_more, Cursor, Spot, Version, Two, after-append, counted_runs, counted_stops, Transition, AreStored, unpacking_of, Arrives, ShowsError, Leaves, WordPart, bytes_so_far, fault_in_record}
 use Rattle.capture3.specs.declared.fault.Error.TheVariants as errors
 use Rattle.capture3.specs.declared.fault.Place.TheVariants as places
 use Rattle.capture3.specs.declared.container.position.Event.TheVariants.{Begin, Record, Turn, Close}
@@ -143,11 +143,8 @@ pub join_too_long : (p : Position) (streams : Streams) (side : Side) (left most 
     (old : Taking) (rest : List ℕ) → p.spot ≡ Chunk side left → most ≤ left
     → (n : ℕ) × (n ≤ length (take most rest))
     × (after join_next (Runs (joining_of old)) (take n (take most rest)) ≡ Stops (TooLong at))
-    → ShowsFault (unpacking_of p old streams) rest (errors.Refused (record {
-      place =
-          places.Record p.connections side (p.records + 1) at;
-      reason = RecordTooLong;
-    }))
+    → ShowsFault (unpacking_of p old streams) rest
+    (errors.Refused (fault_in_record p.connections side (p.records + 1) at RecordTooLong))
 join_too_long p streams side left most at old rest here fits (n, within, joins) =
     let (same, size, bounded) = joined_bytes rest n most left within fits in
     let front = length-take most rest in

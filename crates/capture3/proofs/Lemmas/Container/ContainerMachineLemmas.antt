@@ -1,5 +1,5 @@
 -- Many bytes at once: those of a word, and those of a chunk.
-use Rattle.capture3.proofs.Common.{◌≡◌, ℕ, ◌+◌, ◌<◌, List, [], ◌++◌, length, refl, sym, ap, ◌∙◌, Next, Goes, Ends, Runs, Stops, after, landed, within, IsWord, word_next, Joining, after-append, nested_runs, nested_stops, word_runs, word_stops, Side, Version, Streams, with_more, MixedPoint, Mixing, SideWord, SideLength, awaiting_side, measured, mixed_next, sided, Mark, Length, Mixed, Unpacking, chunk_counted, in_side_chunk, connection_marked, mixed_at, mixed_ended, sides_counted, sides_marked, unpack_next}
+use Rattle.capture3.proofs.Common.{◌≡◌, ℕ, ◌+◌, ◌<◌, List, [], ◌++◌, length, refl, sym, ap, ◌∙◌, Next, Goes, Ends, Runs, Stops, after, landed, within, IsWord, word_next, Joining, after-append, nested_runs, nested_stops, word_runs, word_stops, Side, Version, Streams, with_more, MixedPoint, Mixing, SideWord, SideLength, awaiting_side, measured, mixed_next, sided, Mark, Length, Mixed, Unpacking, chunk_counted, in_side_chunk, connection_marked, mixed_at, mixed_ended, sides_counted, sides_marked, unpack_next, unpacking_with, mixing_in}
 use Rattle.capture3.proofs.Lemmas.Container.SidedChunksMachineLemmas.{chunk_bytes}
 
 -- from a part of a word
@@ -22,26 +22,12 @@ part_ends part bytes n short (four, is) =
 -- a part of a connection word
 abbrev pub in_mark : Version → (at total connections records : ℕ) → Joining → List ℕ → Unpacking
 in_mark version at total connections records joining part =
-    record {
-      at = at;
-      total = total;
-      connections = connections;
-      records = records;
-      opened = Mark version part;
-      joining = joining;
-    }
+    unpacking_with at total connections records (Mark version part) joining
 
 -- a part of a length word
 abbrev pub in_length : (at total connections records : ℕ) → Side → Joining → List ℕ → Unpacking
 in_length at total connections records side joining part =
-    record {
-      at = at;
-      total = total;
-      connections = connections;
-      records = records;
-      opened = Length side part;
-      joining = joining;
-    }
+    unpacking_with at total connections records (Length side part) joining
 
 pub mark_goes_on : (version : Version) (at total connections records : ℕ) (joining : Joining)
     (part bytes longer : List ℕ) → longer ≡ part ++ bytes → length part < 4 → length longer < 4
@@ -84,37 +70,19 @@ length_ends at total connections records side joining part bytes n short is =
 -- a part of a side word
 abbrev pub in_side : (at total connections records : ℕ) → Streams → Joining → List ℕ → Unpacking
 in_side at total connections records streams joining part =
-    record {
-      at = at;
-      total = total;
-      connections = connections;
-      records = records;
-      opened = Mixed streams (SideWord part);
-      joining = joining;
-    }
+    unpacking_with at total connections records (Mixed streams (SideWord part)) joining
 
 -- a part of the length word after it
 abbrev pub in_side_length : (at total connections records : ℕ) → Streams → Side → Joining → List ℕ
     → Unpacking
 in_side_length at total connections records streams side joining part =
-    record {
-      at = at;
-      total = total;
-      connections = connections;
-      records = records;
-      opened = Mixed streams (SideLength side part);
-      joining = joining;
-    }
-
-abbrev pub mixing_of : (at total : ℕ) → Streams → MixedPoint → Mixing
-mixing_of at total streams point =
-    record { at = at; total = total; streams = streams; point = point }
+    unpacking_with at total connections records (Mixed streams (SideLength side part)) joining
 
 -- a word among the chunks of both sides
 side_commutes : (at total connections records : ℕ) (streams : Streams) (joining : Joining)
     (n : Next (List ℕ) ℕ)
     → within (mixed_at connections records joining) (mixed_ended connections joining)
-    (within (λ p. mixing_of at total streams (SideWord p)) (sided at total streams) n)
+    (within (λ p. mixing_in at total streams (SideWord p)) (sided at total streams) n)
     ≡ within (in_side at total connections records streams joining)
     (sides_marked at total connections records streams joining) n
 side_commutes at total connections records streams joining (Goes p) = refl
@@ -123,7 +91,7 @@ side_commutes at total connections records streams joining (Ends n) = refl
 side_length_commutes : (at total connections records : ℕ) (streams : Streams) (side : Side)
     (joining : Joining) (n : Next (List ℕ) ℕ)
     → within (mixed_at connections records joining) (mixed_ended connections joining)
-    (within (λ p. mixing_of at total streams (SideLength side p))
+    (within (λ p. mixing_in at total streams (SideLength side p))
     (measured at total streams side) n)
     ≡ within (in_side_length at total connections records streams side joining)
     (sides_counted at total connections records streams side joining) n
@@ -190,6 +158,6 @@ pub side_chunk_kept : (at total connections records : ℕ) (streams : Streams) (
 side_chunk_kept at total connections records streams side joining got n m size =
     nested_runs mixed_next unpack_next (mixed_at connections records joining)
     (mixed_ended connections joining) (λ s byte. refl) got
-    (mixing_of at total streams (awaiting_side side n))
-    (mixing_of at total (with_more streams side got) (awaiting_side side m))
+    (mixing_in at total streams (awaiting_side side n))
+    (mixing_in at total (with_more streams side got) (awaiting_side side m))
     (chunk_bytes at total streams side got n m size)

@@ -1,5 +1,5 @@
 -- Judging the records of streams that are gathered, one after another.
-use Rattle.capture3.proofs.Common.{◌≡◌, inl, inr, ℕ, ◌+◌, List, [], ◌∷◌, ◌++◌, length, map, take, drop, take-append-drop, Result, Ok, Err, refl, sym, ap, subst, ◌∙◌, append_assoc, append-nil, arith, length-append, common_steps, Stop, Item, AreBytes, Joining, Between, Header, Bytes, Joined, Whole, TooLong, join_next, Next, Goes, Ends, Run, Runs, Stops, Stopped, after, landed, within, last_running, after-append, last_running-append, NumberedCall, Fault, Side, Client, Server, ReplyItems, Two, Entry, Shows, FirstFault, judge_call, judge_reply, Opening, Closing, judge_replies, server_said, client_said, Parsing, file_next, file_start, parsed, emitted, verdict, verdict_of, reached, AreFirstReached, Reached, RecordFault, Streams, reply_entry, connection_entries, Unpacking, Mark, ShownFault, client_refusal, server_refusal, IsTableOf, Judge, Reading, judged, StreamEnd, Held, Faulty, left_in, end_of, rest_end, stream_end, stream_next, recorded, Judged, parsing_in, parsing_at, client_entries, server_entries, with_call, with_reply, turned, connection_closed}
+use Rattle.capture3.proofs.Common.{◌≡◌, inl, inr, ℕ, ◌+◌, List, [], ◌∷◌, ◌++◌, length, map, take, drop, take-append-drop, Result, Ok, Err, refl, sym, ap, subst, ◌∙◌, append_assoc, append-nil, arith, length-append, common_steps, Stop, Item, AreBytes, Joining, Between, Header, Bytes, Joined, Whole, TooLong, join_next, Next, Goes, Ends, Run, Runs, Stops, Stopped, after, landed, within, last_running, after-append, last_running-append, NumberedCall, Fault, Side, Client, Server, ReplyItems, Two, Entry, Shows, FirstFault, judge_call, judge_reply, Opening, Closing, judge_replies, server_said, client_said, Parsing, file_next, file_start, parsed, emitted, verdict, verdict_of, reached, AreFirstReached, Reached, RecordFault, Streams, reply_entry, connection_entries, Unpacking, Mark, ShownFault, client_refusal, server_refusal, IsTableOf, Judge, Reading, judged, StreamEnd, Held, Faulty, left_in, end_of, rest_end, stream_end, stream_next, recorded, Judged, parsing_in, parsing_at, client_entries, server_entries, with_call, with_reply, turned, connection_closed, unpacking_with, reading_with}
 use Rattle.capture3.specs.Entry as entries
 use Rattle.capture3.specs.FileMachine as parsing
 use Rattle.capture3.specs.machinery.KeptStreams.{between_records, Recalls, ShowsFirst}
@@ -10,6 +10,7 @@ use Rattle.std.proofs.lemmas.List.{map-append}
 use Rattle.capture3.proofs.Lemmas.Reached.ReachedBeforeFaults.{first_reached_at}
 use Rattle.capture3.proofs.Lemmas.Files.Verdicts.{clean_from_runs, shows_from_stops, stays, told, verdict_from_typed}
 use Rattle.capture3.proofs.Lemmas.Reached.ReachedLemmas.{stands_whole}
+use Rattle.capture3.proofs.Lemmas.Reader.FileStandingLemmas.{whole_connections}
 
 -- ---- the rest of a stream
 
@@ -23,6 +24,25 @@ cut_rest : {M : Type 0} (judge : Judge M) (s : Reading M) (n count : ℕ) (strea
 cut_rest judge s n count stream =
     ap (rest_end judge s) (sym (take-append-drop count (drop n stream))
     ∙ ap (λ (b : List ℕ). take count (drop n stream) ++ b) (drop_more n count stream))
+
+-- the last of the bytes shows the fault
+pub shows_at_last : {bytes : List ℕ} {handed : List Entry} (front : List ℕ) (byte : ℕ)
+    (state : Parsing) (shown : ShownFault) → bytes ≡ front ++ byte ∷ [] → parsed front ≡ Runs state
+    → file_next state byte ≡ Ends shown → handed ≡ emitted state ++ shown.more
+    → ShowsFirst bytes handed shown.fault
+shows_at_last front byte state shown split runs ends emits =
+    record {
+      front = front;
+      byte = byte;
+      back = [];
+      state = state;
+      shown = shown;
+      split = split;
+      runs = runs;
+      ends = ends;
+      is = refl;
+      emits = emits;
+    }
 
 -- ---- the client stream
 
@@ -66,25 +86,14 @@ module _ (u : Unpacking) (streams : Streams) (taken records : ℕ) (table : List
   client_shows : (fault : RecordFault)
       → stream_end judge_call streams.client ≡ Faulty r.so_far.calls fault
       → ShowsFirst bytes handed (client_refusal u.connections r.so_far.calls fault).fault
-  client_shows fault faulty = record {
-    front = r.front;
-    byte = r.byte;
-    back = [];
-    state = r.state;
-    shown = client_refusal u.connections r.so_far.calls fault;
-    split = r.split;
-    runs = r.runs;
-    ends =
-        r.ends
-        ∙ ap (λ x. said u r.so_far (client_said u.connections u.at u.total streams.server x))
-        faulty;
-    is = refl;
-    emits =
-        r.here.2
-        ∙ sym (append_assoc r.so_far.entries (entries.Begin ∷ [])
-        (map entries.Call r.so_far.calls))
-        ∙ ap (λ (l : List Entry). l ++ map entries.Call r.so_far.calls) (sym r.emits);
-  }
+  client_shows fault faulty =
+      shows_at_last r.front r.byte r.state (client_refusal u.connections r.so_far.calls fault)
+      r.split r.runs
+      (r.ends
+      ∙ ap (λ x. said u r.so_far (client_said u.connections u.at u.total streams.server x)) faulty)
+      (r.here.2
+      ∙ sym (append_assoc r.so_far.entries (entries.Begin ∷ []) (map entries.Call r.so_far.calls))
+      ∙ ap (λ (l : List Entry). l ++ map entries.Call r.so_far.calls) (sym r.emits))
 
   -- the next record is refused, or too long
   pub call_refused : (count : ℕ) (x : Joined) (fault : RecordFault)
@@ -181,25 +190,17 @@ module _ (u : Unpacking) (streams : Streams) (taken records : ℕ) (table : List
       → stream_end (judge_replies r.so_far.calls) streams.server ≡ Faulty r.so_far.replies fault
       → ShowsFirst bytes handed
       (server_refusal u.connections r.so_far.calls r.so_far.replies fault).fault
-  server_shows fault faulty = record {
-    front = r.front;
-    byte = r.byte;
-    back = [];
-    state = r.state;
-    shown = server_refusal u.connections r.so_far.calls r.so_far.replies fault;
-    split = r.split;
-    runs = r.runs;
-    ends = both_said (Faulty r.so_far.replies fault) faulty;
-    is = refl;
-    emits =
-        r.here.3
-        ∙ sym (append_assoc r.so_far.entries (entries.Begin ∷ [])
-        (map entries.Call r.so_far.calls ++ server_entries r.so_far.replies))
-        ∙ ap
-        (λ (l : List Entry).
-        l ++ (map entries.Call r.so_far.calls ++ server_entries r.so_far.replies))
-        (sym r.emits);
-  }
+  server_shows fault faulty =
+      shows_at_last r.front r.byte r.state
+      (server_refusal u.connections r.so_far.calls r.so_far.replies fault) r.split r.runs
+      (both_said (Faulty r.so_far.replies fault) faulty)
+      (r.here.3
+      ∙ sym (append_assoc r.so_far.entries (entries.Begin ∷ [])
+      (map entries.Call r.so_far.calls ++ server_entries r.so_far.replies))
+      ∙ ap
+      (λ (l : List Entry).
+      l ++ (map entries.Call r.so_far.calls ++ server_entries r.so_far.replies))
+      (sym r.emits))
 
   pub reply_refused : (count : ℕ) (x : Joined) (fault : RecordFault)
       → after join_next (Runs Between) (take count (drop taken streams.server)) ≡ Stops x
@@ -329,10 +330,10 @@ stream_extends {M} judge (byte ∷ bytes) s =
     by_join : (n : Next Joining Joined)
         → ((t : Reading M) → Extends t.messages (last_running (stream_next judge) t bytes))
         → Extends s.messages (elim
-        (within (λ j. record { messages = s.messages; joining = j })
+        (within (reading_with s.messages)
         (recorded judge s.messages) n)
         [ Goes t ↦ last_running (stream_next judge) t bytes | Ends f ↦ s ])
-    by_join (Goes j) on = on (record { messages = s.messages; joining = j })
+    by_join (Goes j) on = on (reading_with s.messages j)
     by_join (Ends (Whole body)) on = by_judge (judge s.messages body) on
     by_join (Ends (TooLong at)) on = ([], sym (append-nil s.messages))
 
@@ -376,18 +377,7 @@ module _ (u : Unpacking) (streams : Streams) (side : Side) (taken records : ℕ)
     more,
     subst (Reached (bytes ++ rest)) is (first_of bytes rest (emitted r.state ++ shown.more)
         shown.fault (split_bytes (bytes ++ rest) bytes rest refl are).0
-        (record {
-          front = r.front;
-          byte = r.byte;
-          back = [];
-          state = r.state;
-          shown = shown;
-          split = r.split;
-          runs = r.runs;
-          ends = ends;
-          is = refl;
-          emits = refl;
-        })).1,
+        (shows_at_last r.front r.byte r.state shown r.split r.runs ends refl)).1,
   )
 
   -- and so does the end of the connection
@@ -397,23 +387,9 @@ module _ (u : Unpacking) (streams : Streams) (side : Side) (taken records : ℕ)
       → r.so_far.entries ++ connection_entries calls replies ≡ handed ++ more
       → AreFirstReached (bytes ++ rest) handed
   by_close calls replies more ends is =
-      let v : Unpacking =
-      record {
-        at = u.at;
-        total = u.total;
-        connections = u.connections;
-        records = 0;
-        opened = Mark Two [];
-        joining = Between;
-      } in
+      let v : Unpacking = unpacking_with u.at u.total u.connections 0 (Mark Two []) Between in
       let k : Judged =
-      record {
-        start = 0;
-        before = 0;
-        entries = r.so_far.entries ++ connection_entries calls replies;
-        calls = [];
-        replies = [];
-      } in
+      whole_connections (r.so_far.entries ++ connection_entries calls replies) in
       let runs : parsed bytes ≡ Runs (parsing_at v k) =
       ap parsed r.split ∙ after-append file_next (Runs file_start) r.front (r.byte ∷ [])
       ∙ ap (λ run. after file_next run (r.byte ∷ [])) r.runs ∙ ap landed ends in

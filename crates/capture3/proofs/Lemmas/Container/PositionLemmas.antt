@@ -1,7 +1,7 @@
 -- Positions, as the machine has them: a word's bytes at once.
 use Rattle.std.proofs.Math.Seq.{drop-cons, take-suc}
 use Rattle.std.proofs.lemmas.Bool.{ne_eqb}
-use Rattle.capture3.proofs.Common.{after-append, BadMagic, BadMark, TooManyBytes, TooManyConnections, Next, Goes, Ends, Runs, after, landed, Joining, Error, Side, Begin, Spot, Version, One, Two, Streams, ◌≢◌, drop, get_or, add-one, eq-eqb, Result, Ok, Err, IfOk, ◌≡◌, ℕ, zero, suc, ◌+◌, ◌<◌, ◌≤◌, List, [], ◌∷◌, length, take, refl, ap, ◌∙◌, arith, cond, lt-ltb, le-ltb, Transition, File, MAGIC, WordPart}
+use Rattle.capture3.proofs.Common.{after-append, BadMagic, BadMark, TooManyBytes, TooManyConnections, Next, Goes, Ends, Runs, after, landed, Joining, Error, Side, Begin, Spot, Version, One, Two, Streams, ◌≢◌, drop, get_or, add-one, eq-eqb, Result, Ok, Err, IfOk, ◌≡◌, ℕ, zero, suc, ◌+◌, ◌<◌, ◌≤◌, List, [], ◌∷◌, length, take, refl, ap, ◌∙◌, arith, cond, lt-ltb, le-ltb, Transition, File, MAGIC, WordPart, unpacking_with, file_fault}
 use Rattle.capture3.specs.declared.fault.Error.TheVariants.{Refused}
 use Rattle.capture3.specs.declared.fault.Error.TheVariants as errors
 use Rattle.capture3.specs.declared.container.position.Position.{Position}
@@ -187,48 +187,20 @@ pub ruleset words_lead = (marked_bad, marked_one, marked_many, counted_over, cou
 -- after so many bytes of the magic
 abbrev pub in_magic : Position → Joining → ℕ → Unpacking
 in_magic p joining n =
-    record {
-      at = n;
-      total = p.total;
-      connections = p.connections;
-      records = p.records;
-      opened = left_of_magic (drop n MAGIC);
-      joining = joining;
-    }
+    unpacking_with n p.total p.connections p.records (left_of_magic (drop n MAGIC)) joining
 
 magic_due : (p : Position) (joining : Joining) (n : ℕ) → n < 7
     → in_magic p joining n
-    ≡ record {
-      at = n;
-      total = p.total;
-      connections = p.connections;
-      records = p.records;
-      opened = left_of_magic (get_or MAGIC n 0 ∷ drop (suc n) MAGIC);
-      joining = joining;
-    }
+    ≡ unpacking_with n p.total p.connections p.records
+    (left_of_magic (get_or MAGIC n 0 ∷ drop (suc n) MAGIC)) joining
 magic_due p joining n within =
-    ap
-    (λ due.
-    record {
-      at = n;
-      total = p.total;
-      connections = p.connections;
-      records = p.records;
-      opened = left_of_magic due;
-      joining = joining;
-    }) (drop-cons MAGIC n 0 within)
+    ap (λ due. unpacking_with n p.total p.connections p.records (left_of_magic due) joining)
+    (drop-cons MAGIC n 0 within)
 
 -- the next place, with so many bytes of the magic taken
 abbrev pub moved_on : Position → Joining → (at n : ℕ) → Unpacking
 moved_on p joining at n =
-    record {
-      at = at;
-      total = p.total;
-      connections = p.connections;
-      records = p.records;
-      opened = left_of_magic (drop n MAGIC);
-      joining = joining;
-    }
+    unpacking_with at p.total p.connections p.records (left_of_magic (drop n MAGIC)) joining
 
 magic_byte : (p : Position) (joining : Joining) (n byte : ℕ) → n < 7 → byte ≡ get_or MAGIC n 0
     → unpack_next (in_magic p joining n) byte ≡ Goes (in_magic p joining (suc n))
@@ -276,8 +248,7 @@ agree_more p bytes i due within is so_far joining =
 pub magic_fault : (p : Position) (streams : Streams) (joining : Joining) (bytes : List ℕ) (i : ℕ)
     → p.spot ≡ Magic → p.at + i < 7 → i < length bytes
     → get_or bytes i 0 ≢ get_or MAGIC (p.at + i) 0 → AgreeWithMagic p bytes i
-    → ShowsFault (unpacking_at p streams joining) bytes
-    (Refused (record { place = File (p.at + i); reason = BadMagic }))
+    → ShowsFault (unpacking_at p streams joining) bytes (Refused (file_fault (p.at + i) BadMagic))
 magic_fault p streams joining bytes i here due within other so_far =
     let one_more : i + 1 ≤ length bytes = omega arith in (
       i + 1,

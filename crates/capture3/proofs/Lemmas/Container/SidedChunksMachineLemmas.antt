@@ -1,5 +1,5 @@
 -- The machine that gathers the chunks of both sides.
-use Rattle.capture3.proofs.Common.{◌≡◌, ℕ, zero, suc, ◌+◌, ◌<◌, ◌≤◌, List, [], ◌∷◌, ◌++◌, length, refl, sym, ap, ap₂, subst, ◌∙◌, append_assoc, append-nil, arith, length-append, Bool, true, false, cond, nat_lt, ltb-true, ltb-false, le-ltb, Goes, Ends, Runs, Stops, landed, after, IsWord, Joins, number, word_next, Leads, leads_within, after-append, nested_runs, nested_stops, IsPart, word_leads, word_runs, word_stops, Joins-snoc, BadMark, TooManyBytes, Side, Client, Server, max_bytes, Context, MixedShows, BadSide, NoLength, TooMuch, file_fault, MixedPoint, SideWord, SideLength, SideChunk, Mixing, MixedEnd, MixedCloses, MixedRefuses, awaiting_side, sided, measured, mixed_step, mixed_next, mixing_from, Streams, size, SidedChunk, IsSidedChunk, side_word, of_side, gathered, carried_by, with_more, AreMixed}
+use Rattle.capture3.proofs.Common.{◌≡◌, ℕ, zero, suc, ◌+◌, ◌<◌, ◌≤◌, List, [], ◌∷◌, ◌++◌, length, refl, sym, ap, ap₂, subst, ◌∙◌, append_assoc, append-nil, arith, length-append, Bool, true, false, cond, nat_lt, ltb-true, ltb-false, le-ltb, Goes, Ends, Runs, Stops, landed, after, IsWord, Joins, number, word_next, Leads, leads_within, after-append, nested_runs, nested_stops, IsPart, word_leads, word_runs, word_stops, Joins-snoc, BadMark, TooManyBytes, Side, Client, Server, max_bytes, Context, MixedShows, BadSide, NoLength, TooMuch, file_fault, MixedPoint, SideWord, SideLength, SideChunk, Mixing, MixedEnd, MixedCloses, MixedRefuses, awaiting_side, sided, measured, mixed_step, mixed_next, mixing_from, Streams, size, SidedChunk, IsSidedChunk, side_word, of_side, gathered, carried_by, with_more, AreMixed, mixing_in}
 
 -- after whole chunks, in a side word
 pub record InSideWord (context : Context) (bytes : List ℕ) (at total : ℕ) (streams : Streams)
@@ -196,13 +196,8 @@ length_leads : (context : Context) (before bytes header : List ℕ) (at total le
     → bytes ≡ h.front ++ h.word ++ header → IsWord header (suc left) → (over : Bool)
     → nat_lt max_bytes (total + suc left) ≡ over
     → Leads (HasMixed context) (EndsMixed context) bytes (cond over
-    (Ends (MixedRefuses (file_fault at TooManyBytes))) (Goes (record {
-      at =
-          at + 4 + suc left;
-      total = total + suc left;
-      streams = streams;
-      point = SideChunk side left;
-    })))
+    (Ends (MixedRefuses (file_fault at TooManyBytes)))
+    (Goes (mixing_in (at + 4 + suc left) (total + suc left) streams (SideChunk side left))))
 length_leads context before bytes header at total left streams side part h split is true over =
     let passes = ltb-true _ _ over in
     TooMuch
@@ -347,7 +342,7 @@ mixed_point_leads context bytes at total streams (SideWord part) byte h =
     let more : bytes ++ byte ∷ [] ≡ h.front ++ (part ++ byte ∷ []) =
     ap (λ (b : List ℕ). b ++ byte ∷ []) h.split ∙ append_assoc h.front part (byte ∷ []) in
     leads_within IsPart IsWord (HasMixed context) (EndsMixed context)
-    (λ p. record { at = at; total = total; streams = streams; point = SideWord p })
+    (λ p. mixing_in at total streams (SideWord p))
     (sided at total streams) (part ++ byte ∷ []) (bytes ++ byte ∷ [])
     (λ p is.
     record {
@@ -370,7 +365,7 @@ mixed_point_leads context bytes at total streams (SideLength side part) byte h =
     ap (λ (b : List ℕ). b ++ byte ∷ []) h.split
     ∙ append_assoc (h.front ++ h.word) part (byte ∷ []) in
     leads_within IsPart IsWord (HasMixed context) (EndsMixed context)
-    (λ p. record { at = at; total = total; streams = streams; point = SideLength side p })
+    (λ p. mixing_in at total streams (SideLength side p))
     (measured at total streams side) (part ++ byte ∷ []) (bytes ++ byte ∷ [])
     (λ p is.
     record {
@@ -417,134 +412,80 @@ nothing_gathered context fits =
 -- The other way round.
 pub chunk_bytes : (at total : ℕ) (streams : Streams) (side : Side) (got : List ℕ) (n m : ℕ)
     → n ≡ length got + m
-    → after mixed_next
-    (Runs (record {
-      at = at;
-      total = total;
-      streams = streams;
-      point = awaiting_side side n;
-    })) got
-    ≡ Runs (record {
-      at = at;
-      total = total;
-      streams = with_more streams side got;
-      point = awaiting_side side m;
-    })
+    → after mixed_next (Runs (mixing_in at total streams (awaiting_side side n))) got
+    ≡ Runs (mixing_in at total (with_more streams side got) (awaiting_side side m))
 chunk_bytes at total streams side [] n m e =
     let same : n ≡ m = omega arith in
-    ap₂ (λ k s. Runs (record { at = at; total = total; streams = s; point = awaiting_side side k }))
+    ap₂ (λ k s. Runs (mixing_in at total s (awaiting_side side k)))
     same (sym (with_more-nil streams side))
 chunk_bytes at total streams side (byte ∷ got) n m e =
     let more : n ≡ suc (length got + m) = omega arith in
     ap
     (λ k.
-    after mixed_next
-    (Runs (record {
-      at = at;
-      total = total;
-      streams = streams;
-      point = awaiting_side side k;
-    })) (byte ∷ got)) more
+    after mixed_next (Runs (mixing_in at total streams (awaiting_side side k))) (byte ∷ got)) more
     ∙ chunk_bytes at total (with_more streams side (byte ∷ [])) side got (length got + m) m refl
-    ∙ ap (λ s. Runs (record { at = at; total = total; streams = s; point = awaiting_side side m }))
+    ∙ ap (λ s. Runs (mixing_in at total s (awaiting_side side m)))
     (with_more-append streams side (byte ∷ []) got)
 
 pub word_lands : (at total n : ℕ) (streams : Streams) (word : List ℕ) → IsWord word n
-    → after mixed_next
-    (Runs (record { at = at; total = total; streams = streams; point = SideWord [] })) word
+    → after mixed_next (Runs (mixing_in at total streams (SideWord []))) word
     ≡ landed (sided at total streams n)
 word_lands at total n streams word is =
-    nested_stops word_next mixed_next
-    (λ p. record { at = at; total = total; streams = streams; point = SideWord p })
+    nested_stops word_next mixed_next (λ p. mixing_in at total streams (SideWord p))
     (sided at total streams) (λ s byte. refl) word [] (number word) (word_stops word is.0)
     ∙ ap (λ m. landed (sided at total streams m)) is.1
 
 side_lands : (at total : ℕ) (streams : Streams) (side : Side)
     → landed (sided at total streams (side_word side))
-    ≡ Runs
-    (record { at = at + 4; total = total; streams = streams; point = SideLength side [] })
+    ≡ Runs (mixing_in (at + 4) total streams (SideLength side []))
 side_lands at total streams Client = refl
 side_lands at total streams Server = refl
 
 pub header_lands : (at total n : ℕ) (streams : Streams) (side : Side) (header : List ℕ)
     → IsWord header n
-    → after mixed_next
-    (Runs
-    (record { at = at; total = total; streams = streams; point = SideLength side [] }))
-    header ≡ landed (measured at total streams side n)
+    → after mixed_next (Runs (mixing_in at total streams (SideLength side []))) header
+    ≡ landed (measured at total streams side n)
 header_lands at total n streams side header is =
-    nested_stops word_next mixed_next
-    (λ p. record { at = at; total = total; streams = streams; point = SideLength side p })
+    nested_stops word_next mixed_next (λ p. mixing_in at total streams (SideLength side p))
     (measured at total streams side) (λ s byte. refl) header [] (number header)
-    (word_stops header is.0)
-    ∙ ap (λ m. landed (measured at total streams side m)) is.1
+    (word_stops header is.0) ∙ ap (λ m. landed (measured at total streams side m)) is.1
 
 pub after_side : (at total : ℕ) (streams : Streams) (side : Side) (word rest : List ℕ)
     → IsWord word (side_word side)
-    → after mixed_next
-    (Runs (record { at = at; total = total; streams = streams; point = SideWord [] }))
-    (word ++ rest)
-    ≡ after mixed_next
-    (Runs (record {
-      at = at + 4;
-      total = total;
-      streams = streams;
-      point = SideLength side [];
-    })) rest
+    → after mixed_next (Runs (mixing_in at total streams (SideWord []))) (word ++ rest)
+    ≡ after mixed_next (Runs (mixing_in (at + 4) total streams (SideLength side []))) rest
 after_side at total streams side word rest is =
-    after-append mixed_next
-    (Runs (record { at = at; total = total; streams = streams; point = SideWord [] })) word rest
-    ∙ ap (λ r. after mixed_next r rest)
-    (word_lands at total (side_word side) streams word is ∙ side_lands at total streams side)
+    after-append mixed_next (Runs (mixing_in at total streams (SideWord []))) word rest
+    ∙ ap (λ r. after mixed_next r rest) (word_lands at total (side_word side) streams word is
+    ∙ side_lands at total streams side)
 
 measures : (at total n : ℕ) (streams : Streams) (side : Side) (header : List ℕ) → IsWord header n
     → 0 < n → total + n ≤ max_bytes
-    → after mixed_next
-    (Runs
-    (record { at = at; total = total; streams = streams; point = SideLength side [] }))
-    header
-    ≡ Runs (record {
-      at = at + 4 + n;
-      total = total + n;
-      streams = streams;
-      point = awaiting_side side n;
-    })
+    → after mixed_next (Runs (mixing_in at total streams (SideLength side []))) header
+    ≡ Runs (mixing_in (at + 4 + n) (total + n) streams (awaiting_side side n))
 measures at total zero streams side header is some fits = absurd (omega arith)
 measures at total (suc left) streams side header is some fits =
     header_lands at total (suc left) streams side header is
     ∙ ap
     (λ b.
-    landed (cond b (Ends (MixedRefuses (file_fault at TooManyBytes))) (Goes
-    (record {
-      at = at + 4 + suc left;
-      total = total + suc left;
-      streams = streams;
-      point = SideChunk side left;
-    }))))
-    (le-ltb max_bytes (total + suc left) fits)
+    landed (cond b (Ends (MixedRefuses (file_fault at TooManyBytes)))
+    (Goes (mixing_in (at + 4 + suc left) (total + suc left) streams
+    (SideChunk side left))))) (le-ltb max_bytes (total + suc left) fits)
 
 chunk_lands : (at total : ℕ) (streams : Streams) (side : Side) (word header got : List ℕ) (left : ℕ)
     → IsWord word (side_word side) → IsWord header (length got + left) → 0 < length got + left
     → total + (length got + left) ≤ max_bytes
-    → after mixed_next
-    (Runs (record { at = at; total = total; streams = streams; point = SideWord [] }))
-    (word ++ (header ++ got))
-    ≡ Runs (record {
-      at = at + 4 + 4 + (length got + left);
-      total = total + (length got + left);
-      streams = with_more streams side got;
-      point = awaiting_side side left;
-    })
+    → after mixed_next (Runs (mixing_in at total streams (SideWord []))) (word ++ (header ++ got))
+    ≡ Runs (mixing_in (at + 4 + 4 + (length got + left)) (total + (length got + left))
+    (with_more streams side got) (awaiting_side side left))
 chunk_lands at total streams side word header got left is counts some fits =
     after_side at total streams side word (header ++ got) is
-    ∙ after-append mixed_next
-    (Runs
-    (record { at = at + 4; total = total; streams = streams; point = SideLength side [] }))
+    ∙ after-append mixed_next (Runs (mixing_in (at + 4) total streams (SideLength side [])))
     header got
     ∙ ap (λ r. after mixed_next r got)
     (measures (at + 4) total (length got + left) streams side header counts some fits)
-    ∙ chunk_bytes (at + 4 + 4 + (length got + left)) (total + (length got + left)) streams side got
-    (length got + left) left refl
+    ∙ chunk_bytes (at + 4 + 4 + (length got + left)) (total + (length got + left)) streams side
+    got (length got + left) left refl
 
 -- streams with these chunks at their ends
 abbrev pub with_chunks : Streams → List SidedChunk → Streams
@@ -584,21 +525,13 @@ size_of Server bytes = omega arith
 chunks_land : (chunks : List SidedChunk) (at total end sum : ℕ) (streams : Streams) (front : List ℕ)
     → Joins IsSidedChunk front chunks → total + size (gathered chunks) ≤ max_bytes
     → end ≡ at + length front → sum ≡ total + size (gathered chunks)
-    → after mixed_next
-    (Runs (record { at = at; total = total; streams = streams; point = SideWord [] })) front
-    ≡ Runs (record {
-      at = end;
-      total = sum;
-      streams = with_chunks streams chunks;
-      point = SideWord [];
-    })
+    → after mixed_next (Runs (mixing_in at total streams (SideWord []))) front
+    ≡ Runs (mixing_in end sum (with_chunks streams chunks) (SideWord []))
 chunks_land [] at total end sum streams front h fits end_is sum_is =
     let at_end : at ≡ end = omega (arith, ap length h) in
     let all : total ≡ sum = omega arith in
-    ap
-    (after mixed_next
-    (Runs (record { at = at; total = total; streams = streams; point = SideWord [] }))) h
-    ∙ ap₂ (λ n m. Runs (record { at = n; total = m; streams = streams; point = SideWord [] }))
+    ap (after mixed_next (Runs (mixing_in at total streams (SideWord [])))) h
+    ∙ ap₂ (λ n m. Runs (mixing_in n m streams (SideWord [])))
     at_end all
 chunks_land (chunk ∷ chunks) at total end sum streams front h fits end_is sum_is =
     let c = h.3.chunked in
@@ -610,14 +543,11 @@ chunks_land (chunk ∷ chunks) at total end sum streams front h fits end_is sum_
     let sides = size_of chunk.side chunk.bytes in
     let some : 0 < length chunk.bytes + 0 = omega (arith, c.some) in
     let first : total + (length chunk.bytes + 0) ≤ max_bytes = omega arith in
-    ap
-    (after mixed_next
-    (Runs (record { at = at; total = total; streams = streams; point = SideWord [] })))
+    ap (after mixed_next (Runs (mixing_in at total streams (SideWord []))))
     (h.2
     ∙ ap (λ (b : List ℕ). b ++ h.1)
     (h.3.split ∙ ap (λ (b : List ℕ). h.3.word ++ b) c.split))
-    ∙ after-append mixed_next
-    (Runs (record { at = at; total = total; streams = streams; point = SideWord [] }))
+    ∙ after-append mixed_next (Runs (mixing_in at total streams (SideWord [])))
     (h.3.word ++ (c.header ++ chunk.bytes)) h.1
     ∙ ap (λ r. after mixed_next r h.1) (chunk_lands at total streams chunk.side h.3.word c.header
     chunk.bytes 0 h.3.sided (c.word.0, c.word.1 ∙ whole) some first)
@@ -642,30 +572,25 @@ later : (context : Context) (bytes front back : List ℕ) (chunks : List SidedCh
     → context.before + size (gathered chunks) ≤ max_bytes → at ≡ context.start + length front
     → total ≡ context.before + size (gathered chunks)
     → after mixed_next (Runs (mixing_from context.start context.before)) bytes
-    ≡ after mixed_next
-    (Runs
-    (record { at = at; total = total; streams = gathered chunks; point = SideWord [] }))
-    back
+    ≡ after mixed_next (Runs (mixing_in at total (gathered chunks) (SideWord []))) back
 later context bytes front back chunks at total split joined fits at_is total_is =
     ap (after mixed_next (Runs (mixing_from context.start context.before))) split
     ∙ after-append mixed_next (Runs (mixing_from context.start context.before)) front back
-    ∙ ap (λ r. after mixed_next r back) (chunks_land chunks context.start context.before at total
-    (gathered []) front joined fits at_is total_is
-    ∙ ap (λ s. Runs (record { at = at; total = total; streams = s; point = SideWord [] }))
-    (with_chunks_all chunks))
+    ∙ ap (λ r. after mixed_next r back) (chunks_land chunks context.start context.before at
+    total (gathered []) front joined fits at_is total_is
+    ∙ ap (λ s. Runs (mixing_in at total s (SideWord []))) (with_chunks_all chunks))
 
 mixed_point_runs : (context : Context) (bytes : List ℕ) (at total : ℕ) (streams : Streams)
     (point : MixedPoint) → HasMixedPoint context bytes at total streams point
     → after mixed_next (Runs (mixing_from context.start context.before)) bytes
-    ≡ Runs (record { at = at; total = total; streams = streams; point = point })
+    ≡ Runs (mixing_in at total streams point)
 mixed_point_runs context bytes at total streams (SideWord part) h =
     later context bytes h.front part h.chunks at total h.split h.joined
     (omega (arith, h.fits, h.total_is)) h.at_is h.total_is
-    ∙ nested_runs word_next mixed_next
-    (λ p. record { at = at; total = total; streams = gathered h.chunks; point = SideWord p })
-    (sided at total (gathered h.chunks)) (λ s byte. refl) part [] part (word_runs part h.short)
-    ∙ ap (λ s. Runs (record { at = at; total = total; streams = s; point = SideWord part }))
-    (sym h.streams_are)
+    ∙ nested_runs word_next mixed_next (λ p. mixing_in at total (gathered h.chunks) (SideWord p))
+    (sided at total (gathered h.chunks)) (λ s byte. refl) part [] part
+    (word_runs part h.short)
+    ∙ ap (λ s. Runs (mixing_in at total s (SideWord part))) (sym h.streams_are)
 mixed_point_runs context bytes at total streams (SideLength side part) h =
     later context bytes h.front (h.word ++ part) h.chunks (context.start + length h.front) total
     (h.split ∙ append_assoc h.front h.word part) h.joined (omega (arith, h.fits, h.total_is))
@@ -673,16 +598,10 @@ mixed_point_runs context bytes at total streams (SideLength side part) h =
     ∙ after_side (context.start + length h.front) total (gathered h.chunks) side h.word part h.sided
     ∙ nested_runs word_next mixed_next
     (λ p.
-    record {
-      at = context.start + length h.front + 4;
-      total = total;
-      streams = gathered h.chunks;
-      point = SideLength side p;
-    })
+    mixing_in (context.start + length h.front + 4) total (gathered h.chunks) (SideLength side p))
     (measured (context.start + length h.front + 4) total (gathered h.chunks) side)
     (λ s byte. refl) part [] part (word_runs part h.short)
-    ∙ ap₂
-    (λ n s. Runs (record { at = n; total = total; streams = s; point = SideLength side part }))
+    ∙ ap₂ (λ n s. Runs (mixing_in n total s (SideLength side part)))
     (sym h.at_is) (sym h.streams_are)
 mixed_point_runs context bytes at total streams (SideChunk side left) h =
     let at_is : context.start + length h.front + 4 + 4 + (length h.got + suc left) ≡ at =
@@ -705,12 +624,7 @@ mixed_point_runs context bytes at total streams (SideChunk side left) h =
     (gathered h.chunks) side h.word h.header h.got (suc left) h.sided h.counts (omega arith)
     (omega (arith, h.fits, h.total_is))
     ∙ (λ i.
-    Runs (record {
-      at = at_is i;
-      total = sym h.total_is i;
-      streams = sym h.streams_are i;
-      point = SideChunk side left;
-    }))
+    Runs (mixing_in (at_is i) (sym h.total_is i) (sym h.streams_are i) (SideChunk side left)))
 
 pub mixed_runs : (context : Context) (bytes : List ℕ) (s : Mixing) → HasMixed context bytes s
     → after mixed_next (Runs (mixing_from context.start context.before)) bytes ≡ Runs s

@@ -1,6 +1,6 @@
 -- A rule of the chunks of both sides: where it holds of bytes, the machine stops with its fault, or
 -- had stopped before.
-use Rattle.capture3.proofs.Common.{◌≡◌, ◌⊎◌, inl, inr, ℕ, zero, suc, ◌+◌, ◌<◌, List, [], ◌∷◌, ◌++◌, length, refl, sym, ap, ap₂, subst, ◌∙◌, append_assoc, arith, length-append, Bool, true, false, cond, nat_lt, lt-ltb, Next, Goes, Ends, Run, Runs, Stops, landed, after, Joins, after-append, TooManyBytes, Fault, Side, Client, Server, max_bytes, SideWord, SideLength, SideChunk, Mixing, MixedEnd, MixedCloses, MixedRefuses, awaiting_side, measured, mixed_next, mixing_from, Streams, size, SidedChunk, IsSidedChunk, of_side, gathered, carried_by, with_more, AreMixed, file_fault}
+use Rattle.capture3.proofs.Common.{◌≡◌, ◌⊎◌, inl, inr, ℕ, zero, suc, ◌+◌, ◌<◌, List, [], ◌∷◌, ◌++◌, length, refl, sym, ap, ap₂, subst, ◌∙◌, append_assoc, arith, length-append, Bool, true, false, cond, nat_lt, lt-ltb, Next, Goes, Ends, Run, Runs, Stops, landed, after, Joins, after-append, TooManyBytes, Fault, Side, Client, Server, max_bytes, SideWord, SideLength, SideChunk, Mixing, MixedEnd, MixedCloses, MixedRefuses, awaiting_side, measured, mixed_next, mixing_from, Streams, size, SidedChunk, IsSidedChunk, of_side, gathered, carried_by, with_more, AreMixed, file_fault, mixing_in}
 use Rattle.capture3.specs.Connections.{Context, AfterLength, MixedShows, BadSide, NoLength, TooMuch}
 use Rattle.capture3.proofs.Lemmas.Container.SidedChunksMachineLemmas.{with_chunks, with_chunks_all, size_of, chunk_bytes, word_lands, header_lands, after_side, bad_side}
 use Rattle.capture3.proofs.Lemmas.Files.EndedMachines.{Gone, Over, gone_past, gone_more}
@@ -10,31 +10,19 @@ RefusedMixed (MixedCloses at total streams) = ⊥
 RefusedMixed (MixedRefuses fault) = Unit {0}
 
 abbrev pub mixing_at : ℕ → ℕ → Streams → Mixing
-mixing_at at total streams =
-    record { at = at; total = total; streams = streams; point = SideWord [] }
+mixing_at at total streams = mixing_in at total streams (SideWord [])
 
 -- a length word opens a chunk, or the stream bytes would pass the limit
 measured_or : (at total n : ℕ) (streams : Streams) (side : Side) → 0 < n
     → (landed (measured at total streams side n)
-    ≡ Runs (record {
-      at = at + 4 + n;
-      total = total + n;
-      streams = streams;
-      point = awaiting_side side n;
-    }))
+    ≡ Runs (mixing_in (at + 4 + n) (total + n) streams (awaiting_side side n)))
     ⊎ (landed (measured at total streams side n)
     ≡ Stops (MixedRefuses (file_fault at TooManyBytes)))
 measured_or at total zero streams side some = absurd (omega arith)
 measured_or at total (suc left) streams side some = go (nat_lt max_bytes (total + suc left))
   where
     opens : Mixing
-    opens =
-        record {
-          at = at + 4 + suc left;
-          total = total + suc left;
-          streams = streams;
-          point = SideChunk side left;
-        }
+    opens = mixing_in (at + 4 + suc left) (total + suc left) streams (SideChunk side left)
 
     go : (b : Bool)
         → (landed (cond {A = Next Mixing MixedEnd} b
@@ -61,12 +49,7 @@ chunk_or at total end sum streams chunk bytes h end_is sum_is =
     (sym (ap (after mixed_next (Runs (mixing_at at total streams))) split
     ∙ after_side at total streams chunk.side h.word (c.header ++ chunk.bytes) h.sided
     ∙ after-append mixed_next
-    (Runs (record {
-      at = at + 4;
-      total = total;
-      streams = streams;
-      point = SideLength chunk.side [];
-    })) c.header chunk.bytes
+    (Runs (mixing_in (at + 4) total streams (SideLength chunk.side []))) c.header chunk.bytes
     ∙ ap (λ r. after mixed_next r chunk.bytes)
     (header_lands (at + 4) total (length chunk.bytes) streams chunk.side c.header c.word)))
     (go (measured_or (at + 4) total (length chunk.bytes) streams chunk.side c.some))
@@ -91,12 +74,8 @@ chunk_or at total end sum streams chunk bytes h end_is sum_is =
     whole = omega arith
 
     go : (landed (measured (at + 4) total streams chunk.side (length chunk.bytes))
-        ≡ Runs (record {
-          at = at + 4 + 4 + length chunk.bytes;
-          total = total + length chunk.bytes;
-          streams = streams;
-          point = awaiting_side chunk.side (length chunk.bytes);
-        }))
+        ≡ Runs (mixing_in (at + 4 + 4 + length chunk.bytes) (total + length chunk.bytes) streams
+        (awaiting_side chunk.side (length chunk.bytes))))
         ⊎ (landed (measured (at + 4) total streams chunk.side (length chunk.bytes))
         ≡ Stops (MixedRefuses (file_fault (at + 4) TooManyBytes)))
         → Landed end sum (with_more streams chunk.side chunk.bytes) (after mixed_next
@@ -218,13 +197,8 @@ too_much_stops at total (suc left) streams side some h =
     ap
     (λ b.
     landed (cond b (Ends (MixedRefuses (file_fault at TooManyBytes))) (Goes
-    (record {
-      at = at + 4 + suc left;
-      total = total + suc left;
-      streams = streams;
-      point = SideChunk side left;
-    }))))
-    (lt-ltb max_bytes (total + suc left) h)
+    (mixing_in (at + 4 + suc left) (total + suc left) streams
+    (SideChunk side left))))) (lt-ltb max_bytes (total + suc left) h)
 
 header_over : (context : Context) (bytes : List ℕ) (b : AfterLength bytes) (fault : Fault)
     → landed (measured (context.start + length b.front + 4)

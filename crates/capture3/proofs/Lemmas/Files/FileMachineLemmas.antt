@@ -1,6 +1,6 @@
 -- The machine for a file against connections, entries and rules.
 use Rattle.std.proofs.Common.{◌≡◌, ◌≢◌, ◌⊎◌, inl, inr, ℕ, zero, suc, ◌+◌, ◌<◌, ◌≤◌, List, [], ◌∷◌, ◌++◌, length, refl, sym, ap, ap₂, ⊎_elim, subst, ◌∙◌, append_assoc, append-nil, arith, length-append, Bool, true, false, cond, nat_lt, nat_eq, ltb-true, ltb-false, lt-ltb, eqb-true, eq-eqb, ne_eqb}
-use Rattle.capture3.proofs.Common.{eqb-false, append_cancel_left, Goes, Ends, Run, Runs, Stops, landed, after, IsWord, Joins, word_next, Leads, leads_within, Tells, after-append, nested_runs, nested_stops, IsPart, word_leads, word_runs, word_stops, Joins-snoc, AreBytes, BadMagic, BadMark, AfterEnd, TooManyConnections, Fault, Streams, size, max_bytes, Context, ShownFault, refusal, ConnectionShows, Entry, Opening, Closing, Closes, Refuses, opening_next, opened, file_fault, connection_entries, HaveEntries, Version, One, Two, digit, magic_front, magic, max_connections, total_size, IsConnection, DiffersFromMagic, AfterConnections, Rule, MagicDiffers, MarkIsBad, ConnectionIsTooMany, WithinConnection, ByteAfterEnd, Opens}
+use Rattle.capture3.proofs.Common.{eqb-false, append_cancel_left, Goes, Ends, Run, Runs, Stops, landed, after, IsWord, Joins, word_next, Leads, leads_within, Tells, after-append, nested_runs, nested_stops, IsPart, word_leads, word_runs, word_stops, Joins-snoc, AreBytes, BadMagic, BadMark, AfterEnd, TooManyConnections, Fault, Streams, size, max_bytes, Context, ShownFault, refusal, ConnectionShows, Entry, Opening, Closing, Closes, Refuses, opening_next, opened, file_fault, connection_entries, HaveEntries, Version, One, Two, digit, magic_front, magic, max_connections, total_size, IsConnection, DiffersFromMagic, AfterConnections, Rule, MagicDiffers, MarkIsBad, ConnectionIsTooMany, WithinConnection, ByteAfterEnd, Opens, parsing_in, context_at}
 use Rattle.record_mark.specs.Word.{number as word_number}
 use Rattle.capture3.specs.FileMachine.{Spot, Magic, Digit, Mark, Inside, Ended, Parsing, magic_left, marked, closed, spot_step, file_next, file_start, parsed}
 use Rattle.capture3.proofs.Lemmas.Container.BytesOf.{split_bytes}
@@ -43,7 +43,7 @@ pub record InConnection (version : Version) (bytes : List ℕ) (at total number 
   pub at_is : at ≡ length front + 4
   pub total_is : total ≡ total_size connections
   pub number_is : number ≡ suc (length connections)
-  pub inside : HasOpening version (record { number = number; start = at; before = total }) rest o
+  pub inside : HasOpening version (context_at number at total) rest o
 
 -- whole connections, and the last word 0
 pub record AtEnd (version : Version) (bytes : List ℕ) (at total number : ℕ) (entries : List Entry) :
@@ -149,14 +149,7 @@ magic_cases : (version : Version) (bytes : List ℕ) (at total number : ℕ) (en
     → IsMagicPart version bytes at total number entries (due ∷ more) → (same : Bool)
     → nat_eq byte due ≡ same
     → Leads Stands Rule (bytes ++ byte ∷ []) (cond same
-    (Goes (record {
-      version = version;
-      at = at + 1;
-      total = total;
-      number = number;
-      entries = entries;
-      spot = magic_left more;
-    }))
+    (Goes (parsing_in version (at + 1) total number entries (magic_left more)))
     (Ends (refusal (file_fault at BadMagic))))
 magic_cases version bytes at total number entries due byte more h true e =
     let is : byte ≡ due = eqb-true _ _ e in
@@ -237,14 +230,8 @@ two_cases : (version : Version) (bytes : List ℕ) (at total number : ℕ) (entr
     (byte : ℕ) → IsMagicPart version bytes at total number entries []
     → nat_eq byte (digit One) ≡ false → (same : Bool) → nat_eq byte (digit Two) ≡ same
     → Leads Stands Rule (bytes ++ byte ∷ []) (cond same
-    (Goes (record {
-      version = Two;
-      at = at + 1;
-      total = total;
-      number = number;
-      entries = entries;
-      spot = Mark [];
-    })) (Ends (refusal (file_fault at BadMagic))))
+    (Goes (parsing_in Two (at + 1) total number entries (Mark [])))
+    (Ends (refusal (file_fault at BadMagic))))
 two_cases version bytes at total number entries byte h one true e =
     whole_magic Two version bytes at total number entries byte h (eqb-true _ _ e)
 two_cases version bytes at total number entries byte h one false e =
@@ -265,23 +252,11 @@ two_cases version bytes at total number entries byte h one false e =
 digit_cases : (version : Version) (bytes : List ℕ) (at total number : ℕ) (entries : List Entry)
     (byte : ℕ) → IsMagicPart version bytes at total number entries [] → (same : Bool)
     → nat_eq byte (digit One) ≡ same
-    → Leads Stands Rule (bytes ++ byte ∷ []) (cond same (Goes (record {
-      version = One;
-      at = at + 1;
-      total = total;
-      number = number;
-      entries = entries;
-      spot = Mark [];
-    }))
+    → Leads Stands Rule (bytes ++ byte ∷ [])
+    (cond same (Goes (parsing_in One (at + 1) total number entries (Mark [])))
     (cond (nat_eq byte (digit Two))
-    (Goes (record {
-      version = Two;
-      at = at + 1;
-      total = total;
-      number = number;
-      entries = entries;
-      spot = Mark [];
-    })) (Ends (refusal (file_fault at BadMagic)))))
+    (Goes (parsing_in Two (at + 1) total number entries (Mark [])))
+    (Ends (refusal (file_fault at BadMagic)))))
 digit_cases version bytes at total number entries byte h true e =
     whole_magic One version bytes at total number entries byte h (eqb-true _ _ e)
 digit_cases version bytes at total number entries byte h false e =
@@ -314,14 +289,8 @@ mark_cases : (version : Version) (bytes front word : List ℕ) (at total number 
     → at ≡ length front → total ≡ total_size connections → number ≡ length connections
     → (below : Bool) → nat_lt number max_connections ≡ below
     → Leads Stands Rule bytes (cond below
-    (Goes (record {
-      version = version;
-      at = at + 4;
-      total = total;
-      number = suc number;
-      entries = entries;
-      spot = Inside (opened version (at + 4) total);
-    }))
+    (Goes (parsing_in version (at + 4) total (suc number) entries
+    (Inside (opened version (at + 4) total))))
     (Ends (refusal (file_fault at TooManyConnections))))
 mark_cases version bytes front word at total number entries connections split opens one at_is
     total_is number_is true e =
@@ -339,7 +308,7 @@ mark_cases version bytes front word at total number entries connections split op
       total_is = total_is;
       number_is = omega arith;
       inside =
-          nothing_opened version (record { number = suc number; start = at + 4; before = total })
+          nothing_opened version (context_at (suc number) (at + 4) total)
           (omega (arith, opens.small));
     }
 mark_cases version bytes front word at total number entries connections split opens one at_is
@@ -378,16 +347,14 @@ marked_leads version bytes front word at total number entries connections (suc (
     opens is) refl (omega arith) (ap (λ n. refusal (file_fault n BadMark)) at_is)
 
 context_is : {at total count n s b : ℕ} → count ≡ n → at ≡ s → total ≡ b
-    → ◌≡◌ {A = Context} (record { number = count; start = at; before = total })
-    (record { number = n; start = s; before = b })
-context_is e f g = λ i. record { number = e i; start = f i; before = g i }
+    → ◌≡◌ {A = Context} (context_at count at total) (context_at n s b)
+context_is e f g = λ i. context_at (e i) (f i) (g i)
 
 closed_leads : (version : Version) (bytes rest : List ℕ) (at total number : ℕ)
     (entries : List Entry) (o : Opening) (before : List ℕ)
     (h : InConnection version before at total number entries o)
-    → bytes ≡ h.front ++ h.mark ++ rest
-    → (x : Closing)
-    → EndsConnection version (record { number = number; start = at; before = total }) rest x
+    → bytes ≡ h.front ++ h.mark ++ rest → (x : Closing)
+    → EndsConnection version (context_at number at total) rest x
     → Leads Stands Rule bytes (closed version number entries x)
 closed_leads version bytes rest at total number entries o before h split (Closes end sum more) c =
     record {
@@ -396,8 +363,8 @@ closed_leads version bytes rest at total number entries o before h split (Closes
       split = sym (append-nil bytes);
       short = omega arith;
       opens =
-          Opens-snoc version (record { number = number; start = at; before = total }) bytes h.front
-          h.mark rest h.connections entries more end sum split h.opens h.one h.few h.total_is c;
+          Opens-snoc version (context_at number at total) bytes h.front h.mark rest h.connections
+          entries more end sum split h.opens h.one h.few h.total_is c;
       at_is =
           omega (
             arith,
@@ -429,14 +396,8 @@ spot_leads version bytes at total number entries (Mark part) byte are h =
     ap (λ (b : List ℕ). b ++ byte ∷ []) h.split ∙ append_assoc h.front part (byte ∷ []) in
     leads_within IsPart IsWord Stands Rule
     (λ p.
-    record {
-      version = version;
-      at = at;
-      total = total;
-      number = number;
-      entries = entries;
-      spot = Mark p;
-    }) (marked version at total number entries) (part ++ byte ∷ [])
+    parsing_in version at total number entries (Mark p)) (marked version at total number entries)
+    (part ++ byte ∷ [])
     (bytes ++ byte ∷ [])
     (λ p is.
     record {
@@ -457,17 +418,10 @@ spot_leads version bytes at total number entries (Inside o) byte are h =
     let more : bytes ++ byte ∷ [] ≡ h.front ++ h.mark ++ (h.rest ++ byte ∷ []) =
     ap (λ (b : List ℕ). b ++ byte ∷ []) h.split
     ∙ append_assoc (h.front ++ h.mark) h.rest (byte ∷ []) in
-    let context : Context = record { number = number; start = at; before = total } in
+    let context : Context = context_at number at total in
     leads_within (HasOpening version context) (EndsConnection version context) Stands Rule
-    (λ p.
-    record {
-      version = version;
-      at = at;
-      total = total;
-      number = number;
-      entries = entries;
-      spot = Inside p;
-    }) (closed version number entries) (h.rest ++ byte ∷ [])
+    (λ p. parsing_in version at total number entries (Inside p)) (closed version number entries)
+    (h.rest ++ byte ∷ [])
     (bytes ++ byte ∷ [])
     (λ p inside.
     record {
@@ -517,238 +471,82 @@ file_tells =
 -- ---- the other way round
 
 magic_runs : (bytes more : List ℕ) (at : ℕ) (left : List ℕ) → left ≡ bytes ++ more
-    → after file_next
-    (Runs (record {
-      version = One;
-      at = at;
-      total = 0;
-      number = 0;
-      entries = [];
-      spot = magic_left left;
-    })) bytes
-    ≡ Runs (record {
-      version = One;
-      at = at + length bytes;
-      total = 0;
-      number = 0;
-      entries = [];
-      spot = magic_left more;
-    })
+    → after file_next (Runs (parsing_in One at 0 0 [] (magic_left left))) bytes
+    ≡ Runs (parsing_in One (at + length bytes) 0 0 [] (magic_left more))
 magic_runs [] more at left e =
     let here : at ≡ at + 0 = omega arith in
-    ap₂
-    (λ n l.
-    Runs (record {
-      version = One;
-      at = n;
-      total = 0;
-      number = 0;
-      entries = [];
-      spot = magic_left l;
-    })) here e
+    ap₂ (λ n l. Runs (parsing_in One n 0 0 [] (magic_left l))) here e
 magic_runs (byte ∷ bytes) more at left e =
     let there : at + 1 + length bytes ≡ at + suc (length bytes) = omega arith in
-    ap
-    (λ l.
-    after file_next
-    (Runs (record {
-      version = One;
-      at = at;
-      total = 0;
-      number = 0;
-      entries = [];
-      spot = magic_left l;
-    })) (byte ∷ bytes)) e
+    ap (λ l. after file_next (Runs (parsing_in One at 0 0 [] (magic_left l))) (byte ∷ bytes)) e
     ∙ ap
     (λ b.
     after file_next
     (landed (cond b
-    (Goes (record {
-      version = One;
-      at = at + 1;
-      total = 0;
-      number = 0;
-      entries = [];
-      spot = magic_left (bytes ++ more);
-    }))
+    (Goes (parsing_in One (at + 1) 0 0 [] (magic_left (bytes ++ more))))
     (Ends (refusal (file_fault at BadMagic))))) bytes) (eq-eqb byte byte refl)
     ∙ magic_runs bytes more (at + 1) (bytes ++ more) refl
-    ∙ ap
-    (λ n.
-    Runs (record {
-      version = One;
-      at = n;
-      total = 0;
-      number = 0;
-      entries = [];
-      spot = magic_left more;
-    })) there
+    ∙ ap (λ n. Runs (parsing_in One n 0 0 [] (magic_left more))) there
 
 -- the whole magic
 pub magics_run : (version : Version)
-    → parsed (magic version)
-    ≡ Runs (record {
-      version = version;
-      at = 8;
-      total = 0;
-      number = 0;
-      entries = [];
-      spot = Mark [];
-    })
+    → parsed (magic version) ≡ Runs (parsing_in version 8 0 0 [] (Mark []))
 magics_run One = refl
 magics_run Two = refl
 
 pub mark_runs : (version : Version) (at total number : ℕ) (entries : List Entry) (word : List ℕ)
     (n : ℕ) → IsWord word n
-    → after file_next
-    (Runs (record {
-      version = version;
-      at = at;
-      total = total;
-      number = number;
-      entries = entries;
-      spot = Mark [];
-    })) word
+    → after file_next (Runs (parsing_in version at total number entries (Mark []))) word
     ≡ landed (marked version at total number entries n)
 mark_runs version at total number entries word n is =
-    nested_stops word_next file_next
-    (λ p.
-    record {
-      version = version;
-      at = at;
-      total = total;
-      number = number;
-      entries = entries;
-      spot = Mark p;
-    }) (marked version at total number entries) (λ s byte. refl) word []
-    (word_number word) (word_stops word is.0)
+    nested_stops word_next file_next (λ p. parsing_in version at total number entries (Mark p))
+    (marked version at total number entries) (λ s byte. refl) word [] (word_number word)
+    (word_stops word is.0)
     ∙ ap (λ m. landed (marked version at total number entries m)) is.1
 
 begins : (version : Version) (at total number : ℕ) (entries : List Entry) (word : List ℕ)
     → IsWord word 1 → number < max_connections
-    → after file_next
-    (Runs (record {
-      version = version;
-      at = at;
-      total = total;
-      number = number;
-      entries = entries;
-      spot = Mark [];
-    })) word
-    ≡ Runs (record {
-      version = version;
-      at = at + 4;
-      total = total;
-      number = suc number;
-      entries = entries;
-      spot = Inside (opened version (at + 4) total);
-    })
+    → after file_next (Runs (parsing_in version at total number entries (Mark []))) word
+    ≡ Runs (parsing_in version (at + 4) total (suc number) entries
+    (Inside (opened version (at + 4) total)))
 begins version at total number entries word is few =
     mark_runs version at total number entries word 1 is
     ∙ ap
     (λ b.
     landed (cond b
-    (Goes (record {
-      version = version;
-      at = at + 4;
-      total = total;
-      number = suc number;
-      entries = entries;
-      spot = Inside (opened version (at + 4) total);
-    }))
+    (Goes (parsing_in version (at + 4) total (suc number) entries
+    (Inside (opened version (at + 4) total))))
     (Ends (refusal (file_fault at TooManyConnections)))))
     (lt-ltb number max_connections few)
 
 -- a connection, whole or not
 inside_runs : (version : Version) (at total number : ℕ) (entries : List Entry) (word rest : List ℕ)
     (o : Opening) → IsWord word 1 → number < max_connections
-    → HasOpening version (record { number = suc number; start = at + 4; before = total }) rest o
-    → after file_next
-    (Runs (record {
-      version = version;
-      at = at;
-      total = total;
-      number = number;
-      entries = entries;
-      spot = Mark [];
-    })) (word ++ rest)
-    ≡ Runs (record {
-      version = version;
-      at = at + 4;
-      total = total;
-      number = suc number;
-      entries = entries;
-      spot = Inside o;
-    })
+    → HasOpening version (context_at (suc number) (at + 4) total) rest o
+    → after file_next (Runs (parsing_in version at total number entries (Mark []))) (word ++ rest)
+    ≡ Runs (parsing_in version (at + 4) total (suc number) entries (Inside o))
 inside_runs version at total number entries word rest o is few h =
-    after-append file_next
-    (Runs (record {
-      version = version;
-      at = at;
-      total = total;
-      number = number;
-      entries = entries;
-      spot = Mark [];
-    })) word rest
+    after-append file_next (Runs (parsing_in version at total number entries (Mark []))) word rest
     ∙ ap (λ run. after file_next run rest) (begins version at total number entries word is few)
     ∙ nested_runs (opening_next (suc number)) file_next
-    (λ p.
-    record {
-      version = version;
-      at = at + 4;
-      total = total;
-      number = suc number;
-      entries = entries;
-      spot = Inside p;
-    }) (closed version (suc number) entries)
-    (λ s byte. refl) rest (opened version (at + 4) total) o
-    (opening_runs version (record { number = suc number; start = at + 4; before = total }) rest o h)
+    (λ p. parsing_in version (at + 4) total (suc number) entries (Inside p))
+    (closed version (suc number) entries) (λ s byte. refl) rest
+    (opened version (at + 4) total) o
+    (opening_runs version (context_at (suc number) (at + 4) total) rest o h)
 
 inside_closes : (version : Version) (at total number end sum : ℕ) (entries more : List Entry)
     (word rest : List ℕ) → IsWord word 1 → number < max_connections
-    → ClosesConnection version (record { number = suc number; start = at + 4; before = total }) rest
-    end sum more
-    → after file_next
-    (Runs (record {
-      version = version;
-      at = at;
-      total = total;
-      number = number;
-      entries = entries;
-      spot = Mark [];
-    })) (word ++ rest)
-    ≡ Runs (record {
-      version = version;
-      at = end;
-      total = sum;
-      number = suc number;
-      entries = entries ++ more;
-      spot = Mark [];
-    })
+    → ClosesConnection version (context_at (suc number) (at + 4) total) rest end sum more
+    → after file_next (Runs (parsing_in version at total number entries (Mark []))) (word ++ rest)
+    ≡ Runs (parsing_in version end sum (suc number) (entries ++ more) (Mark []))
 inside_closes version at total number end sum entries more word rest is few h =
-    after-append file_next
-    (Runs (record {
-      version = version;
-      at = at;
-      total = total;
-      number = number;
-      entries = entries;
-      spot = Mark [];
-    })) word rest
+    after-append file_next (Runs (parsing_in version at total number entries (Mark []))) word rest
     ∙ ap (λ run. after file_next run rest) (begins version at total number entries word is few)
     ∙ nested_stops (opening_next (suc number)) file_next
-    (λ p.
-    record {
-      version = version;
-      at = at + 4;
-      total = total;
-      number = suc number;
-      entries = entries;
-      spot = Inside p;
-    }) (closed version (suc number) entries)
-    (λ s byte. refl) rest (opened version (at + 4) total)
-    (Closes end sum more) (opening_closes version
-    (record { number = suc number; start = at + 4; before = total }) rest end sum more h)
+    (λ p. parsing_in version (at + 4) total (suc number) entries (Inside p))
+    (closed version (suc number) entries) (λ s byte. refl) rest
+    (opened version (at + 4) total) (Closes end sum more)
+    (opening_closes version (context_at (suc number) (at + 4) total) rest end sum more h)
 
 connections_run : (version : Version) (connections : List Streams)
     (at total number end sum count : ℕ) (before entries : List Entry) (bytes : List ℕ)
@@ -756,68 +554,23 @@ connections_run : (version : Version) (connections : List Streams)
     → total + total_size connections ≤ max_bytes → number + length connections ≤ max_connections
     → end ≡ at + length bytes → sum ≡ total + total_size connections
     → count ≡ number + length connections
-    → after file_next
-    (Runs (record {
-      version = version;
-      at = at;
-      total = total;
-      number = number;
-      entries = before;
-      spot = Mark [];
-    })) bytes
-    ≡ Runs (record {
-      version = version;
-      at = end;
-      total = sum;
-      number = count;
-      entries = before ++ entries;
-      spot = Mark [];
-    })
+    → after file_next (Runs (parsing_in version at total number before (Mark []))) bytes
+    ≡ Runs (parsing_in version end sum count (before ++ entries) (Mark []))
 connections_run version [] at total number end sum count before entries bytes h e small few end_is
     sum_is count_is =
     let at_end : at ≡ end = omega (arith, ap length h) in
     let all : total ≡ sum = omega arith in
     let each : number ≡ count = omega arith in
-    ap
-    (after file_next (Runs (record {
-      version = version;
-      at = at;
-      total = total;
-      number = number;
-      entries = before;
-      spot = Mark [];
-    }))) h
-    ∙ (λ i.
-    Runs (record {
-      version = version;
-      at = at_end i;
-      total = all i;
-      number = each i;
-      entries = (sym (append-nil before) ∙ ap (λ es. before ++ es) (sym e)) i;
-      spot = Mark [];
-    }))
+    ap (after file_next (Runs (parsing_in version at total number before (Mark [])))) h
+    ∙ (λ i. Runs (parsing_in version (at_end i) (all i) (each i)
+    ((sym (append-nil before) ∙ ap (λ es. before ++ es) (sym e)) i) (Mark [])))
 connections_run version (streams ∷ connections) at total number end sum count before entries bytes h
     e small few end_is sum_is count_is =
     let c = h.3 in
-    ap
-    (after file_next (Runs (record {
-      version = version;
-      at = at;
-      total = total;
-      number = number;
-      entries = before;
-      spot = Mark [];
-    })))
+    ap (after file_next (Runs (parsing_in version at total number before (Mark []))))
     (h.2 ∙ ap (λ (b : List ℕ). b ++ h.1) c.split)
     ∙ after-append file_next
-    (Runs (record {
-      version = version;
-      at = at;
-      total = total;
-      number = number;
-      entries = before;
-      spot = Mark [];
-    })) (c.mark ++ c.rest) h.1
+    (Runs (parsing_in version at total number before (Mark []))) (c.mark ++ c.rest) h.1
     ∙ ap (λ run. after file_next run h.1) (inside_closes version at total number
     (at + 4 + length c.rest) (total + size streams) before (connection_entries e.0 e.1)
     c.mark c.rest c.one (omega arith)
@@ -843,16 +596,7 @@ connections_run version (streams ∷ connections) at total number end sum count 
       length-append c.mark c.rest,
       c.one.0,
     )) (omega arith) (omega arith)
-    ∙ ap
-    (λ es.
-    Runs (record {
-      version = version;
-      at = end;
-      total = sum;
-      number = count;
-      entries = es;
-      spot = Mark [];
-    }))
+    ∙ ap (λ es. Runs (parsing_in version end sum count es (Mark [])))
     (append_assoc before (connection_entries e.0 e.1) e.2 ∙ ap (λ es. before ++ es) (sym e.3))
 
 pub length_magic : (version : Version) → length (magic version) ≡ 8
@@ -863,28 +607,14 @@ later : (version : Version) (bytes front back : List ℕ) (connections : List St
     (entries : List Entry) → bytes ≡ front ++ back → Opens version front connections entries
     → parsed bytes
     ≡ after file_next
-    (Runs (record {
-      version = version;
-      at = length front;
-      total = total_size connections;
-      number = length connections;
-      entries = entries;
-      spot = Mark [];
-    })) back
+    (Runs (parsing_in version (length front) (total_size connections) (length connections) entries
+    (Mark []))) back
 later version bytes front back connections entries split opens =
     ap parsed (split ∙ ap (λ (b : List ℕ). b ++ back) opens.split
     ∙ append_assoc (magic version) opens.rest back)
     ∙ after-append file_next (Runs file_start) (magic version) (opens.rest ++ back)
     ∙ ap (λ run. after file_next run (opens.rest ++ back)) (magics_run version)
-    ∙ after-append file_next
-    (Runs (record {
-      version = version;
-      at = 8;
-      total = 0;
-      number = 0;
-      entries = [];
-      spot = Mark [];
-    })) opens.rest back
+    ∙ after-append file_next (Runs (parsing_in version 8 0 0 [] (Mark []))) opens.rest back
     ∙ ap (λ run. after file_next run back) (connections_run version connections 8 0 0 (length front)
     (total_size connections) (length connections) [] entries opens.rest opens.joined
     opens.messages
@@ -899,68 +629,23 @@ later version bytes front back connections entries split opens =
 -- equal parts make equal states
 same_state : {version : Version} {at n total m number k : ℕ} {entries : List Entry} {spot : Spot}
     → at ≡ n → total ≡ m → number ≡ k
-    → ◌≡◌ {A = Run Parsing ShownFault}
-    (Runs (record {
-      version = version;
-      at = at;
-      total = total;
-      number = number;
-      entries = entries;
-      spot = spot;
-    })) (Runs (record {
-      version = version;
-      at = n;
-      total = m;
-      number = k;
-      entries = entries;
-      spot = spot;
-    }))
+    → ◌≡◌ {A = Run Parsing ShownFault} (Runs (parsing_in version at total number entries spot))
+    (Runs (parsing_in version n m k entries spot))
 same_state {version = version} {entries = entries} {spot = spot} e f g =
-    λ i.
-    Runs (record {
-      version = version;
-      at = e i;
-      total = f i;
-      number = g i;
-      entries = entries;
-      spot = spot;
-    })
+    λ i. Runs (parsing_in version (e i) (f i) (g i) entries spot)
 
 part_runs : (version : Version) (bytes : List ℕ) (at total number : ℕ) (entries : List Entry)
     (more : List ℕ) → IsMagicPart version bytes at total number entries more
-    → parsed bytes
-    ≡ Runs (record {
-      version = version;
-      at = at;
-      total = total;
-      number = number;
-      entries = entries;
-      spot = magic_left more;
-    })
+    → parsed bytes ≡ Runs (parsing_in version at total number entries (magic_left more))
 part_runs version bytes at total number entries more h =
     let at_is : 0 + length bytes ≡ at = omega (arith, h.at_is) in
     magic_runs bytes more 0 magic_front h.begins
-    ∙ (λ i.
-    Runs (record {
-      version = sym h.version_is i;
-      at = at_is i;
-      total = sym h.total_is i;
-      number = sym h.number_is i;
-      entries = sym h.entries_are i;
-      spot = magic_left more;
-    }))
+    ∙ (λ i. Runs (parsing_in (sym h.version_is i) (at_is i) (sym h.total_is i) (sym h.number_is i)
+    (sym h.entries_are i) (magic_left more)))
 
 spot_runs : (version : Version) (bytes : List ℕ) (at total number : ℕ) (entries : List Entry)
     (spot : Spot) → HasSpot version bytes at total number entries spot
-    → parsed bytes
-    ≡ Runs (record {
-      version = version;
-      at = at;
-      total = total;
-      number = number;
-      entries = entries;
-      spot = spot;
-    })
+    → parsed bytes ≡ Runs (parsing_in version at total number entries spot)
 spot_runs version bytes at total number entries (Magic due more) h =
     part_runs version bytes at total number entries (due ∷ more) h
 spot_runs version bytes at total number entries Digit h =
@@ -969,14 +654,8 @@ spot_runs version bytes at total number entries (Mark part) h =
     later version bytes h.front part h.connections entries h.split h.opens
     ∙ nested_runs word_next file_next
     (λ p.
-    record {
-      version = version;
-      at = length h.front;
-      total = total_size h.connections;
-      number = length h.connections;
-      entries = entries;
-      spot = Mark p;
-    })
+    parsing_in version (length h.front) (total_size h.connections) (length h.connections) entries
+    (Mark p))
     (marked version (length h.front) (total_size h.connections) (length h.connections) entries)
     (λ s byte. refl) part [] part (word_runs part h.short)
     ∙ same_state (sym h.at_is) (sym h.total_is) (sym h.number_is)
@@ -1035,14 +714,7 @@ magic_stops bytes fault d =
         ∙ ap
         (λ b.
         landed (cond b
-        (Goes (record {
-          version = One;
-          at = 0 + length d.front + 1;
-          total = 0;
-          number = 0;
-          entries = [];
-          spot = magic_left l.0;
-        }))
+        (Goes (parsing_in One (0 + length d.front + 1) 0 0 [] (magic_left l.0)))
         (Ends (refusal (file_fault (0 + length d.front) BadMagic)))))
         (ne_eqb d.byte d.due (d.differs d.version d.due d.more d.begins))
         ∙ ap (λ n. Stops (refusal (file_fault n BadMagic))) at_is
@@ -1052,23 +724,9 @@ magic_stops bytes fault d =
         ∙ ap (λ run. after file_next run (d.byte ∷ []))
         (magic_runs d.front [] 0 magic_front (r ∙ sym (append-nil d.front)))
         ∙ ap₂ (λ b c.
-        landed (cond b (Goes (record {
-          version = One;
-          at = 0 + length d.front + 1;
-          total = 0;
-          number = 0;
-          entries = [];
-          spot = Mark [];
-        }))
+        landed (cond b (Goes (parsing_in One (0 + length d.front + 1) 0 0 [] (Mark [])))
         (cond c
-        (Goes (record {
-          version = Two;
-          at = 0 + length d.front + 1;
-          total = 0;
-          number = 0;
-          entries = [];
-          spot = Mark [];
-        }))
+        (Goes (parsing_in Two (0 + length d.front + 1) 0 0 [] (Mark [])))
         (Ends (refusal (file_fault (0 + length d.front) BadMagic))))))
         (ne_eqb d.byte 49 (d.differs One 49 [] (ap (λ (b : List ℕ). b ++ 49 ∷ []) r)))
         (ne_eqb d.byte 50 (d.differs Two 50 [] (ap (λ (b : List ℕ). b ++ 50 ∷ []) r)))

@@ -1,5 +1,5 @@
 -- The same of the rules of connections and of files.
-use Rattle.capture3.proofs.Common.{◌≡◌, ◌⊎◌, inl, inr, ℕ, suc, ◌+◌, ◌<◌, List, [], ◌∷◌, ◌++◌, length, refl, sym, ap, ap₂, subst, ◌∙◌, append_assoc, append-nil, arith, length-append, Bool, true, false, cond, nat_lt, le-ltb, Goes, Ends, Run, Runs, Stops, Stopped, landed, after, Between, IsWord, Joins, after-append, nested_stops, Item, TooManyConnections, AfterEnd, Fault, Client, Server, ReplyItems, Version, One, Two, magic, max_connections, total_size, AreStreams, IsConnection, Streams, size, AreMixed, IsStream, Entry, AfterConnections, Rule, MagicDiffers, MarkIsBad, ConnectionIsTooMany, WithinConnection, ByteAfterEnd, judge_call, MixedEnd, MixedCloses, MixedRefuses, mixed_next, mixing_from, judge_replies, Opening, InClient, InServer, InMixed, Closing, Closes, Refuses, turning, ending, server_said, client_said, conversing, opening_next, opened, Judgement, RecordFault, Reading, StreamEnd, Held, Faulty, stream_next, stream_end, unread, Position, place_at, file_fault, SideShows, connection_entries, SideEnd, SideCloses, SideRefuses, side_next, siding_from}
+use Rattle.capture3.proofs.Common.{◌≡◌, ◌⊎◌, inl, inr, ℕ, suc, ◌+◌, ◌<◌, List, [], ◌∷◌, ◌++◌, length, refl, sym, ap, ap₂, subst, ◌∙◌, append_assoc, append-nil, arith, length-append, Bool, true, false, cond, nat_lt, le-ltb, Goes, Ends, Run, Runs, Stops, Stopped, landed, after, Between, IsWord, Joins, after-append, nested_stops, Item, TooManyConnections, AfterEnd, Fault, Client, Server, ReplyItems, Version, One, Two, magic, max_connections, total_size, AreStreams, IsConnection, Streams, size, AreMixed, IsStream, Entry, AfterConnections, Rule, MagicDiffers, MarkIsBad, ConnectionIsTooMany, WithinConnection, ByteAfterEnd, judge_call, MixedEnd, MixedCloses, MixedRefuses, mixed_next, mixing_from, judge_replies, Opening, InClient, InServer, InMixed, Closing, Closes, Refuses, turning, ending, server_said, client_said, conversing, opening_next, opened, Judgement, RecordFault, Reading, StreamEnd, Held, Faulty, stream_next, stream_end, unread, Position, place_at, file_fault, SideShows, connection_entries, SideEnd, SideCloses, SideRefuses, side_next, siding_from, parsing_in, context_at, reading_with}
 use Rattle.capture3.specs.Connections.{Context, ShownFault, refusal, client_refusal, server_refusal, client_position, server_position, calls_in_turn, replies_to, ServerShows, StreamsShow, InClientStream, InServerStream, ConnectionShows}
 use Rattle.capture3.specs.FileMachine.{Mark, Inside, Parsing, marked, closed, file_next, file_start, parsed}
 use Rattle.capture3.proofs.Lemmas.Sides.SideRules.{RefusedSide, ClosedSide, side_closed_or, side_over}
@@ -28,10 +28,9 @@ ending_ends calls (SideRefuses fault) h = (Refuses (refusal fault), tt, refl)
 
 -- after the client stream
 abbrev Turned : Context → List ℕ → List ℕ → Run Opening Closing → Type 0
-Turned context front client run =
-    ((calls : List (List Item))
+Turned context front client run = ((calls : List (List Item))
     × (after (stream_next judge_call) (Runs unread) client
-    ≡ Runs (record { messages = calls; joining = Between }))
+    ≡ Runs (reading_with calls Between))
     × (run
     ≡ Runs (InServer calls (siding_from (context.start + length front)
     (context.before + length client))))) ⊎ Gone RefusedClosing run
@@ -110,7 +109,7 @@ server_over context bytes fault h =
         (Refuses (refusal fault))
     go (inl r) =
         let held =
-        stream_runs the_calls h.client (record { messages = h.calls; joining = Between })
+        stream_runs the_calls h.client (reading_with h.calls Between)
         (record {
           front = h.client;
           last = [];
@@ -391,26 +390,10 @@ AnyRefusal shown = Unit {0}
 
 -- at a connection word
 abbrev pub at_mark : Version → ℕ → ℕ → ℕ → List Entry → Parsing
-at_mark version at total number entries =
-    record {
-      version = version;
-      at = at;
-      total = total;
-      number = number;
-      entries = entries;
-      spot = Mark [];
-    }
+at_mark version at total number entries = parsing_in version at total number entries (Mark [])
 
 abbrev pub inside_at : Version → ℕ → ℕ → ℕ → List Entry → Opening → Parsing
-inside_at version at total number entries o =
-    record {
-      version = version;
-      at = at;
-      total = total;
-      number = number;
-      entries = entries;
-      spot = Inside o;
-    }
+inside_at version at total number entries o = parsing_in version at total number entries (Inside o)
 
 pub closed_ends : (version : Version) (number : ℕ) (entries : List Entry) (x : Closing)
     → RefusedClosing x
@@ -503,8 +486,7 @@ one_or version at total number end sum entries bytes streams h end_is sum_is =
         (after file_next (Runs (at_mark version at total number entries)) h.mark) h.rest)
     go (inl e) =
         subst (λ run. Marked version end sum (suc number) (after file_next run h.rest)) (sym e)
-        (inside (connection_or version
-        (record { number = suc number; start = at + 4; before = total }) h.rest streams
+        (inside (connection_or version (context_at (suc number) (at + 4) total) h.rest streams
         h.both))
     go (inr e) =
         inr (gone_more file_next AnyRefusal
@@ -612,8 +594,7 @@ at_word version at total number entries word rest mark n is none same =
 
 within_over : (version : Version) (at total number : ℕ) (entries : List Entry) (word rest : List ℕ)
     (shown : ShownFault) → IsWord word 1
-    → ConnectionShows version (record { number = suc number; start = at + 4; before = total }) rest
-    shown
+    → ConnectionShows version (context_at (suc number) (at + 4) total) rest shown
     → Over AnyRefusal
     (after file_next (Runs (at_mark version at total number entries)) (word ++ rest)) shown
 within_over version at total number entries word rest shown is shows =
@@ -636,14 +617,12 @@ within_over version at total number entries word rest shown is shows =
         (closed version (suc number) entries) RefusedClosing AnyRefusal (λ s byte. refl)
         (closed_ends version (suc number) entries) rest (opened version (at + 4) total)
         (Refuses shown) shown refl
-        (connection_over version (record { number = suc number; start = at + 4; before = total })
-        rest shown shows))
+        (connection_over version (context_at (suc number) (at + 4) total) rest shown shows))
     go (inr e) =
         inr (gone_past file_next AnyRefusal
         (after file_next (Runs (at_mark version at total number entries)) word) rest
-        (connection_some version
-        (record { number = suc number; start = at + 4; before = total }) rest shown
-        shows) (refusal (file_fault at TooManyConnections), tt, inl e))
+        (connection_some version (context_at (suc number) (at + 4) total) rest shown shows)
+        (refusal (file_fault at TooManyConnections), tt, inl e))
 
 end_over : (version : Version) (at total number : ℕ) (entries : List Entry) (word rest : List ℕ)
     (mark : ℕ) → IsWord word mark → mark ≡ 0 → length rest ≡ 1

@@ -1,5 +1,5 @@
 -- A file is well formed with its entries, or has one first fault, as the machine says.
-use Rattle.capture3.proofs.Common.{◌≡◌, inl, inr, ℕ, List, [], ◌∷◌, ◌++◌, length, refl, sym, ap, subst, ◌∙◌, append-nil, Result, Ok, Err, Run, Runs, Stops, Stopped, after, AreBytes, CaptureCut, AfterEnd, Fault, Version, total_size, magic, ShownFault, refusal, Entry, End, Rule, Shows, IsClean, FirstFault, file_fault, Typed, IsWellFormed}
+use Rattle.capture3.proofs.Common.{◌≡◌, inl, inr, ℕ, List, [], ◌∷◌, ◌++◌, length, refl, sym, ap, subst, ◌∙◌, append-nil, Result, Ok, Err, Run, Runs, Stops, Stopped, after, AreBytes, CaptureCut, AfterEnd, Fault, Version, total_size, magic, ShownFault, refusal, Entry, End, Rule, Shows, IsClean, FirstFault, file_fault, Typed, IsWellFormed, parsing_in}
 use Rattle.record_mark.proofs.Machines.{ran_before, Earlier, Tells, after-append, after_stopped, ran_to, not_runs}
 use Rattle.capture3.specs.Laws.{HasOneVerdict, IsCutShort}
 use Rattle.capture3.specs.FileMachine.{Spot, Magic, Digit, Mark, Inside, Ended, Parsing, file_next, file_start, parsed, concluded, verdict_of, verdict}
@@ -103,24 +103,12 @@ typed_from_verdict file entries are = typed_from_run file entries (parsed file) 
 
 typed_runs : (file : List ℕ) (entries : List Entry) (h : Typed file entries)
     → parsed file
-    ≡ Runs (record {
-      version = h.version;
-      at = length file;
-      total = total_size h.connections;
-      number = length h.connections;
-      entries = h.front;
-      spot = Ended;
-    })
+    ≡ Runs (parsing_in h.version (length file) (total_size h.connections) (length h.connections)
+    h.front Ended)
 typed_runs file entries h =
     let c = h.capture in
-    file_runs file (record {
-      version = h.version;
-      at = length file;
-      total = total_size h.connections;
-      number = length h.connections;
-      entries = h.front;
-      spot = Ended;
-    })
+    file_runs file (parsing_in h.version (length file) (total_size h.connections)
+    (length h.connections) h.front Ended)
     (record {
       front = magic h.version ++ c.bytes;
       last = c.last;
@@ -236,24 +224,8 @@ one_verdict file are = verdict_cases file (verdict file) are refl
 -- after the last word 0 no byte stands
 not_ended : (version ending : Version) (front more : List ℕ) (byte at total count n m k : ℕ)
     (entries others : List Entry) (spot : Spot)
-    → parsed front
-    ≡ Runs (record {
-      version = version;
-      at = at;
-      total = total;
-      number = count;
-      entries = entries;
-      spot = spot;
-    })
-    → parsed (front ++ byte ∷ more)
-    ≡ Runs (record {
-      version = ending;
-      at = n;
-      total = m;
-      number = k;
-      entries = others;
-      spot = Ended;
-    })
+    → parsed front ≡ Runs (parsing_in version at total count entries spot)
+    → parsed (front ++ byte ∷ more) ≡ Runs (parsing_in ending n m k others Ended)
     → concluded (length front) entries spot ≡ Err (file_fault (length front) CaptureCut)
 not_ended version ending front more byte at total count n m k entries others (Magic due left) e h =
     refl
@@ -265,28 +237,15 @@ not_ended version ending front more byte at total count n m k entries others End
     after-append file_next (Runs file_start) front (byte ∷ more)
     ∙ ap (λ r. after file_next r (byte ∷ more)) e in
     absurd (not_runs file_next (refusal (file_fault at AfterEnd))
-    (record {
-      version = ending;
-      at = n;
-      total = m;
-      number = k;
-      entries = others;
-      spot = Ended;
-    }) more (sym after_end ∙ h))
+    (parsing_in ending n m k others Ended) more (sym after_end ∙ h))
 
 pub is_cut_short : (file : List ℕ) → AreBytes file → IsCutShort file
 is_cut_short file are entries front more byte typed split =
     let whole = typed_runs file entries typed in
     let ran =
     ran_to file_next (Runs file_start) front (byte ∷ more)
-    (record {
-      version = typed.version;
-      at = length file;
-      total = total_size typed.connections;
-      number = length typed.connections;
-      entries = typed.front;
-      spot = Ended;
-    })
+    (parsing_in typed.version (length file) (total_size typed.connections)
+    (length typed.connections) typed.front Ended)
     (ap parsed (sym split) ∙ whole) in
     let s = ran.0 in
     fault_from_verdict front (file_fault (length front) CaptureCut)

@@ -31,6 +31,14 @@ pub record StartRead (body : List ℕ) (s : MessageStart) (is_reply : Bool) (vie
   pub side : s.is_reply ≡ is_reply
   pub same_body : view.body ≡ body
 
+-- it was read at the body's first byte
+pub start_begun : (body : List ℕ) (s : MessageStart) (is_reply : Bool) (old new : View)
+    → old.body ≡ body → old.at ≡ 0
+    → reading message_start old.body old.at ≡ Ok (start_items s, new.at) → new.body ≡ old.body
+    → s.is_reply ≡ is_reply → StartRead body s is_reply new
+start_begun body s is_reply old new body_is start_is read same side =
+    record { start = rw (body_is, start_is) at read; side = side; same_body = same ∙ body_is }
+
 -- ---- calls
 
 pub call_head_stops : (before : List (List Item)) (body : List ℕ) (s : MessageStart) (v1 : View)

@@ -1,14 +1,14 @@
 -- What is whole stays whole, whatever bytes come: the machine adds entries after those that it has
 -- emitted.
-use Rattle.capture3.proofs.Common.{◌≡◌, ℕ, List, [], ◌∷◌, ◌++◌, map, Result, Ok, Err, refl, sym, ap, subst, ◌∙◌, append_assoc, append-nil, Stop, Item, Joining, Between, Next, Goes, Ends, Runs, Stops, after, landed, last_running, within, only_stops, Client, Server, ReplyItems, ShownFault, Entry, judge_call, judge_reply, Two, judge_replies, server_said, client_said, Parsing, file_next, emitted, StreamEnd, Held, Faulty, stream_end, reply_entry, connection_entries}
+use Rattle.capture3.proofs.Common.{parsing_in, ◌≡◌, ℕ, List, [], ◌∷◌, ◌++◌, map, Result, Ok, Err, refl, sym, ap, subst, ◌∙◌, append_assoc, append-nil, Stop, Item, Joining, Between, Next, Goes, Ends, Runs, Stops, after, landed, last_running, within, only_stops, Client, Server, ReplyItems, ShownFault, Entry, judge_call, judge_reply, Two, judge_replies, server_said, client_said, Parsing, file_next, emitted, StreamEnd, Held, Faulty, stream_end, reply_entry, connection_entries, unpacking_with}
 use Rattle.capture3.specs.declared.container.position.Event.TheVariants.{Begin, Record, Turn, Close}
 use Rattle.capture3.specs.declared.container.position.Event.TheVariants as events
 use Rattle.capture3.specs.Entry as entries
 use Rattle.capture3.specs.FileMachine as parsing
-use Rattle.capture3.specs.machinery.FileStanding.{Judged, resumed_at, parsing_in, parsing_at, resumed, conversed, call_judged, reply_judged, connection_begun, with_call, with_reply, turned, connection_closed, Agrees, AgreesOn, emitted_at, EmitsOn}
+use Rattle.capture3.specs.machinery.FileStanding.{Judged, resumed_at, parsing_at, resumed, conversed, call_judged, reply_judged, connection_begun, with_call, with_reply, turned, connection_closed, Agrees, AgreesOn, emitted_at, EmitsOn}
 use Rattle.capture3.specs.machinery.ContainerMachine.{Opened, Magic, Digit, Mark, Length, Chunk, Mixed, Ended, Unpacking, Unpacked, Has, HasStreams, Refuses, unpack_next}
 use Rattle.capture3.proofs.Lemmas.Reader.WholeEntries.{emits}
-use Rattle.capture3.proofs.Lemmas.Reader.FileStandingLemmas.{follows, agrees_on}
+use Rattle.capture3.proofs.Lemmas.Reader.FileStandingLemmas.{whole_connections, follows, agrees_on}
 
 pub emitted_is : (at total connections : ℕ) (joining : Joining) (o : Opened) (j : Judged)
     → emitted (resumed_at at total connections joining o j) ≡ emitted_at o j
@@ -102,23 +102,13 @@ grows (byte ∷ bytes) u j agrees =
         by_server : (calls : List (List Item)) (x : StreamEnd ReplyItems)
             → Adds (j.entries ++ entries.Begin ∷ []) (last_after (parsing_at u j) bytes
             (within
-            (λ p.
-            parsing_in Two j.start j.before w.connections j.entries
+            (λ p. parsing_in Two j.start j.before w.connections j.entries
             (parsing.Inside p)) (parsing.closed Two w.connections j.entries)
             (server_said w.connections w.at w.total calls x)))
         by_server calls (Held replies) =
             let all : List Entry = j.entries ++ connection_entries calls replies in
-            let v : Unpacking =
-            record {
-              at = w.at;
-              total = w.total;
-              connections = w.connections;
-              records = 0;
-              opened = Mark Two [];
-              joining = Between;
-            } in
-            let k : Judged =
-            record { start = 0; before = 0; entries = all; calls = []; replies = [] } in
+            let v : Unpacking = unpacking_with w.at w.total w.connections 0 (Mark Two []) Between in
+            let k : Judged = whole_connections all in
             let g = more v k refl in
             let later : List Entry = (map entries.Call calls
             ++ (entries.Turn ∷ map reply_entry replies)) ++ entries.Close ∷ [] in (
@@ -134,8 +124,7 @@ grows (byte ∷ bytes) u j agrees =
         by_client : (x : StreamEnd (List Item))
             → Adds (j.entries ++ entries.Begin ∷ []) (last_after (parsing_at u j) bytes
             (within
-            (λ p.
-            parsing_in Two j.start j.before w.connections j.entries
+            (λ p. parsing_in Two j.start j.before w.connections j.entries
             (parsing.Inside p)) (parsing.closed Two w.connections j.entries)
             (client_said w.connections w.at w.total streams.server x)))
         by_client (Held calls) = by_server calls (stream_end (judge_replies calls) streams.server)

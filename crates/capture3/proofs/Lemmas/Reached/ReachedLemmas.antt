@@ -1,5 +1,5 @@
 -- What a clean prefix reaches, by its parts and by the machine.
-use Rattle.capture3.proofs.Common.{◌≡◌, inl, inr, ℕ, suc, ◌+◌, List, [], ◌∷◌, ◌++◌, length, map, refl, sym, ap, subst, ◌∙◌, append_assoc, append-nil, arith, BeginsStream, Context, client_position, server_position, calls_in_turn, replies_to, SideWord, SideLength, SideChunk, MixedPoint, Mixing, ReachesInside, AreWhole, InMagic, BetweenConnections, InConnection, Reading, Judgement, HoldsSoFar, Position, reply_entry, Streams, BeginsMixed, size, gathered, with_more, Version, One, Two, digit, magic_front, magic, total_size}
+use Rattle.capture3.proofs.Common.{◌≡◌, inl, inr, ℕ, suc, ◌+◌, List, [], ◌∷◌, ◌++◌, length, map, refl, sym, ap, subst, ◌∙◌, append_assoc, append-nil, arith, BeginsStream, Context, client_position, server_position, calls_in_turn, replies_to, SideWord, SideLength, SideChunk, MixedPoint, Mixing, ReachesInside, AreWhole, InMagic, BetweenConnections, InConnection, Reading, Judgement, HoldsSoFar, Position, reply_entry, Streams, BeginsMixed, size, gathered, with_more, Version, One, Two, digit, magic_front, magic, total_size, parsing_in, siding_in, mixing_in, context_at, reading_with}
 use Rattle.capture3.specs.Entry.{Entry, Begin, Call, Turn}
 use Rattle.capture3.specs.ConnectionMachine.{Opening, InClient, InServer, InMixed, opening_entries}
 use Rattle.capture3.specs.FileMachine.{Spot, Magic, Digit, Mark, Inside, Ended, Parsing, emitted}
@@ -20,12 +20,8 @@ side_begun : {M : Type 0} (judge : Judgement M) (position : Position) (bytes str
 side_begun {M} judge position bytes stream messages (inl b) h =
     let read = has_read judge stream messages h in
     let s : Siding M =
-    record {
-      at = position.start + length b.front;
-      total = position.before + length stream;
-      reading = record { messages = messages; joining = read.0 };
-      point = Length b.part;
-    } in (
+    siding_in (position.start + length b.front) (position.before + length stream)
+    (reading_with messages read.0) (Length b.part) in (
       s,
       record {
         front = b.front;
@@ -43,13 +39,10 @@ side_begun {M} judge position bytes stream messages (inl b) h =
 side_begun {M} judge position bytes stream messages (inr b) h =
     let read = has_read judge stream messages h in
     let s : Siding M =
-    record {
-      at = position.start + length bytes + suc b.left;
-      total = position.before + length stream + suc b.left;
-      reading = record { messages = messages; joining = read.0 };
-      point = Chunk b.left;
-    } in
-    let reading : Reading M = record { messages = messages; joining = read.0 } in (
+    siding_in (position.start + length bytes + suc b.left)
+    (position.before + length stream + suc b.left)
+    (reading_with messages read.0) (Chunk b.left) in
+    let reading : Reading M = reading_with messages read.0 in (
       s,
       record {
         front = b.front;
@@ -107,12 +100,8 @@ begun_side judge position bytes at total reading (Chunk left) h = (
 mixed_begun : (context : Context) (bytes : List ℕ) → BeginsMixed context.before bytes
     → (s : Mixing) × HasMixed context bytes s
 mixed_begun context bytes (inl b) = (
-  record {
-    at = context.start + length b.front;
-    total = context.before + size (gathered b.chunks);
-    streams = gathered b.chunks;
-    point = SideWord b.part;
-  },
+  mixing_in (context.start + length b.front) (context.before + size (gathered b.chunks))
+      (gathered b.chunks) (SideWord b.part),
   record {
     chunks = b.chunks;
     front = b.front;
@@ -126,12 +115,8 @@ mixed_begun context bytes (inl b) = (
   },
 )
 mixed_begun context bytes (inr (inl b)) = (
-  record {
-    at = context.start + length b.front + 4;
-    total = context.before + size (gathered b.chunks);
-    streams = gathered b.chunks;
-    point = SideLength b.side b.part;
-  },
+  mixing_in (context.start + length b.front + 4) (context.before + size (gathered b.chunks))
+      (gathered b.chunks) (SideLength b.side b.part),
   record {
     chunks = b.chunks;
     front = b.front;
@@ -147,12 +132,9 @@ mixed_begun context bytes (inr (inl b)) = (
   },
 )
 mixed_begun context bytes (inr (inr b)) = (
-  record {
-    at = context.start + length bytes + suc b.left;
-    total = context.before + size (gathered b.chunks) + (length b.got + suc b.left);
-    streams = with_more (gathered b.chunks) b.side b.got;
-    point = SideChunk b.side b.left;
-  },
+  mixing_in (context.start + length bytes + suc b.left)
+      (context.before + size (gathered b.chunks) + (length b.got + suc b.left))
+      (with_more (gathered b.chunks) b.side b.got) (SideChunk b.side b.left),
   record {
     chunks = b.chunks;
     front = b.front;
@@ -292,15 +274,7 @@ pub record StandsAt (bytes : List ℕ) (entries : List Entry) : Type 0 where
 whole_magic_stands : (bytes : List ℕ) (version : Version) → magic version ≡ bytes
     → StandsAt bytes []
 whole_magic_stands bytes version e = record {
-  state =
-      record {
-        version = version;
-        at = length bytes;
-        total = 0;
-        number = 0;
-        entries = [];
-        spot = Mark [];
-      };
+  state = parsing_in version (length bytes) 0 0 [] (Mark []);
   stands = record {
     front = bytes;
     connections = [];
@@ -324,15 +298,7 @@ whole_magic_stands bytes version e = record {
 
 part_stands : (bytes more : List ℕ) → magic_front ≡ bytes ++ more → StandsAt bytes []
 part_stands bytes [] e = record {
-  state =
-      record {
-        version = One;
-        at = length bytes;
-        total = 0;
-        number = 0;
-        entries = [];
-        spot = Digit;
-      };
+  state = parsing_in One (length bytes) 0 0 [] Digit;
   stands =
       record {
         begins = e;
@@ -345,15 +311,7 @@ part_stands bytes [] e = record {
   emits = refl;
 }
 part_stands bytes (due ∷ more) e = record {
-  state =
-      record {
-        version = One;
-        at = length bytes;
-        total = 0;
-        number = 0;
-        entries = [];
-        spot = Magic due more;
-      };
+  state = parsing_in One (length bytes) 0 0 [] (Magic due more);
   stands =
       record {
         begins = e;
@@ -383,14 +341,8 @@ whole_stands bytes entries (InMagic version more e none) =
 whole_stands bytes entries
     (BetweenConnections version front part connections split opens (inl short)) = record {
       state =
-          record {
-            version = version;
-            at = length front;
-            total = total_size connections;
-            number = length connections;
-            entries = entries;
-            spot = Mark part;
-          };
+          parsing_in version (length front) (total_size connections) (length connections) entries
+          (Mark part);
       stands =
           record {
             front = front;
@@ -407,14 +359,8 @@ whole_stands bytes entries
 whole_stands bytes entries
     (BetweenConnections version front part connections split opens (inr last)) = record {
       state =
-          record {
-            version = version;
-            at = length bytes;
-            total = total_size connections;
-            number = length connections;
-            entries = entries;
-            spot = Ended;
-          };
+          parsing_in version (length bytes) (total_size connections) (length connections) entries
+          Ended;
       stands =
           record {
             front = front;
@@ -432,22 +378,12 @@ whole_stands bytes entries
 whole_stands bytes entries
     (InConnection version front mark rest connections before more split opens one few inside are) =
     let context : Context =
-    record {
-      number = suc (length connections);
-      start = length front + 4;
-      before = total_size connections;
-    } in
+    context_at (suc (length connections)) (length front + 4) (total_size connections) in
     let o = opening_begun version context rest more inside in
     record {
       state =
-          record {
-            version = version;
-            at = length front + 4;
-            total = total_size connections;
-            number = suc (length connections);
-            entries = before;
-            spot = Inside o.0;
-          };
+          parsing_in version (length front + 4) (total_size connections) (suc (length connections))
+          before (Inside o.0);
       stands =
           record {
             front = front;
@@ -468,14 +404,7 @@ whole_stands bytes entries
 
 spot_whole : (version : Version) (bytes : List ℕ) (at total number : ℕ) (entries : List Entry)
     (spot : Spot) → HasSpot version bytes at total number entries spot
-    → AreWhole bytes (emitted (record {
-      version = version;
-      at = at;
-      total = total;
-      number = number;
-      entries = entries;
-      spot = spot;
-    }))
+    → AreWhole bytes (emitted (parsing_in version at total number entries spot))
 spot_whole version bytes at total number entries (Magic due more) h =
     InMagic One ((due ∷ more) ++ digit One ∷ [])
     (ap (λ (b : List ℕ). b ++ digit One ∷ []) h.begins
@@ -491,8 +420,7 @@ spot_whole version bytes at total number entries (Inside o) h =
     InConnection version h.front h.mark h.rest h.connections entries (opening_entries o) h.split
     h.opens h.one h.few
     (subst (λ (n : ℕ). ReachesInside version n h.rest (opening_entries o)) h.total_is
-    (begun_opening version (record { number = number; start = at; before = total }) h.rest o
-    h.inside)) refl
+    (begun_opening version (context_at number at total) h.rest o h.inside)) refl
 spot_whole version bytes at total number entries Ended h =
     subst (AreWhole bytes) (sym (append-nil entries))
     (BetweenConnections version h.front h.last h.connections h.split h.opens (inr h.closes))

@@ -1,6 +1,6 @@
 -- What the byte of a fault still reaches, in a file of version 2: the entries of the connection
 -- before a record at fault.
-use Rattle.capture3.proofs.Common.{◌≡◌, ◌⊎◌, inl, inr, ℕ, suc, ◌+◌, ◌<◌, ◌≤◌, List, [], ◌∷◌, ◌++◌, length, refl, sym, ap, subst, ◌∙◌, append-nil, arith, length-append, Next, Goes, Ends, Run, Runs, Stops, Stopped, landed, after, Two, total_size, max_bytes, Context, ShownFault, refusal, StreamsShow, InClientStream, InServerStream, Rule, Shows, AfterConnections, MagicDiffers, MarkIsBad, ConnectionIsTooMany, WithinConnection, ByteAfterEnd, Mixing, MixedCloses, mixed_next, mixing_from, InMixed, conversing, opening_next, opened, Parsing, closed, emitted, file_next, file_start, parsed, Streams, size, AreMixed, file_fault, TooManyConnections, Tells, after-append, nested_runs, ran_before, tells, AreWithinLimits, AreWhole, IsLongestClean, Reached}
+use Rattle.capture3.proofs.Common.{◌≡◌, ◌⊎◌, inl, inr, ℕ, suc, ◌+◌, ◌<◌, ◌≤◌, List, [], ◌∷◌, ◌++◌, length, refl, sym, ap, subst, ◌∙◌, append-nil, arith, length-append, Next, Goes, Ends, Run, Runs, Stops, Stopped, landed, after, Two, total_size, max_bytes, Context, ShownFault, refusal, StreamsShow, InClientStream, InServerStream, Rule, Shows, AfterConnections, MagicDiffers, MarkIsBad, ConnectionIsTooMany, WithinConnection, ByteAfterEnd, Mixing, MixedCloses, mixed_next, mixing_from, InMixed, conversing, opening_next, opened, Parsing, closed, emitted, file_next, file_start, parsed, Streams, size, AreMixed, file_fault, TooManyConnections, Tells, after-append, nested_runs, ran_before, tells, AreWithinLimits, AreWhole, IsLongestClean, Reached, context_at}
 use Rattle.capture3.specs.Entry.{Entry, Begin}
 use Rattle.capture3.proofs.Lemmas.Files.FileRules.{AnyRefusal, RefusedClosing, Marked, at_mark, inside_at, begins_or, begun_or, closed_ends, conversing_ends}
 use Rattle.capture3.proofs.Lemmas.Files.FileMachineLemmas.{InConnection, Stands, file_runs}
@@ -62,7 +62,7 @@ module _ (front : List ℕ) (byte : ℕ) (state : Parsing) (whole : List Entry)
   number = length b.connections
 
   context : Context
-  context = record { number = suc number; start = at + 4; before = total }
+  context = context_at (suc number) (at + 4) total
 
   the_mixed : (streams : Streams) × AreMixed b.rest streams
   the_mixed = shown_mixed (suc (length b.connections)) b.rest shown shows
@@ -248,11 +248,8 @@ reached_more bytes front whole more h is_whole = by_end h.longest
     by_rule byte shown is (WithinConnection b one shows) =
         elim
         (refused_more b.version
-        (record {
-          number = suc (length b.connections);
-          start = length b.front + 4;
-          before = total_size b.connections;
-        }) b.rest shown shows) [
+        (context_at (suc (length b.connections)) (length b.front + 4) (total_size b.connections))
+        b.rest shown shows) [
           | inl none ↦ inl (is ∙ none)
           | inr two ↦ inr (subst (λ (l : List Entry). IsAfter (whole ++ l)) (sym is)
               (is_after front byte state.state whole (file_runs front state.state state.stands)

@@ -1,5 +1,5 @@
 -- A capture whose records are judged as they come: step after step.
-use Rattle.capture3.proofs.Common.{ap₂, ◌≡◌, inl, inr, suc, ◌+◌, length, arith, append-nil, ℕ, Bool, true, false, cond, nat_eq, is_some, Option, Some, None, List, [], ◌∷◌, ◌++◌, take, drop, refl, sym, ap, ◌∙◌, subst, append_assoc, take-append-drop, Item, RecordCut, RecordTooLong, Joining, Between, Header, Bytes, Whole, TooLong, join_next, Ends, Runs, Stops, Stopped, after, landed, ProcId, procedure_in, NumberedCall, Container, Error, Fault, Side, Client, Server, Event, Spot, ReplyItems, procedure_of, xid_in, refusal, Entry, fault_at, Streams, Cursor, after-append, agrees, judge_call, judge_reply, Parsing, file_next, file_start, parsed, emitted, IsBeforeMark, opened_at, unpacking_at, StoredWith, Two, Adds, found, with_numbered_call, Recalls, ShowsFirst, IsTableOf, Judged, parsing_at, resumed, call_judged, reply_judged, emitted_at, connection_begun, turned, connection_closed}
+use Rattle.capture3.proofs.Common.{ap₂, ◌≡◌, inl, inr, suc, ◌+◌, length, arith, append-nil, ℕ, Bool, true, false, cond, nat_eq, is_some, Option, Some, None, List, [], ◌∷◌, ◌++◌, take, drop, refl, sym, ap, ◌∙◌, subst, append_assoc, take-append-drop, Item, RecordCut, RecordTooLong, Joining, Between, Header, Bytes, Whole, TooLong, join_next, Ends, Runs, Stops, Stopped, after, landed, ProcId, procedure_in, NumberedCall, Container, Error, Fault, Side, Client, Server, Event, Spot, ReplyItems, procedure_of, xid_in, refusal, Entry, fault_at, Streams, Cursor, after-append, agrees, judge_call, judge_reply, Parsing, file_next, file_start, parsed, emitted, IsBeforeMark, opened_at, unpacking_at, StoredWith, Two, Adds, found, with_numbered_call, Recalls, ShowsFirst, IsTableOf, Judged, parsing_at, resumed, call_judged, reply_judged, emitted_at, connection_begun, turned, connection_closed, unpacking_with, fault_in_record}
 use Rattle.std.proofs.lemmas.Bool.{eqb-true}
 use Rattle.record_mark.specs.Taking.{Taking, Led, OutOfMemory, IsRunning, IsWhole, body_of, joined_body, joining_of, released, unbegun}
 use Rattle.capture3.specs.declared.reader.entry.Kind.TheVariants as kinds
@@ -12,11 +12,11 @@ use Rattle.capture3.specs.Entry as entries
 use Rattle.capture3.specs.machinery.EntryParser.{StandsAt, StandsOrRecalls, HasCome, after_side_word, HasMet, MeetsEvent, met, met_in, GoesTo, FailsAt, JudgesCall, JudgesReply, RefusesBody}
 use Rattle.capture3.specs.StreamMachine as reading
 use Rattle.capture3.specs.declared.container.position.Event.TheVariants as events
-use Rattle.capture3.proofs.Lemmas.Container.KeptStreamsLemmas.{call_cut, call_recalled, call_refused, close_recalled, reply_cut, reply_recalled, reply_refused, turn_recalled}
+use Rattle.capture3.proofs.Lemmas.Container.KeptStreamsLemmas.{call_cut, call_recalled, call_refused, close_recalled, reply_cut, reply_recalled, reply_refused, shows_at_last, turn_recalled}
 use Rattle.capture3.proofs.Lemmas.Container.ContainerLemmas.{mark_is}
 use Rattle.capture3.specs.machinery.FileStanding as resuming
 use Rattle.capture3.specs.machinery.ContainerMachine.{Mark, Unpacking, Refuses, unpack_next, unpacking_start}
-use Rattle.capture3.proofs.Lemmas.Reader.FileStandingLemmas.{runs_follow, stops_follow}
+use Rattle.capture3.proofs.Lemmas.Reader.FileStandingLemmas.{whole_connections, runs_follow, stops_follow}
 use Rattle.capture3.proofs.Lemmas.Reader.WholeEntries.{runs_emit, stops_emit}
 use Rattle.capture3.proofs.Lemmas.Reached.Growing.{stops_at_last}
 
@@ -103,7 +103,7 @@ table_agrees table calls xid id answer same is agree =
 -- ---- the first byte
 
 abbrev pub nothing_judged : Judged
-nothing_judged = record { start = 0; before = 0; entries = []; calls = []; replies = [] }
+nothing_judged = whole_connections []
 
 stands_at_start : (position : Position) (taking : Taking) (streams : Streams)
     (table : List NumberedCall) → unpacking_of position taking streams ≡ unpacking_start
@@ -513,36 +513,19 @@ module _ (c : Container) (table : List NumberedCall) (bytes : List ℕ) (all : L
       → FailsAt bytes all error
   call_fails (errors.Refused fault) (inl (none, m)) refuses =
       let (stop, judged, is) = refuses m.so_far.calls m.calls in
-      record {
-        front = m.front;
-        byte = m.byte;
-        back = [];
-        state = m.state;
-        shown = refusal fault;
-        split = m.split;
-        runs = m.runs;
-        ends =
-            m.ends
-            ∙ ap (call_judged (unpacking_at c.position c.streams.kept Between) m.so_far) judged
-            ∙ ap (λ (f : Fault). Ends (refusal f)) (ap
-            (λ (n : ℕ).
-            record {
-              place = places.Record c.position.connections Client n stop.at;
-              reason = stop.reason;
-            }) (sym m.agrees.1) ∙ sym is);
-        is = refl;
-        emits = sym m.before ∙ sym (append-nil (emitted m.state));
-      }
+      shows_at_last m.front m.byte m.state (refusal fault) m.split m.runs
+      (m.ends ∙ ap (call_judged (unpacking_at c.position c.streams.kept Between) m.so_far) judged
+      ∙ ap (λ (f : Fault). Ends (refusal f))
+      (ap (λ (n : ℕ). fault_in_record c.position.connections Client n stop.at stop.reason)
+      (sym m.agrees.1) ∙ sym is))
+      (sym m.before ∙ sym (append-nil (emitted m.state)))
   call_fails (errors.Refused fault) (inr m) refuses =
       let (stop, judged, is) = refuses m.stood.so_far.calls m.stood.calls in
       let same : suc (length m.stood.so_far.calls) ≡ c.position.records =
       omega (arith, m.records_are, m.stood.here.1) in
       subst (ShowsFirst bytes all) (ap
       (λ (n : ℕ).
-      record {
-        place = places.Record c.position.connections Client n stop.at;
-        reason = stop.reason;
-      }) same ∙ sym is)
+      fault_in_record c.position.connections Client n stop.at stop.reason) same ∙ sym is)
       (call_refused (after_side_word c.position) c.streams.kept m.taken m.records table bytes all
       m.stood m.count (Whole (body_of c.joiner.taking))
       (fault_at m.stood.so_far.calls stop.at stop.reason) m.joins
@@ -559,36 +542,19 @@ module _ (c : Container) (table : List NumberedCall) (bytes : List ℕ) (all : L
       → FailsAt bytes all error
   reply_fails (errors.Refused fault) (inl (none, m)) refuses =
       let (stop, judged, is) = refuses m.so_far.calls m.calls in
-      record {
-        front = m.front;
-        byte = m.byte;
-        back = [];
-        state = m.state;
-        shown = refusal fault;
-        split = m.split;
-        runs = m.runs;
-        ends =
-            m.ends
-            ∙ ap (reply_judged (unpacking_at c.position c.streams.kept Between) m.so_far) judged
-            ∙ ap (λ (f : Fault). Ends (refusal f)) (ap
-            (λ (n : ℕ).
-            record {
-              place = places.Record c.position.connections Server n stop.at;
-              reason = stop.reason;
-            }) (sym m.agrees.1) ∙ sym is);
-        is = refl;
-        emits = sym m.before ∙ sym (append-nil (emitted m.state));
-      }
+      shows_at_last m.front m.byte m.state (refusal fault) m.split m.runs
+      (m.ends ∙ ap (reply_judged (unpacking_at c.position c.streams.kept Between) m.so_far) judged
+      ∙ ap (λ (f : Fault). Ends (refusal f))
+      (ap (λ (n : ℕ). fault_in_record c.position.connections Server n stop.at stop.reason)
+      (sym m.agrees.1) ∙ sym is))
+      (sym m.before ∙ sym (append-nil (emitted m.state)))
   reply_fails (errors.Refused fault) (inr m) refuses =
       let (stop, judged, is) = refuses m.stood.so_far.calls m.stood.calls in
       let same : suc (length m.stood.so_far.replies) ≡ c.position.records =
       omega (arith, m.records_are, m.stood.here.2) in
       subst (ShowsFirst bytes all) (ap
       (λ (n : ℕ).
-      record {
-        place = places.Record c.position.connections Server n stop.at;
-        reason = stop.reason;
-      }) same ∙ sym is)
+      fault_in_record c.position.connections Server n stop.at stop.reason) same ∙ sym is)
       (reply_refused (after_side_word c.position) c.streams.kept m.taken m.records table bytes all
       m.stood m.count (Whole (body_of c.joiner.taking))
       (fault_at m.stood.so_far.replies stop.at stop.reason) m.joins
@@ -710,25 +676,9 @@ module _ (cursor : Cursor) (old new : Container) (table : List NumberedCall) (by
       let opened_is : opened_at new.streams.kept p.spot p.at ≡ Mark Two [] =
       before_mark new.streams.kept p.spot p.at stored.3 in
       let w : Unpacking =
-      record {
-        at = p.at;
-        total = p.total;
-        connections = p.connections;
-        records = p.records;
-        opened = Mark Two [];
-        joining = Between;
-      } in
+      unpacking_with p.at p.total p.connections p.records (Mark Two []) Between in
       let here : unpacking_of p new.joiner.taking new.streams.kept ≡ w =
-      ap₂
-      (λ o j.
-      record {
-        at = p.at;
-        total = p.total;
-        connections = p.connections;
-        records = p.records;
-        opened = o;
-        joining = j;
-      }) opened_is between in
+      ap₂ (λ o j. unpacking_with p.at p.total p.connections p.records o j) opened_is between in
       come_at_rest new table bytes (all ++ entries.Close ∷ []) next_is running
       (rw position_is (record {
         so_far = connection_closed at.so_far;
@@ -771,42 +721,28 @@ recall_fails_at : (side : Side) (taken : ℕ) (p : Position) (streams : Streams)
 recall_fails_at Client taken p streams table bytes all fault r (inl (at, n, stops, is)) =
     let same : suc (length r.so_far.calls) ≡ p.records + 1 = omega (arith, r.here.1) in
     subst (ShowsFirst bytes all) (ap
-    (λ (k : ℕ).
-    record {
-      place = places.Record p.connections Client k at;
-      reason = RecordTooLong;
-    }) same ∙ sym is)
+    (λ (k : ℕ). fault_in_record p.connections Client k at RecordTooLong) same ∙ sym is)
     (call_refused (after_side_word p) streams taken p.records table bytes all r n (TooLong at)
     (fault_at r.so_far.calls at RecordTooLong) stops refl)
 recall_fails_at Client taken p streams table bytes all fault r (inr (j, open_is, runs, is)) =
     let same : suc (length r.so_far.calls) ≡ p.records + 1 = omega (arith, r.here.1) in
     subst (ShowsFirst bytes all) (ap
     (λ (k : ℕ).
-    record {
-      place = places.Record p.connections Client k (length (joined_body j));
-      reason = RecordCut;
-    }) same ∙ sym is)
+    fault_in_record p.connections Client k (length (joined_body j)) RecordCut) same ∙ sym is)
     (call_cut (after_side_word p) streams taken p.records table bytes all r j
     (fault_at r.so_far.calls (length (joined_body j)) RecordCut) runs
     (left_open r.so_far.calls j open_is))
 recall_fails_at Server taken p streams table bytes all fault r (inl (at, n, stops, is)) =
     let same : suc (length r.so_far.replies) ≡ p.records + 1 = omega (arith, r.here.2) in
     subst (ShowsFirst bytes all) (ap
-    (λ (k : ℕ).
-    record {
-      place = places.Record p.connections Server k at;
-      reason = RecordTooLong;
-    }) same ∙ sym is)
+    (λ (k : ℕ). fault_in_record p.connections Server k at RecordTooLong) same ∙ sym is)
     (reply_refused (after_side_word p) streams taken p.records table bytes all r n (TooLong at)
     (fault_at r.so_far.replies at RecordTooLong) stops refl)
 recall_fails_at Server taken p streams table bytes all fault r (inr (j, open_is, runs, is)) =
     let same : suc (length r.so_far.replies) ≡ p.records + 1 = omega (arith, r.here.2) in
     subst (ShowsFirst bytes all) (ap
     (λ (k : ℕ).
-    record {
-      place = places.Record p.connections Server k (length (joined_body j));
-      reason = RecordCut;
-    }) same ∙ sym is)
+    fault_in_record p.connections Server k (length (joined_body j)) RecordCut) same ∙ sym is)
     (reply_cut (after_side_word p) streams taken p.records table bytes all r j
     (fault_at r.so_far.replies (length (joined_body j)) RecordCut) runs
     (left_open r.so_far.replies j open_is))

@@ -1,28 +1,21 @@
 -- The machine for a capture file goes as the one that takes the capture apart, with its records
 -- judged.
-use Rattle.capture3.proofs.Common.{◌≡◌, ℕ, zero, suc, ◌+◌, Bool, true, false, cond, nat_eq, nat_lt, List, [], ◌∷◌, ◌++◌, length, Result, Ok, Err, refl, sym, ap, subst, ◌∙◌, add-one, arith, length-append, Stop, BadMagic, TooManyConnections, TooManyBytes, RecordCut, RecordTooLong, Item, Joining, Between, Header, Bytes, Joined, Whole, TooLong, join_next, Next, Goes, Ends, Runs, Stops, after, landed, within, word_next, not_runs, only_stops, Side, Client, Server, Begin, ReplyItems, ShownFault, refusal, judge_call, judge_reply, Version, One, Two, Mixing, MixedEnd, MixedCloses, MixedRefuses, mixed_step, InClient, InServer, InMixed, conversing, ending, judge_replies, opened, turning, judged, recorded, Siding, SideEnd, SideRefuses, Reason, Parsing, file_next, Fault, file_fault, place_at}
+use Rattle.capture3.proofs.Common.{Entry, parsing_in, ◌≡◌, ℕ, zero, suc, ◌+◌, Bool, true, false, cond, nat_eq, nat_lt, List, [], ◌∷◌, ◌++◌, length, Result, Ok, Err, refl, sym, ap, subst, ◌∙◌, add-one, arith, length-append, Stop, BadMagic, TooManyConnections, TooManyBytes, RecordCut, RecordTooLong, Item, Joining, Between, Header, Bytes, Joined, Whole, TooLong, join_next, Next, Goes, Ends, Runs, Stops, after, landed, within, word_next, not_runs, only_stops, Side, Client, Server, Begin, ReplyItems, ShownFault, refusal, judge_call, judge_reply, Version, One, Two, Mixing, MixedEnd, MixedCloses, MixedRefuses, mixed_step, InClient, InServer, InMixed, conversing, ending, judge_replies, opened, turning, judged, recorded, Siding, SideEnd, SideRefuses, Reason, Parsing, file_next, Fault, file_fault, place_at, unpacking_with, siding_in, fault_in_record, reading_with}
 use Rattle.capture3.specs.SideMachine as siding
 use Rattle.capture3.specs.declared.fault.Place.TheVariants as places
 use Rattle.capture3.specs.FileMachine as parsing
-use Rattle.capture3.specs.machinery.FileStanding.{Judged, parsing_in, siding_at, parsing_at, resumed, call_judged, reply_judged, Agrees, AgreesAt, AgreesOn}
+use Rattle.capture3.specs.machinery.FileStanding.{Judged, siding_at, parsing_at, resumed, call_judged, reply_judged, Agrees, AgreesAt, AgreesOn}
 use Rattle.capture3.specs.machinery.ContainerMachine.{Opened, Magic, Digit, Mark, Length, Chunk, Mixed, Ended, Unpacking, Unpacked, Has, Refuses, at_byte, left_of_magic, begun_at, connection_marked, chunk_counted, record_joined, in_chunk, mixed_at, mixed_ended, unpack_next}
 
--- where the two machines stand
-abbrev pub at_unpacking : (at total connections records : ℕ) → Joining → Opened → Unpacking
-at_unpacking at total connections records joining opened =
-    record {
-      at = at;
-      total = total;
-      connections = connections;
-      records = records;
-      opened = opened;
-      joining = joining;
-    }
+-- after whole connections alone
+abbrev pub whole_connections : List Entry → Judged
+whole_connections entries =
+    record { start = 0; before = 0; entries = entries; calls = []; replies = [] }
 
 -- One byte takes both machines to the same place.
 abbrev pub Follows : (at total connections records : ℕ) → Joining → Opened → Judged → ℕ → Type 0
 Follows at total connections records joining opened j byte =
-    let u = at_unpacking at total connections records joining opened in
+    let u = unpacking_with at total connections records opened joining in
     file_next (parsing_at u j) byte ≡ resumed j (unpack_next u byte)
 
 -- a choice by a test
@@ -51,9 +44,9 @@ digit_follows at total connections records joining j byte =
         (cond c (Goes (parsing_in Two (at + 1) total connections j.entries (parsing.Mark [])))
         (Ends (refusal (file_fault at BadMagic))))
         ≡ resumed j (cond b
-        (Goes (at_unpacking (at + 1) total connections records joining (Mark One [])))
+        (Goes (unpacking_with (at + 1) total connections records (Mark One []) joining))
         (cond c
-        (Goes (at_unpacking (at + 1) total connections records joining (Mark Two [])))
+        (Goes (unpacking_with (at + 1) total connections records (Mark Two []) joining))
         (Ends (at_byte at BadMagic))))
     by_test true c = refl
     by_test false true = refl
@@ -85,7 +78,7 @@ mark_next_follows : (version : Version) (at total connections records : ℕ) (jo
     (j : Judged) (n : Next (List ℕ) ℕ) → joining ≡ Between
     → within (λ p. parsing_in version at total connections j.entries (parsing.Mark p))
     (parsing.marked version at total connections j.entries) n
-    ≡ resumed j (within (λ p. at_unpacking at total connections records joining (Mark version p))
+    ≡ resumed j (within (λ p. unpacking_with at total connections records (Mark version p) joining)
     (connection_marked version at total connections records joining) n)
 mark_next_follows version at total connections records joining j (Goes p) between = refl
 mark_next_follows version at total connections records joining j (Ends w) between =
@@ -110,15 +103,12 @@ at_fault fault = Ends (refusal fault)
 -- a fault of the open record, by the count and by the messages
 cut_follows : (connections records byte : ℕ) (side : Side) (reason : Reason) (number : ℕ)
     → records ≡ number
-    → at_fault
-    (place_at connections side (record { number = suc number; byte = byte; reason = reason }))
-    ≡ at_fault
-    (record { place = places.Record connections side (records + 1) byte; reason = reason })
+    → at_fault (place_at connections side
+    (record { number = suc number; byte = byte; reason = reason }))
+    ≡ at_fault (fault_in_record connections side (records + 1) byte reason)
 cut_follows connections records byte side reason number is =
     let next : suc number ≡ records + 1 = omega arith in
-    ap
-    (λ (n : ℕ).
-    at_fault (record { place = places.Record connections side n byte; reason = reason }))
+    ap (λ (n : ℕ). at_fault (fault_in_record connections side n byte reason))
     next
 
 -- the layers of the file's machine round one side
@@ -130,8 +120,8 @@ in_client j connections n =
 
 client_word_follows : (at total connections records : ℕ) (joining : Joining) (j : Judged) (w : ℕ)
     → records ≡ length j.calls
-    → in_client j connections (siding.counted (place_at connections Client) at total
-    (record { messages = j.calls; joining = joining }) w)
+    → in_client j connections
+    (siding.counted (place_at connections Client) at total (reading_with j.calls joining) w)
     ≡ resumed j (chunk_counted at total connections records Client joining w)
 client_word_follows at total connections records Between j zero is = refl
 client_word_follows at total connections records (Header body part) j zero is =
@@ -154,17 +144,17 @@ client_length_follows : (at total connections records : ℕ) (joining : Joining)
     (n : Next (List ℕ) ℕ) → records ≡ length j.calls
     → in_client j connections (within (λ p. siding_at at total j.calls joining (siding.Length p))
     (siding.counted (place_at connections Client) at total
-    (record { messages = j.calls; joining = joining })) n)
-    ≡ resumed j (within (λ p. at_unpacking at total connections records joining (Length Client p))
+    (reading_with j.calls joining)) n)
+    ≡ resumed j (within (λ p. unpacking_with at total connections records (Length Client p) joining)
     (chunk_counted at total connections records Client joining) n)
 client_length_follows at total connections records joining j (Goes p) is = refl
 client_length_follows at total connections records joining j (Ends w) is =
     client_word_follows at total connections records joining j w is
 
 call_follows : (at total connections records left : ℕ) (j : Judged) (r : Result (List Item) Stop)
-    → in_client j connections (within
-    (λ r. record { at = at; total = total; reading = r; point = siding.awaiting left })
-    (λ shown. Ends (SideRefuses (place_at connections Client shown))) (judged j.calls r))
+    → in_client j connections (within (λ r. siding_in at total r (siding.awaiting left))
+    (λ shown. Ends (SideRefuses (place_at connections Client shown)))
+    (judged j.calls r))
     ≡ call_judged (in_chunk at total connections (records + 1) Client left Between) j r
 call_follows at total connections records zero j (Ok m) = refl
 call_follows at total connections records (suc left) j (Ok m) = refl
@@ -172,10 +162,9 @@ call_follows at total connections records left j (Err stop) = refl
 
 client_chunk_follows : (at total connections records left : ℕ) (j : Judged)
     (n : Next Joining Joined) → records ≡ length j.calls
-    → in_client j connections (within
-    (λ r. record { at = at; total = total; reading = r; point = siding.awaiting left })
+    → in_client j connections (within (λ r. siding_in at total r (siding.awaiting left))
     (λ shown. Ends (SideRefuses (place_at connections Client shown)))
-    (within (λ s. record { messages = j.calls; joining = s }) (recorded judge_call j.calls) n))
+    (within (reading_with j.calls) (recorded judge_call j.calls) n))
     ≡ resumed j (within (in_chunk at total connections records Client left)
     (record_joined at total connections records Client left) n)
 client_chunk_follows at total connections records zero j (Goes s) is = refl
@@ -196,7 +185,7 @@ in_server j connections n =
 server_word_follows : (at total connections records : ℕ) (joining : Joining) (j : Judged) (w : ℕ)
     → records ≡ length j.replies
     → in_server j connections (siding.counted (place_at connections Server) at total
-    (record { messages = j.replies; joining = joining }) w)
+    (reading_with j.replies joining) w)
     ≡ resumed j (chunk_counted at total connections records Server joining w)
 server_word_follows at total connections records Between j zero is = refl
 server_word_follows at total connections records (Header body part) j zero is =
@@ -219,17 +208,17 @@ server_length_follows : (at total connections records : ℕ) (joining : Joining)
     (n : Next (List ℕ) ℕ) → records ≡ length j.replies
     → in_server j connections (within (λ p. siding_at at total j.replies joining (siding.Length p))
     (siding.counted (place_at connections Server) at total
-    (record { messages = j.replies; joining = joining })) n)
-    ≡ resumed j (within (λ p. at_unpacking at total connections records joining (Length Server p))
+    (reading_with j.replies joining)) n)
+    ≡ resumed j (within (λ p. unpacking_with at total connections records (Length Server p) joining)
     (chunk_counted at total connections records Server joining) n)
 server_length_follows at total connections records joining j (Goes p) is = refl
 server_length_follows at total connections records joining j (Ends w) is =
     server_word_follows at total connections records joining j w is
 
 reply_follows : (at total connections records left : ℕ) (j : Judged) (r : Result ReplyItems Stop)
-    → in_server j connections (within
-    (λ r. record { at = at; total = total; reading = r; point = siding.awaiting left })
-    (λ shown. Ends (SideRefuses (place_at connections Server shown))) (judged j.replies r))
+    → in_server j connections (within (λ r. siding_in at total r (siding.awaiting left))
+    (λ shown. Ends (SideRefuses (place_at connections Server shown)))
+    (judged j.replies r))
     ≡ reply_judged (in_chunk at total connections (records + 1) Server left Between) j r
 reply_follows at total connections records zero j (Ok m) = refl
 reply_follows at total connections records (suc left) j (Ok m) = refl
@@ -237,11 +226,9 @@ reply_follows at total connections records left j (Err stop) = refl
 
 server_chunk_follows : (at total connections records left : ℕ) (j : Judged)
     (n : Next Joining Joined) → records ≡ length j.replies
-    → in_server j connections (within
-    (λ r. record { at = at; total = total; reading = r; point = siding.awaiting left })
+    → in_server j connections (within (λ r. siding_in at total r (siding.awaiting left))
     (λ shown. Ends (SideRefuses (place_at connections Server shown)))
-    (within (λ s. record { messages = j.replies; joining = s })
-    (recorded (judge_replies j.calls) j.replies) n))
+    (within (reading_with j.replies) (recorded (judge_replies j.calls) j.replies) n))
     ≡ resumed j (within (in_chunk at total connections records Server left)
     (record_joined at total connections records Server left) n)
 server_chunk_follows at total connections records zero j (Goes s) is = refl
@@ -291,13 +278,13 @@ one_more records messages m is =
 
 magic_agrees : (at total connections records due : ℕ) (more : List ℕ) (j : Judged) (byte : ℕ)
     → AgreesOn j
-    (unpack_next (at_unpacking at total connections records Between (Magic due more)) byte)
+    (unpack_next (unpacking_with at total connections records (Magic due more) Between) byte)
 magic_agrees at total connections records due more j byte = by_test (nat_eq byte due) more
   where
     by_test : (b : Bool) (more : List ℕ)
         → AgreesOn j (cond b
         (Goes
-        (at_unpacking (at + 1) total connections records Between (left_of_magic more)))
+        (unpacking_with (at + 1) total connections records (left_of_magic more) Between))
         (Ends (at_byte at BadMagic)))
     by_test true [] = refl
     by_test true (next ∷ rest) = refl
@@ -305,15 +292,15 @@ magic_agrees at total connections records due more j byte = by_test (nat_eq byte
 
 digit_agrees : (at total connections records : ℕ) (joining : Joining) (j : Judged) (byte : ℕ)
     → joining ≡ Between
-    → AgreesOn j (unpack_next (at_unpacking at total connections records joining Digit) byte)
+    → AgreesOn j (unpack_next (unpacking_with at total connections records Digit joining) byte)
 digit_agrees at total connections records joining j byte between =
     by_test (nat_eq byte 49) (nat_eq byte 50)
   where
     by_test : (b c : Bool)
         → AgreesOn j (cond b
-        (Goes (at_unpacking (at + 1) total connections records joining (Mark One [])))
+        (Goes (unpacking_with (at + 1) total connections records (Mark One []) joining))
         (cond c
-        (Goes (at_unpacking (at + 1) total connections records joining (Mark Two [])))
+        (Goes (unpacking_with (at + 1) total connections records (Mark Two []) joining))
         (Ends (at_byte at BadMagic))))
     by_test true c = between
     by_test false true = between
@@ -321,7 +308,7 @@ digit_agrees at total connections records joining j byte between =
 
 mark_agrees : (version : Version) (at total connections records : ℕ) (joining : Joining)
     (j : Judged) (n : Next (List ℕ) ℕ) → joining ≡ Between
-    → AgreesOn j (within (λ p. at_unpacking at total connections records joining (Mark version p))
+    → AgreesOn j (within (λ p. unpacking_with at total connections records (Mark version p) joining)
     (connection_marked version at total connections records joining) n)
 mark_agrees version at total connections records joining j (Goes p) between = between
 mark_agrees version at total connections records joining j (Ends zero) between = tt
@@ -351,7 +338,7 @@ IsCounted Server records j = records ≡ length j.replies
 
 length_agrees : (at total connections records : ℕ) (side : Side) (joining : Joining) (j : Judged)
     (n : Next (List ℕ) ℕ) → IsCounted side records j
-    → AgreesOn j (within (λ p. at_unpacking at total connections records joining (Length side p))
+    → AgreesOn j (within (λ p. unpacking_with at total connections records (Length side p) joining)
     (chunk_counted at total connections records side joining) n)
 length_agrees at total connections records Client joining j (Goes p) is = is
 length_agrees at total connections records Server joining j (Goes p) is = is
@@ -389,12 +376,12 @@ chunk_agrees at total connections records left side j (Ends (TooLong byte)) is =
 
 byte_agrees : (at total connections records : ℕ) (joining : Joining) (opened : Opened) (j : Judged)
     (byte : ℕ) → AgreesAt records joining opened j
-    → AgreesOn j (unpack_next (at_unpacking at total connections records joining opened) byte)
+    → AgreesOn j (unpack_next (unpacking_with at total connections records opened joining) byte)
 byte_agrees at total connections records joining (Magic due more) j byte between =
     subst
     (λ s.
     AgreesOn j
-    (unpack_next (at_unpacking at total connections records s (Magic due more)) byte))
+    (unpack_next (unpacking_with at total connections records (Magic due more) s) byte))
     (sym between) (magic_agrees at total connections records due more j byte)
 byte_agrees at total connections records joining Digit j byte between =
     digit_agrees at total connections records joining j byte between

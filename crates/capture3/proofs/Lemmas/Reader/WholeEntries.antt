@@ -1,8 +1,7 @@
 -- Which entries are whole, as the container is taken apart and its records are judged.
-use Rattle.capture3.proofs.Common.{◌≡◌, ℕ, zero, suc, ◌+◌, Bool, true, false, cond, nat_eq, nat_lt, List, [], ◌∷◌, ◌++◌, map, refl, sym, ap, ◌∙◌, subst, append_assoc, BadMagic, TooManyConnections, TooManyBytes, Item, Joining, Between, Header, Bytes, Joined, Whole, TooLong, join_next, Next, Goes, Ends, Runs, Stops, after, landed, within, word_next, not_runs, only_stops, Side, Client, Server, Begin, ReplyItems, Entry, reply_entry, Version, One, Two, Mixing, MixedEnd, MixedCloses, MixedRefuses, mixed_step, Judged, client_entries, server_entries, emitted_at, EmitsOn}
+use Rattle.capture3.proofs.Common.{unpacking_with, ◌≡◌, ℕ, zero, suc, ◌+◌, Bool, true, false, cond, nat_eq, nat_lt, List, [], ◌∷◌, ◌++◌, map, refl, sym, ap, ◌∙◌, subst, append_assoc, BadMagic, TooManyConnections, TooManyBytes, Item, Joining, Between, Header, Bytes, Joined, Whole, TooLong, join_next, Next, Goes, Ends, Runs, Stops, after, landed, within, word_next, not_runs, only_stops, Side, Client, Server, Begin, ReplyItems, Entry, reply_entry, Version, One, Two, Mixing, MixedEnd, MixedCloses, MixedRefuses, mixed_step, Judged, client_entries, server_entries, emitted_at, EmitsOn}
 use Rattle.capture3.specs.Entry as entries
 use Rattle.capture3.specs.machinery.ContainerMachine.{Opened, Magic, Digit, Mark, Length, Chunk, Mixed, Ended, Unpacking, Unpacked, Has, at_byte, left_of_magic, begun_at, mixed_at, mixed_ended, connection_marked, chunk_counted, record_joined, in_chunk, unpack_next}
-use Rattle.capture3.proofs.Lemmas.Reader.FileStandingLemmas.{at_unpacking}
 
 map_one_more : {X Y : Type 0} (f : X → Y) (xs : List X) (x : X)
     → map f (xs ++ x ∷ []) ≡ map f xs ++ f x ∷ []
@@ -31,13 +30,13 @@ reply_added before calls replies reply =
 magic_emits : (at total connections records : ℕ) (joining : Joining) (due : ℕ) (more : List ℕ)
     (j : Judged) (byte : ℕ)
     → EmitsOn j j.entries
-    (unpack_next (at_unpacking at total connections records joining (Magic due more)) byte)
+    (unpack_next (unpacking_with at total connections records (Magic due more) joining) byte)
 magic_emits at total connections records joining due more j byte = by_test (nat_eq byte due) more
   where
     by_test : (b : Bool) (more : List ℕ)
         → EmitsOn j j.entries (cond b
         (Goes
-        (at_unpacking (at + 1) total connections records joining (left_of_magic more)))
+        (unpacking_with (at + 1) total connections records (left_of_magic more) joining))
         (Ends (at_byte at BadMagic)))
     by_test true [] = refl
     by_test true (next ∷ rest) = refl
@@ -45,14 +44,14 @@ magic_emits at total connections records joining due more j byte = by_test (nat_
 
 digit_emits : (at total connections records : ℕ) (joining : Joining) (j : Judged) (byte : ℕ)
     → EmitsOn j j.entries
-    (unpack_next (at_unpacking at total connections records joining Digit) byte)
+    (unpack_next (unpacking_with at total connections records Digit joining) byte)
 digit_emits at total connections records joining j byte = by_test (nat_eq byte 49) (nat_eq byte 50)
   where
     by_test : (b c : Bool)
         → EmitsOn j j.entries (cond b
-        (Goes (at_unpacking (at + 1) total connections records joining (Mark One [])))
+        (Goes (unpacking_with (at + 1) total connections records (Mark One []) joining))
         (cond c
-        (Goes (at_unpacking (at + 1) total connections records joining (Mark Two [])))
+        (Goes (unpacking_with (at + 1) total connections records (Mark Two []) joining))
         (Ends (at_byte at BadMagic))))
     by_test true c = refl
     by_test false true = refl
@@ -61,7 +60,7 @@ digit_emits at total connections records joining j byte = by_test (nat_eq byte 4
 mark_emits : (version : Version) (at total connections records : ℕ) (joining : Joining) (j : Judged)
     (n : Next (List ℕ) ℕ)
     → EmitsOn j j.entries (within
-    (λ p. at_unpacking at total connections records joining (Mark version p))
+    (λ p. unpacking_with at total connections records (Mark version p) joining)
     (connection_marked version at total connections records joining) n)
 mark_emits version at total connections records joining j (Goes p) = refl
 mark_emits version at total connections records joining j (Ends zero) = refl
@@ -87,7 +86,7 @@ mixed_emits connections records joining j (Ends (MixedRefuses fault)) = tt
 length_emits : (at total connections records : ℕ) (side : Side) (joining : Joining) (part : List ℕ)
     (j : Judged) (n : Next (List ℕ) ℕ)
     → EmitsOn j (emitted_at (Length side part) j) (within
-    (λ p. at_unpacking at total connections records joining (Length side p))
+    (λ p. unpacking_with at total connections records (Length side p) joining)
     (chunk_counted at total connections records side joining) n)
 length_emits at total connections records Client joining part j (Goes p) = refl
 length_emits at total connections records Server joining part j (Goes p) = refl
@@ -131,7 +130,7 @@ chunk_emits at total connections records left side j (Ends (TooLong byte)) = tt
 byte_emits : (at total connections records : ℕ) (joining : Joining) (opened : Opened) (j : Judged)
     (byte : ℕ)
     → EmitsOn j (emitted_at opened j)
-    (unpack_next (at_unpacking at total connections records joining opened) byte)
+    (unpack_next (unpacking_with at total connections records opened joining) byte)
 byte_emits at total connections records joining (Magic due more) j byte =
     magic_emits at total connections records joining due more j byte
 byte_emits at total connections records joining Digit j byte =

@@ -1,5 +1,5 @@
 -- The machine for one side against chunks, records and messages.
-use Rattle.capture3.proofs.Common.{◌≡◌, inl, inr, ℕ, zero, suc, ◌+◌, ◌<◌, ◌≤◌, List, [], ◌∷◌, ◌++◌, length, refl, sym, ap, ap₂, subst, ◌∙◌, append_assoc, append-nil, arith, length-append, Bool, true, false, cond, nat_lt, ltb-true, ltb-false, le-ltb, concat, Goes, Ends, Runs, Stops, landed, after, IsWord, Joins, number, word_next, Joining, Between, Header, Bytes, IsOpen, AreBytes, RecordCut, TooManyBytes, max_bytes, IsChunk, AreChunks, IsStream, Judgement, Holds, RecordFault, StreamShows, fault_at, Reading, stream_next, unread, Position, file_fault, place_in, SideShows, Leads, leads_within, after-append, nested_runs, nested_stops, counted_runs, counted_stops, ran_to, side_start}
+use Rattle.capture3.proofs.Common.{◌≡◌, inl, inr, ℕ, zero, suc, ◌+◌, ◌<◌, ◌≤◌, List, [], ◌∷◌, ◌++◌, length, refl, sym, ap, ap₂, subst, ◌∙◌, append_assoc, append-nil, arith, length-append, Bool, true, false, cond, nat_lt, ltb-true, ltb-false, le-ltb, concat, Goes, Ends, Runs, Stops, landed, after, IsWord, Joins, number, word_next, Joining, Between, Header, Bytes, IsOpen, AreBytes, RecordCut, TooManyBytes, max_bytes, IsChunk, AreChunks, IsStream, Judgement, Holds, RecordFault, StreamShows, fault_at, Reading, stream_next, unread, Position, file_fault, place_in, SideShows, Leads, leads_within, after-append, nested_runs, nested_stops, counted_runs, counted_stops, ran_to, side_start, siding_in, reading_with}
 use Rattle.record_mark.proofs.Words.{IsPart, word_leads, word_runs, word_stops, Joins-snoc, concat-snoc}
 use Rattle.capture3.specs.SideMachine.{Point, Length, Chunk, Siding, SideEnd, SideCloses, SideRefuses, awaiting, closing, counted, side_next}
 use Rattle.capture3.proofs.Lemmas.Container.BytesOf.{split_bytes, AreBytes-append, chunk_bytes}
@@ -74,8 +74,7 @@ carried_bytes bytes front header got stream byte split chunks are =
 -- the word 0 in an open record
 open_cut : {M : Type 0} {messages : List M} {joining : Joining} (judge : Judged M)
     (position : Position) (bytes stream body : List ℕ) → IsStream bytes stream
-    → (read : HasRead judge.says stream (record { messages = messages; joining = joining }))
-    → IsOpen read.last body
+    → (read : HasRead judge.says stream (reading_with messages joining)) → IsOpen read.last body
     → EndsSide judge.says position bytes
     (SideRefuses (place_in position (fault_at messages (length body) RecordCut)))
 open_cut {messages = messages} judge position bytes stream body closed read is_open =
@@ -100,7 +99,7 @@ open_cut {messages = messages} judge position bytes stream body closed read is_o
 
 closing_ends : {M : Type 0} (judge : Judged M) (position : Position) (bytes stream : List ℕ)
     (at total : ℕ) (messages : List M) (joining : Joining) → IsStream bytes stream
-    → HasRead judge.says stream (record { messages = messages; joining = joining })
+    → HasRead judge.says stream (reading_with messages joining)
     → at + 4 ≡ position.start + length bytes → total ≡ position.before + length stream
     → total ≤ max_bytes
     → EndsSide judge.says position bytes (closing (place_in position) at total messages joining)
@@ -127,13 +126,8 @@ chunk_leads : {M : Type 0} (judge : Judged M) (position : Position)
     → at ≡ position.start + length front → total ≡ position.before + length stream
     → total ≤ max_bytes → (over : Bool) → nat_lt max_bytes (total + suc left) ≡ over
     → Leads (HasSide judge.says position) (EndsSide judge.says position) bytes (cond over
-    (Ends (SideRefuses (file_fault at TooManyBytes))) (Goes (record {
-      at =
-          at + 4 + suc left;
-      total = total + suc left;
-      reading = reading;
-      point = Chunk left;
-    })))
+    (Ends (SideRefuses (file_fault at TooManyBytes)))
+    (Goes (siding_in (at + 4 + suc left) (total + suc left) reading (Chunk left))))
 chunk_leads judge position bytes front header stream at total left reading split chunks read word
     at_is total_is fits true over =
     let passes = ltb-true _ _ over in
@@ -262,13 +256,12 @@ point_leads : {M : Type 0} (judge : Judged M) (position : Position) (bytes : Lis
     (reading : Reading M) (point : Point) (byte : ℕ) → AreBytes (bytes ++ byte ∷ [])
     → HasPoint judge.says position bytes at total reading point
     → Leads (HasSide judge.says position) (EndsSide judge.says position) (bytes ++ byte ∷ [])
-    (side_next judge.decide (place_in position)
-    (record { at = at; total = total; reading = reading; point = point }) byte)
+    (side_next judge.decide (place_in position) (siding_in at total reading point) byte)
 point_leads judge position bytes at total reading (Length part) byte are h =
     let more : bytes ++ byte ∷ [] ≡ h.front ++ (part ++ byte ∷ []) =
     ap (λ (b : List ℕ). b ++ byte ∷ []) h.split ∙ append_assoc h.front part (byte ∷ []) in
     leads_within IsPart IsWord (HasSide judge.says position) (EndsSide judge.says position)
-    (λ p. record { at = at; total = total; reading = reading; point = Length p })
+    (λ p. siding_in at total reading (Length p))
     (counted (place_in position) at total reading) (part ++ byte ∷ []) (bytes ++ byte ∷ [])
     (λ p is.
     record {
@@ -290,7 +283,7 @@ point_leads judge position bytes at total reading (Chunk left) byte are h =
     let carried = carried_bytes bytes h.front (h.header) h.got h.stream byte h.split h.chunks are in
     leads_within (HasRead judge.says) (ShowsAsFirst judge.says) (HasSide judge.says position)
     (EndsSide judge.says position)
-    (λ r. record { at = at; total = total; reading = r; point = awaiting left })
+    (λ r. siding_in at total r (awaiting left))
     (λ shown. Ends (SideRefuses (place_in position shown)))
     ((h.stream ++ h.got) ++ byte ∷ []) (bytes ++ byte ∷ [])
     (λ r read. more_read judge position bytes byte at total r reading left h read)
@@ -343,106 +336,81 @@ nothing_taken judge position fits =
 pub length_runs : {M : Type 0} (judge : Judged M) (position : Position) (at total n : ℕ)
     (reading : Reading M) (header : List ℕ) → IsWord header n
     → after (side_next judge.decide (place_in position))
-    (Runs (record { at = at; total = total; reading = reading; point = Length [] })) header
+    (Runs (siding_in at total reading (Length []))) header
     ≡ landed (counted (place_in position) at total reading n)
 length_runs judge position at total n reading header word =
     nested_stops word_next (side_next judge.decide (place_in position))
-    (λ p. record { at = at; total = total; reading = reading; point = Length p })
-    (counted (place_in position) at total reading) (λ s byte. refl) header [] (number header)
-    (word_stops header word.0)
+    (λ p. siding_in at total reading (Length p))
+    (counted (place_in position) at total reading) (λ s byte. refl) header []
+    (number header) (word_stops header word.0)
     ∙ ap (λ m. landed (counted (place_in position) at total reading m)) word.1
 
 -- a chunk's length word within the limit
 pub opens : {M : Type 0} (judge : Judged M) (position : Position) (at total n : ℕ)
     (reading : Reading M) (header : List ℕ) → IsWord header n → 0 < n → total + n ≤ max_bytes
     → after (side_next judge.decide (place_in position))
-    (Runs (record { at = at; total = total; reading = reading; point = Length [] })) header
-    ≡ Runs
-    (record { at = at + 4 + n; total = total + n; reading = reading; point = awaiting n })
+    (Runs (siding_in at total reading (Length []))) header
+    ≡ Runs (siding_in (at + 4 + n) (total + n) reading (awaiting n))
 opens judge position at total zero reading header word some fits = absurd (omega arith)
 opens judge position at total (suc left) reading header word some fits =
     length_runs judge position at total (suc left) reading header word
     ∙ ap
     (λ b.
-    landed (cond b (Ends (SideRefuses (file_fault at TooManyBytes))) (Goes
-    (record {
-      at = at + 4 + suc left;
-      total = total + suc left;
-      reading = reading;
-      point = Chunk left;
-    }))))
-    (le-ltb max_bytes (total + suc left) fits)
+    landed (cond b (Ends (SideRefuses (file_fault at TooManyBytes)))
+    (Goes (siding_in (at + 4 + suc left) (total + suc left) reading
+    (Chunk left))))) (le-ltb max_bytes (total + suc left) fits)
 
 pub chunk_runs : {M : Type 0} (judge : Judged M) (position : Position) (at total : ℕ)
     (r t : Reading M) (header got : List ℕ) (left : ℕ) → IsWord header (length got + left)
     → 0 < length got + left → total + (length got + left) ≤ max_bytes
     → after (stream_next judge.decide) (Runs r) got ≡ Runs t
-    → after (side_next judge.decide (place_in position))
-    (Runs (record { at = at; total = total; reading = r; point = Length [] }))
+    → after (side_next judge.decide (place_in position)) (Runs (siding_in at total r (Length [])))
     (header ++ got)
-    ≡ Runs (record {
-      at = at + 4 + (length got + left);
-      total = total + (length got + left);
-      reading = t;
-      point = awaiting left;
-    })
+    ≡ Runs (siding_in (at + 4 + (length got + left)) (total + (length got + left)) t
+    (awaiting left))
 chunk_runs judge position at total r t header got left word some fits e =
     after-append (side_next judge.decide (place_in position))
-    (Runs (record { at = at; total = total; reading = r; point = Length [] })) header got
+    (Runs (siding_in at total r (Length []))) header got
     ∙ ap (λ run. after (side_next judge.decide (place_in position)) run got)
     (opens judge position at total (length got + left) r header word some fits)
     ∙ counted_runs (stream_next judge.decide) (side_next judge.decide (place_in position))
-    (λ n s.
-    record {
-      at = at + 4 + (length got + left);
-      total = total + (length got + left);
-      reading = s;
-      point = awaiting n;
-    })
-    (λ _ shown. Ends (SideRefuses (place_in position shown))) (λ n s byte. refl)
-    got (length got + left) left r t refl e
+    (λ n s. siding_in (at + 4 + (length got + left)) (total + (length got + left)) s
+    (awaiting n)) (λ _ shown. Ends (SideRefuses (place_in position shown)))
+    (λ n s byte. refl) got (length got + left) left r t refl e
 
 pub chunk_stops : {M : Type 0} (judge : Judged M) (position : Position) (at total : ℕ)
     (r : Reading M) (header got : List ℕ) (left : ℕ) (shown : RecordFault)
     → IsWord header (length got + left) → 0 < length got + left
     → total + (length got + left) ≤ max_bytes
     → after (stream_next judge.decide) (Runs r) got ≡ Stops shown
-    → after (side_next judge.decide (place_in position))
-    (Runs (record { at = at; total = total; reading = r; point = Length [] }))
+    → after (side_next judge.decide (place_in position)) (Runs (siding_in at total r (Length [])))
     (header ++ got) ≡ Stops (SideRefuses (place_in position shown))
 chunk_stops judge position at total r header got left shown word some fits e =
     after-append (side_next judge.decide (place_in position))
-    (Runs (record { at = at; total = total; reading = r; point = Length [] })) header got
+    (Runs (siding_in at total r (Length []))) header got
     ∙ ap (λ run. after (side_next judge.decide (place_in position)) run got)
     (opens judge position at total (length got + left) r header word some fits)
     ∙ counted_stops (stream_next judge.decide) (side_next judge.decide (place_in position))
-    (λ n s.
-    record {
-      at = at + 4 + (length got + left);
-      total = total + (length got + left);
-      reading = s;
-      point = awaiting n;
-    })
-    (λ _ shown. Ends (SideRefuses (place_in position shown))) (λ n s byte. refl)
-    got (length got + left) left r shown refl e
+    (λ n s. siding_in (at + 4 + (length got + left)) (total + (length got + left)) s
+    (awaiting n)) (λ _ shown. Ends (SideRefuses (place_in position shown)))
+    (λ n s byte. refl) got (length got + left) left r shown refl e
 
 chunks_run : {M : Type 0} (judge : Judged M) (position : Position) (chunks : List (List ℕ))
     (at total end sum : ℕ) (r t : Reading M) (front : List ℕ) → Joins IsChunk front chunks
     → after (stream_next judge.decide) (Runs r) (concat chunks) ≡ Runs t
-    → total + length (concat chunks) ≤ max_bytes
-    → end ≡ at + length front → sum ≡ total + length (concat chunks)
-    → after (side_next judge.decide (place_in position))
-    (Runs (record { at = at; total = total; reading = r; point = Length [] })) front
-    ≡ Runs (record { at = end; total = sum; reading = t; point = Length [] })
+    → total + length (concat chunks) ≤ max_bytes → end ≡ at + length front
+    → sum ≡ total + length (concat chunks)
+    → after (side_next judge.decide (place_in position)) (Runs (siding_in at total r (Length [])))
+    front ≡ Runs (siding_in end sum t (Length []))
 chunks_run judge position [] at total end sum r t front h e fits end_is sum_is =
     let same : r ≡ t = cc in
     let at_end : at ≡ end = omega (arith, ap length h) in
     let all : total ≡ sum = omega arith in
     ap
     (after (side_next judge.decide (place_in position))
-    (Runs (record { at = at; total = total; reading = r; point = Length [] }))) h
-    ∙ ap (λ u. Runs (record { at = at; total = total; reading = u; point = Length [] })) same
-    ∙ ap₂ (λ n m. Runs (record { at = n; total = m; reading = t; point = Length [] })) at_end all
+    (Runs (siding_in at total r (Length [])))) h
+    ∙ ap (λ u. Runs (siding_in at total u (Length []))) same
+    ∙ ap₂ (λ n m. Runs (siding_in n m t (Length []))) at_end all
 chunks_run judge position (chunk ∷ chunks) at total end sum r t front h e fits end_is sum_is =
     let parts = length-append chunk (concat chunks) in
     let mid = ran_to (stream_next judge.decide) (Runs r) chunk (concat chunks) t e in
@@ -451,10 +419,10 @@ chunks_run judge position (chunk ∷ chunks) at total end sum r t front h e fits
     let first : total + (length chunk + 0) ≤ max_bytes = omega arith in
     ap
     (after (side_next judge.decide (place_in position))
-    (Runs (record { at = at; total = total; reading = r; point = Length [] })))
+    (Runs (siding_in at total r (Length []))))
     (h.2 ∙ ap (λ (b : List ℕ). b ++ h.1) h.3.split)
     ∙ after-append (side_next judge.decide (place_in position))
-    (Runs (record { at = at; total = total; reading = r; point = Length [] }))
+    (Runs (siding_in at total r (Length [])))
     (h.3.header ++ chunk) h.1
     ∙ ap (λ run. after (side_next judge.decide (place_in position)) run h.1) (chunk_runs judge
     position at total r mid.0 h.3.header chunk 0 (h.3.word.0, h.3.word.1 ∙ whole) some first
@@ -477,10 +445,10 @@ chunks_run judge position (chunk ∷ chunks) at total end sum r t front h e fits
 stream_front : {M : Type 0} (judge : Judged M) (position : Position) (front stream : List ℕ)
     (reading : Reading M) (at total : ℕ) → AreChunks front stream
     → after (stream_next judge.decide) (Runs unread) stream ≡ Runs reading
-    → position.before + length stream ≤ max_bytes
-    → at ≡ position.start + length front → total ≡ position.before + length stream
+    → position.before + length stream ≤ max_bytes → at ≡ position.start + length front
+    → total ≡ position.before + length stream
     → after (side_next judge.decide (place_in position)) (Runs (side_start position)) front
-    ≡ Runs (record { at = at; total = total; reading = reading; point = Length [] })
+    ≡ Runs (siding_in at total reading (Length []))
 stream_front judge position front stream reading at total chunks e fits at_is total_is =
     let size = ap length chunks.carried in
     chunks_run judge position chunks.chunks position.start position.before at total unread reading
@@ -491,11 +459,11 @@ stream_front judge position front stream reading at total chunks e fits at_is to
 later : {M : Type 0} (judge : Judged M) (position : Position) (bytes front back stream : List ℕ)
     (reading : Reading M) (at total : ℕ) → bytes ≡ front ++ back → AreChunks front stream
     → after (stream_next judge.decide) (Runs unread) stream ≡ Runs reading
-    → position.before + length stream ≤ max_bytes
-    → at ≡ position.start + length front → total ≡ position.before + length stream
+    → position.before + length stream ≤ max_bytes → at ≡ position.start + length front
+    → total ≡ position.before + length stream
     → after (side_next judge.decide (place_in position)) (Runs (side_start position)) bytes
     ≡ after (side_next judge.decide (place_in position))
-    (Runs (record { at = at; total = total; reading = reading; point = Length [] })) back
+    (Runs (siding_in at total reading (Length []))) back
 later judge position bytes front back stream reading at total split chunks e fits at_is total_is =
     ap (after (side_next judge.decide (place_in position)) (Runs (side_start position))) split
     ∙ after-append (side_next judge.decide (place_in position)) (Runs (side_start position))
@@ -507,13 +475,13 @@ point_runs : {M : Type 0} (judge : Judged M) (position : Position) (bytes : List
     (reading : Reading M) (point : Point)
     → HasPoint judge.says position bytes at total reading point
     → after (side_next judge.decide (place_in position)) (Runs (side_start position)) bytes
-    ≡ Runs (record { at = at; total = total; reading = reading; point = point })
+    ≡ Runs (siding_in at total reading point)
 point_runs judge position bytes at total reading (Length part) h =
     later judge position bytes h.front part h.stream reading at total h.split h.chunks
     (stream_runs judge h.stream reading h.read) (omega (arith, h.fits, h.total_is)) h.at_is
     h.total_is
     ∙ nested_runs word_next (side_next judge.decide (place_in position))
-    (λ p. record { at = at; total = total; reading = reading; point = Length p })
+    (λ p. siding_in at total reading (Length p))
     (counted (place_in position) at total reading) (λ s byte. refl) part [] part
     (word_runs part h.short)
 point_runs judge position bytes at total reading (Chunk left) h =
@@ -540,7 +508,7 @@ point_runs judge position bytes at total reading (Chunk left) h =
     (omega arith) (omega (arith, h.fits))
     (sym (after-append (stream_next judge.decide) (Runs unread) h.stream h.got
     ∙ ap (λ run. after (stream_next judge.decide) run h.got) mid.1) ∙ all)
-    ∙ ap₂ (λ n m. Runs (record { at = n; total = m; reading = reading; point = Chunk left })) at_is
+    ∙ ap₂ (λ n m. Runs (siding_in n m reading (Chunk left))) at_is
     total_is
 
 pub side_runs : {M : Type 0} (judge : Judged M) (position : Position) (bytes : List ℕ)
@@ -556,7 +524,7 @@ pub side_closes : {M : Type 0} (judge : Judged M) (position : Position) (bytes :
     ≡ Stops (SideCloses at total messages)
 side_closes {M} judge position bytes at total messages h =
     let c = h.closed in
-    let whole : Reading M = record { messages = messages; joining = Between } in
+    let whole : Reading M = reading_with messages Between in
     let at_is : position.start + length c.front + 4 ≡ at =
     omega (arith, h.at_is, ap length c.split, length-append c.front c.last, c.closes.0) in
     later judge position bytes c.front c.last h.stream whole (position.start + length c.front)

@@ -1,6 +1,6 @@
 -- A rule of one side: where it holds of bytes, the machine stops with its fault, or had stopped
 -- before.
-use Rattle.capture3.proofs.Common.{◌≡◌, ◌⊎◌, inl, inr, ℕ, zero, suc, ◌+◌, ◌<◌, ◌≤◌, List, [], ◌∷◌, ◌++◌, length, refl, sym, ap, ap₂, subst, ◌∙◌, append_assoc, arith, length-append, Result, Ok, Err, Bool, true, false, cond, nat_lt, ltb-false, lt-ltb, concat, Goes, Ends, Run, Runs, Stops, Stopped, landed, after, Joining, Between, Header, Bytes, Whole, TooLong, join_next, IsWord, Joins, after-append, nested_runs, TooManyBytes, RecordTooLong, RecordCut, Stop, Fault, max_bytes, IsChunk, AreChunks, IsStream, Reading, judged, recorded, stream_next, unread, record_stops, too_long_stops, joining_runs, side_start}
+use Rattle.capture3.proofs.Common.{◌≡◌, ◌⊎◌, inl, inr, ℕ, zero, suc, ◌+◌, ◌<◌, ◌≤◌, List, [], ◌∷◌, ◌++◌, length, refl, sym, ap, ap₂, subst, ◌∙◌, append_assoc, arith, length-append, Result, Ok, Err, Bool, true, false, cond, nat_lt, ltb-false, lt-ltb, concat, Goes, Ends, Run, Runs, Stops, Stopped, landed, after, Joining, Between, Header, Bytes, Whole, TooLong, join_next, IsWord, Joins, after-append, nested_runs, TooManyBytes, RecordTooLong, RecordCut, Stop, Fault, max_bytes, IsChunk, AreChunks, IsStream, Reading, judged, recorded, stream_next, unread, record_stops, too_long_stops, joining_runs, side_start, siding_in, reading_with}
 use Rattle.record_mark.specs.RecordMark.{Marks, IsOpen, IsTooLong}
 use Rattle.capture3.specs.Records.{RecordFault, fault_at, StreamShows, IsCut}
 use Rattle.capture3.specs.Sides.{Position, file_fault, place_in, PassesBytes, CutsRecord, ShowsRecord, SideShows}
@@ -19,41 +19,34 @@ AnyFault fault = Unit {0}
 -- after so many records
 abbrev pub Recorded : {M : Type 0} → ℕ → Run (Reading M) RecordFault → Type 0
 Recorded {M} n run = ((messages : List M) × (length messages ≡ n)
-    × (run ≡ Runs (record { messages = messages; joining = Between }))) ⊎ Gone AnyFault run
+    × (run ≡ Runs (reading_with messages Between))) ⊎ Gone AnyFault run
 
 records_or : {M : Type 0} (judge : Judged M) (bodies : List (List ℕ)) (before : List M)
     (stream : List ℕ) (n : ℕ) → n ≡ length before + length bodies → Marks stream bodies
-    → Recorded n (after (stream_next judge.decide)
-    (Runs (record { messages = before; joining = Between })) stream)
+    → Recorded n (after (stream_next judge.decide) (Runs (reading_with before Between)) stream)
 records_or judge [] before stream n size h =
     inl (
       before,
       omega arith,
-      ap
-          (after (stream_next judge.decide)
-          (Runs (record { messages = before; joining = Between }))) h,
+      ap (after (stream_next judge.decide) (Runs (reading_with before Between))) h,
     )
 records_or {M} judge (body ∷ bodies) before stream n size h =
     subst (Recorded n) (sym steps) (go (judge.decide before body) (λ m.
     records_or judge bodies (before ++ m ∷ []) h.1 n
     (omega (arith, length-append before (m ∷ []))) h.4))
   where
-    steps : after (stream_next judge.decide)
-        (Runs (record { messages = before; joining = Between })) stream
+    steps : after (stream_next judge.decide) (Runs (reading_with before Between)) stream
         ≡ after (stream_next judge.decide) (landed (judged before (judge.decide before body))) h.1
     steps =
-        ap
-        (after (stream_next judge.decide)
-        (Runs (record { messages = before; joining = Between }))) h.2
-        ∙ after-append (stream_next judge.decide)
-        (Runs (record { messages = before; joining = Between })) h.0 h.1
+        ap (after (stream_next judge.decide) (Runs (reading_with before Between))) h.2
+        ∙ after-append (stream_next judge.decide) (Runs (reading_with before Between)) h.0 h.1
         ∙ ap (λ r. after (stream_next judge.decide) r h.1)
         (record_closes judge before h.0 (Whole body) (record_stops h.0 body h.3))
 
     go : (r : Result M Stop)
         → ((m : M)
-        → Recorded n (after (stream_next judge.decide)
-        (Runs (record { messages = before ++ m ∷ []; joining = Between })) h.1))
+        → Recorded n
+        (after (stream_next judge.decide) (Runs (reading_with (before ++ m ∷ []) Between)) h.1))
         → Recorded n (after (stream_next judge.decide) (landed (judged before r)) h.1)
     go (Ok m) more = more m
     go (Err stop) more =
@@ -109,7 +102,7 @@ open_in last body (inr o) = (Bytes body o.0 o.1, refl, joining_runs last (Bytes 
 -- after a stream that is cut, a record is open
 abbrev Opened : {M : Type 0} → ℕ → List ℕ → Run (Reading M) RecordFault → Type 0
 Opened {M} n body run = ((messages : List M) × (j : Joining) × (length messages ≡ n) × IsIn body j
-    × (run ≡ Runs (record { messages = messages; joining = j }))) ⊎ Gone AnyFault run
+    × (run ≡ Runs (reading_with messages j))) ⊎ Gone AnyFault run
 
 cut_or : {M : Type 0} (judge : Judged M) (stream : List ℕ) (fault : RecordFault)
     (h : IsCut stream fault)
@@ -129,9 +122,8 @@ cut_or {M} judge stream fault h =
           r.1,
           o.1,
           ap (λ run. after (stream_next judge.decide) run h.last) r.2
-              ∙ nested_runs join_next (stream_next judge.decide)
-              (λ j. record { messages = r.0; joining = j }) (recorded judge.decide r.0)
-              (λ j byte. refl) h.last Between o.0 o.2,
+              ∙ nested_runs join_next (stream_next judge.decide) (reading_with r.0)
+              (recorded judge.decide r.0) (λ j byte. refl) h.last Between o.0 o.2,
         )
     go (inr gone) =
         inr (gone_more (stream_next judge.decide) AnyFault
@@ -145,7 +137,7 @@ RefusedSide (SideRefuses fault) = Unit {0}
 
 -- at a length word
 abbrev pub at_length : {M : Type 0} → ℕ → ℕ → Reading M → Siding M
-at_length at total reading = record { at = at; total = total; reading = reading; point = Length [] }
+at_length at total reading = siding_in at total reading (Length [])
 
 -- a length word within the limit, or past it
 header_or : {M : Type 0} (judge : Judged M) (position : Position) (at total n : ℕ) (r : Reading M)
@@ -166,12 +158,7 @@ header_or {M} judge position at total (suc left) r header word some =
         ∙ ap
         (λ b.
         landed (cond b (Ends (SideRefuses (file_fault at TooManyBytes)))
-        (Goes (record {
-          at = at + 4 + suc left;
-          total = total + suc left;
-          reading = r;
-          point = Chunk left;
-        })))) e)
+        (Goes (siding_in (at + 4 + suc left) (total + suc left) r (Chunk left))))) e)
     go false e = inl (ltb-false max_bytes (total + suc left) e)
 
 -- after a chunk's length word and some of its bytes
@@ -181,12 +168,8 @@ InsideChunk {M} judge position at total r got left run =
     ((t : Reading M) × (total + (length got + left) ≤ max_bytes)
     × (after (stream_next judge.decide) (Runs r) got ≡ Runs t)
     × (run
-    ≡ Runs (record {
-      at = at + 4 + (length got + left);
-      total = total + (length got + left);
-      reading = t;
-      point = awaiting left;
-    })))
+    ≡ Runs (siding_in (at + 4 + (length got + left)) (total + (length got + left)) t
+    (awaiting left))))
     ⊎ Gone RefusedSide run
 
 chunk_or : {M : Type 0} (judge : Judged M) (position : Position) (at total : ℕ) (r : Reading M)
@@ -366,16 +349,14 @@ word_some word n h = omega (arith, h.0)
 -- a stream is whole with its messages, or it was refused
 abbrev pub ClosedSide : {M : Type 0} → Judged M → List ℕ → ℕ → ℕ → Run (Siding M) (SideEnd M)
     → Type 0
-ClosedSide {M} judge stream end sum run =
-    ((messages : List M)
+ClosedSide {M} judge stream end sum run = ((messages : List M)
     × (after (stream_next judge.decide) (Runs unread) stream
-    ≡ Runs (record { messages = messages; joining = Between }))
+    ≡ Runs (reading_with messages Between))
     × (run ≡ Stops (SideCloses end sum messages))) ⊎ Gone RefusedSide run
 
 closing_or : {M : Type 0} (judge : Judged M) (stream : List ℕ) (position : Position)
     (at total end : ℕ) (messages : List M) (joining : Joining) → end ≡ at + 4
-    → after (stream_next judge.decide) (Runs unread) stream
-    ≡ Runs (record { messages = messages; joining = joining })
+    → after (stream_next judge.decide) (Runs unread) stream ≡ Runs (reading_with messages joining)
     → ClosedSide judge stream end total
     (Stops (closing (place_in position) at total messages joining))
 closing_or judge stream position at total end messages Between is e =
@@ -429,12 +410,8 @@ counted_passes position at total (suc left) r some passes =
     ap
     (λ b.
     landed (cond b (Ends (SideRefuses (file_fault at TooManyBytes))) (Goes
-    (record {
-      at = at + 4 + suc left;
-      total = total + suc left;
-      reading = r;
-      point = Chunk left;
-    })))) (lt-ltb max_bytes (total + suc left) passes)
+    (siding_in (at + 4 + suc left) (total + suc left) r (Chunk left)))))
+    (lt-ltb max_bytes (total + suc left) passes)
 
 passes_over : {M : Type 0} (judge : Judged M) (position : Position) (bytes : List ℕ) (fault : Fault)
     → PassesBytes position bytes fault
@@ -500,7 +477,7 @@ cuts_over {M} judge position bytes fault h =
         → closing (place_in position) (position.start + length h.closed.front)
         (position.before + length h.stream) t.messages t.joining ≡ SideRefuses fault
     here t e (inl o) =
-        let same : t ≡ record { messages = o.0; joining = o.1 } = let f = o.4 in cc in
+        let same : t ≡ reading_with o.0 o.1 = let f = o.4 in cc in
         ap
         (λ (s : Reading M).
         closing (place_in position) (position.start + length h.closed.front)

@@ -1,5 +1,5 @@
 -- A whole stream, with its messages or its first fault.
-use Rattle.capture3.proofs.Common.{◌≡◌, inl, inr, ℕ, List, [], ◌∷◌, ◌++◌, refl, sym, ap, subst, ◌∙◌, append_assoc, append-nil, Ok, Ends, Run, Runs, Stops, Stopped, after, landed, last_running, Joining, Between, Header, Bytes, Joined, Whole, TooLong, join_next, IsOpen, AreBytes, RecordTooLong, Judgement, Holds, RecordFault, fault_at, FirstRecordFault, RefusesNext, NextIsTooLong, NextIsCut, record_stops, too_long_stops, Judge, Reading, judged, recorded, stream_next, unread, StreamEnd, Held, Faulty, left_in, end_of, rest_end, stream_end}
+use Rattle.capture3.proofs.Common.{◌≡◌, inl, inr, ℕ, List, [], ◌∷◌, ◌++◌, refl, sym, ap, subst, ◌∙◌, append_assoc, append-nil, Ok, Ends, Run, Runs, Stops, Stopped, after, landed, last_running, Joining, Between, Header, Bytes, Joined, Whole, TooLong, join_next, IsOpen, AreBytes, RecordTooLong, Judgement, Holds, RecordFault, fault_at, FirstRecordFault, RefusesNext, NextIsTooLong, NextIsCut, record_stops, too_long_stops, Judge, Reading, judged, recorded, stream_next, unread, StreamEnd, Held, Faulty, left_in, end_of, rest_end, stream_end, reading_with}
 use Rattle.record_mark.proofs.Machines.{Tells, after-append, after_stopped, nested_last, nested_runs, nested_stops, last_running-append, last_stopped}
 use Rattle.capture3.proofs.Lemmas.Messages.BodyProgramLemmas.{Judged}
 use Rattle.capture3.proofs.Lemmas.Sides.StreamMachineLemmas.{HasRead, ShowsAsFirst, stream_leads, between_holds, nothing_read, held_runs, stream_runs}
@@ -19,7 +19,7 @@ rest_after {M} judge s t front rest runs =
     ∙ ap (λ r. after (stream_next judge) r rest) runs)
 
 abbrev pub between : {M : Type 0} → List M → Reading M
-between messages = record { messages = messages; joining = Between }
+between messages = reading_with messages Between
 
 -- the next record is accepted
 pub rest_accepts : {M : Type 0} (judge : Judge M) (messages : List M) (front rest body : List ℕ)
@@ -29,7 +29,7 @@ pub rest_accepts : {M : Type 0} (judge : Judge M) (messages : List M) (front res
     ≡ rest_end judge (between (messages ++ m ∷ [])) rest
 rest_accepts judge messages front rest body m whole ok =
     rest_after judge (between messages) (between (messages ++ m ∷ [])) front rest
-    (nested_stops join_next (stream_next judge) (λ j. record { messages = messages; joining = j })
+    (nested_stops join_next (stream_next judge) (reading_with messages)
     (recorded judge messages) (λ s byte. refl) front Between (Whole body) whole
     ∙ ap (λ r. landed (judged messages r)) ok)
 
@@ -48,17 +48,15 @@ rest_refuses {M} judge messages front rest x fault stops ends =
   where
     stop : after (stream_next judge) (Runs (between messages)) front ≡ Stops fault
     stop =
-        nested_stops join_next (stream_next judge)
-        (λ j. record { messages = messages; joining = j }) (recorded judge messages)
+        nested_stops join_next (stream_next judge) (reading_with messages) (recorded judge messages)
         (λ s byte. refl) front Between x stops ∙ ap landed ends
 
     last_is : last_running (stream_next judge) (between messages) (front ++ rest)
-        ≡ record { messages = messages; joining = last_running join_next Between front }
+        ≡ reading_with messages (last_running join_next Between front)
     last_is =
         last_stopped (stream_next judge) (between messages) front rest fault stop
-        ∙ nested_last join_next (stream_next judge)
-        (λ j. record { messages = messages; joining = j }) (recorded judge messages)
-        (λ s byte. refl) front Between x fault ends stops
+        ∙ nested_last join_next (stream_next judge) (reading_with messages)
+        (recorded judge messages) (λ s byte. refl) front Between x fault ends stops
 
     stays : (more : List ℕ)
         → end_of messages (after (stream_next judge) (Stops fault) more) ≡ Faulty messages fault
@@ -71,8 +69,8 @@ pub rest_leaves : {M : Type 0} (judge : Judge M) (messages : List M) (rest : Lis
     → rest_end judge (between messages) rest ≡ left_in messages j
 rest_leaves judge messages rest j runs =
     ap (end_of (last_running (stream_next judge) (between messages) rest).messages)
-    (nested_runs join_next (stream_next judge) (λ k. record { messages = messages; joining = k })
-    (recorded judge messages) (λ s byte. refl) rest Between j runs)
+    (nested_runs join_next (stream_next judge) (reading_with messages) (recorded judge messages)
+    (λ s byte. refl) rest Between j runs)
 
 -- ---- a whole stream
 
@@ -120,12 +118,11 @@ stream_ends {M} judge stream (Faulty messages fault)
 stream_ends {M} judge stream (Faulty messages fault)
     (NextIsCut front last body split holds is_open is) = go is_open
   where
-    at_joining : (j : Joining)
-        → HasRead judge.says stream (record { messages = messages; joining = j })
+    at_joining : (j : Joining) → HasRead judge.says stream (reading_with messages j)
         → stream_end judge.decide stream ≡ left_in messages j
     at_joining j read =
         ap (end_of (last_running (stream_next judge.decide) unread stream).messages)
-        (stream_runs judge stream (record { messages = messages; joining = j }) read)
+        (stream_runs judge stream (reading_with messages j) read)
 
     go : IsOpen last body → stream_end judge.decide stream ≡ Faulty messages fault
     go (inl o) =
@@ -138,8 +135,7 @@ stream_ends {M} judge stream (Faulty messages fault)
         ∙ ap (Faulty messages) (sym is)
 
 left_ends : {M : Type 0} (judge : Judgement M) (stream : List ℕ) (messages : List M)
-    (joining : Joining)
-    → HasRead judge stream (record { messages = messages; joining = joining })
+    (joining : Joining) → HasRead judge stream (reading_with messages joining)
     → EndsStream judge stream (left_in messages joining)
 left_ends judge stream messages Between h = between_holds judge stream messages h
 left_ends judge stream messages (Header body part) h =

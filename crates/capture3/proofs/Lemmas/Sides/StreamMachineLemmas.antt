@@ -1,5 +1,5 @@
 -- The machine for a stream against records and messages.
-use Rattle.capture3.proofs.Common.{◌≡◌, inl, inr, ℕ, suc, List, [], ◌∷◌, ◌++◌, length, refl, sym, ap, subst, ◌∙◌, append_assoc, append-nil, arith, Result, Ok, Err, Runs, Stops, landed, after, Leads, leads_within, after-append, nested_runs, nested_stops, Joins-snoc, AreBytes, Reason, RecordTooLong, Stop, Reading, judged, recorded, stream_next, unread, joined_body}
+use Rattle.capture3.proofs.Common.{◌≡◌, inl, inr, ℕ, suc, List, [], ◌∷◌, ◌++◌, length, refl, sym, ap, subst, ◌∙◌, append_assoc, append-nil, arith, Result, Ok, Err, Runs, Stops, landed, after, Leads, leads_within, after-append, nested_runs, nested_stops, Joins-snoc, AreBytes, Reason, RecordTooLong, Stop, Reading, judged, recorded, stream_next, unread, joined_body, reading_with}
 use Rattle.record_mark.specs.RecordMark.{IsRecord, IsUnfinished, Marks}
 use Rattle.record_mark.specs.Joining.{Joining, Between, Header, Bytes, Joined, Whole, TooLong, join_next, HasJoined, EndsRecord}
 use Rattle.record_mark.proofs.Joins.{join_leads, record_stops, joining_runs}
@@ -140,7 +140,7 @@ stream_leads judge stream s byte are h =
     let split : stream ++ byte ∷ [] ≡ h.front ++ (h.last ++ byte ∷ []) =
     ap (λ (b : List ℕ). b ++ byte ∷ []) h.split ∙ append_assoc h.front h.last (byte ∷ []) in
     leads_within HasJoined EndsRecord (HasRead judge.says) (ShowsAsFirst judge.says)
-    (λ j. record { messages = s.messages; joining = j }) (recorded judge.decide s.messages)
+    (reading_with s.messages) (recorded judge.decide s.messages)
     (h.last ++ byte ∷ []) (stream ++ byte ∷ [])
     (λ j joined.
     record {
@@ -158,8 +158,7 @@ stream_leads judge stream s byte are h =
 
 -- between two records the stream is whole records
 pub between_holds : {M : Type 0} (judge : Judgement M) (stream : List ℕ) (messages : List M)
-    → HasRead judge stream (record { messages = messages; joining = Between })
-    → Holds judge stream messages
+    → HasRead judge stream (reading_with messages Between) → Holds judge stream messages
 between_holds judge stream messages h =
     subst (λ (b : List ℕ). Holds judge b messages)
     (sym (append-nil h.front) ∙ ap (λ (b : List ℕ). h.front ++ b) (sym h.joined) ∙ sym h.split)
@@ -173,45 +172,40 @@ nothing_read judge =
 
 pub record_closes : {M : Type 0} (judge : Judged M) (messages : List M) (bytes : List ℕ)
     (x : Joined) → after join_next (Runs Between) bytes ≡ Stops x
-    → after (stream_next judge.decide) (Runs (record { messages = messages; joining = Between }))
+    → after (stream_next judge.decide) (Runs (reading_with messages Between))
     bytes ≡ landed (recorded judge.decide messages x)
 record_closes judge messages bytes x e =
-    nested_stops join_next (stream_next judge.decide)
-    (λ j. record { messages = messages; joining = j }) (recorded judge.decide messages)
-    (λ s byte. refl) bytes Between x e
+    nested_stops join_next (stream_next judge.decide) (reading_with messages)
+    (recorded judge.decide messages) (λ s byte. refl) bytes Between x e
 
 records_run : {M : Type 0} (judge : Judged M) (bodies : List (List ℕ)) (before messages : List M)
     (stream : List ℕ) → Marks stream bodies → AreMessages judge.says before bodies messages
-    → after (stream_next judge.decide) (Runs (record { messages = before; joining = Between }))
-    stream ≡ Runs (record { messages = before ++ messages; joining = Between })
+    → after (stream_next judge.decide) (Runs (reading_with before Between)) stream
+    ≡ Runs (reading_with (before ++ messages) Between)
 records_run judge [] before messages stream h j =
-    ap (after (stream_next judge.decide) (Runs (record { messages = before; joining = Between }))) h
-    ∙ ap (λ ms. Runs (record { messages = ms; joining = Between }))
+    ap (after (stream_next judge.decide) (Runs (reading_with before Between))) h
+    ∙ ap (λ ms. Runs (reading_with ms Between))
     (sym (append-nil before) ∙ ap (λ ms. before ++ ms) (sym j))
 records_run judge (body ∷ bodies) before messages stream h j =
-    ap (after (stream_next judge.decide) (Runs (record { messages = before; joining = Between })))
-    h.2
-    ∙ after-append (stream_next judge.decide)
-    (Runs (record { messages = before; joining = Between })) h.0 h.1
-    ∙ ap (λ r. after (stream_next judge.decide) r h.1) (record_closes judge before h.0 (Whole body)
-    (record_stops h.0 body h.3)
+    ap (after (stream_next judge.decide) (Runs (reading_with before Between))) h.2
+    ∙ after-append (stream_next judge.decide) (Runs (reading_with before Between)) h.0 h.1
+    ∙ ap (λ r. after (stream_next judge.decide) r h.1) (record_closes judge before h.0
+    (Whole body) (record_stops h.0 body h.3)
     ∙ ap (λ r. landed (judged before r)) (judge.accepts before body j.0 j.3))
     ∙ records_run judge bodies (before ++ j.0 ∷ []) j.1 h.1 h.4 j.4
-    ∙ ap (λ ms. Runs (record { messages = ms; joining = Between }))
+    ∙ ap (λ ms. Runs (reading_with ms Between))
     (append_assoc before (j.0 ∷ []) j.1 ∙ ap (λ ms. before ++ ms) (sym j.2))
 
 -- after whole records the machine stands between two
 pub held_runs : {M : Type 0} (judge : Judged M) (stream : List ℕ) (messages : List M)
     → Holds judge.says stream messages
-    → after (stream_next judge.decide) (Runs unread) stream
-    ≡ Runs (record { messages = messages; joining = Between })
+    → after (stream_next judge.decide) (Runs unread) stream ≡ Runs (reading_with messages Between)
 held_runs judge stream messages holds = records_run judge holds.0 [] messages stream holds.1 holds.2
 
 later : {M : Type 0} (judge : Judged M) (stream front last : List ℕ) (messages : List M)
     → stream ≡ front ++ last → Holds judge.says front messages
     → after (stream_next judge.decide) (Runs unread) stream
-    ≡ after (stream_next judge.decide)
-    (Runs (record { messages = messages; joining = Between })) last
+    ≡ after (stream_next judge.decide) (Runs (reading_with messages Between)) last
 later judge stream front last messages split holds =
     ap (after (stream_next judge.decide) (Runs unread)) split
     ∙ after-append (stream_next judge.decide) (Runs unread) front last
@@ -221,9 +215,9 @@ pub stream_runs : {M : Type 0} (judge : Judged M) (stream : List ℕ) (s : Readi
     → HasRead judge.says stream s → after (stream_next judge.decide) (Runs unread) stream ≡ Runs s
 stream_runs judge stream s h =
     later judge stream h.front h.last s.messages h.split h.holds
-    ∙ nested_runs join_next (stream_next judge.decide)
-    (λ j. record { messages = s.messages; joining = j }) (recorded judge.decide s.messages)
-    (λ j byte. refl) h.last Between s.joining (joining_runs h.last s.joining h.joined)
+    ∙ nested_runs join_next (stream_next judge.decide) (reading_with s.messages)
+    (recorded judge.decide s.messages) (λ j byte. refl) h.last Between s.joining
+    (joining_runs h.last s.joining h.joined)
 
 -- at the last byte of a record that is refused
 pub refusal_stops : {M : Type 0} (judge : Judged M) (stream : List ℕ) (fault : RecordFault)
@@ -251,7 +245,7 @@ is_unfinished last (Bytes body l left) h = inr (inr (l, left, h))
 
 pub has_read : {M : Type 0} (judge : Judgement M) (stream : List ℕ) (messages : List M)
     → HoldsSoFar judge stream messages
-    → (j : Joining) × HasRead judge stream (record { messages = messages; joining = j })
+    → (j : Joining) × HasRead judge stream (reading_with messages j)
 has_read judge stream messages h =
     let j = has_joined h.last h.body h.unfinished in
     (j.0, record { front = h.front; last = h.last; split = h.split; holds = h.holds; joined = j.1 })

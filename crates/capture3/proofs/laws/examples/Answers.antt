@@ -1,4 +1,4 @@
-use Rattle.capture3.proofs.Common.{refl, sym, subst, [], ◌∷◌, ◌++◌, AfterEnd, BadEnum, BadMark, CaptureCut, TooManyBytes, WrongSide, Client, Server, file_fault, Reached}
+use Rattle.capture3.proofs.Common.{refl, sym, subst, [], ◌∷◌, ◌++◌, AfterEnd, BadEnum, BadMark, CaptureCut, TooManyBytes, WrongSide, Client, Server, file_fault, Reached, fault_in_record}
 use Rattle.capture3.specs.declared.fault.Place.TheVariants.{Record}
 use Rattle.capture3.specs.Entry.{Begin, Close, End, Turn}
 use Rattle.capture3.specs.Examples.{bad_mtype, bad_mtype_cut, bad_mtype_mixed, bad_mtype_mixed_cut, call_answered_by_call, client_chunk, magic_1, magic_2, null_capture, null_entries, null_mixed, null_mixed_swapped, server_chunk, word_0, word_1, word_3}
@@ -34,8 +34,8 @@ returns-clause-too_many_bytes c =
 pub returns-clause-bad_mtype : goal.returns-clause-bad_mtype
 unfolding all_bytes
 returns-clause-bad_mtype c =
-    fault_from_verdict bad_mtype (record { place = Record 1 Client 1 4; reason = BadEnum })
-    (checked bad_mtype refl) examples.bad_mtype
+    fault_from_verdict bad_mtype (fault_in_record 1 Client 1 4 BadEnum) (checked bad_mtype refl)
+    examples.bad_mtype
 
 pub returns-clause-bad_mtype_cut : goal.returns-clause-bad_mtype_cut
 unfolding all_bytes
@@ -96,7 +96,7 @@ returns-clause-too_many_mixed c =
 pub returns-clause-bad_mtype_mixed : goal.returns-clause-bad_mtype_mixed
 unfolding all_bytes
 returns-clause-bad_mtype_mixed c =
-    fault_from_verdict bad_mtype_mixed (record { place = Record 1 Client 1 4; reason = BadEnum })
+    fault_from_verdict bad_mtype_mixed (fault_in_record 1 Client 1 4 BadEnum)
     (checked bad_mtype_mixed refl) examples.bad_mtype_mixed
 
 pub returns-clause-bad_mtype_mixed_cut : goal.returns-clause-bad_mtype_mixed_cut
@@ -108,8 +108,7 @@ returns-clause-bad_mtype_mixed_cut c =
 pub returns-clause-call_answered_by_call : goal.returns-clause-call_answered_by_call
 unfolding all_bytes
 returns-clause-call_answered_by_call c =
-    fault_from_verdict call_answered_by_call
-    (record { place = Record 1 Server 1 4; reason = WrongSide })
+    fault_from_verdict call_answered_by_call (fault_in_record 1 Server 1 4 WrongSide)
     (checked call_answered_by_call refl) examples.call_answered_by_call
 
 pub returns-clause-reached_at_fault : goal.returns-clause-reached_at_fault

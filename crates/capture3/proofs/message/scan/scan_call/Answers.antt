@@ -1,6 +1,6 @@
 use Rattle.capture3.proofs.Common.{arith, ◌≢◌, length, Err, ap, refl, sym, ◌∙◌, false, WrongSide, Stop, judge_call, false≢true}
 use Rattle.capture3.proofs.Lemmas.Messages.BodySteps.{call_bad_start, call_trails, call_wrong_side, refusal_judged}
-use Rattle.capture3.proofs.Lemmas.Messages.MessageScanLemmas.{StartRead, arguments_stop, call_head_stops, call_scans, call_told, error_stops, stop_stops}
+use Rattle.capture3.proofs.Lemmas.Messages.MessageScanLemmas.{start_begun, arguments_stop, call_head_stops, call_scans, call_told, error_stops, stop_stops}
 use Rattle.capture3.proofs.message.scan.scan_call.Goals as goal
 
 pub returns-in_err-start-clause-err : goal.returns-in_err-start-clause-err
@@ -21,14 +21,10 @@ returns-then-start-clause-err g c before =
 
 pub returns-in_err-id-clause-err : goal.returns-in_err-id-clause-err
 returns-in_err-id-clause-err g c before =
-    let start =
-    rw (c.new-input.ensures.body, c.new-input.ensures.start) at c.in_ok-start.ensures.read in
-    let begun : StartRead c.args.body.now c.in_ok-start.start false c.start.new.input =
-    record {
-      start = start;
-      side = c.if-start.false;
-      same_body = c.in_ok-start.ensures.moves.same_body ∙ c.new-input.ensures.body;
-    } in
+    let begun =
+    start_begun c.args.body.now c.in_ok-start.start false c.new-input.result c.start.new.input
+    c.new-input.ensures.body c.new-input.ensures.start c.in_ok-start.ensures.read
+    c.in_ok-start.ensures.moves.same_body c.if-start.false in
     error_stops c.from_residual-in_err-id.result (judge_call before c.args.body.now)
     c.in_err-id.field-0.0 c.from_residual-in_err-id.ensures.1
     (call_head_stops before c.args.body.now c.in_ok-start.start c.start.new.input
@@ -36,14 +32,10 @@ returns-in_err-id-clause-err g c before =
 
 pub returns-in_err-scan_arguments-clause-err : goal.returns-in_err-scan_arguments-clause-err
 returns-in_err-scan_arguments-clause-err g c before =
-    let start =
-    rw (c.new-input.ensures.body, c.new-input.ensures.start) at c.in_ok-start.ensures.read in
-    let begun : StartRead c.args.body.now c.in_ok-start.start false c.start.new.input =
-    record {
-      start = start;
-      side = c.if-start.false;
-      same_body = c.in_ok-start.ensures.moves.same_body ∙ c.new-input.ensures.body;
-    } in
+    let begun =
+    start_begun c.args.body.now c.in_ok-start.start false c.new-input.result c.start.new.input
+    c.new-input.ensures.body c.new-input.ensures.start c.in_ok-start.ensures.read
+    c.in_ok-start.ensures.moves.same_body c.if-start.false in
     error_stops c.from_residual-in_err-scan_arguments.result (judge_call before c.args.body.now)
     c.in_err-scan_arguments.field-0.0 c.from_residual-in_err-scan_arguments.ensures.1
     (arguments_stop g.V.Visit.stands before c.args.body.now c.in_ok-start.start c.in_ok-id.id
@@ -53,14 +45,10 @@ returns-in_err-scan_arguments-clause-err g c before =
 
 pub returns-in_err-end-clause-err : goal.returns-in_err-end-clause-err
 returns-in_err-end-clause-err g c before =
-    let start =
-    rw (c.new-input.ensures.body, c.new-input.ensures.start) at c.in_ok-start.ensures.read in
-    let begun : StartRead c.args.body.now c.in_ok-start.start false c.start.new.input =
-    record {
-      start = start;
-      side = c.if-start.false;
-      same_body = c.in_ok-start.ensures.moves.same_body ∙ c.new-input.ensures.body;
-    } in
+    let begun =
+    start_begun c.args.body.now c.in_ok-start.start false c.new-input.result c.start.new.input
+    c.new-input.ensures.body c.new-input.ensures.start c.in_ok-start.ensures.read
+    c.in_ok-start.ensures.moves.same_body c.if-start.false in
     let r =
     call_told g.V.Visit.stands c.args.body.now c.in_ok-start.start c.in_ok-id.id c.start.new.input
     c.scan_call_head.new.input c.scan_arguments.new.input c.args.visitor.now
@@ -78,14 +66,10 @@ returns-in_err-end-clause-err g c before =
 
 pub returns-clause-ok : goal.returns-clause-ok
 returns-clause-ok g c =
-    let start =
-    rw (c.new-input.ensures.body, c.new-input.ensures.start) at c.in_ok-start.ensures.read in
-    let begun : StartRead c.args.body.now c.in_ok-start.start false c.start.new.input =
-    record {
-      start = start;
-      side = c.if-start.false;
-      same_body = c.in_ok-start.ensures.moves.same_body ∙ c.new-input.ensures.body;
-    } in
+    let begun =
+    start_begun c.args.body.now c.in_ok-start.start false c.new-input.result c.start.new.input
+    c.new-input.ensures.body c.new-input.ensures.start c.in_ok-start.ensures.read
+    c.in_ok-start.ensures.moves.same_body c.if-start.false in
     let r =
     call_told g.V.Visit.stands c.args.body.now c.in_ok-start.start c.in_ok-id.id c.start.new.input
     c.scan_call_head.new.input c.scan_arguments.new.input c.args.visitor.now

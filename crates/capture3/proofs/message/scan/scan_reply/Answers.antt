@@ -1,6 +1,6 @@
 use Rattle.capture3.proofs.Common.{arith, ◌≡◌, ◌≢◌, length, Some, None, Err, ap, refl, sym, ◌∙◌, true, NoCall, WrongSide, Stop, procedure_of, judge_reply, false≢true}
 use Rattle.capture3.proofs.Lemmas.Messages.BodySteps.{not_false, not_true, refusal_judged, reply_bad_start, reply_trails, reply_unasked, reply_wrong_side}
-use Rattle.capture3.proofs.Lemmas.Messages.MessageScanLemmas.{StartRead, error_stops, reply_head_stops, reply_scans, reply_told, results_stop, stop_stops}
+use Rattle.capture3.proofs.Lemmas.Messages.MessageScanLemmas.{start_begun, error_stops, reply_head_stops, reply_scans, reply_told, results_stop, stop_stops}
 use Rattle.capture3.proofs.message.scan.scan_reply.Goals as goal
 
 pub returns-in_err-start-clause-err : goal.returns-in_err-start-clause-err
@@ -32,14 +32,10 @@ returns-in_default-clause-err g c before table =
 
 pub returns-in_err-success-clause-err : goal.returns-in_err-success-clause-err
 returns-in_err-success-clause-err g c before table =
-    let start =
-    rw (c.new-input.ensures.body, c.new-input.ensures.start) at c.in_ok-start.ensures.read in
-    let begun : StartRead c.args.body.now c.in_ok-start.start true c.start.new.input =
-    record {
-      start = start;
-      side = not_false c.in_ok-start.start.is_reply c.if-not-start.false;
-      same_body = c.in_ok-start.ensures.moves.same_body ∙ c.new-input.ensures.body;
-    } in
+    let begun =
+    start_begun c.args.body.now c.in_ok-start.start true c.new-input.result c.start.new.input
+    c.new-input.ensures.body c.new-input.ensures.start c.in_ok-start.ensures.read
+    c.in_ok-start.ensures.moves.same_body (not_false c.in_ok-start.start.is_reply c.if-not-start.false) in
     let asked : procedure_of before c.in_ok-start.start.xid ≡ Some c.in-Some.id =
     sym (table c.in_ok-start.start.xid) ∙ sym c.procedure_of.ensures ∙ c.in-Some.is in
     error_stops c.from_residual-in_err-success.result (judge_reply before c.args.body.now)
@@ -49,14 +45,10 @@ returns-in_err-success-clause-err g c before table =
 
 pub returns-in_err-scan_results_after-clause-err : goal.returns-in_err-scan_results_after-clause-err
 returns-in_err-scan_results_after-clause-err g c before table =
-    let start =
-    rw (c.new-input.ensures.body, c.new-input.ensures.start) at c.in_ok-start.ensures.read in
-    let begun : StartRead c.args.body.now c.in_ok-start.start true c.start.new.input =
-    record {
-      start = start;
-      side = not_false c.in_ok-start.start.is_reply c.if-not-start.false;
-      same_body = c.in_ok-start.ensures.moves.same_body ∙ c.new-input.ensures.body;
-    } in
+    let begun =
+    start_begun c.args.body.now c.in_ok-start.start true c.new-input.result c.start.new.input
+    c.new-input.ensures.body c.new-input.ensures.start c.in_ok-start.ensures.read
+    c.in_ok-start.ensures.moves.same_body (not_false c.in_ok-start.start.is_reply c.if-not-start.false) in
     let asked : procedure_of before c.in_ok-start.start.xid ≡ Some c.in-Some.id =
     sym (table c.in_ok-start.start.xid) ∙ sym c.procedure_of.ensures ∙ c.in-Some.is in
     error_stops c.from_residual-in_err-scan_results_after.result
@@ -70,14 +62,10 @@ returns-in_err-scan_results_after-clause-err g c before table =
 
 pub returns-in_err-end-clause-err : goal.returns-in_err-end-clause-err
 returns-in_err-end-clause-err g c before table =
-    let start =
-    rw (c.new-input.ensures.body, c.new-input.ensures.start) at c.in_ok-start.ensures.read in
-    let begun : StartRead c.args.body.now c.in_ok-start.start true c.start.new.input =
-    record {
-      start = start;
-      side = not_false c.in_ok-start.start.is_reply c.if-not-start.false;
-      same_body = c.in_ok-start.ensures.moves.same_body ∙ c.new-input.ensures.body;
-    } in
+    let begun =
+    start_begun c.args.body.now c.in_ok-start.start true c.new-input.result c.start.new.input
+    c.new-input.ensures.body c.new-input.ensures.start c.in_ok-start.ensures.read
+    c.in_ok-start.ensures.moves.same_body (not_false c.in_ok-start.start.is_reply c.if-not-start.false) in
     let asked : procedure_of before c.in_ok-start.start.xid ≡ Some c.in-Some.id =
     sym (table c.in_ok-start.start.xid) ∙ sym c.procedure_of.ensures ∙ c.in-Some.is in
     let r =
@@ -98,14 +86,10 @@ returns-in_err-end-clause-err g c before table =
 
 pub returns-clause-ok : goal.returns-clause-ok
 returns-clause-ok g c =
-    let start =
-    rw (c.new-input.ensures.body, c.new-input.ensures.start) at c.in_ok-start.ensures.read in
-    let begun : StartRead c.args.body.now c.in_ok-start.start true c.start.new.input =
-    record {
-      start = start;
-      side = not_false c.in_ok-start.start.is_reply c.if-not-start.false;
-      same_body = c.in_ok-start.ensures.moves.same_body ∙ c.new-input.ensures.body;
-    } in
+    let begun =
+    start_begun c.args.body.now c.in_ok-start.start true c.new-input.result c.start.new.input
+    c.new-input.ensures.body c.new-input.ensures.start c.in_ok-start.ensures.read
+    c.in_ok-start.ensures.moves.same_body (not_false c.in_ok-start.start.is_reply c.if-not-start.false) in
     let r =
     reply_told g.V.Visit.stands c.args.body.now c.in_ok-start.start c.in-Some.id
     c.in_ok-success.success c.start.new.input c.scan_reply_head.new.input

@@ -1,4 +1,4 @@
-use Rattle.capture3.proofs.Common.{◌++◌, ◌∷◌, [], ap, sym, ◌∙◌, refl, is_some, Option, List, arith, ProcId, NumberedCall, found, numbered_calls, home_of, agrees}
+use Rattle.capture3.proofs.Common.{false≢true, ◌++◌, ◌∷◌, [], ap, sym, ◌∙◌, refl, is_some, Option, List, arith, ProcId, NumberedCall, found, numbered_calls, home_of, agrees}
 use Rattle.capture3.proofs.Lemmas.Connections.HashedCallsLemmas.{none_anywhere}
 use Rattle.capture3.proofs.Lemmas.Connections.LineLemmas.{found_before, gains_put, gains_known, lined_either, lined_push, puts_before, puts_push}
 use Rattle.capture3.proofs.message.counted_calls.CountedCalls.admit.Goals as goal
@@ -46,3 +46,10 @@ returns-then-home-self-clause-added g c is q =
     (puts_before line (line ++ one ∷ []) others c.args.xid c.args.id
     (puts_push line c.args.xid c.args.id (sym c.in_default.ensures)))
     q
+
+pub returns-in_err-push-clause-known : goal.returns-in_err-push-clause-known
+returns-in_err-push-clause-known g c known =
+    let none =
+    none_anywhere c.args.self.now.line.items (numbered_calls c.args.self.now.others.entries)
+    c.args.xid (sym c.in_default.ensures) (c.args.self.now.above c.args.xid (omega arith)) in
+    absurd (false≢true (sym (ap is_some none) ∙ known))

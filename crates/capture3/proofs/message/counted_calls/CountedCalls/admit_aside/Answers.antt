@@ -1,4 +1,4 @@
-use Rattle.capture3.proofs.Common.{◌≡◌, ◌==◌, ◌++◌, if◌then◌else◌, ap, sym, ◌∙◌, ℕ, Option, Some, None, List, arith, ProcId, NumberedCall, found, numbered_calls, FindsSame, Puts, agrees}
+use Rattle.capture3.proofs.Common.{false≢true, is_some, ◌≡◌, ◌==◌, ◌++◌, if◌then◌else◌, ap, sym, ◌∙◌, ℕ, Option, Some, None, List, arith, ProcId, NumberedCall, found, numbered_calls, FindsSame, Puts, agrees}
 use Rattle.std.proofs.lemmas.Result.{IfOk-weaker}
 use Rattle.capture3.proofs.Lemmas.Connections.HashedCallsLemmas.{none_anywhere}
 use Rattle.capture3.proofs.Lemmas.Connections.LineLemmas.{gains_put, gains_along, puts_before, same_before}
@@ -70,3 +70,29 @@ returns-else-branch-clause-added g c =
     _ _ (λ is gains true_is.
     gains_along (line ++ others) placed _ c.args.xid c.args.id all_same (gains true_is))
     c.admit_other-else-branch.ensures.added
+
+pub returns-in_err-place-clause-known : goal.returns-in_err-place-clause-known
+returns-in_err-place-clause-known g c known =
+    let line = c.args.self.now.line.items in
+    let others = numbered_calls c.args.self.now.others.entries in
+    let absent : found others c.args.xid ≡ None =
+    ap (λ (pairs : List (ℕ × ProcId)). found (numbered_calls pairs) c.args.xid)
+    (sym c.start_with.ensures.others)
+    ∙ c.start_with.new.self.above c.args.xid (omega arith) in
+    let none = none_anywhere line others c.args.xid c.requires.new absent in
+    absurd (false≢true (sym (ap is_some none) ∙ known))
+
+pub returns-else-branch-clause-known : goal.returns-else-branch-clause-known
+returns-else-branch-clause-known g c known =
+    let line = c.args.self.now.line.items in
+    let others = numbered_calls c.args.self.now.others.entries in
+    let now = c.place.new.self.line.items in
+    let same : FindsSame line now =
+    λ k.
+    c.in_ok-place.ensures.same c.if-branch.false k
+    ∙ ap (λ (l : List NumberedCall). found l k) c.start_with.ensures.line in
+    let all_same =
+    ap (λ (pairs : List (ℕ × ProcId)). found (now ++ numbered_calls pairs) c.args.xid)
+    (c.in_ok-place.ensures.others ∙ c.start_with.ensures.others)
+    ∙ same_before line now others same c.args.xid in
+    c.admit_other-else-branch.ensures.known (ap is_some all_same ∙ known)

@@ -1,5 +1,5 @@
 use Rattle.std.proofs.Math.Nat.{min-le_left, min-le_right}
-use Rattle.capture3.proofs.Common.{arith, ap, sym, ◌∙◌, Option, ProcId, numbered_calls, home_of, agrees}
+use Rattle.capture3.proofs.Common.{is_some, false≢true, ◌≡◌, ◌++◌, None, found, arith, ap, sym, ◌∙◌, Option, ProcId, numbered_calls, home_of, agrees}
 use Rattle.capture3.proofs.Lemmas.Connections.HashedCallsLemmas.{above_inserted, admitted, looked_up, puts_pair}
 use Rattle.capture3.proofs.Lemmas.Connections.LineLemmas.{found_behind}
 use Rattle.capture3.proofs.message.counted_calls.CountedCalls.admit_other.Goals as goal
@@ -31,3 +31,12 @@ returns-clause-added g c is =
     (puts_pair c.args.self.now.others c.insert.new.self c.args.xid c.args.id
     c.in_ok-other.ensures.updates.0)
     (sym (returns-clause-agrees g c) ∙ is)
+
+pub returns-in_err-other-clause-known : goal.returns-in_err-other-clause-known
+returns-in_err-other-clause-known g c known =
+    let line = c.args.self.now.line.items in
+    let pairs = c.args.self.now.others.entries in
+    let none : found (line ++ numbered_calls pairs) c.args.xid ≡ None =
+    found_behind line (numbered_calls pairs) c.args.xid c.requires.new
+    ∙ sym (looked_up c.args.xid pairs) ∙ c.in_err-other.ensures.absent in
+    absurd (false≢true (sym (ap is_some none) ∙ known))
