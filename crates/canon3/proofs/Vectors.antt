@@ -1,6 +1,8 @@
 -- Small captures are read by computing.
 use Rattle.canon3.proofs.Common.{◌≡◌, ℕ, true, List, refl, Ok, Err, Entry, bytes_of, canonical, call_layout, call_start, reply_layout, reply_start, arguments_of, results_of, checked, p, q}
 use Rattle.capture3.proofs.Lemmas.Container.BytesOf.{all_bytes}
+use Rattle.xdr3.specs.declared.reason.Reason.{Reason}
+use Rattle.xdr3.specs.declared.reason.Reason.TheVariants.{AuthLength, BadBool, BadEnum, Flavor, NoCall, RpcVersion, Short, TooLong, Trailing, WrongSide, XidConflict}
 use Rattle.xdr3.specs.Layout.{reading_layout}
 use Rattle.xdr3.specs.Reading.{reading}
 use Rattle.xdr3.specs.Shape.{optional}
@@ -11,22 +13,27 @@ use Rattle.rpc_head.specs.Shapes.{accept, auth_sys, call_head, credential, deny,
 use Rattle.nfs3_types.specs.Names.{names}
 use Rattle.nfs3_types.specs.Shapes.{attributes, file_kind, flavor, handle, mount_ok, post_op_attr, post_op_fh, results, status, time, times, wcc, wcc_attr, dir_op}
 use Rattle.procs3.specs.Shapes.{commit_ok, dirpath, entry_plus, file_range, lookup_ok, mount_results, readdirplus_args, readdirplus_ok}
-use Rattle.capture3.specs.declared.fault.Fault.{Fault}
-use Rattle.capture3.specs.FirstFault.{FirstFault}
+use Rattle.capture3.specs.declared.fault.Place.TheVariants.{Record}
+use Rattle.capture3.specs.declared.fault.Side.{Side}
+use Rattle.capture3.specs.declared.fault.Side.TheVariants.{Client, Server}
 use Rattle.capture3.specs.BodyProgram.{judge_call, judge_reply}
 use Rattle.capture3.specs.FileMachine.{verdict}
 use Rattle.capture3.proofs.Lemmas.Files.Verdicts.{fault_from_verdict, typed_from_verdict}
-use Rattle.canon3.specs.Vectors.{IsWorked, RefusedCalls, RefusedCredentials, RefusedReplies, by_system, by_system_entries, by_system_form, committing, committing_entries, committing_form, directory, directory_entries, directory_form, exchange, exchange_entries, exchange_form, mounting, mounting_entries, mounting_form, p_file, q_file, raw_entries, raw_of, two_calls_form}
+use Rattle.canon3.specs.Vectors.{IsRefusedAt, IsWorked, RefusedCalls, RefusedCredentials, RefusedReplies, by_system, by_system_entries, by_system_form, committing, committing_entries, committing_form, directory, directory_entries, directory_form, exchange, exchange_entries, exchange_form, mounting, mounting_entries, mounting_form, p_file, q_file, raw_entries, raw_of, two_calls_form}
 
 worked_by : (file : List ℕ) (entries : List Entry) (form : List ℕ) → all_bytes file ≡ true
     → verdict file ≡ Ok entries → bytes_of (canonical entries) ≡ form → IsWorked file entries form
 worked_by file entries form bytes read written =
     record { typed = typed_from_verdict file entries (checked file bytes) read; form_is = written }
 
-refused_by : {file : List ℕ} {fault : Fault} → all_bytes file ≡ true → verdict file ≡ Err fault
-    → FirstFault file fault
-refused_by {file = file} {fault = fault} bytes read =
-    fault_from_verdict file fault (checked file bytes) read
+-- The fault is named, since to find it by computing takes too many steps.
+refused_by : {file : List ℕ} (side : Side) (record_number byte : ℕ) (reason : Reason)
+    → all_bytes file ≡ true
+    → verdict file ≡ Err (record { place = Record 1 side record_number byte; reason = reason })
+    → IsRefusedAt file side record_number byte reason
+refused_by {file = file} side record_number byte reason bytes read =
+    fault_from_verdict file (record { place = Record 1 side record_number byte; reason = reason })
+    (checked file bytes) read
 
 pub record AreWorked : Type 0 where
   pub exchange_is : IsWorked exchange exchange_entries exchange_form
@@ -64,13 +71,13 @@ unfolding all_bytes number is_last length_of judge_call judge_reply reading read
     flavor entry_plus file_range readdirplus_args readdirplus_ok commit_ok lookup_ok mount_results
     dirpath optional
 refused_calls = record {
-  version = refused_by refl refl;
-  credential = refused_by refl refl;
-  verifier = refused_by refl refl;
-  long_handle = refused_by refl refl;
-  short_handle = refused_by refl refl;
-  one_word_more = refused_by refl refl;
-  one_xid = refused_by refl refl;
+  version = refused_by Client 1 8 RpcVersion refl refl;
+  credential = refused_by Client 1 24 Flavor refl refl;
+  verifier = refused_by Client 1 32 Flavor refl refl;
+  long_handle = refused_by Client 1 40 TooLong refl refl;
+  short_handle = refused_by Client 1 44 Short refl refl;
+  one_word_more = refused_by Client 1 48 Trailing refl refl;
+  one_xid = refused_by Client 2 0 XidConflict refl refl;
 }
 
 pub refused_credentials : RefusedCredentials
@@ -81,10 +88,10 @@ unfolding all_bytes number is_last length_of judge_call judge_reply reading read
     flavor entry_plus file_range readdirplus_args readdirplus_ok commit_ok lookup_ok mount_results
     dirpath optional
 refused_credentials = record {
-  too_many_groups = refused_by refl refl;
-  one_word_more = refused_by refl refl;
-  no_count = refused_by refl refl;
-  too_long = refused_by refl refl;
+  too_many_groups = refused_by Client 1 56 TooLong refl refl;
+  one_word_more = refused_by Client 1 60 AuthLength refl refl;
+  no_count = refused_by Client 1 56 AuthLength refl refl;
+  too_long = refused_by Client 1 28 TooLong refl refl;
 }
 
 pub refused_replies : RefusedReplies
@@ -95,11 +102,11 @@ unfolding all_bytes number is_last length_of judge_call judge_reply reading read
     flavor entry_plus file_range readdirplus_args readdirplus_ok commit_ok lookup_ok mount_results
     dirpath optional
 refused_replies = record {
-  no_call = refused_by refl refl;
-  a_call = refused_by refl refl;
-  reply_stat = refused_by refl refl;
-  auth_stat = refused_by refl refl;
-  accept_stat = refused_by refl refl;
-  status = refused_by refl refl;
-  attributes = refused_by refl refl;
+  no_call = refused_by Server 1 0 NoCall refl refl;
+  a_call = refused_by Server 1 4 WrongSide refl refl;
+  reply_stat = refused_by Server 1 8 BadEnum refl refl;
+  auth_stat = refused_by Server 1 16 BadEnum refl refl;
+  accept_stat = refused_by Server 1 20 BadEnum refl refl;
+  status = refused_by Server 1 24 BadEnum refl refl;
+  attributes = refused_by Server 1 28 BadBool refl refl;
 }
