@@ -98,15 +98,21 @@ impl Container {
         requires sound { IsSoundPosition self.old.position }
         requires stored { IsStored self.old }
         requires ready { IsReady self.old.cursor self.old.joiner.taking }
+
+        // How many bytes were taken.
         ensures within { IfOk result (λ r. r.0 ≤ length piece.now) }
         ensures some { IfOk result (λ r. 0 < length piece.now → r.1 ≡ None → 0 < r.0) }
         ensures more { IfOk result (λ r. r.1 ≡ None → r.0 ≡ length piece.now) }
         ensures recalling { self.old.cursor ≢ None → IfOk result
             (λ r. (r.0 ≡ 0) × (r.1 ≢ None)) }
+
+        // What is whole with them.
         ensures opened { IfOk result (λ r. r.1 ≢ Some Event.Streams) }
         ensures comes { IfOk result (λ r. Comes self.old self.new (take r.0 piece.now) r.1) }
         ensures joiner { IfOk result (λ r. Leaves r.1 self.new.joiner.taking) }
         ensures fault { OnErr result (ComesToFault self.old piece.now error.new) }
+
+        // The container stays ready for the next bytes.
         ensures sound { OnOk result (IsSoundPosition self.new.position) }
         ensures stored { OnOk result (IsStored self.new) }
         ensures ready { OnOk result (IsReady self.new.cursor (released self.new.joiner.taking)) }
@@ -132,15 +138,21 @@ impl Container {
         requires sound { IsSoundPosition self.old.position }
         requires stored { IsStored self.old }
         requires ready { IsReady self.old.cursor self.old.joiner.taking }
+
+        // How many bytes were taken.
         ensures within { IfOk result (λ r. r.0 ≤ length piece.now) }
         ensures some { IfOk result (λ r. 0 < length piece.now → r.1 ≡ None → 0 < r.0) }
         ensures more { IfOk result (λ r. r.1 ≡ None → r.0 ≡ length piece.now) }
         ensures recalling { self.old.cursor ≢ None → IfOk result
             (λ r. (r.0 ≡ 0) × (r.1 ≢ None)) }
+
+        // What is whole with them.
         ensures opened { IfOk result (λ r. r.1 ≢ Some Event.Streams) }
         ensures comes { IfOk result (λ r. Comes self.old self.new (take r.0 piece.now) r.1) }
         ensures joiner { IfOk result (λ r. Leaves r.1 self.new.joiner.taking) }
         ensures fault { OnErr result (ComesToFault self.old piece.now error.new) }
+
+        // The container stays ready for the next bytes.
         ensures sound { OnOk result (IsSoundPosition self.new.position) }
         ensures stored { OnOk result (IsStored self.new) }
         ensures ready { OnOk result (IsReady self.new.cursor (released self.new.joiner.taking)) }
@@ -180,20 +192,24 @@ impl Container {
         requires sound { IsSoundPosition self.old.position }
         requires stored { AreStored self.old.position None self.old.streams.kept }
         requires running { IsRunning self.old.joiner.taking }
+
+        // The record.
         ensures within { IfSome result (λ r. (0 < r.0) × (r.0 ≤ length piece.now)) }
-        ensures sound { IfSome result (λ r. IsSoundPosition self.new.position) }
         ensures joiner { IfSome result (λ r. IsWhole self.new.joiner.taking) }
         ensures machine { IfSome result
             (λ r. Arrives (unpacking_in self.old) (take r.0 piece.now)
             (Some (Event.Record r.1)) self.new.position self.new.joiner.taking
             self.new.streams.kept) }
+        ensures none { result ≡ None → self.new ≡ self.old }
+
+        // The container stays ready for the next bytes.
+        ensures sound { IfSome result (λ r. IsSoundPosition self.new.position) }
+        ensures stored { IfSome result
+            (λ r. AreStored self.new.position None self.new.streams.kept) }
         ensures room { IfSome result
             (λ r. room_of self.new.position self.new.streams.kept + 1
             ≤ room_of self.old.position self.old.streams.kept) }
-        ensures stored { IfSome result
-            (λ r. AreStored self.new.position None self.new.streams.kept) }
         ensures cursor { self.new.cursor ≡ self.old.cursor }
-        ensures none { result ≡ None → self.new ≡ self.old }
     {
         let Spot::Chunk(side, left) = self.position.spot else {
             return None;
@@ -210,12 +226,16 @@ impl Container {
     fn first_recalled(&mut self) -> Result<Event, Error>
         requires sound { IsSoundPosition self.old.position }
         requires stored { StoredWith (Some Event.Streams) self.old.position self.old.streams.kept }
+
+        // What is whole.
         ensures recalled { IfOk result
             (Recalled (first_cursor) self.old.position self.new.position self.old.streams.kept
             self.new.streams.kept self.new.joiner.taking self.new.cursor) }
         ensures joiner { IfOk result (λ event. Leaves (Some event) self.new.joiner.taking) }
         ensures fault { IfErr result
             (RecallFails first_cursor self.old.position self.old.streams.kept) }
+
+        // The container stays ready for the next bytes.
         ensures sound { OnOk result (IsSoundPosition self.new.position) }
         ensures stored { OnOk result (IsStored self.new) }
         ensures ready { OnOk result (IsReady self.new.cursor (released self.new.joiner.taking)) }
@@ -234,20 +254,26 @@ impl Container {
         requires sound { IsSoundPosition self.old.position }
         requires stored { AreStored self.old.position None self.old.streams.kept }
         requires running { IsRunning self.old.joiner.taking }
+
+        // How many bytes were taken.
         ensures within { IfOk result (λ r. r.0 ≤ length piece.now) }
-        ensures sound { OnOk result (IsSoundPosition self.new.position) }
         ensures some { IfOk result (λ r. 0 < length piece.now → 0 < r.0) }
         ensures more { IfOk result (λ r. r.1 ≡ None → r.0 ≡ length piece.now) }
+
+        // What is whole with them.
         ensures joiner { IfOk result (λ r. Leaves r.1 self.new.joiner.taking) }
         ensures machine { IfOk result
             (λ r. Arrives (unpacking_in self.old) (take r.0 piece.now) r.1 self.new.position
             self.new.joiner.taking self.new.streams.kept) }
         ensures fault { IfErr result (ShowsError (unpacking_in self.old) piece.now) }
+
+        // The container stays ready for the next bytes.
+        ensures sound { OnOk result (IsSoundPosition self.new.position) }
+        ensures stored { IfOk result (λ r. StoredWith r.1 self.new.position self.new.streams.kept) }
         ensures room { IfOk result
             (λ r. room_of self.new.position self.new.streams.kept
             + cost_of r.1 self.new.streams.kept
             ≤ room_of self.old.position self.old.streams.kept) }
-        ensures stored { IfOk result (λ r. StoredWith r.1 self.new.position self.new.streams.kept) }
         ensures cursor { self.new.cursor ≡ self.old.cursor }
     {
         let mut taken = 0;
@@ -282,18 +308,22 @@ impl Container {
         requires sound { IsSoundPosition self.old.position }
         requires stored { AreStored self.old.position None self.old.streams.kept }
         requires running { IsRunning self.old.joiner.taking }
+
+        // What is whole with the bytes taken.
         ensures taken { IfOk result (TakesSome self.old.position rest.now) }
         ensures joiner { IfOk result (λ taken. Leaves taken.event self.new.joiner.taking) }
         ensures machine { IfOk result
             (λ taken. Arrives (unpacking_in self.old) (take taken.count rest.now) taken.event
             taken.position self.new.joiner.taking self.new.streams.kept) }
         ensures fault { IfErr result (ShowsError (unpacking_in self.old) rest.now) }
+
+        // The container stays ready for the next bytes.
+        ensures stored { IfOk result
+            (λ taken. StoredWith taken.event taken.position self.new.streams.kept) }
         ensures room { IfOk result
             (λ taken. room_of taken.position self.new.streams.kept
             + cost_of taken.event self.new.streams.kept
             ≤ room_of self.old.position self.old.streams.kept) }
-        ensures stored { IfOk result
-            (λ taken. StoredWith taken.event taken.position self.new.streams.kept) }
         ensures cursor { self.new.cursor ≡ self.old.cursor }
         ensures position { self.new.position ≡ self.old.position }
     {
@@ -321,6 +351,8 @@ impl Container {
         requires stored { AreStored self.old.position None self.old.streams.kept }
         requires running { IsRunning self.old.joiner.taking }
         requires here { self.old.position.spot ≡ Spot.SideChunk side left }
+
+        // What was kept.
         ensures taken { IfOk result (TakesSome self.old.position rest.now) }
         ensures event { IfOk result (λ taken. taken.event ≡ None) }
         ensures machine { IfOk result
@@ -329,11 +361,13 @@ impl Container {
         ensures error { IfErr result (λ error. error ≡ Error.Memory) }
         ensures short { OnErr result (capacity_of side self.old.streams
             < length (stream_of side self.old.streams.kept) + length rest.now) }
+
+        // The container stays ready for the next bytes.
+        ensures stored { IfOk result
+            (λ taken. AreStored taken.position None self.new.streams.kept) }
         ensures room { IfOk result
             (λ taken. room_of taken.position self.new.streams.kept
             ≤ room_of self.old.position self.old.streams.kept) }
-        ensures stored { IfOk result
-            (λ taken. AreStored taken.position None self.new.streams.kept) }
         ensures joiner { self.new.joiner.taking ≡ self.old.joiner.taking }
         ensures position { self.new.position ≡ self.old.position }
         ensures cursor { self.new.cursor ≡ self.old.cursor }
@@ -370,12 +404,16 @@ impl Container {
         requires here { self.old.cursor ≡ Some cursor }
         requires stored { IsStored self.old }
         requires unbegun { self.old.joiner.taking ≡ unbegun }
+
+        // What is whole.
         ensures recalled { IfOk result
             (Recalled cursor self.old.position self.new.position self.old.streams.kept
             self.new.streams.kept
             self.new.joiner.taking self.new.cursor) }
         ensures joiner { IfOk result (λ event. Leaves (Some event) self.new.joiner.taking) }
         ensures fault { IfErr result (RecallFails cursor self.old.position self.old.streams.kept) }
+
+        // The container stays ready for the next bytes.
         ensures sound { OnOk result (IsSoundPosition self.new.position) }
         ensures stored { OnOk result (IsStored self.new) }
         ensures ready { OnOk result (IsReady self.new.cursor (released self.new.joiner.taking)) }
@@ -461,6 +499,8 @@ impl Container {
         requires sound { IsSoundPosition self.old.position }
         requires running { IsRunning self.old.joiner.taking }
         requires here { self.old.position.spot ≡ Spot.Chunk side left }
+
+        // What is whole with the bytes taken.
         ensures taken { IfOk result (TakesSome self.old.position rest.now) }
         ensures joiner { IfOk result (λ taken. Leaves taken.event self.new.joiner.taking) }
         ensures machine { IfOk result
@@ -469,6 +509,8 @@ impl Container {
         ensures fault { IfErr result (ShowsError (unpacking_in self.old) rest.now) }
         ensures short { result ≡ Err Error.Memory → self.old.joiner.capacity
             < length (body_of self.old.joiner.taking) + length rest.now }
+
+        // The container stays ready for the next bytes.
         ensures room { IfOk result (TakesRoom self.old.position) }
         ensures stored { IfOk result (KeepsStreams self.old.position) }
         ensures streams { self.new.streams.kept ≡ self.old.streams.kept }

@@ -291,15 +291,19 @@ impl Position {
         requires here { self.spot ≡ Spot.Chunk side left }
         requires some { 0 < count }
         requires within { count ≤ left }
+
+        // What was taken.
         ensures count { result.count ≡ count }
-        ensures sound { IsSoundPosition result.position }
-        ensures room { TakesRoom self result }
-        ensures stored { KeepsStreams self result }
         ensures event { result.event ≡ (if is_record then Some (Event.Record side) else None) }
         ensures machine { (streams : kept.Streams) (joining : Joining)
             → unpacking_at result.position streams joining ≡ in_chunk self.at self.total
             self.connections (if is_record then self.records + 1 else self.records) side
             (left - count) joining }
+
+        // The position stays sound.
+        ensures sound { IsSoundPosition result.position }
+        ensures room { TakesRoom self result }
+        ensures stored { KeepsStreams self result }
     {
         let left = left - count;
         let spot = if left == 0 {

@@ -125,22 +125,29 @@ impl<'r, R: Source, S: BuildHasher + Drop> Entries<'r, R, S> {
     /// It never returns `Write`. After an error the contents of the visitor are unspecified, the
     /// same error is returned from then on, and nothing is read.
     pub fn next<V: Visit>(&mut self, visitor: &mut V) -> Result<Option<Kind>, Error>
+        // What is returned, and which entry is lent.
         ensures answers { (given : List ℕ) (handed : List spec.Entry)
             → StandsFor R.told self.old given handed
             → HandsOutGiven R.told V.stands self.old self.new visitor.old visitor.new given handed
             result }
         ensures end { result ≡ Ok (Some Kind.End) → IsOver self.new }
         ensures over { IsOver self.old → (result ≡ Ok None) × (self.new ≡ self.old) }
-        ensures untold { IfOk result (λ next. next ≡ None → visitor.new ≡ visitor.old) }
         ensures last { IfOk result (λ next. IsSome next → last_of self.new ≡ next) }
         ensures fewer { IfOk result (λ next. IsSome next
             → entries_left self.new < entries_left self.old) }
+
+        // The visitor.
+        ensures untold { IfOk result (λ next. next ≡ None → visitor.new ≡ visitor.old) }
+
+        // Errors stay.
         ensures going { OnOk result (failure_of self.new ≡ None) }
         ensures failed { IfErr result (λ error. failure_of self.new ≡ Some error) }
         ensures unlent { OnErr result (last_of self.new ≡ None) }
         ensures again { (error : Error) → failure_of self.old ≡ Some error → result ≡ Err error }
         ensures unread { (error : Error) → failure_of self.old ≡ Some error
             → source_of self.new ≡ source_of self.old }
+
+        // The device.
         ensures read { failure_of self.old ≡ None
             → CountsReads R.failures self.old self.new result }
         ensures write { IfErr result (λ error. error ≢ Error.Write) }
@@ -187,6 +194,8 @@ impl<'r, R: Source, S: BuildHasher + Drop> Entries<'r, R, S> {
     /// Reads the next entry of a capture whose end was not returned.
     fn next_entry<V: Visit>(&mut self, visitor: &mut V) -> Result<Option<Kind>, Noted>
         requires reading { self.old.stage ≡ Stage.Reading }
+
+        // What is returned, and which entry is lent.
         ensures turns { (given : List ℕ) (handed : List spec.Entry)
             → StandsFor R.told self.old given handed
             → Turns R.told V.stands self.old self.new visitor.old visitor.new given handed result }
@@ -194,9 +203,13 @@ impl<'r, R: Source, S: BuildHasher + Drop> Entries<'r, R, S> {
         ensures last { IfOk result (λ next. IsSome next → last_of self.new ≡ next) }
         ensures fewer { OnOk result (entries_left self.new < entries_left self.old) }
         ensures some { IfOk result (λ next. IsSome next) }
+
+        // Errors stay.
         ensures going { OnOk result (failure_of self.new ≡ None) }
         ensures failed { OnErr result (IsSome (failure_of self.new)) }
         ensures unlent { OnErr result (last_of self.new ≡ None) }
+
+        // The device.
         ensures read { CountsReads R.failures self.old self.new
             (answer_in (failure_of self.new) result) }
         ensures same_block { block_size self.new ≡ block_size self.old }
@@ -220,6 +233,8 @@ impl<'r, R: Source, S: BuildHasher + Drop> Entries<'r, R, S> {
     fn turn<V: Visit>(&mut self, visitor: &mut V) -> Result<Option<Kind>, Noted>
         requires reading { self.old.stage ≡ Stage.Reading }
         requires bounded { self.old.judged ≤ most_bytes Two + 1 }
+
+        // What is returned, and which entry is lent.
         ensures turns { (given : List ℕ) (handed : List spec.Entry)
             → StandsFor R.told self.old given handed
             → Turns R.told V.stands self.old self.new visitor.old visitor.new given handed result }
@@ -227,14 +242,20 @@ impl<'r, R: Source, S: BuildHasher + Drop> Entries<'r, R, S> {
         ensures last { IfOk result (λ next. IsSome next → last_of self.new ≡ next) }
         ensures fewer { IfOk result (λ next. IsSome next
             → entries_left self.new < entries_left self.old) }
+
+        // If no entry is whole yet.
         ensures on { IfOk result (λ next. next ≡ None → self.old.judged < self.new.judged) }
         ensures untold { IfOk result (λ next. next ≡ None → visitor.new ≡ visitor.old) }
         ensures no_more { IfOk result
             (λ next. next ≡ None → entries_left self.new ≤ entries_left self.old) }
         ensures reading { IfOk result (λ next. next ≡ None → self.new.stage ≡ Stage.Reading) }
+
+        // Errors stay.
         ensures going { OnOk result (failure_of self.new ≡ None) }
         ensures failed { OnErr result (IsSome (failure_of self.new)) }
         ensures unlent { OnErr result (last_of self.new ≡ None) }
+
+        // The device.
         ensures read { CountsReads R.failures self.old self.new
             (answer_in (failure_of self.new) result) }
         ensures same_block { block_size self.new ≡ block_size self.old }
@@ -272,6 +293,8 @@ impl<'r, R: Source, S: BuildHasher + Drop> Entries<'r, R, S> {
         requires bounded { self.old.judged ≤ most_bytes Two + 1 }
         requires judged { self.old.start ≡ self.old.end }
         requires unopened { self.old.parser.container.cursor ≡ None }
+
+        // What was read.
         ensures has_read { (given : List ℕ) (handed : List spec.Entry)
             → StandsFor R.told self.old given handed
             → HasRead R.told self.old self.new given handed }
@@ -279,11 +302,17 @@ impl<'r, R: Source, S: BuildHasher + Drop> Entries<'r, R, S> {
         ensures none { IfOk result (λ more. IsFalse more → self.new.start ≡ self.new.end) }
         ensures end { IfOk result
             (λ more. IsFalse more → IsSpent (R.told (source_of self.new))) }
+
+        // What stays.
         ensures same_parser { self.new.parser ≡ self.old.parser }
         ensures same_count { self.new.judged ≡ self.old.judged }
         ensures reading { OnOk result (self.new.stage ≡ Stage.Reading) }
+
+        // Errors stay.
         ensures failed { OnErr result (IsSome (failure_of self.new)) }
         ensures unlent { OnErr result (last_of self.new ≡ None) }
+
+        // The device.
         ensures read { CountsReads R.failures self.old self.new
             (answer_in (failure_of self.new) result) }
         ensures same_block { block_size self.new ≡ block_size self.old }
@@ -309,21 +338,29 @@ impl<'r, R: Source, S: BuildHasher + Drop> Entries<'r, R, S> {
         requires reading { self.old.stage ≡ Stage.Reading }
         requires bounded { self.old.judged ≤ most_bytes Two + 1 }
         requires some { self.old.parser.container.cursor ≡ None → self.old.start < self.old.end }
+
+        // What is returned, and which entry is lent.
         ensures goes_on { (given : List ℕ) (handed : List spec.Entry)
             → StandsFor R.told self.old given handed
             → HandsOutOrGoesOn R.told V.stands self.new visitor.old visitor.new given handed
             result }
         ensures not_end { result ≢ Ok (Some Kind.End) }
-        ensures untold { IfOk result (λ next. next ≡ None → visitor.new ≡ visitor.old) }
         ensures last { IfOk result (λ next. IsSome next → last_of self.new ≡ next) }
         ensures fewer { IfOk result (λ next. IsSome next
             → entries_left self.new < entries_left self.old) }
+
+        // If no entry is whole yet.
+        ensures untold { IfOk result (λ next. next ≡ None → visitor.new ≡ visitor.old) }
         ensures no_more { IfOk result
             (λ next. next ≡ None → entries_left self.new ≤ entries_left self.old) }
         ensures on { IfOk result (λ next. next ≡ None → self.old.judged < self.new.judged) }
+
+        // Errors stay.
         ensures reading { OnOk result (self.new.stage ≡ Stage.Reading) }
         ensures failed { OnErr result (IsSome (failure_of self.new)) }
         ensures unlent { OnErr result (last_of self.new ≡ None) }
+
+        // The device is not read.
         ensures never_reads { OnErr result (failure_of self.new ≢ Some Error.Read) }
         ensures unread { source_of self.new ≡ source_of self.old }
         ensures same_block { block_size self.new ≡ block_size self.old }
@@ -351,6 +388,8 @@ impl<'r, R: Source, S: BuildHasher + Drop> Entries<'r, R, S> {
         requires judged { self.old.start ≡ self.old.end }
         requires unopened { self.old.parser.container.cursor ≡ None }
         requires end { IsSpent (R.told (source_of self.old)) }
+
+        // The last entry, or the fault.
         ensures ok { (given : List ℕ) (handed : List spec.Entry)
             → StandsFor R.told self.old given handed
             → OnOk result (StandsFor R.told self.new given (handed ++ spec.End ∷ [])) }
@@ -359,8 +398,12 @@ impl<'r, R: Source, S: BuildHasher + Drop> Entries<'r, R, S> {
             → OnErr result (StandsFor R.told self.new given handed) }
         ensures last { OnOk result (last_of self.new ≡ Some Kind.End) }
         ensures over { OnOk result (self.new.stage ≡ Stage.Over) }
+
+        // Errors stay.
         ensures failed { OnErr result (IsSome (failure_of self.new)) }
         ensures unlent { OnErr result (last_of self.new ≡ None) }
+
+        // The device is not read.
         ensures never_reads { OnErr result (failure_of self.new ≢ Some Error.Read) }
         ensures unread { source_of self.new ≡ source_of self.old }
         ensures same_block { block_size self.new ≡ block_size self.old }

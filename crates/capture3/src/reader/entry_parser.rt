@@ -61,20 +61,15 @@ impl<C: CallTable + Drop> EntryParser<C> {
         requires stored { IsStored self.old.container }
         requires ready { IsReady self.old.container.cursor
             (released self.old.container.joiner.taking) }
+
+        // How many bytes were taken.
         ensures within { IfOk result (λ r. r.0 ≤ length piece.now) }
         ensures some { IfOk result (λ r. 0 < length piece.now → r.1 ≡ None → 0 < r.0) }
         ensures more { IfOk result (λ r. r.1 ≡ None → r.0 ≡ length piece.now) }
-        ensures untold { IfOk result (λ r. r.1 ≡ None → visitor.new ≡ visitor.old) }
-        ensures not_end { IfOk result (λ r. r.1 ≢ Some Kind.End) }
-        ensures spells { IfOk result (λ r. ∥ SpellsLast r.1 self.new.container.joiner.taking ∥₁) }
-        ensures sound { OnOk result (IsSoundPosition self.new.container.position) }
-        ensures stored { OnOk result (IsStored self.new.container) }
-        ensures ready { OnOk result
-            (IsReady self.new.container.cursor (released self.new.container.joiner.taking)) }
-        ensures room { IfOk result
-            (λ r. room_in self.new.container + entry_cost r.1 ≤ room_in self.old.container) }
         ensures recalling { self.old.container.cursor ≢ None → IfOk result
             (λ r. (r.0 ≡ 0) × (r.1 ≢ None)) }
+
+        // What is whole with them.
         ensures machine { (bytes : List ℕ) (entries : List spec.Entry)
             → HasCome self.old.container (C.calls self.old.calls) bytes entries
             → IfOk result
@@ -83,7 +78,18 @@ impl<C: CallTable + Drop> EntryParser<C> {
         ensures fault { (bytes : List ℕ) (entries : List spec.Entry)
             → HasCome self.old.container (C.calls self.old.calls) bytes entries
             → OnErr result (FailsAt (bytes ++ piece.now) entries self.new.error) }
+        ensures not_end { IfOk result (λ r. r.1 ≢ Some Kind.End) }
+        ensures spells { IfOk result (λ r. ∥ SpellsLast r.1 self.new.container.joiner.taking ∥₁) }
+        ensures untold { IfOk result (λ r. r.1 ≡ None → visitor.new ≡ visitor.old) }
         ensures device { OnErr result (IsOfBytes self.new.error) }
+
+        // The container stays ready for the next bytes.
+        ensures sound { OnOk result (IsSoundPosition self.new.container.position) }
+        ensures stored { OnOk result (IsStored self.new.container) }
+        ensures ready { OnOk result
+            (IsReady self.new.container.cursor (released self.new.container.joiner.taking)) }
+        ensures room { IfOk result
+            (λ r. room_in self.new.container + entry_cost r.1 ≤ room_in self.old.container) }
     {
         self.container.release();
         // Written out, since `?` takes more instructions for each message.
