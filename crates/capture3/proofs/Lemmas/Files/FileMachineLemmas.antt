@@ -20,6 +20,18 @@ pub record IsMagicPart (version : Version) (bytes : List ℕ) (at total number :
   pub number_is : number ≡ 0
   pub entries_are : entries ≡ []
 
+pub magic_part : (bytes more : List ℕ) → magic_front ≡ bytes ++ more
+    → IsMagicPart One bytes (length bytes) 0 0 [] more
+magic_part bytes more begins =
+    record {
+      begins = begins;
+      version_is = refl;
+      at_is = refl;
+      total_is = refl;
+      number_is = refl;
+      entries_are = refl;
+    }
+
 -- whole connections, and a part of a word
 pub record InMark (version : Version) (bytes : List ℕ) (at total number : ℕ) (entries : List Entry)
     (part : List ℕ) : Type 0 where
@@ -461,14 +473,7 @@ file_leads bytes s byte are h =
 
 pub file_tells : (bytes : List ℕ) → AreBytes bytes → Tells Stands Rule bytes (parsed bytes)
 file_tells =
-    tells_bytes file_next Stands Rule file_leads file_start (record {
-      begins = refl;
-      version_is = refl;
-      at_is = refl;
-      total_is = refl;
-      number_is = refl;
-      entries_are = refl;
-    })
+    tells_bytes file_next Stands Rule file_leads file_start (magic_part [] magic_front refl)
 
 -- ---- the other way round
 

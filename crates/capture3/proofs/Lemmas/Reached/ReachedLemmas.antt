@@ -4,7 +4,7 @@ use Rattle.capture3.specs.Entry.{Entry, Begin, Call, Turn}
 use Rattle.capture3.specs.ConnectionMachine.{Opening, InClient, InServer, InMixed, opening_entries}
 use Rattle.capture3.specs.FileMachine.{Spot, Magic, Digit, Mark, Inside, Ended, Parsing, emitted}
 use Rattle.capture3.specs.SideMachine.{Siding, Length, Chunk, Point}
-use Rattle.capture3.proofs.Lemmas.Files.FileMachineLemmas.{context_at, HasSpot, Stands, magic_split}
+use Rattle.capture3.proofs.Lemmas.Files.FileMachineLemmas.{context_at, magic_part, HasSpot, Stands, magic_split}
 use Rattle.capture3.proofs.Lemmas.Container.SidedChunksMachineLemmas.{HasMixed, HasMixedPoint}
 use Rattle.capture3.proofs.Lemmas.Connections.ConnectionMachineLemmas.{HasOpening}
 use Rattle.capture3.proofs.Lemmas.Sides.SideMachineLemmas.{HasPoint, HasSide}
@@ -299,28 +299,12 @@ whole_magic_stands bytes version e = record {
 part_stands : (bytes more : List ℕ) → magic_front ≡ bytes ++ more → StandsAt bytes []
 part_stands bytes [] e = record {
   state = parsing_in One (length bytes) 0 0 [] Digit;
-  stands =
-      record {
-        begins = e;
-        version_is = refl;
-        at_is = refl;
-        total_is = refl;
-        number_is = refl;
-        entries_are = refl;
-      };
+  stands = magic_part bytes [] e;
   emits = refl;
 }
 part_stands bytes (due ∷ more) e = record {
   state = parsing_in One (length bytes) 0 0 [] (Magic due more);
-  stands =
-      record {
-        begins = e;
-        version_is = refl;
-        at_is = refl;
-        total_is = refl;
-        number_is = refl;
-        entries_are = refl;
-      };
+  stands = magic_part bytes (due ∷ more) e;
   emits = refl;
 }
 
