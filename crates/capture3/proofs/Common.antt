@@ -50,7 +50,7 @@ unfoldable pub use Rattle.capture3.specs.BodyProgram.{judge_call, judge_reply}
 pub use Rattle.capture3.specs.Capture.{AreStreams, IsCapture, IsConnection, One, Two, Version, digit, magic, magic_front, max_connections, total_size}
 pub use Rattle.capture3.specs.Chunks.{AreChunks, BeginsStream, IsChunk, IsStream, max_bytes}
 pub use Rattle.capture3.specs.ConnectionMachine.{Closes, Closing, InClient, InMixed, InServer, Opening, Refuses, client_said, conversing, ending, judge_replies, opened, opening_next, server_said, turning}
-pub use Rattle.capture3.specs.Connections.{BadSide, ConnectionShows, Context, InClientStream, InServerStream, MixedShows, NoLength, ShownFault, StreamsShow, TooMuch, calls_in_turn, client_position, client_refusal, context_at, refusal, replies_to, server_position, server_refusal}
+pub use Rattle.capture3.specs.Connections.{BadSide, ConnectionShows, Context, InClientStream, InServerStream, MixedShows, NoLength, ShownFault, StreamsShow, TooMuch, calls_in_turn, client_position, client_refusal, refusal, replies_to, server_position, server_refusal}
 pub use Rattle.capture3.specs.Entry.{End, Entry}
 pub use Rattle.capture3.specs.FileMachine.{Parsing, closed, concluded, emitted, file_next, file_start, last_entries, parsed, parsing_in, reached, verdict, verdict_of}
 pub use Rattle.capture3.specs.FirstFault.{AfterConnections, ByteAfterEnd, ConnectionIsTooMany, DiffersFromMagic, FirstFault, IsClean, MagicDiffers, MarkIsBad, Rule, Shows, WithinConnection}
@@ -60,7 +60,7 @@ pub use Rattle.capture3.specs.Records.{AreMessages, FirstRecordFault, Holds, Hol
 pub use Rattle.capture3.specs.SideMachine.{SideCloses, SideEnd, SideRefuses, Siding, side_next, siding_from, siding_in}
 pub use Rattle.capture3.specs.SidedChunks.{AreMixed, BeginsMixed, IsSidedChunk, SidedChunk, Streams, carried_by, gathered, of_side, side_word, size, with_more}
 pub use Rattle.capture3.specs.SidedChunksMachine.{MixedCloses, MixedEnd, MixedPoint, MixedRefuses, Mixing, SideChunk, SideLength, SideWord, awaiting_side, measured, mixed_next, mixed_step, mixing_from, mixing_in, sided}
-pub use Rattle.capture3.specs.Sides.{Position, SideShows, fault_in_record, file_fault, place_at, place_in}
+pub use Rattle.capture3.specs.Sides.{Position, SideShows, file_fault, place_at, place_in}
 pub use Rattle.capture3.specs.StreamMachine.{Faulty, Held, Judge, Reading, StreamEnd, end_of, judged, left_in, reading_with, recorded, rest_end, stream_end, stream_next, unread}
 pub use Rattle.capture3.specs.Told.{Gave, IsSpent, Told}
 pub use Rattle.capture3.specs.Typed.{Converses, HaveEntries, IsWellFormed, Typed, connection_entries, reply_entry}
@@ -80,7 +80,7 @@ pub use Rattle.capture3.specs.declared.message.calls.NumberedCall.{NumberedCall}
 pub use Rattle.capture3.specs.declared.reader.entry.Kind.{Kind}
 pub use Rattle.capture3.specs.machinery.Calls.{FindsSame, Puts, found, numbered_calls, with_numbered_call}
 pub use Rattle.capture3.specs.machinery.Container.{AreStored, Arrives, FirstKept, InFirstKept, InNextKept, IsReady, IsStored, Leaves, NextKept, ShowsError, room_in, unpacking_in, unpacking_of}
-pub use Rattle.capture3.specs.machinery.ContainerMachine.{Length, Mark, Mixed, Unpacking, chunk_counted, connection_marked, in_side_chunk, mixed_at, mixed_ended, sides_counted, sides_marked, unpack_next, unpacking_with}
+pub use Rattle.capture3.specs.machinery.ContainerMachine.{Length, Mark, Mixed, Unpacking, chunk_counted, connection_marked, fault_in_record, in_side_chunk, mixed_at, mixed_ended, sides_counted, sides_marked, unpack_next, unpacking_with}
 unfoldable pub use Rattle.capture3.specs.machinery.Counting.{home_of}
 pub use Rattle.capture3.specs.machinery.EntriesHistory.{HasRead, StandsFor, Turns, entries_left}
 pub use Rattle.capture3.specs.machinery.EntryParser.{FailsAt, GoesTo, HasCome, IsHeld, MeetsEvent, StandsAt, StandsOrRecalls}

@@ -2,7 +2,6 @@
 use Rattle.capture3.proofs.Common.{◌≡◌, [], ◌∷◌, ◌++◌, refl, Ok, Err, reading_layout, reading, number, call_layout, call_start, reply_layout, reply_start, arguments_of, results_of, Client, Server, judge_call, judge_reply, reached, verdict, BadMagic, CaptureCut, BadMark, AfterEnd, TooManyBytes, RecordCut, RecordTooLong, Short, BadEnum, WrongSide, NoCall, file_fault, fault_in_record}
 use Rattle.record_mark.specs.RecordMark.{is_last, length_of}
 use Rattle.rpc_head.specs.Shapes.{accept, call_head, credential, deny, message_start, reply_head, verifier}
-use Rattle.capture3.specs.declared.fault.Place.TheVariants.{File, Record}
 use Rattle.capture3.specs.Entry.{Begin, Call, Turn, Close, End}
 use Rattle.capture3.specs.Examples.{magic_1, magic_2, word_0, word_1, word_2, word_3, null_call, null_reply, null_call_items, null_capture, null_entries, bad_mtype as bad_mtype_bytes, bad_mtype_cut as bad_mtype_cut_bytes, client_chunk, server_chunk}
 use Rattle.capture3.specs.Examples.{null_mixed as null_mixed_bytes, null_mixed_swapped as null_mixed_swapped_bytes, bad_mtype_mixed as bad_mtype_mixed_bytes, bad_mtype_mixed_cut as bad_mtype_mixed_cut_bytes, call_answered_by_call as call_answered_by_call_bytes}

@@ -30,9 +30,6 @@ pub record Context : Type 0 where
   pub start : ℕ
   pub before : ℕ
 
-abbrev pub context_at : (number start before : ℕ) → Context
-context_at number start before = record { number = number; start = start; before = before }
-
 abbrev pub client_position : Context → Position
 client_position context =
     record {

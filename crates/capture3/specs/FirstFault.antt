@@ -5,7 +5,7 @@ use Rattle.xdr3.specs.declared.reason.Reason.TheVariants.{BadMagic, CaptureCut, 
 use Rattle.capture3.specs.declared.fault.Fault.{Fault}
 use Rattle.capture3.specs.Capture.{Version, magic, max_connections, total_size, IsConnection}
 use Rattle.capture3.specs.SidedChunks.{Streams}
-use Rattle.capture3.specs.Connections.{ShownFault, refusal, ConnectionShows, context_at}
+use Rattle.capture3.specs.Connections.{ShownFault, refusal, ConnectionShows}
 use Rattle.capture3.specs.Sides.{file_fault}
 use Rattle.capture3.specs.Typed.{IsWellFormed}
 
@@ -50,9 +50,12 @@ pub data Rule (bytes : List ℕ) (shown : ShownFault) : Type 0 where
       → shown ≡ refusal (file_fault (length b.front) TooManyConnections) → Rule bytes shown
   -- in a connection
   WithinConnection : (b : AfterConnections bytes) → b.mark ≡ 1
-      → ConnectionShows b.version
-      (context_at (suc (length b.connections)) (length b.front + 4) (total_size b.connections))
-      b.rest shown → Rule bytes shown
+      → ConnectionShows b.version (record {
+        number = suc (length b.connections);
+        start =
+            length b.front + 4;
+        before = total_size b.connections;
+      }) b.rest shown → Rule bytes shown
   -- a byte after the last word 0
   ByteAfterEnd : (b : AfterConnections bytes) → b.mark ≡ 0 → length b.rest ≡ 1
       → shown ≡ refusal (file_fault (length b.front + 4) AfterEnd) → Rule bytes shown

@@ -21,15 +21,10 @@ pub record Position : Type 0 where
 abbrev pub file_fault : ℕ → Reason → Fault
 file_fault at reason = record { place = File at; reason = reason }
 
--- a fault at a byte of a record, of this number in the stream of a connection's side
-abbrev pub fault_in_record : (connection : ℕ) → Side → (number byte : ℕ) → Reason → Fault
-fault_in_record connection side number byte reason =
-    record { place = Record connection side number byte; reason = reason }
-
 -- a fault of a record of this connection and side
 abbrev pub place_at : ℕ → Side → RecordFault → Fault
 place_at connection side fault =
-    fault_in_record connection side fault.number fault.byte fault.reason
+    record { place = Record connection side fault.number fault.byte; reason = fault.reason }
 
 abbrev pub place_in : Position → RecordFault → Fault
 place_in position = place_at position.connection position.side

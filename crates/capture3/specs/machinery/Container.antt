@@ -2,7 +2,6 @@
 use Rattle.std.specs.Prelude.{◌≡◌, ◌≢◌, ◌⊎◌, ◌+◌, ◌-◌, ◌≤◌, ℕ, Option, Some, None, List, [], length, take, drop}
 use Rattle.record_mark.specs.Joining.{Joining, Between, Whole, TooLong, join_next}
 use Rattle.xdr3.specs.declared.reason.Reason.TheVariants.{RecordCut, RecordTooLong}
-use Rattle.capture3.specs.declared.fault.Place.TheVariants as places
 use Rattle.record_mark.specs.Machine.{Run, Runs, Stops, after}
 use Rattle.record_mark.specs.Taking.{Taking, IsRunning, IsWhole, body_of, joined_body, joining_of, unbegun}
 use Rattle.capture3.specs.declared.fault.Error.{Error}
@@ -18,8 +17,7 @@ use Rattle.capture3.specs.SidedChunks as sided
 use Rattle.capture3.specs.SidedChunks.{size}
 use Rattle.capture3.specs.declared.container.position.Position.{Position}
 use Rattle.capture3.specs.machinery.Position.{room_of, AreEmpty, IsBeforeMark, ShowsFault, StoredAt, StoredWith, unpacking_at}
-use Rattle.capture3.specs.machinery.ContainerMachine.{Unpacking, Unpacked, Has, HasStreams, unpack_next}
-use Rattle.capture3.specs.Sides.{fault_in_record}
+use Rattle.capture3.specs.machinery.ContainerMachine.{Unpacking, Unpacked, Has, HasStreams, fault_in_record, unpack_next}
 
 -- with a record its body, and else no whole record
 abbrev pub Leaves : Option Event → Taking → Type 0

@@ -17,7 +17,7 @@ use Rattle.capture3.specs.Capture.{Version, One, Two, digit}
 use Rattle.capture3.specs.SidedChunksMachine.{MixedPoint, SideWord, Mixing, MixedEnd, MixedCloses, MixedRefuses, mixed_step, awaiting_side, measured, sided}
 use Rattle.capture3.specs.SidedChunksMachine as mixing
 use Rattle.capture3.specs.SidedChunks.{Streams, gathered}
-use Rattle.capture3.specs.Sides.{file_fault, fault_in_record}
+use Rattle.capture3.specs.Sides.{file_fault}
 
 -- the part that is open: bytes of the magic that are due, its last byte, a connection word's bytes
 -- so far, the bytes so far of a chunk's length word, a chunk and how many bytes it has left after
@@ -65,6 +65,11 @@ pub data Unpacked : Type 0 where
 -- a fault at a byte of the file
 abbrev pub at_byte : ℕ → Reason → Unpacked
 at_byte at reason = Refuses (file_fault at reason)
+
+-- a fault at a byte of a record, of this number in the stream of a connection's side
+abbrev pub fault_in_record : (connection : ℕ) → Side → (number byte : ℕ) → Reason → Fault
+fault_in_record connection side number byte reason =
+    record { place = places.Record connection side number byte; reason = reason }
 
 -- a fault of a record
 abbrev pub in_record : ℕ → Side → ℕ → ℕ → Reason → Unpacked

@@ -15,7 +15,6 @@ use Rattle.capture3.specs.declared.reader.entry.Kind.{Kind}
 use Rattle.capture3.specs.declared.reader.entry.Kind.TheVariants as kinds
 use Rattle.capture3.specs.declared.fault.Error.{Error}
 use Rattle.capture3.specs.declared.fault.Error.TheVariants as errors
-use Rattle.capture3.specs.declared.fault.Place.TheVariants as places
 use Rattle.capture3.specs.declared.fault.Side.{Side}
 use Rattle.capture3.specs.declared.container.position.Event.{Event}
 use Rattle.capture3.specs.declared.container.position.Event.TheVariants.{Begin, Record, Turn, Close}
@@ -36,8 +35,7 @@ use Rattle.capture3.specs.FileMachine.{Parsing, file_next, parsed, emitted}
 use Rattle.capture3.specs.machinery.Position.{unpacking_at}
 use Rattle.capture3.specs.machinery.Spelled.{SpellsCall, SpellsReply}
 use Rattle.capture3.specs.machinery.FileStanding.{Judged, parsing_at, resumed, Agrees, AgreesOn, emitted_at, EmitsOn}
-use Rattle.capture3.specs.machinery.ContainerMachine.{Unpacking, Unpacked, Has, HasStreams, before_mark}
-use Rattle.capture3.specs.Sides.{fault_in_record}
+use Rattle.capture3.specs.machinery.ContainerMachine.{Unpacking, Unpacked, Has, HasStreams, before_mark, fault_in_record}
 
 -- these bytes have led the machine for the file here, and these entries are whole
 pub record StandsAt (position : Position) (taking : Taking) (streams : Streams)

@@ -9,7 +9,7 @@ use Rattle.capture3.specs.declared.fault.Side.TheVariants.{Client, Server}
 use Rattle.capture3.specs.declared.container.position.Event.TheVariants.{Begin, Record, Turn, Close}
 use Rattle.capture3.specs.declared.container.position.Event.TheVariants as events
 use Rattle.capture3.specs.Bodies.{ReplyItems}
-use Rattle.capture3.specs.Capture.{Version, One, Two}
+use Rattle.capture3.specs.Capture.{One, Two}
 use Rattle.capture3.specs.Connections.{ShownFault, refusal}
 use Rattle.capture3.specs.Entry.{Entry}
 use Rattle.capture3.specs.Entry as entries

@@ -35,7 +35,7 @@ pub(crate) trait CallTable: KnownCalls {
         ensures { Self.calls self.new ≡ [] };
 
     /// Adds a call if its xid is new. Returns `false` if an earlier call has the same xid but
-    /// another procedure; the calls are unspecified after that. An xid that is there never fails.
+    /// another procedure; the calls are unspecified after that. Never fails for a known xid.
     fn admit(&mut self, xid: u32, id: ProcId) -> Result<bool, AllocError>
         ensures agrees { IfOk result (λ is. is ≡ agrees (found (Self.calls self.old) xid) id) }
         ensures added { IfOk result

@@ -421,8 +421,8 @@ chunk_bytes at total streams side [] n m e =
 chunk_bytes at total streams side (byte ∷ got) n m e =
     let more : n ≡ suc (length got + m) = omega arith in
     ap
-    (λ k.
-    after mixed_next (Runs (mixing_in at total streams (awaiting_side side k))) (byte ∷ got)) more
+    (λ k. after mixed_next (Runs (mixing_in at total streams (awaiting_side side k))) (byte ∷ got))
+    more
     ∙ chunk_bytes at total (with_more streams side (byte ∷ [])) side got (length got + m) m refl
     ∙ ap (λ s. Runs (mixing_in at total s (awaiting_side side m)))
     (with_more-append streams side (byte ∷ []) got)

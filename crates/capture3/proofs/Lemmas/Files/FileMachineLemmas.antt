@@ -1,11 +1,14 @@
 -- The machine for a file against connections, entries and rules.
 use Rattle.std.proofs.Common.{◌≡◌, ◌≢◌, ◌⊎◌, inl, inr, ℕ, zero, suc, ◌+◌, ◌<◌, ◌≤◌, List, [], ◌∷◌, ◌++◌, length, refl, sym, ap, ap₂, ⊎_elim, subst, ◌∙◌, append_assoc, append-nil, arith, length-append, Bool, true, false, cond, nat_lt, nat_eq, ltb-true, ltb-false, lt-ltb, eqb-true, eq-eqb, ne_eqb}
-use Rattle.capture3.proofs.Common.{eqb-false, append_cancel_left, Goes, Ends, Run, Runs, Stops, landed, after, IsWord, Joins, word_next, Leads, leads_within, Tells, after-append, nested_runs, nested_stops, IsPart, word_leads, word_runs, word_stops, Joins-snoc, AreBytes, BadMagic, BadMark, AfterEnd, TooManyConnections, Fault, Streams, size, max_bytes, Context, ShownFault, refusal, ConnectionShows, Entry, Opening, Closing, Closes, Refuses, opening_next, opened, file_fault, connection_entries, HaveEntries, Version, One, Two, digit, magic_front, magic, max_connections, total_size, IsConnection, DiffersFromMagic, AfterConnections, Rule, MagicDiffers, MarkIsBad, ConnectionIsTooMany, WithinConnection, ByteAfterEnd, Opens, parsing_in, context_at}
+use Rattle.capture3.proofs.Common.{eqb-false, append_cancel_left, Goes, Ends, Run, Runs, Stops, landed, after, IsWord, Joins, word_next, Leads, leads_within, Tells, after-append, nested_runs, nested_stops, IsPart, word_leads, word_runs, word_stops, Joins-snoc, AreBytes, BadMagic, BadMark, AfterEnd, TooManyConnections, Fault, Streams, size, max_bytes, Context, ShownFault, refusal, ConnectionShows, Entry, Opening, Closing, Closes, Refuses, opening_next, opened, file_fault, connection_entries, HaveEntries, Version, One, Two, digit, magic_front, magic, max_connections, total_size, IsConnection, DiffersFromMagic, AfterConnections, Rule, MagicDiffers, MarkIsBad, ConnectionIsTooMany, WithinConnection, ByteAfterEnd, Opens, parsing_in}
 use Rattle.record_mark.specs.Word.{number as word_number}
 use Rattle.capture3.specs.FileMachine.{Spot, Magic, Digit, Mark, Inside, Ended, Parsing, magic_left, marked, closed, spot_step, file_next, file_start, parsed}
 use Rattle.capture3.proofs.Lemmas.Container.BytesOf.{split_bytes}
 use Rattle.capture3.proofs.Lemmas.Connections.ConnectionMachineLemmas.{HasOpening, ClosesConnection, EndsConnection, opening_leads, opening_runs, opening_closes, nothing_opened}
 use Rattle.capture3.proofs.Lemmas.Files.Telling.{tells_bytes}
+
+abbrev pub context_at : (number start before : ℕ) → Context
+context_at number start before = record { number = number; start = start; before = before }
 
 -- a part of the magic
 pub record IsMagicPart (version : Version) (bytes : List ℕ) (at total number : ℕ)
@@ -16,6 +19,18 @@ pub record IsMagicPart (version : Version) (bytes : List ℕ) (at total number :
   pub total_is : total ≡ 0
   pub number_is : number ≡ 0
   pub entries_are : entries ≡ []
+
+pub magic_part : (bytes more : List ℕ) → magic_front ≡ bytes ++ more
+    → IsMagicPart One bytes (length bytes) 0 0 [] more
+magic_part bytes more begins =
+    record {
+      begins = begins;
+      version_is = refl;
+      at_is = refl;
+      total_is = refl;
+      number_is = refl;
+      entries_are = refl;
+    }
 
 -- whole connections, and a part of a word
 pub record InMark (version : Version) (bytes : List ℕ) (at total number : ℕ) (entries : List Entry)
@@ -395,9 +410,8 @@ spot_leads version bytes at total number entries (Mark part) byte are h =
     let more : bytes ++ byte ∷ [] ≡ h.front ++ (part ++ byte ∷ []) =
     ap (λ (b : List ℕ). b ++ byte ∷ []) h.split ∙ append_assoc h.front part (byte ∷ []) in
     leads_within IsPart IsWord Stands Rule
-    (λ p.
-    parsing_in version at total number entries (Mark p)) (marked version at total number entries)
-    (part ++ byte ∷ [])
+    (λ p. parsing_in version at total number entries (Mark p))
+    (marked version at total number entries) (part ++ byte ∷ [])
     (bytes ++ byte ∷ [])
     (λ p is.
     record {
@@ -459,14 +473,7 @@ file_leads bytes s byte are h =
 
 pub file_tells : (bytes : List ℕ) → AreBytes bytes → Tells Stands Rule bytes (parsed bytes)
 file_tells =
-    tells_bytes file_next Stands Rule file_leads file_start (record {
-      begins = refl;
-      version_is = refl;
-      at_is = refl;
-      total_is = refl;
-      number_is = refl;
-      entries_are = refl;
-    })
+    tells_bytes file_next Stands Rule file_leads file_start (magic_part [] magic_front refl)
 
 -- ---- the other way round
 

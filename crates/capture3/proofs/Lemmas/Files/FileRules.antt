@@ -1,10 +1,10 @@
 -- The same of the rules of connections and of files.
-use Rattle.capture3.proofs.Common.{◌≡◌, ◌⊎◌, inl, inr, ℕ, suc, ◌+◌, ◌<◌, List, [], ◌∷◌, ◌++◌, length, refl, sym, ap, ap₂, subst, ◌∙◌, append_assoc, append-nil, arith, length-append, Bool, true, false, cond, nat_lt, le-ltb, Goes, Ends, Run, Runs, Stops, Stopped, landed, after, Between, IsWord, Joins, after-append, nested_stops, Item, TooManyConnections, AfterEnd, Fault, Client, Server, ReplyItems, Version, One, Two, magic, max_connections, total_size, AreStreams, IsConnection, Streams, size, AreMixed, IsStream, Entry, AfterConnections, Rule, MagicDiffers, MarkIsBad, ConnectionIsTooMany, WithinConnection, ByteAfterEnd, judge_call, MixedEnd, MixedCloses, MixedRefuses, mixed_next, mixing_from, judge_replies, Opening, InClient, InServer, InMixed, Closing, Closes, Refuses, turning, ending, server_said, client_said, conversing, opening_next, opened, Judgement, RecordFault, Reading, StreamEnd, Held, Faulty, stream_next, stream_end, unread, Position, place_at, file_fault, SideShows, connection_entries, SideEnd, SideCloses, SideRefuses, side_next, siding_from, parsing_in, context_at, reading_with}
+use Rattle.capture3.proofs.Common.{◌≡◌, ◌⊎◌, inl, inr, ℕ, suc, ◌+◌, ◌<◌, List, [], ◌∷◌, ◌++◌, length, refl, sym, ap, ap₂, subst, ◌∙◌, append_assoc, append-nil, arith, length-append, Bool, true, false, cond, nat_lt, le-ltb, Goes, Ends, Run, Runs, Stops, Stopped, landed, after, Between, IsWord, Joins, after-append, nested_stops, Item, TooManyConnections, AfterEnd, Fault, Client, Server, ReplyItems, Version, One, Two, magic, max_connections, total_size, AreStreams, IsConnection, Streams, size, AreMixed, IsStream, Entry, AfterConnections, Rule, MagicDiffers, MarkIsBad, ConnectionIsTooMany, WithinConnection, ByteAfterEnd, judge_call, MixedEnd, MixedCloses, MixedRefuses, mixed_next, mixing_from, judge_replies, Opening, InClient, InServer, InMixed, Closing, Closes, Refuses, turning, ending, server_said, client_said, conversing, opening_next, opened, Judgement, RecordFault, Reading, StreamEnd, Held, Faulty, stream_next, stream_end, unread, Position, place_at, file_fault, SideShows, connection_entries, SideEnd, SideCloses, SideRefuses, side_next, siding_from, parsing_in, reading_with}
 use Rattle.capture3.specs.Connections.{Context, ShownFault, refusal, client_refusal, server_refusal, client_position, server_position, calls_in_turn, replies_to, ServerShows, StreamsShow, InClientStream, InServerStream, ConnectionShows}
 use Rattle.capture3.specs.FileMachine.{Mark, Inside, Parsing, marked, closed, file_next, file_start, parsed}
 use Rattle.capture3.proofs.Lemmas.Sides.SideRules.{RefusedSide, ClosedSide, side_closed_or, side_over}
 use Rattle.capture3.proofs.Lemmas.Messages.BodiesLemmas.{the_calls, the_replies}
-use Rattle.capture3.proofs.Lemmas.Files.FileMachineLemmas.{mark_runs, magics_run, length_magic, bad_mark_stops, magic_stops}
+use Rattle.capture3.proofs.Lemmas.Files.FileMachineLemmas.{context_at, mark_runs, magics_run, length_magic, bad_mark_stops, magic_stops}
 use Rattle.capture3.proofs.Lemmas.Container.SidedChunksRules.{RefusedMixed, closes_over, mixed_over, mixed_some}
 use Rattle.capture3.proofs.Lemmas.Files.EndedMachines.{Gone, Past, Over, gone_past, gone_more, nested_gone, nested_over, nested_past}
 use Rattle.capture3.proofs.Lemmas.Sides.StreamEnds.{stream_ends}

@@ -1,10 +1,10 @@
 -- What a clean prefix reaches, by its parts and by the machine.
-use Rattle.capture3.proofs.Common.{◌≡◌, inl, inr, ℕ, suc, ◌+◌, List, [], ◌∷◌, ◌++◌, length, map, refl, sym, ap, subst, ◌∙◌, append_assoc, append-nil, arith, BeginsStream, Context, client_position, server_position, calls_in_turn, replies_to, SideWord, SideLength, SideChunk, MixedPoint, Mixing, ReachesInside, AreWhole, InMagic, BetweenConnections, InConnection, Reading, Judgement, HoldsSoFar, Position, reply_entry, Streams, BeginsMixed, size, gathered, with_more, Version, One, Two, digit, magic_front, magic, total_size, parsing_in, siding_in, mixing_in, context_at, reading_with}
+use Rattle.capture3.proofs.Common.{◌≡◌, inl, inr, ℕ, suc, ◌+◌, List, [], ◌∷◌, ◌++◌, length, map, refl, sym, ap, subst, ◌∙◌, append_assoc, append-nil, arith, BeginsStream, Context, client_position, server_position, calls_in_turn, replies_to, SideWord, SideLength, SideChunk, MixedPoint, Mixing, ReachesInside, AreWhole, InMagic, BetweenConnections, InConnection, Reading, Judgement, HoldsSoFar, Position, reply_entry, Streams, BeginsMixed, size, gathered, with_more, Version, One, Two, digit, magic_front, magic, total_size, parsing_in, siding_in, mixing_in, reading_with}
 use Rattle.capture3.specs.Entry.{Entry, Begin, Call, Turn}
 use Rattle.capture3.specs.ConnectionMachine.{Opening, InClient, InServer, InMixed, opening_entries}
 use Rattle.capture3.specs.FileMachine.{Spot, Magic, Digit, Mark, Inside, Ended, Parsing, emitted}
 use Rattle.capture3.specs.SideMachine.{Siding, Length, Chunk, Point}
-use Rattle.capture3.proofs.Lemmas.Files.FileMachineLemmas.{HasSpot, Stands, magic_split}
+use Rattle.capture3.proofs.Lemmas.Files.FileMachineLemmas.{context_at, magic_part, HasSpot, Stands, magic_split}
 use Rattle.capture3.proofs.Lemmas.Container.SidedChunksMachineLemmas.{HasMixed, HasMixedPoint}
 use Rattle.capture3.proofs.Lemmas.Connections.ConnectionMachineLemmas.{HasOpening}
 use Rattle.capture3.proofs.Lemmas.Sides.SideMachineLemmas.{HasPoint, HasSide}
@@ -299,28 +299,12 @@ whole_magic_stands bytes version e = record {
 part_stands : (bytes more : List ℕ) → magic_front ≡ bytes ++ more → StandsAt bytes []
 part_stands bytes [] e = record {
   state = parsing_in One (length bytes) 0 0 [] Digit;
-  stands =
-      record {
-        begins = e;
-        version_is = refl;
-        at_is = refl;
-        total_is = refl;
-        number_is = refl;
-        entries_are = refl;
-      };
+  stands = magic_part bytes [] e;
   emits = refl;
 }
 part_stands bytes (due ∷ more) e = record {
   state = parsing_in One (length bytes) 0 0 [] (Magic due more);
-  stands =
-      record {
-        begins = e;
-        version_is = refl;
-        at_is = refl;
-        total_is = refl;
-        number_is = refl;
-        entries_are = refl;
-      };
+  stands = magic_part bytes (due ∷ more) e;
   emits = refl;
 }
 

@@ -1,9 +1,9 @@
 -- What the byte of a fault still reaches, in a file of version 2: the entries of the connection
 -- before a record at fault.
-use Rattle.capture3.proofs.Common.{◌≡◌, ◌⊎◌, inl, inr, ℕ, suc, ◌+◌, ◌<◌, ◌≤◌, List, [], ◌∷◌, ◌++◌, length, refl, sym, ap, subst, ◌∙◌, append-nil, arith, length-append, Next, Goes, Ends, Run, Runs, Stops, Stopped, landed, after, Two, total_size, max_bytes, Context, ShownFault, refusal, StreamsShow, InClientStream, InServerStream, Rule, Shows, AfterConnections, MagicDiffers, MarkIsBad, ConnectionIsTooMany, WithinConnection, ByteAfterEnd, Mixing, MixedCloses, mixed_next, mixing_from, InMixed, conversing, opening_next, opened, Parsing, closed, emitted, file_next, file_start, parsed, Streams, size, AreMixed, file_fault, TooManyConnections, Tells, after-append, nested_runs, ran_before, tells, AreWithinLimits, AreWhole, IsLongestClean, Reached, context_at}
+use Rattle.capture3.proofs.Common.{◌≡◌, ◌⊎◌, inl, inr, ℕ, suc, ◌+◌, ◌<◌, ◌≤◌, List, [], ◌∷◌, ◌++◌, length, refl, sym, ap, subst, ◌∙◌, append-nil, arith, length-append, Next, Goes, Ends, Run, Runs, Stops, Stopped, landed, after, Two, total_size, max_bytes, Context, ShownFault, refusal, StreamsShow, InClientStream, InServerStream, Rule, Shows, AfterConnections, MagicDiffers, MarkIsBad, ConnectionIsTooMany, WithinConnection, ByteAfterEnd, Mixing, MixedCloses, mixed_next, mixing_from, InMixed, conversing, opening_next, opened, Parsing, closed, emitted, file_next, file_start, parsed, Streams, size, AreMixed, file_fault, TooManyConnections, Tells, after-append, nested_runs, ran_before, tells, AreWithinLimits, AreWhole, IsLongestClean, Reached}
 use Rattle.capture3.specs.Entry.{Entry, Begin}
 use Rattle.capture3.proofs.Lemmas.Files.FileRules.{AnyRefusal, RefusedClosing, Marked, at_mark, inside_at, begins_or, begun_or, closed_ends, conversing_ends}
-use Rattle.capture3.proofs.Lemmas.Files.FileMachineLemmas.{InConnection, Stands, file_runs}
+use Rattle.capture3.proofs.Lemmas.Files.FileMachineLemmas.{context_at, InConnection, Stands, file_runs}
 use Rattle.capture3.proofs.Lemmas.Reached.Limits.{IsAfter, after_within, refused_more, streams_after, typed_within, whole_within}
 use Rattle.capture3.proofs.Lemmas.Container.SidedChunksRules.{RefusedMixed, closes_over}
 use Rattle.capture3.proofs.Lemmas.Container.SidedChunksMachineLemmas.{HasMixed, EndsMixed, mixed_leads, nothing_gathered}

@@ -4,7 +4,6 @@ use Rattle.std.proofs.lemmas.Bool.{eqb-true}
 use Rattle.record_mark.specs.Taking.{Taking, Led, OutOfMemory, IsRunning, IsWhole, body_of, joined_body, joining_of, released, unbegun}
 use Rattle.capture3.specs.declared.reader.entry.Kind.TheVariants as kinds
 use Rattle.capture3.specs.declared.fault.Error.TheVariants as errors
-use Rattle.capture3.specs.declared.fault.Place.TheVariants as places
 use Rattle.capture3.specs.declared.container.position.Event.TheVariants.{Begin, Record, Turn, Close}
 use Rattle.capture3.specs.declared.container.position.Position.{Position}
 use Rattle.capture3.specs.machinery.Container.{AreStored, Comes, ComesToFault, FirstKept, FromFile, InFile, InFirstKept, InNextKept, IsStored, Leaves, NextKept, Recalled, first_cursor, RecallFails, stream_of, unpacking_of, arrived, Arrives, ShowsError}
@@ -524,8 +523,8 @@ module _ (c : Container) (table : List NumberedCall) (bytes : List ℕ) (all : L
       let same : suc (length m.stood.so_far.calls) ≡ c.position.records =
       omega (arith, m.records_are, m.stood.here.1) in
       subst (ShowsFirst bytes all) (ap
-      (λ (n : ℕ).
-      fault_in_record c.position.connections Client n stop.at stop.reason) same ∙ sym is)
+      (λ (n : ℕ). fault_in_record c.position.connections Client n stop.at stop.reason)
+      same ∙ sym is)
       (call_refused (after_side_word c.position) c.streams.kept m.taken m.records table bytes all
       m.stood m.count (Whole (body_of c.joiner.taking))
       (fault_at m.stood.so_far.calls stop.at stop.reason) m.joins
@@ -553,8 +552,8 @@ module _ (c : Container) (table : List NumberedCall) (bytes : List ℕ) (all : L
       let same : suc (length m.stood.so_far.replies) ≡ c.position.records =
       omega (arith, m.records_are, m.stood.here.2) in
       subst (ShowsFirst bytes all) (ap
-      (λ (n : ℕ).
-      fault_in_record c.position.connections Server n stop.at stop.reason) same ∙ sym is)
+      (λ (n : ℕ). fault_in_record c.position.connections Server n stop.at stop.reason)
+      same ∙ sym is)
       (reply_refused (after_side_word c.position) c.streams.kept m.taken m.records table bytes all
       m.stood m.count (Whole (body_of c.joiner.taking))
       (fault_at m.stood.so_far.replies stop.at stop.reason) m.joins
@@ -727,8 +726,8 @@ recall_fails_at Client taken p streams table bytes all fault r (inl (at, n, stop
 recall_fails_at Client taken p streams table bytes all fault r (inr (j, open_is, runs, is)) =
     let same : suc (length r.so_far.calls) ≡ p.records + 1 = omega (arith, r.here.1) in
     subst (ShowsFirst bytes all) (ap
-    (λ (k : ℕ).
-    fault_in_record p.connections Client k (length (joined_body j)) RecordCut) same ∙ sym is)
+    (λ (k : ℕ). fault_in_record p.connections Client k (length (joined_body j)) RecordCut)
+    same ∙ sym is)
     (call_cut (after_side_word p) streams taken p.records table bytes all r j
     (fault_at r.so_far.calls (length (joined_body j)) RecordCut) runs
     (left_open r.so_far.calls j open_is))
@@ -741,8 +740,8 @@ recall_fails_at Server taken p streams table bytes all fault r (inl (at, n, stop
 recall_fails_at Server taken p streams table bytes all fault r (inr (j, open_is, runs, is)) =
     let same : suc (length r.so_far.replies) ≡ p.records + 1 = omega (arith, r.here.2) in
     subst (ShowsFirst bytes all) (ap
-    (λ (k : ℕ).
-    fault_in_record p.connections Server k (length (joined_body j)) RecordCut) same ∙ sym is)
+    (λ (k : ℕ). fault_in_record p.connections Server k (length (joined_body j)) RecordCut)
+    same ∙ sym is)
     (reply_cut (after_side_word p) streams taken p.records table bytes all r j
     (fault_at r.so_far.replies (length (joined_body j)) RecordCut) runs
     (left_open r.so_far.replies j open_is))

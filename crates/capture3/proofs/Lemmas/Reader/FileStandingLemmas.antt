@@ -2,7 +2,6 @@
 -- judged.
 use Rattle.capture3.proofs.Common.{Entry, parsing_in, ◌≡◌, ℕ, zero, suc, ◌+◌, Bool, true, false, cond, nat_eq, nat_lt, List, [], ◌∷◌, ◌++◌, length, Result, Ok, Err, refl, sym, ap, subst, ◌∙◌, add-one, arith, length-append, Stop, BadMagic, TooManyConnections, TooManyBytes, RecordCut, RecordTooLong, Item, Joining, Between, Header, Bytes, Joined, Whole, TooLong, join_next, Next, Goes, Ends, Runs, Stops, after, landed, within, word_next, not_runs, only_stops, Side, Client, Server, Begin, ReplyItems, ShownFault, refusal, judge_call, judge_reply, Version, One, Two, Mixing, MixedEnd, MixedCloses, MixedRefuses, mixed_step, InClient, InServer, InMixed, conversing, ending, judge_replies, opened, turning, judged, recorded, Siding, SideEnd, SideRefuses, Reason, Parsing, file_next, Fault, file_fault, place_at, unpacking_with, siding_in, fault_in_record, reading_with}
 use Rattle.capture3.specs.SideMachine as siding
-use Rattle.capture3.specs.declared.fault.Place.TheVariants as places
 use Rattle.capture3.specs.FileMachine as parsing
 use Rattle.capture3.specs.machinery.FileStanding.{Judged, siding_at, parsing_at, resumed, call_judged, reply_judged, Agrees, AgreesAt, AgreesOn}
 use Rattle.capture3.specs.machinery.ContainerMachine.{Opened, Magic, Digit, Mark, Length, Chunk, Mixed, Ended, Unpacking, Unpacked, Has, Refuses, at_byte, left_of_magic, begun_at, connection_marked, chunk_counted, record_joined, in_chunk, mixed_at, mixed_ended, unpack_next}

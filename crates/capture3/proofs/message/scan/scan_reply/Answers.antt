@@ -35,7 +35,8 @@ returns-in_err-success-clause-err g c before table =
     let begun =
     start_begun c.args.body.now c.in_ok-start.start true c.new-input.result c.start.new.input
     c.new-input.ensures.body c.new-input.ensures.start c.in_ok-start.ensures.read
-    c.in_ok-start.ensures.moves.same_body (not_false c.in_ok-start.start.is_reply c.if-not-start.false) in
+    c.in_ok-start.ensures.moves.same_body
+    (not_false c.in_ok-start.start.is_reply c.if-not-start.false) in
     let asked : procedure_of before c.in_ok-start.start.xid ≡ Some c.in-Some.id =
     sym (table c.in_ok-start.start.xid) ∙ sym c.procedure_of.ensures ∙ c.in-Some.is in
     error_stops c.from_residual-in_err-success.result (judge_reply before c.args.body.now)
@@ -48,7 +49,8 @@ returns-in_err-scan_results_after-clause-err g c before table =
     let begun =
     start_begun c.args.body.now c.in_ok-start.start true c.new-input.result c.start.new.input
     c.new-input.ensures.body c.new-input.ensures.start c.in_ok-start.ensures.read
-    c.in_ok-start.ensures.moves.same_body (not_false c.in_ok-start.start.is_reply c.if-not-start.false) in
+    c.in_ok-start.ensures.moves.same_body
+    (not_false c.in_ok-start.start.is_reply c.if-not-start.false) in
     let asked : procedure_of before c.in_ok-start.start.xid ≡ Some c.in-Some.id =
     sym (table c.in_ok-start.start.xid) ∙ sym c.procedure_of.ensures ∙ c.in-Some.is in
     error_stops c.from_residual-in_err-scan_results_after.result
@@ -65,7 +67,8 @@ returns-in_err-end-clause-err g c before table =
     let begun =
     start_begun c.args.body.now c.in_ok-start.start true c.new-input.result c.start.new.input
     c.new-input.ensures.body c.new-input.ensures.start c.in_ok-start.ensures.read
-    c.in_ok-start.ensures.moves.same_body (not_false c.in_ok-start.start.is_reply c.if-not-start.false) in
+    c.in_ok-start.ensures.moves.same_body
+    (not_false c.in_ok-start.start.is_reply c.if-not-start.false) in
     let asked : procedure_of before c.in_ok-start.start.xid ≡ Some c.in-Some.id =
     sym (table c.in_ok-start.start.xid) ∙ sym c.procedure_of.ensures ∙ c.in-Some.is in
     let r =
@@ -89,7 +92,8 @@ returns-clause-ok g c =
     let begun =
     start_begun c.args.body.now c.in_ok-start.start true c.new-input.result c.start.new.input
     c.new-input.ensures.body c.new-input.ensures.start c.in_ok-start.ensures.read
-    c.in_ok-start.ensures.moves.same_body (not_false c.in_ok-start.start.is_reply c.if-not-start.false) in
+    c.in_ok-start.ensures.moves.same_body
+    (not_false c.in_ok-start.start.is_reply c.if-not-start.false) in
     let r =
     reply_told g.V.Visit.stands c.args.body.now c.in_ok-start.start c.in-Some.id
     c.in_ok-success.success c.start.new.input c.scan_reply_head.new.input
