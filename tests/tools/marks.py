@@ -170,7 +170,10 @@ def parts_listed_at_once(place: Comparisons) -> None:
                 name, mode, connection = common.choice(FILES), common.choice((0o600, 0o644)), common.randrange(1, 4)
                 if own.random() < share:
                     name, mode, connection = own.choice(FILES), 0o640, own.randrange(1, 4)
-                (run.set if common.random() < 0.5 else run.get)(name, mode, connection)
+                if common.random() < 0.5:
+                    run.set(name, mode, connection)
+                else:
+                    run.get(name, mode, connection)
         return run
     alone = ALONE, str(TOP / 'tools'), '--program', place.program, '--marks', PATTERN
     for draws in range(6):
