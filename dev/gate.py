@@ -40,7 +40,7 @@ BUILT = {'nfs3canon': 'nfs3canon', 'nfs3mask': 'nfs3mask', 'memory_tests': 'memo
 # The scripts of tests/ by their rooms, in the order in which they are run.
 TESTS = {
     'program': ('shipped', 'run', 'captures', 'fuzz', 'large', 'instructions'),
-    'faults': ('failures', 'memory', 'hostile'),
+    'faults': ('failures', 'memory', 'hostile', 'exchanged'),
     'sources': ('must_fail', 'agreement'),
     'tools': ('from_pcap', 'lossy', 'verdicts', 'following', 'followed', 'procedures', 'compare', 'orders', 'marks',
               'findings', 'page', 'ci', 'reasons', 'explain', 'cut', 'installing', 'harm'),

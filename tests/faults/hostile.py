@@ -16,7 +16,6 @@ import signal
 import struct
 import subprocess
 import sys
-import tempfile
 import termios
 import threading
 import time
@@ -25,7 +24,7 @@ from typing import IO
 
 sys.path.insert(0, str(pathlib.Path(__file__).resolve().parents[1] / 'shared'))
 from outputs import PART  # noqa: E402
-from running import LIMIT, Answer, RunOptions, Runs, ended, pipe_of, try_all, words_of  # noqa: E402
+from running import LIMIT, Answer, RunOptions, Runs, ended, pipe_of, try_tests  # noqa: E402
 from texts import mixed  # noqa: E402
 import messages  # noqa: E402
 from messages import CLIENT, MAGIC_2, NFS, NFSACL, call, dirop, fh, fragment, hyper, in_turn, interleaved, success, word  # noqa: E402
@@ -932,22 +931,10 @@ TESTS: list[Test] = [
     files_that_may_not_be_read, files_that_change_while_they_are_read]
 
 
-def tried(program: str, test: Test) -> list[str]:
-    """What is wrong in a test, which has a folder of its own."""
-    with tempfile.TemporaryDirectory(prefix='nfs3canon') as folder:
-        place = Place(program, folder)
-        try:
-            test(place)
-        except (OSError, subprocess.TimeoutExpired) as error:
-            place.wrong.append(str(error))
-        os.chmod(folder, 0o755)
-        return place.wrong
-
-
 def main() -> None:
     # A job in the background of a shell has it ignored, and so would what is begun here.
     signal.signal(signal.SIGINT, signal.default_int_handler)
-    try_all(words_of(__doc__), [(test.__name__, tried, test) for test in TESTS], os.cpu_count())
+    try_tests(__doc__, Place, TESTS)
 
 
 if __name__ == '__main__':

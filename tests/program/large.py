@@ -11,13 +11,11 @@ at which such a program might give up, and wants the answer that a small capture
 import hashlib
 import os
 import pathlib
-import subprocess
 import sys
-import tempfile
 from collections.abc import Callable, Iterable, Iterator
 
 sys.path.insert(0, str(pathlib.Path(__file__).resolve().parents[1] / 'shared'))
-from running import Runs, pipe_of, try_all, words_of  # noqa: E402
+from running import Runs, pipe_of, try_tests  # noqa: E402
 from texts import mixed  # noqa: E402
 from traffic import COMMIT  # noqa: E402
 import messages  # noqa: E402
@@ -227,20 +225,5 @@ TESTS: list[Callable[[Place], None]] = [
     records_of_the_largest_size, names_in_messages, links_in_messages, words_of_the_line, names_of_files, streams_of_a_line]
 
 
-def tried(program: str, test: Callable[[Place], None]) -> list[str]:
-    """What is wrong in a test, which has a folder of its own."""
-    with tempfile.TemporaryDirectory(prefix='nfs3canon') as folder:
-        place = Place(program, folder)
-        try:
-            test(place)
-        except (OSError, subprocess.TimeoutExpired) as error:
-            place.wrong.append(str(error))
-        return place.wrong
-
-
-def main() -> None:
-    try_all(words_of(__doc__), [(test.__name__, tried, test) for test in TESTS], os.cpu_count())
-
-
 if __name__ == '__main__':
-    main()
+    try_tests(__doc__, Place, TESTS)

@@ -171,10 +171,13 @@ R = TypeVar('R', bound=Runs)
 
 
 def tried(program: str, make: Callable[[str, str], R], test: Callable[[R], object]) -> list[str]:
-    """What is wrong in a test, which has a folder of its own."""
+    """What is wrong in a test, which has a folder of its own. So is a failed call of the system, and a run that takes too long."""
     with tempfile.TemporaryDirectory(prefix='nfs3canon') as folder:
         place = make(program, folder)
-        test(place)
+        try:
+            test(place)
+        except (OSError, subprocess.TimeoutExpired) as error:
+            place.wrong.append(str(error))
         return place.wrong
 
 

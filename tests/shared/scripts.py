@@ -1,12 +1,14 @@
 """Runs of the scripts in tools/, and what their tests make recordings of."""
+import concurrent.futures
 import io
 import os
 import pathlib
+import shutil
 import sys
 import typing
 
 from containers import in_one
-from running import Answer, RunOptions, Runs, ended, tried as tried_in
+from running import Answer, RunOptions, Runs, ended, tried as tried_in, try_tests
 
 TOP = pathlib.Path(__file__).resolve().parents[2]
 sys.path[:0] = [str(TOP / 'tools'), str(TOP / 'examples')]
@@ -104,3 +106,13 @@ class Tools(Runs):
 def tried(program: str, test: typing.Callable[[Tools], None]) -> list[str]:
     """What is wrong in a test, which has a folder of its own."""
     return tried_in(program, Tools, test)
+
+
+def try_tools(doc: str | None, tests: typing.Sequence[typing.Callable[[Tools], None]], of_tshark: typing.Sequence[object] = (),
+              make_pool: typing.Callable[[int | None], concurrent.futures.Executor] = concurrent.futures.ThreadPoolExecutor) -> None:
+    """Tries tests. Those that need tshark are left out, with a word, if it is not there."""
+    left_out = [] if shutil.which('tshark') else of_tshark
+    chosen, names = [test for test in tests if test not in left_out], [test.__name__ for test in tests if test in left_out]
+    if names:
+        print('skipped, since tshark is not there:', *names)
+    try_tests(doc, Tools, chosen, make_pool)

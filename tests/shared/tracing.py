@@ -1,4 +1,5 @@
-"""Runs of a program in which one growth of memory is refused, or one call of the system fails, or moves less than was asked for.
+"""Runs of a program in which one growth of memory is refused, or one call of the system fails, or moves less than was asked for, or comes
+after something else was done.
 
 The program runs traced, as under a debugger (ptrace(2)), by Python's standard library alone; on Linux and x86-64 only. What is
 counted begins when the loader has ended. Growths are the program's own calls of malloc and realloc: their slots in its table of
@@ -12,7 +13,7 @@ import struct
 import subprocess
 import sys
 import tempfile
-from collections.abc import Iterator, Mapping, Sequence
+from collections.abc import Callable, Iterator, Mapping, Sequence
 from dataclasses import dataclass
 from typing import IO, NamedTuple
 
@@ -34,8 +35,10 @@ MOVING = {0: 'read', 1: 'write'}
 KINDS = {**MOVING, 74: 'sync', 75: 'sync', 4: 'stat', 5: 'stat', 6: 'stat', 262: 'stat', 332: 'stat', 2: 'open', 257: 'open',
          86: 'link', 265: 'link', 82: 'rename', 264: 'rename', 316: 'rename', 87: 'unlink', 263: 'unlink', 89: 'readlink',
          267: 'readlink', 90: 'mode', 91: 'mode', 268: 'mode', 92: 'owner', 93: 'owner', 94: 'owner', 260: 'owner', 318: 'random'}
+WITH_FOLDERS = range(257, 333)  # Calls whose first argument is a folder, and whose second is a name.
 NO_WAIT = 1  # A flag of getrandom: the C library asks so for itself, and does without.
 STANDARD_ERROR = 2
+MOST_OF_A_NAME = 32  # bytes, of those that are compared
 NO_CALL = (1 << 64) - 1
 
 
@@ -44,7 +47,8 @@ class Registers(ctypes.Structure):
     rip: int  # where it goes on
     rsp: int
     rax: int  # what a function or a call of the system answered
-    rdi: int  # the first argument of a call of the system, and the third
+    rdi: int  # the first three arguments of a call of the system
+    rsi: int
     rdx: int
     orig_rax: int  # its number
     _fields_ = [(name, ctypes.c_ulonglong) for name in REGISTERS]
@@ -53,11 +57,15 @@ class Registers(ctypes.Structure):
 @dataclass(frozen=True)
 class Fault:
     """What happens at the growth or call of a kind (`growth`, or one of KINDS) that has this number, from 1: it fails with an error,
-    or takes so many bytes."""
+    or takes so many bytes, or something is done before it, and then it is made. If it has a name, calls with this name alone are counted.
+    `then` is the next fault, which is counted from there."""
     kind: str
     number: int
     error: int = errno.EIO
     takes: int | None = None
+    before: Callable[[], object] | None = None
+    name: str | None = None
+    then: 'Fault | None' = None
 
 
 class Answer(NamedTuple):
@@ -141,6 +149,7 @@ class Traced:
     def __init__(self, elf: Elf, process: subprocess.Popen[bytes], fault: Fault | None, pieces: Mapping[str, int]) -> None:
         self.elf, self.process, self.fault, self.pieces = elf, process, fault, pieces
         self.counts = dict.fromkeys(['growth', *KINDS.values()], 0)
+        self.left = fault.number if fault else 0  # until the fault
         self.registers, self.memory = Registers(), -1
         self.real: dict[int, int] = {}  # where each function that takes memory is, by the address in its slot
         self.pending: Pending | None = None
@@ -208,7 +217,15 @@ class Traced:
     def counted(self, kind: str) -> bool:
         """Counts one of a kind, and returns whether the fault is here."""
         self.counts[kind] += 1
-        return self.fault is not None and (self.fault.kind, self.fault.number) == (kind, self.counts[kind])
+        if self.fault is None or self.fault.kind != kind or self.fault.name is not None and self.fault.name != self.name():
+            return False
+        self.left -= 1
+        return self.left == 0
+
+    def name(self) -> str:
+        """The name with which a call of the system is made."""
+        at = self.registers.rsi if self.registers.orig_rax in WITH_FOLDERS else self.registers.rdi
+        return os.pread(self.memory, MOST_OF_A_NAME, at).partition(b'\0')[0].decode()
 
     def growth(self) -> None:
         """Answers null to the caller, or goes on in the function."""
@@ -241,6 +258,9 @@ class Traced:
         if kind is None:
             return Pending(None, None)
         fault = self.fault if self.counted(kind) else None
+        if fault and fault.before:
+            fault.before()
+            self.fault, self.left, fault = fault.then, fault.then.number if fault.then else 0, None
         self.file = self.registers.rdi if fault else self.file
         asked = self.registers.rdx if self.registers.orig_rax in MOVING else None
         most = fault.takes if fault else self.pieces.get(kind)
@@ -269,17 +289,20 @@ class Traced:
 
 
 def run(program: str, words: Sequence[str], folder: str, fault: Fault | None = None, pieces: Mapping[str, int] | None = None,
-        stdout: int | IO[bytes] | None = None, closed: Sequence[int] = ()) -> Answer:
+        stdout: int | IO[bytes] | None = None, closed: Sequence[int] = (), prepare: Callable[[], object] | None = None) -> Answer:
     """A run of the program there, with this fault, whose reads and writes move at most so many bytes at once as `pieces` says
     by kind. Growths are counted if the fault is one, and else the calls of the system. Its standard output is a file of its own
-    if none is given, and is then answered; the outputs are Latin-1. The standard files with the numbers `closed` are closed."""
-    def prepare() -> None:
+    if none is given, and is then answered; the outputs are Latin-1. The standard files with the numbers `closed` are closed, and `prepare`
+    is called in the new process."""
+    def begun() -> None:
+        if prepare:
+            prepare()
         for number in closed:
             os.close(number)
         trace_me()
     with tempfile.TemporaryFile() as out, tempfile.TemporaryFile() as error:
         process = begin([program, *words], folder, stdout=stdout or out, stderr=error, env={**os.environ, 'LD_BIND_NOW': '1'},
-                        prepare=prepare)
+                        prepare=begun)
         traced = Traced(Elf(program), process, fault, pieces or {})
         traced.run()
         out.seek(0)

@@ -24,9 +24,9 @@ sys.path.insert(0, str(pathlib.Path(__file__).resolve().parents[1] / 'shared'))
 from recordings import (  # noqa: E402
     NANOSECONDS, block, cooked, cooked_2, enhanced, extended, fragments, fragments_6, interface, loopback, obsolete, pcapng, section,
     simple)
-from running import begin, ended, pipe_of, try_all, words_of  # noqa: E402
+from running import begin, ended, pipe_of  # noqa: E402
 from scripts import (  # noqa: E402
-    ALL, CALLS, REPLIES, TOP, Tools, exchange, in_fragments, packed, stream, taken_of, tried, whole)
+    ALL, CALLS, REPLIES, TOP, Tools, exchange, in_fragments, packed, stream, taken_of, try_tools, whole)
 import messages  # noqa: E402
 from messages import NFS, call, success  # noqa: E402
 from packets import ACK, CLIENT, FIN, RST, SERVER, SYN, Talk, datagram, ethernet, pcap  # noqa: E402
@@ -802,13 +802,5 @@ TESTS = [memory, recordings_of_all_kinds, compressed_recordings, what_is_not_dec
          files, long_streams, limits, filters]
 
 
-def main() -> None:
-    tests = TESTS
-    if not shutil.which('tshark'):
-        print('skipped, since tshark is not there:', *(test.__name__ for test in OF_TSHARK))
-        tests = [test for test in TESTS if test not in OF_TSHARK]
-    try_all(words_of(__doc__), [(test.__name__, tried, test) for test in tests], os.cpu_count(), concurrent.futures.ProcessPoolExecutor)
-
-
 if __name__ == '__main__':
-    main()
+    try_tools(__doc__, TESTS, OF_TSHARK, concurrent.futures.ProcessPoolExecutor)

@@ -31,6 +31,14 @@ from nfs3tools.recordings.taken import TakenStream, take  # noqa: E402
 GETATTR, SETATTR, LOOKUP, CREATE, MKDIR = 1, 2, 3, 8, 9
 FILES = ('x', 'y', 'z')
 PATTERN = 'test *'
+# Runs tools/compare with each part listed by itself.
+ALONE = """import sys
+sys.path.insert(0, sys.argv.pop(1))
+from nfs3tools.comparison import listed_parts
+from nfs3tools.commands import compare, messages
+listed_parts.BYTES_AT_MOST = 1
+sys.exit(messages.run('compare', compare.main))
+"""
 
 
 class Run:
@@ -122,24 +130,59 @@ def parts_that_are_the_same(place: Comparisons) -> None:
                                           '3 parts: 2 same, 1 only in the second run'])
 
 
-def few_runs_of_the_programs(place: Comparisons) -> None:
-    """If the whole runs are the same, the programs run as often for 200 parts as for two."""
+def runs_of_the_programs(place: Comparisons, parts: int, mode: int) -> tuple[str, int]:
+    """Compares so many parts, whose last replies have another mode in the second run. Returns the last line, and how often programs ran."""
     for name in ('nfs3canon', 'nfs3mask'):
         place.write(name, f'#!/bin/sh\necho >> runs\nexec {program_named(name, place.program)} "$@"\n'.encode())
         os.chmod(place.path(name), 0o755)
-    numbers = list[int]()
-    for parts in (2, 200):
-        runs = [Run(seed) for seed in (1, 2)]
-        for run in runs:
-            for part in range(parts):
-                run.mark(f'test {part}').get('x')
-        put(place, *runs)
-        place.write('runs', b'')
-        words = [str(TOP / 'tools/compare'), '--program', place.path('nfs3canon'), '--marks', PATTERN, 'a', 'b']
-        status, out, _ = ended(words, place.folder).text()
-        place.want('all the same', (status, out.splitlines()[-1]), (0, f'{parts} parts: {parts} same'))
-        numbers.append((place.read('runs') or b'').count(b'\n'))
-    place.want('runs', numbers[1], numbers[0])
+    runs = [Run(seed) for seed in (1, 2)]
+    for run, own in zip(runs, (0o644, mode)):
+        for part in range(parts):
+            run.mark(f'test {part}').get('x').get('y', own)
+    put(place, *runs)
+    place.write('runs', b'')
+    words = [str(TOP / 'tools/compare'), '--program', place.path('nfs3canon'), '--marks', PATTERN, 'a', 'b']
+    out = ended(words, place.folder).text()[1]
+    return out.splitlines()[-1], (place.read('runs') or b'').count(b'\n')
+
+
+def few_runs_of_the_programs(place: Comparisons) -> None:
+    """If the whole runs are the same, the programs run as often for 200 parts as for two."""
+    last, runs = runs_of_the_programs(place, 2, 0o644)
+    place.want('two', last, '2 parts: 2 same')
+    place.want('200', runs_of_the_programs(place, 200, 0o644), ('200 parts: 200 same', runs))
+
+
+def few_runs_for_parts_that_differ(place: Comparisons) -> None:
+    """Three for each part, and some for all of them: they are listed at once."""
+    (_, few), (last, runs) = (runs_of_the_programs(place, parts, 0o600) for parts in (8, 72))
+    place.want('all differ', last, '72 parts: 72 differ')
+    place.want(f'{runs - few} runs for 64 parts more', 3 * 64 <= runs - few <= 3.5 * 64, True)
+
+
+def parts_listed_at_once(place: Comparisons) -> None:
+    """What is told of parts is the same if each is listed by itself."""
+    def run(seed: int, draws: int, share: float) -> Run:
+        run, common, own = Run(seed), random.Random(draws), random.Random(f'{draws} {seed}')
+        for part in range(8):
+            run.mark(f'test {part} fh=1 fileid=2', common.randrange(1, 3))
+            for _ in range(common.randrange(6)):
+                name, mode, connection = common.choice(FILES), common.choice((0o600, 0o644)), common.randrange(1, 4)
+                if own.random() < share:
+                    name, mode, connection = own.choice(FILES), 0o640, own.randrange(1, 4)
+                if common.random() < 0.5:
+                    run.set(name, mode, connection)
+                else:
+                    run.get(name, mode, connection)
+        return run
+    alone = ALONE, str(TOP / 'tools'), '--program', place.program, '--marks', PATTERN
+    for draws in range(6):
+        put(place, run(1, draws, 0), run(2, draws, 0.2))
+        for words in (['--all'], ['--order', 'strict', '--mask', 'cookies,ids,owners']):
+            status, out, error = place.compare('--marks', PATTERN, *words, 'a', 'b')
+            by_itself = ended([sys.executable, '-c', *alone, *words, 'a', 'b'], place.folder).text()
+            place.want(f'draws {draws}', (status, out, error), (by_itself[0], by_itself[1].splitlines(), by_itself[2]))
+            place.want(f'draws {draws}: differ', ' differ' in out[-1], True)
 
 
 def one_part_that_differs(place: Comparisons) -> None:
@@ -425,7 +468,7 @@ def many_parts(place: Comparisons) -> None:
 
 
 TESTS: list[Callable[[Comparisons], None]] = [
-    few_runs_of_the_programs,
+    few_runs_of_the_programs, few_runs_for_parts_that_differ, parts_listed_at_once,
     parts_that_are_the_same, one_part_that_differs, a_part_more, names_that_come_again, orders_within_a_part,
     several_connections, a_call_that_moved_in_secret, captures_connection_by_connection, nothing_is_lost, calls_that_were_sent_again,
     frames_in_another_order, random_runs, patterns_of_names, files_for_others, bytes_that_are_missing, many_parts]

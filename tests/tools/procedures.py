@@ -9,7 +9,6 @@ line is 'N passed, M failed', and the status is 1 if any failed.
 import csv
 import io
 import json
-import os
 import pathlib
 import re
 import shutil
@@ -18,8 +17,8 @@ from typing import Any, NamedTuple
 
 sys.path.insert(0, str(pathlib.Path(__file__).resolve().parents[1] / 'shared'))
 from recordings import interface, section, simple  # noqa: E402
-from running import ended, try_all, words_of  # noqa: E402
-from scripts import TOP, Tools, in_fragments, stream, tried, whole  # noqa: E402
+from running import ended  # noqa: E402
+from scripts import TOP, Tools, in_fragments, stream, try_tools, whole  # noqa: E402
 from messages import AUTH_NONE, MOUNT, NFS, call, dirop, failed, fattr, fh, fragment, ok, opaque, post_op_attr, success, word  # noqa: E402
 from packets import ACK, Talk, pcap  # noqa: E402
 
@@ -341,13 +340,5 @@ TESTS = [counts_by_hand, times_of_records, ranks_of_latencies, xids_that_come_ag
          files_for_others, as_tshark_counts, many_calls]
 
 
-def main() -> None:
-    tests = TESTS
-    if not shutil.which('tshark'):
-        print('skipped, since tshark is not there:', *(test.__name__ for test in OF_TSHARK))
-        tests = [test for test in TESTS if test not in OF_TSHARK]
-    try_all(words_of(__doc__), [(test.__name__, tried, test) for test in tests], os.cpu_count())
-
-
 if __name__ == '__main__':
-    main()
+    try_tools(__doc__, TESTS, OF_TSHARK)

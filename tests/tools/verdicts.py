@@ -22,8 +22,8 @@ import xml.etree.ElementTree
 
 sys.path.insert(0, str(pathlib.Path(__file__).resolve().parents[1] / 'shared'))
 from recordings import NANOSECONDS, fragments, interface, section, simple  # noqa: E402
-from running import begin, ended, pipe_of, try_all, words_of  # noqa: E402
-from scripts import ALL, CALLS, REPLIES, TOP, Tools, exchange, in_fragments, stream, taken_of, tried, whole  # noqa: E402
+from running import begin, ended, pipe_of  # noqa: E402
+from scripts import ALL, CALLS, REPLIES, TOP, Tools, exchange, in_fragments, stream, taken_of, try_tools, whole  # noqa: E402
 from messages import NFS, call, fh, hyper, opaque, success, word  # noqa: E402
 from packets import ACK, Talk, ethernet, pcap  # noqa: E402
 from nfs3tools.shared.places import SIDES, Place  # noqa: E402
@@ -446,13 +446,5 @@ TESTS = [places, places_of_other_recordings, parts_of_a_recording, recordings_th
          files_for_others, interrupted]
 
 
-def main() -> None:
-    tests = TESTS
-    if not shutil.which('tshark'):
-        print('skipped, since tshark is not there:', *(test.__name__ for test in OF_TSHARK))
-        tests = [test for test in TESTS if test not in OF_TSHARK]
-    try_all(words_of(__doc__), [(test.__name__, tried, test) for test in tests], os.cpu_count())
-
-
 if __name__ == '__main__':
-    main()
+    try_tools(__doc__, TESTS, OF_TSHARK)

@@ -62,7 +62,7 @@ def same_of(sizes: Sequence[Size], order: Order) -> Judged:
 
 def judged(trial: Trial, runs: Sequence[Run], sizes: Sequence[Size], choices: Choices) -> Judged:
     """Compares both runs of a trial. They are brought together only if they differ, or are to be shown side by side."""
-    verdict = trial.same(trial.masked(trial.captures, choices.masks[0]))
+    verdict = trial.same(trial.captures, choices.masks[0])
     if verdict == 'same' and choices.around is None:
         return same_of(sizes, choices.order)
     order: Order = 'strict' if verdict == 'same' else choices.order

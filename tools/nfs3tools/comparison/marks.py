@@ -67,6 +67,10 @@ class Part:
     def size(self) -> Size:
         return Size(sum(piece.number for sides in self.pieces.values() for piece in sides['client']), len(self.pieces))
 
+    def bytes(self) -> int:
+        """Returns how many bytes of streams there are."""
+        return sum(piece.end - piece.begin for sides in self.pieces.values() for some in sides.values() for piece in some)
+
     def sides_of(self, index: int) -> dict[Side, list[Piece]]:
         return self.pieces.setdefault(index, {'client': [], 'server': []})
 
@@ -86,6 +90,9 @@ class Part:
                 break
             left -= piece.number
         return replace(message, connection=index + 1, record=piece.first + left - 1)
+
+
+Both = tuple[Part, Part]  # a part in both runs
 
 
 class Answered:

@@ -1,4 +1,6 @@
 """Captures with masked values, so that `nfs3canon same` passes over them. nfs3mask masks them."""
+from collections.abc import Iterable
+
 from .classes import BY_NAME, Mask
 from ..shared.programs import MASKED, program_beside, run_program
 
@@ -8,9 +10,9 @@ def words_for(mask: Mask) -> list[str]:
     return [f'{name}={mask[name].value if name in mask else "keep"}' for name in BY_NAME]
 
 
-def write_masked(program: str, capture: str, path: str, mask: Mask) -> None:
-    """Writes a well-formed capture with masked values to a path.
+def write_masked(program: str, capture: str, path: str, mask: Mask, content: Iterable[bytes] = ()) -> None:
+    """Writes a well-formed capture with masked values to a path. The content is that of /dev/stdin.
 
     Raises `Missing` if nfs3mask is not there, and `Died` if it fails.
     """
-    run_program(program_beside(program, 'nfs3mask'), [capture, path, *words_for(mask)], MASKED)
+    run_program(program_beside(program, 'nfs3mask'), [capture, path, *words_for(mask)], MASKED, content)

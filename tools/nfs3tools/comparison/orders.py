@@ -41,8 +41,10 @@ class Orders:
 
     def __init__(self, trial: Trial, first: Run, second: Run, choices: Choices) -> None:
         self.trial, self.choices = trial, choices
-        leaves_out, masks = (frozenset[str](), choices.masks[:1]) if choices.order == 'strict' else (choices.leaves_out, choices.masks[-2:])
-        self.pairing = trial.paired(masks, leaves_out)
+        is_strict, (mask, *more) = choices.order == 'strict', choices.masks
+        leaves_out = frozenset[str]() if is_strict else choices.leaves_out
+        # (to bring exchanges together it is all one whether a class is numbered or zero)
+        self.pairing = trial.paired([mask] if is_strict else [mask, *more[-1:]], leaves_out)
         self.is_in_place = self.pairing.is_in_place
         self.captures = trial.captures if self.is_in_place else trial.in_one_order(self.pairing)
         self.explaining = Explaining(first, second, self.pairing, leaves_out)
@@ -51,19 +53,20 @@ class Orders:
         """Finds what differs, or that nothing does in another order."""
         masks = self.choices.masks
         if self.choices.order == 'strict' or self.choices.order is None and not self.explaining.has_another_order():
-            return Found(self.explained(self.trial.masked(self.captures, masks[0]), masks[0]))
-        shown = list[str]()
-        for at, mask in enumerate(masks):
-            masked = self.trial.masked(self.captures, mask)
-            if not self.explaining.tells_lonely() and self.trial.same(masked) == 'same':
-                # (what only this mask makes the same is told)
-                return Found(self.explained(shown or masked, masks[max(0, at - 1)]), mask)
-            shown = masked
-        return Found(self.explained(shown, masks[-1]))
+            return Found(self.explained(masks[0]))
+        # (each mask has more than the one before, so what differs under the last one does under all)
+        if self.explaining.tells_lonely() or not self.is_same(masks[-1]):
+            return Found(self.explained(masks[-1]))
+        at = next(at for at, mask in enumerate(masks) if self.is_same(mask))
+        # (what only this mask makes the same is told)
+        return Found(self.explained(masks[max(0, at - 1)]), masks[at])
 
-    def explained(self, masked: Sequence[str], mask: Mask) -> Compared:
-        """Finds what differs between the pairs, whose captures in one order are masked."""
-        first, second = self.trial.canonical(masked)
+    def is_same(self, mask: Mask) -> bool:
+        return self.trial.same(self.captures, mask) == 'same'
+
+    def explained(self, mask: Mask) -> Compared:
+        """Finds what differs between the pairs under a mask."""
+        first, second = self.trial.canonical(self.captures, mask)
         listed = ListedInPlace(first, second, mask, self.pairing.here) if self.is_in_place else Listed(first, second, mask)
         differing = listed.unequal()
         return self.explaining.explained(differing, listed.turns_of_values(differing), mask,

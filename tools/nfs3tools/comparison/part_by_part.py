@@ -2,6 +2,7 @@
 
 Parts of one name belong together. The program judges each under a renaming of its own, so which objects were reached before a part does not
 matter. Many parts are judged at once, as one capture with the connections of all: if these are the same under one renaming, each part is.
+Those that are not are listed at once, and then each is judged by itself.
 """
 import tempfile
 from collections import Counter
@@ -14,16 +15,17 @@ from pathlib import Path
 from .comparing import Apart, Compared, Finding, Run
 from .ignoring import Ignored, without
 from .deciding import Judged, judged, run_of, same_of
+from .listed_parts import ListedParts, PartTrial, listed_at_once
 from ..captures.listings import Message
-from .marks import MarkedRun, Part, is_cut_by_records
+from .marks import Both, MarkedRun, Name, Part, is_cut_by_records
 from .orders import Choices
 from .outlines import Outlines
+from ..recordings.taken import Taken
 from ..reporting.reports import PartReport
 from .trial import Trial
 
 AT_ONCE, FEWER = 64, 8  # how many parts are judged at once, and by what that is divided if they are not the same
 CONNECTIONS_AT_MOST = 4_000  # of a run in parts that are judged at once
-Both = tuple[Part, Part]
 
 
 class Places:
@@ -48,7 +50,7 @@ class PartByPart:
 
     def __init__(self, whole: Trial, names: Sequence[str], runs: Sequence[Run], pattern: str, choices: Choices) -> None:
         self.whole, self.names, self.runs, self.choices = whole, names, runs, choices
-        self.are_wholes_same = whole.same(whole.masked(whole.captures, choices.masks[0])) == 'same'
+        self.are_wholes_same = whole.same(whole.captures, choices.masks[0]) == 'same'
         listings = whole.canonical(whole.captures)
         first = MarkedRun(whole.runs[0], listings[0], pattern)
         is_cut_alike = self.are_wholes_same and not first.has_silly_names() and all(map(is_cut_by_records, whole.runs))
@@ -76,19 +78,29 @@ class PartByPart:
         line = f'{part.name}: {said.line(self.choices, part.size())}'
         return PartReport(str(part.name), name, part.name.number, line, said.is_same, None, report, compared, left_out)
 
-    def judged(self, pairs: Sequence[Both], at_once: int = AT_ONCE) -> Iterator[tuple[Both, Judged]]:
-        """Judges parts, so many at once. If these are not the same, they are judged by fewer at once, and in the end each by itself. If the
-        runs are the same, a part of the same messages in both is: one renaming of the runs renames each part."""
+    def judged(self, pairs: Sequence[Both]) -> Iterator[tuple[Both, Judged]]:
+        """Judges parts: first those that are the same, and then each of the others."""
+        same = set[Name]()
+        for pair in self.same(pairs):
+            same.add(pair[0].name)
+            yield pair, same_of([part.size() for part in pair], self.choices.order)
+        for some in listed_at_once(pair for pair in pairs if pair[0].name not in same):
+            yield from self.each(some)
+
+    def same(self, pairs: Sequence[Both]) -> Iterator[Both]:
+        """Iterates over parts that are the same. If the runs are, a part of the same messages in both is: one renaming of the runs renames
+        each part."""
         if self.are_wholes_same and all(one.has_messages_of(other) for one, other in pairs):
-            yield from ((pair, same_of([part.size() for part in pair], self.choices.order)) for pair in pairs)
-            return
+            return iter(pairs)
+        return self.same_at_once(pairs, AT_ONCE)
+
+    def same_at_once(self, pairs: Sequence[Both], at_once: int) -> Iterator[Both]:
+        """Judges parts, so many at once, and by fewer if these are not the same. Those that are not the same as a few are left."""
         for some in (pairs[at:at + at_once] for at in range(0, len(pairs), at_once)):
-            if at_once == 1:
-                yield some[0], self.alone(*some[0])
-            elif self.are_same(some):
-                yield from ((pair, same_of([part.size() for part in pair], self.choices.order)) for pair in some)
-            else:
-                yield from self.judged(some, at_once // FEWER)
+            if self.are_same(some):
+                yield from some
+            elif at_once > FEWER:
+                yield from self.same_at_once(some, at_once // FEWER)
 
     def are_same(self, pairs: Sequence[Both]) -> bool:
         """Returns whether all these parts are the same. False if one is not, or if it is not known: if one has not as many connections in
@@ -97,13 +109,23 @@ class PartByPart:
         if connections[0] != connections[1] or sum(connections[0]) > CONNECTIONS_AT_MOST:
             return False
         with self.trial(pairs) as trial:
-            return trial.same(trial.masked(trial.captures, self.choices.masks[0])) == 'same'
+            return trial.same(trial.captures, self.choices.masks[0]) == 'same'
 
-    def alone(self, one: Part, other: Part) -> Judged:
+    def each(self, pairs: Sequence[Both]) -> Iterator[tuple[Both, Judged]]:
+        """Judges each of some parts. They are listed at once, unless it is one, which may be large."""
+        if len(pairs) == 1:
+            with self.trial(pairs) as trial:
+                yield pairs[0], self.alone(trial, *pairs[0])
+            return
+        with self.trial(pairs) as trial:
+            listed = ListedParts(trial, pairs)
+            for at, pair in enumerate(pairs):
+                yield pair, self.alone(PartTrial(listed, at, self.taken([pair])), *pair)
+
+    def alone(self, trial: Trial, one: Part, other: Part) -> Judged:
         """Judges a part. The places of what is found are those in the whole runs."""
-        with self.trial([(one, other)]) as trial:
-            runs = [run_of(trial, *each) for each in zip(trial.runs, trial.captures, self.names)]
-            said = judged(trial, runs, [one.size(), other.size()], self.choices)
+        runs = [run_of(trial, *each) for each in zip(trial.runs, trial.captures, self.names)]
+        said = judged(trial, runs, [one.size(), other.size()], self.choices)
         compared = said.found.compared
         findings = [replace(finding, first=finding.first and one.in_the_whole(finding.first),
                             second=finding.second and other.in_the_whole(finding.second)) for finding in compared.findings]
@@ -114,7 +136,11 @@ class PartByPart:
     def trial(self, pairs: Sequence[Both]) -> Iterator[Trial]:
         """A trial of some parts of both runs. Its captures are removed in the end."""
         with tempfile.TemporaryDirectory(dir=self.whole.folder) as folder:
-            yield Trial(self.whole.program, Path(folder), [marked.taken_of(parts) for marked, parts in zip(self.marked, zip(*pairs))])
+            yield Trial(self.whole.program, Path(folder), self.taken(pairs))
+
+    def taken(self, pairs: Sequence[Both]) -> list[Taken]:
+        """Returns what is taken of some parts of both runs."""
+        return [marked.taken_of(parts) for marked, parts in zip(self.marked, zip(*pairs))]
 
     def with_paths(self, compared: Sequence[Compared]) -> list[Compared]:
         """Returns what was found in the parts with the paths that are known from the whole runs."""

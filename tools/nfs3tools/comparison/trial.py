@@ -1,8 +1,8 @@
 """Both runs as captures in a folder, and what the programs say of them."""
-from collections.abc import Sequence
+from collections.abc import Callable, Sequence
 from pathlib import Path
 
-from .classes import Mask
+from .classes import Mask, told
 from .masking import write_masked
 from .outlines import Outlines, When
 from .pairing import InOrder, Listing, Pairing, Relaxed, paired
@@ -20,45 +20,58 @@ def when_of(taken: Taken) -> When | None:
 
 
 class Trial:
-    """Two runs, which are written as captures. What is made of them is written beside them, each under a new name."""
+    """Two runs, which are written as captures. What is made of them is written beside them, each once and under a new name."""
 
     def __init__(self, program: str, folder: Path, runs: Sequence[Taken]) -> None:
-        self.program, self.folder, self.runs, self.made = program, folder, runs, 0
+        self.program, self.folder, self.runs, self.number = program, folder, runs, 0
+        self.made = dict[tuple[str, ...], list[str]]()  # by how it was made, and of which captures
         self.captures = self.named()
-        for taken, capture in zip(runs, self.captures):
+        self.write()
+
+    def write(self) -> None:
+        for taken, capture in zip(self.runs, self.captures):
             taken.write_capture(capture)
 
     def named(self) -> list[str]:
         """Returns two new names."""
-        self.made += 1
-        return [str(self.folder / f'{letter}{self.made}') for letter in 'ab']
+        self.number += 1
+        return [str(self.folder / f'{letter}{self.number}') for letter in 'ab']
+
+    def made_of(self, captures: Sequence[str], how: str, make: Callable[[str, str], object]) -> list[str]:
+        """Returns the names of what is made of two captures in one way."""
+        key = how, *captures
+        if key not in self.made:
+            names = self.named()
+            for capture, name in zip(captures, names):
+                make(capture, name)
+            self.made[key] = names
+        return self.made[key]
 
     def masked(self, captures: Sequence[str], mask: Mask) -> list[str]:
-        names = self.named()
-        for capture, name in zip(captures, names):
-            write_masked(self.program, capture, name, mask)
-        return names
+        return self.made_of(captures, told(mask), lambda capture, name: self.mask(capture, name, mask))
 
-    def same(self, masked: Sequence[str]) -> str:
-        """Returns what the program says of two captures: `same`, or where they differ."""
-        return run_program(self.program, ['same', *masked], COMPARED).out.strip()
+    def mask(self, capture: str, name: str, mask: Mask) -> None:
+        write_masked(self.program, capture, name, mask)
+
+    def same(self, captures: Sequence[str], mask: Mask) -> str:
+        """Returns what the program says of two captures under a mask: `same`, or where they differ."""
+        return run_program(self.program, ['same', *self.masked(captures, mask)], COMPARED).out.strip()
 
     def listing(self, capture: str) -> Listing:
         return lambda: lines_of_program(self.program, ['show', capture])
 
-    def canonical(self, masked: Sequence[str]) -> tuple[Listing, Listing]:
-        """Returns the listings of two captures in canonical form."""
-        names = self.named()
-        for capture, name in zip(masked, names):
-            run_program(self.program, ['canon', capture, name], CHECKED)
+    def canonical(self, captures: Sequence[str], mask: Mask | None = None) -> tuple[Listing, Listing]:
+        """Returns the listings of two captures in canonical form, under a mask if there is one."""
+        masked = captures if mask is None else self.masked(captures, mask)
+        names = self.made_of(masked, 'canon', lambda capture, name: run_program(self.program, ['canon', capture, name], CHECKED))
         return self.listing(names[0]), self.listing(names[1])
 
     def paired(self, masks: Sequence[Mask], lonely: frozenset[str]) -> Pairing:
         """Brings the exchanges of both runs together, by what they have in common under the first mask, or else under the second."""
         mask, *more = masks
-        listings = self.canonical(self.masked(self.captures, mask))
+        listings = self.canonical(self.captures, mask)
         here, there = (Outlines(listing(), mask, when_of(taken)) for listing, taken in zip(listings, self.runs))
-        relaxed = (lambda: Relaxed(more[0], self.canonical(self.masked(self.captures, more[0])))) if more else None
+        relaxed = (lambda: Relaxed(more[0], self.canonical(self.captures, more[0]))) if more else None
         return paired(here, there, listings, lonely, relaxed)
 
     def in_one_order(self, pairing: Pairing) -> list[str]:

@@ -1,5 +1,6 @@
 """Running the built programs, and tshark. Each is asked how it ended."""
 import contextlib
+import functools
 import io
 import pathlib
 import shutil
@@ -49,6 +50,7 @@ def program_path(named: str | None = None) -> str:
     raise Missing(f'{escaped(named or "nfs3canon")} is missing')
 
 
+@functools.cache
 def program_beside(program: str, name: str) -> str:
     """Another program: what is beside the given one, or in its own crate's folder or under its own launcher, else on the PATH.
 
