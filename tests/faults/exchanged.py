@@ -61,7 +61,6 @@ class Place(Runs):
         self.want(what + ': inputs and others', [self.read(name) for name in ('a', 'other', 'text')], [GOOD, GOOD, TEXT])
         self.want(what + ': parts', [name for name in self.names() if PART.fullmatch(name)], [])
 
-
     def want_replaced(self, what: str, answer: Answer, old: str, new: str, mode: int) -> None:
         """A file that has another name, too, stays there as it is. The new one has its rights."""
         self.want(what, (answer.status, answer.error), (0, ''))
