@@ -1,21 +1,14 @@
 -- clap takes a line of each of the five forms.
-use Rattle.std.proofs.Common.{arith, ap, ap₂, sym, refl, ◌≡◌, ◌≤◌, ◌∙◌, ◌==◌, ◌&&◌, ◌||◌, ◌++◌, ℕ, Bool, true, false, List, [], ◌∷◌, Some, None, codes, length, if◌then◌else◌, is_some, option_and_then, fold, suc}
-use Rattle.std.proofs.lemmas.Bool.{le-leb}
-use Rattle.std.proofs.lemmas.List.{append-nil, append_assoc}
+use Rattle.line3.proofs.Common.{arith, ap, ap₂, sym, refl, ◌≡◌, ◌≤◌, ◌∙◌, ◌==◌, ◌&&◌, ◌||◌, ◌++◌, ℕ, Bool, true, false, List, [], ◌∷◌, Some, None, codes, length, if◌then◌else◌, is_some, option_and_then, fold, suc, le-leb, append-nil, append_assoc, App, Text, is_simple, takes, LineFault, Usage, Odd, SameName, NotText, Memory, AreFileWords, AreRefused, Form, Check, Show, Canon, Same, Pack, IsFileWord, IsLine, words_of, IsUsage, bytes_eq}
 use Rattle.std.specs.Option.{option_map_or}
 use Rattle.std.specs.List.{All, list_all}
-use Rattle.std.specs.Str.{bytes_eq}
 use Rattle.clap.specs.Lexer.{long_of, long_of_rest, short_of, short_of_rest, strip_byte, usize_max}
 use Rattle.clap.specs.Walk.{Held, Rule, Step, Waiting, Walk, after_step, arg_by_index, finished, idle, long_or_other, nothing_held, positional, short_or_plain, to_positional, trailing, value, walked, word_met}
 use Rattle.clap.specs.Simple.{Shape, built, built_leaf, entered, inherited, names_of}
 use Rattle.clap.specs.Takes.{bundle_passes, default_passes, entered_passes, level_passes, flag_word_passes, is_valid, settle_passes, step_passes, turn_passes, walk_passes, word_passes}
-use Rattle.clap.specs.Words.{App, Text, is_simple, takes}
 use Rattle.clap.proofs.OnLiterals.{clap_on_literals}
 use Rattle.clap.specs.declared.parser.matches.ValueSource.TheVariants.{CommandLine}
 use Rattle.clap.specs.declared.builder.value_parser.Reading.TheVariants.{AsWritten}
-use Rattle.line3.specs.declared.asked.LineFault.{LineFault}
-use Rattle.line3.specs.declared.asked.LineFault.TheVariants.{Usage, Odd, SameName, NotText, Memory}
-use Rattle.line3.specs.Asked.{AreFileWords, AreRefused, Form, Check, Show, Canon, Same, Pack, IsFileWord, IsLine, words_of, IsUsage}
 use Rattle.line3.specs.Grammar.{app, one_file, packing_form, two_files}
 
 pub simple : is_simple app ≡ true

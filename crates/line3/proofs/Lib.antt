@@ -1,2 +1,3 @@
 pub mod GrammarLemmas
 pub mod LineLemmas
+pub mod Common

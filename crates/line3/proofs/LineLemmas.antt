@@ -1,12 +1,8 @@
 -- Which forms the words of a command line have.
-use Rattle.std.proofs.Common.{refl, inl, inr, Bool, true, false, ◌||◌, ◌⊎◌, Contains, ◌≡◌, ◌≢◌, ◌<◌, ◌≤◌, ℕ, List, [], ◌∷◌, codes, length, map, drop, take, ◌-◌, slice_index_or, string_bytes, String, Global, ap, ◌∙◌, arith, zero, suc}
+use Rattle.line3.proofs.Common.{refl, inl, inr, Bool, true, false, ◌||◌, ◌⊎◌, Contains, ◌≡◌, ◌≢◌, ◌<◌, ◌≤◌, ℕ, List, [], ◌∷◌, codes, length, map, drop, take, ◌-◌, slice_index_or, string_bytes, String, Global, ap, ◌∙◌, arith, zero, suc, LineFault, Usage, Odd, SameName, NotText, Memory, AreRefused, Form, Check, Show, Canon, Same, Pack, IsLine, words_of, IsUsage, string_eq}
 use Rattle.std.proofs.Math.Seq.{take-length}
 use Rattle.std.specs.List.{list_any}
-use Rattle.std.specs.String.{string_eq}
 use Rattle.std.proofs.lemmas.Slice.Eq.{bytes_eq-Decides}
-use Rattle.line3.specs.declared.asked.LineFault.{LineFault}
-use Rattle.line3.specs.declared.asked.LineFault.TheVariants.{Usage, Odd, SameName, NotText, Memory}
-use Rattle.line3.specs.Asked.{AreRefused, Form, Check, Show, Canon, Same, Pack, IsLine, words_of, IsUsage}
 
 abbrev pub tail_of : List (List ℕ) → List (List ℕ)
 tail_of [] = []

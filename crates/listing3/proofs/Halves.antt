@@ -1,6 +1,5 @@
 -- Hexadecimal digits, from halves of bytes.
-use Rattle.listing3.proofs.Common.{◌≡◌, ℕ, zero, suc, ◌+◌, ◌<◌, ◌/◌, ◌%◌, ◌++◌, List, [], ◌∷◌, slice_index, take, drop, map, length, set, refl, ap, ap₂, sym, ◌∙◌, arith, ◌*◌, append_assoc, encode_with, encode_lower, lower_digits, AreBytes, halves_in_order, AreHalves}
-use Rattle.std.proofs.lemmas.List.{append-nil, drop_more, drop-set-lt, length-append, map-append, take_more, take_more_set}
+use Rattle.listing3.proofs.Common.{◌≡◌, ℕ, zero, suc, ◌+◌, ◌<◌, ◌/◌, ◌%◌, ◌++◌, List, [], ◌∷◌, slice_index, take, drop, map, length, set, refl, ap, ap₂, sym, ◌∙◌, arith, ◌*◌, append_assoc, encode_with, encode_lower, lower_digits, AreBytes, halves_in_order, AreHalves, append-nil, drop_more, drop-set-lt, length-append, map-append, take_more, take_more_set}
 
 -- a number below 16 stands in its own place
 pub half_at : (n : ℕ) → n < 16 → slice_index halves_in_order n ≡ n

@@ -1,9 +1,8 @@
 -- The name of an item tells which kind of item it is.
-use Rattle.listing3.proofs.Common.{ℕ, List, refl, AllByRecursion, Item, Word, Hyper, Fixed, WriteVerf, Opaque, Rest, ProcId, head_names, item_name}
+use Rattle.listing3.proofs.Common.{ℕ, List, refl, AllByRecursion, Item, Word, Hyper, Fixed, WriteVerf, Opaque, Rest, ProcId, head_names, item_name, FitsCall, FitsReply, each_of_call, each_of_reply}
 use Rattle.xdr3.proofs.Lemmas.Shapes.ShapeParts.{Part, fixed_part, hyper_part, opaque_part, rest_part, size_part, word_part, write_verf_part}
 use Rattle.procs3.proofs.ProtocolParts.{AWord, AHyper, AFixed, AWriteVerf, ARest, AnOpaque, IsNamedPart, IsNameOf, IsProtocolPart, ItemKind}
 use Rattle.canon3.proofs.Lemmas.WellFormed.Items.{IsEach}
-use Rattle.canon3.proofs.Lemmas.WellFormed.Messages.{FitsCall, FitsReply, each_of_call, each_of_reply}
 
 abbrev pub kind_in : Item → ItemKind
 kind_in (Word name n) = AWord

@@ -1,6 +1,5 @@
 -- Bytes that stand for themselves.
-use Rattle.listing3.proofs.Common.{◌≡◌, ℕ, zero, suc, ◌+◌, ◌-◌, ◌≤◌, Bool, true, false, List, [], ◌∷◌, ◌++◌, length, take, drop, ap, ap₂, sym, ◌∙◌, arith, flat_map, flat_map-append, encode_lower, if◌then◌else◌, length-append, take-append-drop, is_plain, quoted_byte}
-use Rattle.std.proofs.Math.Seq.{drop-drop}
+use Rattle.listing3.proofs.Common.{◌≡◌, ℕ, zero, suc, ◌+◌, ◌-◌, ◌≤◌, Bool, true, false, List, [], ◌∷◌, ◌++◌, length, take, drop, ap, ap₂, sym, ◌∙◌, arith, flat_map, flat_map-append, encode_lower, if◌then◌else◌, length-append, take-append-drop, is_plain, quoted_byte, drop-drop}
 
 -- the text of a byte, by whether it stands for itself
 abbrev text : Bool → ℕ → List ℕ

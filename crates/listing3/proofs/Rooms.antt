@@ -1,8 +1,5 @@
 -- Room that text is written into.
-use Rattle.listing3.proofs.Common.{◌≡◌, ℕ, zero, suc, ◌+◌, ◌-◌, ◌≤◌, ◌<◌, List, ◌++◌, length, take, drop, set, refl, ap, sym, ◌∙◌, arith, append_assoc, lower_digits, decimal_digit}
-use Rattle.std.specs.Prelude.{decimal, slice_index}
-use Rattle.std.proofs.Math.Seq.{take-append-add}
-use Rattle.std.proofs.lemmas.List.{length-take-le, take-append-drop, take_rest, take-take, take_more_set}
+use Rattle.listing3.proofs.Common.{◌≡◌, ℕ, zero, suc, ◌+◌, ◌-◌, ◌≤◌, ◌<◌, List, ◌++◌, length, take, drop, set, refl, ap, sym, ◌∙◌, arith, append_assoc, lower_digits, decimal_digit, decimal, slice_index, take-append-add, length-take-le, take-append-drop, take_rest, take-take, take_more_set}
 
 -- what stands before a place is kept where it is kept before a later place
 pub kept_below : (m n : ℕ) (xs ys : List ℕ) → m ≤ n → take n xs ≡ take n ys → take m xs ≡ take m ys

@@ -1,7 +1,6 @@
 -- Runs of fields, in parts.
-use Rattle.listing3.proofs.Common.{◌≡◌, ℕ, ◌+◌, ◌-◌, List, [], ◌∷◌, ◌++◌, length, take, drop, refl, ap, ap₂, sym, ◌∙◌, arith, append_assoc, flat_map-append, PlainField, Item, shown_item, shown_items}
-use Rattle.std.proofs.lemmas.List.{drop-drop, take-append-drop, take_rest}
-use Rattle.xdr3.specs.Plain.{plain_item, run_items, run_size, width}
+use Rattle.listing3.proofs.Common.{◌≡◌, ℕ, ◌+◌, ◌-◌, List, [], ◌∷◌, ◌++◌, length, take, drop, refl, ap, ap₂, sym, ◌∙◌, arith, append_assoc, flat_map-append, PlainField, Item, shown_item, shown_items, take-append-drop, take_rest, plain_item, run_items, run_size, width}
+use Rattle.std.proofs.lemmas.List.{drop-drop}
 
 -- the fields up to a place, and those from it on, as they are cut out
 pub cut_at : (place : ℕ) (fields : List PlainField)

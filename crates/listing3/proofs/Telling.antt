@@ -1,14 +1,10 @@
 -- Where the listings of two captures are equal, the captures are equal up to connections without
 -- messages at their ends.
-use Rattle.std.proofs.Common.{◌≡◌, ◌≢◌, ◌≤◌, ℕ, zero, suc, ◌+◌, List, [], ◌∷◌, ◌++◌, length, refl, sym, ap, ◌∙◌, append_assoc, append-nil, length-append, arith}
-use Rattle.listing3.proofs.Common.{AllByRecursion, lines_after, shown, ReplyItems, Entry, Begin, Turn, Close, End, connections, records_after}
-use Rattle.xdr3.specs.Item.{Item, Word, zero_spelling}
+use Rattle.listing3.proofs.Common.{◌≡◌, ◌≢◌, ◌≤◌, ℕ, zero, suc, ◌+◌, List, [], ◌∷◌, ◌++◌, length, refl, sym, ap, ◌∙◌, append_assoc, append-nil, length-append, arith, AllByRecursion, lines_after, shown, ReplyItems, Entry, Begin, Turn, Close, End, connections, records_after, Item, Word, zero_spelling, all_in, AreConversing, Conversation, IsSpelledCall, IsSpelledReply, length_of_record, of_all, reply_items, stream_of, weight, BeginsWithWord, call_begins, reply_begins}
 use Rattle.capture3.specs.Chunks.{max_bytes}
 use Rattle.capture3.specs.Typed.{connection_entries, Typed}
 use Rattle.canon3.specs.Bytes.{record_bytes}
-use Rattle.canon3.proofs.Lemmas.WellFormed.Conversations.{all_in, AreConversing, Conversation, IsSpelledCall, IsSpelledReply, length_of_record, of_all, reply_items, stream_of, weight}
 use Rattle.canon3.proofs.Lemmas.WellFormed.Files.{all_of, entries_of, holds, total_weight}
-use Rattle.canon3.proofs.Lemmas.WellFormed.Messages.{BeginsWithWord, call_begins, reply_begins}
 use Rattle.canon3.proofs.Lemmas.Renaming.RenamingLemmas.{all_weaker}
 use Rattle.listing3.specs.Laws.{AreEqualUpToSilence, silent}
 use Rattle.listing3.proofs.Lines.LineTexts.{all_text, IsTold, IsToldConversation, IsToldReply, lines_all, quiet, same_text}

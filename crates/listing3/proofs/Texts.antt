@@ -1,15 +1,8 @@
 -- What the text of items tells: two lists of items with one text are one.
-use Rattle.std.proofs.Common.{◌≡◌, ◌≢◌, ◌≤◌, ◌<◌, ◌^◌, ◌⊎◌, inl, inr, ⊎_elim, ℕ, zero, suc, ◌+◌, ◌/◌, ◌%◌, true, false, List, [], ◌∷◌, ◌++◌, length, slice_index, refl, sym, ap, ap₂, ◌∙◌, subst, append_assoc, arith, Result, Ok}
-use Rattle.std.specs.Prelude.{◌==◌, not, decimal}
-use Rattle.std.specs.List.{AllByRecursion, flat_map, list_all}
-use Rattle.std.proofs.lemmas.Bool.{and_parts, cases_Bool}
-use Rattle.std.proofs.lemmas.Fmt.{decimal_by_steps, decimal_injective}
-use Rattle.hex.specs.Hex.{decode_of, encode_lower, encode_with, lower_digits}
+use Rattle.listing3.proofs.Common.{◌≡◌, ◌≢◌, ◌≤◌, ◌<◌, ◌^◌, ◌⊎◌, inl, inr, ⊎_elim, ℕ, zero, suc, ◌+◌, ◌/◌, ◌%◌, true, false, List, [], ◌∷◌, ◌++◌, length, slice_index, refl, sym, ap, ap₂, ◌∙◌, subst, append_assoc, arith, Result, Ok, ◌==◌, not, decimal, AllByRecursion, flat_map, list_all, and_parts, cases_Bool, decimal_by_steps, decimal_injective, decode_of, encode_lower, encode_with, lower_digits, AreBytes, Item, Word, Hyper, Fixed, WriteVerf, Opaque, Rest, Var, Text, Handle, Spells, SpellsItem, is_plain, item_name, opening, quoted, quoted_byte, shown_item, shown_items, value_of}
 use Rattle.hex.proofs.HexLemmas.{decode_of-encode_lower}
-use Rattle.xdr3.specs.Item.{AreBytes, Item, Word, Hyper, Fixed, WriteVerf, Opaque, Rest, Var, Text, Handle, Spells, SpellsItem}
 use Rattle.procs3.proofs.ProtocolParts.{is_name, kind_of}
 use Rattle.canon3.proofs.Lemmas.WellFormed.Items.{all_append}
-use Rattle.listing3.specs.Listing.{is_plain, item_name, opening, quoted, quoted_byte, shown_item, shown_items, value_of}
 use Rattle.listing3.proofs.NamedItems.{AreNamed, IsNamed, kind_in}
 
 -- ---- the longest front of some kind of byte

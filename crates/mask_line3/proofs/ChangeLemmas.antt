@@ -1,16 +1,11 @@
 -- Words that change a mask one after another.
-use Rattle.std.proofs.Common.{sym, ap, ap₂, arith, zero, suc, ◌≡◌, ◌<◌, ◌∙◌, ◌+◌, ◌++◌, ℕ, List, [], ◌∷◌, length, map, slice_index_or, string_bytes, take, drop, ◌-◌, ◌≤◌, String, Global}
+use Rattle.mask_line3.proofs.Common.{sym, ap, ap₂, arith, zero, suc, ◌≡◌, ◌<◌, ◌∙◌, ◌+◌, ◌++◌, ℕ, List, [], ◌∷◌, length, map, slice_index_or, string_bytes, take, drop, ◌-◌, ◌≤◌, String, Global, IsLine, append-nil, Change, change_told, change_word, with_change, AreChanges, flat_map}
 use Rattle.std.proofs.Math.Seq.{take-length, take-suc}
-use Rattle.line3.specs.Asked.{IsLine}
-use Rattle.std.specs.List.{flat_map}
 use Rattle.std.proofs.lemmas.Grind.{flat_map-append}
-use Rattle.std.proofs.lemmas.List.{append-nil, map-append}
+use Rattle.std.proofs.lemmas.List.{map-append}
 use Rattle.std.proofs.lemmas.List.Sums.{fold-append}
 use Rattle.masking3.specs.declared.ways.Ways.{Ways}
 use Rattle.masking3.specs.Ways.{usual}
-use Rattle.mask_line3.specs.declared.asked.Change.{Change}
-use Rattle.mask_line3.specs.Changes.{change_told, change_word, with_change}
-use Rattle.mask_line3.specs.machinery.ChangeWords.{AreChanges}
 
 -- each of the words is that of a change
 pub says_each : (words : List (String Global)) (k : ℕ) (w : String Global) → k < length words

@@ -1,27 +1,18 @@
 -- clap takes each line of the form.
-use Rattle.std.proofs.Common.{arith, ap, ap₂, sym, refl, zero, suc, ◌≡◌, ◌≤◌, ◌∙◌, ◌==◌, ◌&&◌, ◌++◌, ℕ, Bool, true, false, List, [], ◌∷◌, Some, None, codes, length, fold, is_some, map}
-use Rattle.std.proofs.lemmas.Bool.{le-leb}
-use Rattle.std.proofs.lemmas.List.{append-nil, append_assoc}
+use Rattle.mask_line3.proofs.Common.{arith, ap, ap₂, sym, refl, zero, suc, ◌≡◌, ◌≤◌, ◌∙◌, ◌==◌, ◌&&◌, ◌++◌, ℕ, Bool, true, false, List, [], ◌∷◌, Some, None, codes, length, fold, is_some, map, le-leb, append-nil, append_assoc, usize_max, App, Text, is_simple, takes, IsFileWord, IsLine, IsUsage, Times, Stamps, Machines, Space, Ids, Fsids, Cookies, CookieVerifiers, CreateVerifiers, Owners, Wcc, SillyNames, Change, change_word, AreMaskWordsRefused, mask_words}
 use Rattle.std.specs.List.{All, list_all}
-use Rattle.clap.specs.Lexer.{usize_max}
 use Rattle.clap.specs.Walk.{Walk, arg_by_index, finished, idle, nothing_held, positional, to_positional, walked}
 use Rattle.clap.specs.Simple.{built, entered, names_of}
 use Rattle.clap.specs.Takes.{default_passes, entered_passes, is_valid, settle_passes, turn_passes, walk_passes}
-use Rattle.clap.specs.Words.{App, Text, is_simple, takes}
 use Rattle.clap.proofs.OnLiterals.{clap_on_literals}
 use Rattle.clap.specs.declared.parser.matches.ValueSource.TheVariants.{CommandLine}
 use Rattle.clap.specs.declared.builder.value_parser.Reading.TheVariants.{AsWritten}
-use Rattle.line3.specs.Asked.{IsFileWord, IsLine, IsUsage}
 use Rattle.line3.specs.declared.asked.LineFault.{LineFault}
 use Rattle.line3.specs.declared.asked.LineFault.TheVariants.{Usage, Odd, SameName, NotText, Memory}
 use Rattle.line3.proofs.GrammarLemmas.{all_pass, at, ends, further_turn, further_walked, no_first, plain_turn, plain_walked}
 use Rattle.mask_line3.specs.declared.asked.MaskClass.{MaskClass}
 use Rattle.masking3.specs.declared.ways.Way.{Way}
-use Rattle.mask_line3.specs.declared.asked.MaskClass.TheVariants.{Times, Stamps, Machines, Space, Ids, Fsids, Cookies, CookieVerifiers, CreateVerifiers, Owners, Wcc, SillyNames}
-use Rattle.mask_line3.specs.declared.asked.Change.{Change}
-use Rattle.mask_line3.specs.Changes.{change_word}
 use Rattle.mask_line3.specs.machinery.Grammar.{mask_app}
-use Rattle.mask_line3.specs.MaskLine.{AreMaskWordsRefused, mask_words}
 
 simple : is_simple mask_app ≡ true
 unfolding clap_on_literals

@@ -1,2 +1,3 @@
 mod ChangeLemmas
 mod GrammarLemmas
+pub mod Common

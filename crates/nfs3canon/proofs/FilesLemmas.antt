@@ -1,9 +1,6 @@
 -- What came of files, by what was read of them.
-use Rattle.std.proofs.Common.{◌≡◌, ◌≢◌, ◌⊎◌, ℕ, List, [], ◌∷◌, Option, Some, Result, Err, IfErr, inl, inr, refl, subst, sym}
-use Rattle.capture3.specs.Device.{TracedReader}
+use Rattle.nfs3canon.proofs.Common.{◌≡◌, ◌≢◌, ◌⊎◌, ℕ, List, [], ◌∷◌, Option, Some, Result, Err, IfErr, inl, inr, refl, subst, sym, TracedReader, Gave, GavePrefix, Error, IsUnread, MayContain, FileReading, reading_under, Outcome, one_failed, prefix_of, told_of, ComparesFiles, CountsFile, ListsFile}
 use Rattle.capture3.specs.Entries.{CountsReading}
-use Rattle.capture3.specs.Told.{Gave, GavePrefix}
-use Rattle.capture3.specs.declared.fault.Error.{Error}
 use Rattle.capture3.specs.declared.fault.Error.TheVariants as errors
 use Rattle.capture3.proofs.Lemmas.Reader.ToldLemmas.{IsPrefixOf, prefix_of_kept}
 use Rattle.canon3.specs.Comparison.{CountsReadingOf, DecidesGiven}
@@ -15,13 +12,9 @@ use Rattle.canon3.specs.declared.comparison.verdict.Which.TheVariants.{First, Se
 use Rattle.canon3.specs.declared.summary.Summary.{Summary}
 use Rattle.canon3.proofs.Lemmas.Comparison.ComparisonLemmas.{decides_all}
 use Rattle.program3.specs.Opening.{IsOfName, TellsOf}
-use Rattle.program3.specs.Readings.{IsUnread, MayContain, FileReading, reading_under}
 use Rattle.program3.specs.declared.opening.OpenError.{OpenError}
 use Rattle.program3.specs.declared.opening.OpenError.TheVariants as causes
-use Rattle.program3.specs.declared.outcome.Outcome.{Outcome}
 use Rattle.program3.specs.declared.outcome.Outcome.TheVariants as outcomes
-use Rattle.program3.proofs.FilesLemmas.{one_failed, prefix_of, told_of}
-use Rattle.nfs3canon.specs.Files.{ComparesFiles, CountsFile, ListsFile}
 
 -- ---- a file that was not opened is told by its name, or memory ran out
 

@@ -1,20 +1,10 @@
 -- Streams that are packed pair by pair.
-use Rattle.std.proofs.Common.{◌≡◌, ◌<◌, ◌+◌, ◌*◌, ◌/◌, ap, ap₂, sym, refl, subst, inl, inr, arith, false, is_ok, is_err, if◌then◌else◌, append_assoc, ◌∙◌, zero, suc, ℕ, List, [], ◌∷◌, ◌++◌, Option, Result, Ok, Err, Any, String, Global, length, map, take, slice_index_or, string_bytes}
-use Rattle.std.proofs.lemmas.List.{length-map, map-append, take_more}
-use Rattle.capture3.specs.Device.{TracedReader}
-use Rattle.capture3.specs.SidedChunks.{Streams}
-use Rattle.capture3.specs.Told.{Gave, IsSpent}
-use Rattle.capture3.specs.declared.fault.Error.{Error}
+use Rattle.nfs3canon.proofs.Common.{◌≡◌, ◌<◌, ◌+◌, ◌*◌, ◌/◌, ap, ap₂, sym, refl, subst, inl, inr, arith, false, is_ok, is_err, if◌then◌else◌, append_assoc, ◌∙◌, zero, suc, ℕ, List, [], ◌∷◌, ◌++◌, Option, Result, Ok, Err, Any, String, Global, length, map, take, slice_index_or, string_bytes, length-map, map-append, take_more, TracedReader, Streams, Gave, IsSpent, Error, CountsReadings, IsUnread, FileReading, reading_in, reading_under, Outcome, one_failed, told_of, AreReadStreams, OneHasFailed, IsReadWhole, PacksFile}
 use Rattle.capture3.specs.declared.fault.Error.TheVariants as errors
 use Rattle.capture3.proofs.Lemmas.Reader.ToldLemmas.{prefix_of_told}
-use Rattle.packing3.specs.Devices.{CountsReadings}
 use Rattle.program3.specs.Files.{FailsToMake, FailsToOpenStream, WrittenFile}
-use Rattle.program3.specs.Readings.{IsUnread, FileReading, reading_in, reading_under}
 use Rattle.program3.specs.declared.reading.Closed.{Closed}
-use Rattle.program3.specs.declared.outcome.Outcome.{Outcome}
 use Rattle.program3.specs.declared.outcome.Outcome.TheVariants as outcomes
-use Rattle.program3.proofs.FilesLemmas.{one_failed, told_of}
-use Rattle.nfs3canon.specs.Files.{AreReadStreams, OneHasFailed, IsReadWhole, PacksFile}
 use Rattle.nfs3canon.specs.machinery.Packing.{StopsPacking}
 
 -- ---- why a packing stops

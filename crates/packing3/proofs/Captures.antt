@@ -1,9 +1,7 @@
 -- What is packed is a capture.
-use Rattle.packing3.proofs.Common.{arith, refl, ap, ◌<◌, ◌≤◌, ℕ, List, [], ◌∷◌, ◌++◌, length, flat_map, word_bytes, Streams, chunk_bytes, AreCut, ArePacked, IsPackedConnection, IsPackedStream, full_size}
+use Rattle.packing3.proofs.Common.{arith, refl, ap, ◌<◌, ◌≤◌, ℕ, List, [], ◌∷◌, ◌++◌, length, flat_map, word_bytes, Streams, chunk_bytes, AreCut, ArePacked, IsPackedConnection, IsPackedStream, full_size, IsCapture, IsConnection, One, max_connections, total_size, IsChunk, IsStream, max_bytes}
 use Rattle.record_mark.proofs.Steps.{IsWord-big_bytes}
 use Rattle.record_mark.specs.Word.{Joins}
-use Rattle.capture3.specs.Capture.{IsCapture, IsConnection, One, max_connections, total_size}
-use Rattle.capture3.specs.Chunks.{IsChunk, IsStream, max_bytes}
 
 is_chunk : (chunk : List ℕ) → 0 < length chunk → length chunk ≤ full_size
     → IsChunk (chunk_bytes chunk) chunk

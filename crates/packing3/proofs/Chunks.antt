@@ -1,17 +1,11 @@
 -- Chunks of a stream, one after another.
-use Rattle.std.proofs.Common.{arith, ap, sym, refl, subst, append-nil, ◌≡◌, ◌∙◌, ◌≤◌, ◌<◌, ◌+◌, ℕ, List, [], ◌∷◌, ◌++◌, length, length-append}
-use Rattle.packing3.proofs.Common.{Option, gave_both, Appends, word_bytes, Error, max_bytes, chunk_bytes, AppendsFront, Extent, AreCut, IsPackedStream, full_size}
-use Rattle.std.specs.List.{concat, flat_map}
+use Rattle.packing3.proofs.Common.{arith, ap, sym, refl, subst, append-nil, ◌≡◌, ◌∙◌, ◌≤◌, ◌<◌, ◌+◌, ℕ, List, [], ◌∷◌, ◌++◌, length, length-append, Option, gave_both, Appends, word_bytes, Error, max_bytes, chunk_bytes, AppendsFront, Extent, AreCut, IsPackedStream, full_size, concat, flat_map, Gave, IsSpent, Told, Appends-nil, Appends-trans, ChunkPassesLimit, Tells, AreFull, Grows, HasChunk, HasFull, HasStream, IsStopped, StopsInChunk, StopsInStream, last_chunk}
 use Rattle.std.proofs.lemmas.Grind.{flat_map-append}
-use Rattle.capture3.specs.Told.{Gave, IsSpent, Told}
-use Rattle.std.proofs.KnownBytes.{Appends-nil, Appends-trans}
 use Rattle.record_mark.proofs.Words.{concat-snoc}
 use Rattle.capture3.specs.declared.fault.Error.TheVariants as errors
 use Rattle.capture3.specs.declared.fault.Place.TheVariants as places
 use Rattle.xdr3.specs.declared.reason.Reason.TheVariants as reasons
 use Rattle.byteorder.specs.Numbers.{length-bytes_high_first}
-use Rattle.packing3.specs.Stopped.{ChunkPassesLimit, Tells}
-use Rattle.packing3.specs.machinery.Streaming.{AreFull, Grows, HasChunk, HasFull, HasStream, IsStopped, StopsInChunk, StopsInStream, last_chunk}
 use Rattle.packing3.proofs.Stops.{stopped_after, stopped_before, stopped_writing}
 
 -- ---- chunks that are full, and one more

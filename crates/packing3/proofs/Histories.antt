@@ -1,19 +1,12 @@
 -- What each call makes of the pairs for which a packing stood.
-use Rattle.std.proofs.Common.{arith, refl, sym, ap, subst, inl, inr, ◌≡◌, ◌∙◌, ◌≤◌, ◌+◌, ℕ, List, [], ◌∷◌, ◌++◌, length, length-append, append_assoc}
-use Rattle.std.specs.Prelude.{Option, None, Result, Ok, Err, OnOk, OnErr, IfErr}
-use Rattle.capture3.specs.Told.{Gave, GavePrefix, Told}
-use Rattle.capture3.proofs.Lemmas.Reader.ToldLemmas.{gave_none, prefix_of_kept}
-use Rattle.packing3.proofs.Common.{Appends, Appends-trans, word_bytes, Error, max_bytes, AppendsFront, front_of_second, ArePacked, IsPackedConnection, HasConnection, IsStopped, StopsInConnection}
+use Rattle.packing3.proofs.Common.{arith, refl, sym, ap, subst, inl, inr, ◌≡◌, ◌∙◌, ◌≤◌, ◌+◌, ℕ, List, [], ◌∷◌, ◌++◌, length, length-append, append_assoc, Option, None, Result, Ok, Err, OnOk, OnErr, IfErr, Gave, GavePrefix, Told, gave_none, prefix_of_kept, Appends, Appends-trans, word_bytes, Error, max_bytes, AppendsFront, front_of_second, ArePacked, IsPackedConnection, HasConnection, IsStopped, StopsInConnection, One, magic, max_connections, total_size, Streams, size, HasNoRoom, BreaksOff, Tells}
 use Rattle.record_mark.proofs.Words.{Joins-snoc}
 use Rattle.xdr3.specs.declared.reason.Reason.TheVariants as reasons
 use Rattle.capture3.specs.declared.fault.Error.TheVariants as errors
 use Rattle.capture3.specs.declared.fault.Place.TheVariants as places
-use Rattle.capture3.specs.Capture.{One, magic, max_connections, total_size}
-use Rattle.capture3.specs.SidedChunks.{Streams, size}
 use Rattle.packing3.specs.declared.packing.Packing.{Packing}
 use Rattle.packing3.specs.Packing.{AddsPair, Finishes, HasAdded, ending_of}
 use Rattle.packing3.specs.machinery.StoppedAdds.{FailsToAdd, IsFull}
-use Rattle.packing3.specs.Stopped.{HasNoRoom, BreaksOff, Tells}
 use Rattle.packing3.proofs.Captures.{is_capture}
 use Rattle.packing3.proofs.Stops.{stopped_after, stopped_before}
 

@@ -1,8 +1,7 @@
 -- The report of an outcome, and how it is printed.
-use Rattle.std.proofs.Common.{◌≡◌, ◌++◌, true, false, Bool, [], Result, Ok, Err, IfOk, OnOk, is_err, subst, sym}
+use Rattle.program3.proofs.Common.{◌≡◌, ◌++◌, true, false, Bool, [], Result, Ok, Err, IfOk, OnOk, is_err, subst, sym, Outcome}
 use Rattle.program3.specs.Ending.{IsReport}
 use Rattle.program3.specs.Printed.{Prints, PrintsOutcome}
-use Rattle.program3.specs.declared.outcome.Outcome.{Outcome}
 use Rattle.program3.specs.declared.outcome.Report.{Report}
 
 pub aside : {X : Type 0} (result : Result Report X) (plain : Report) (outcome : Outcome)

@@ -1,6 +1,5 @@
 -- What came of a file, by what its reads and writes did.
-use Rattle.std.proofs.Common.{◌≡◌, ◌≢◌, ◌∙◌, ◌+◌, ◌-◌, ◌^◌, append-nil, inl, inr, ap, sym, refl, subst, min, ℕ, Option, None, Some, List, [], ◌∷◌, ◌++◌, Result, Ok, Err}
-use Rattle.std.specs.Io.KnownBytes.{Appends, Keeps, append_known}
+use Rattle.program3.proofs.Common.{◌≡◌, ◌≢◌, ◌∙◌, ◌+◌, ◌-◌, ◌^◌, append-nil, inl, inr, ap, sym, refl, subst, min, ℕ, Option, None, Some, List, [], ◌∷◌, ◌++◌, Result, Ok, Err, Appends, Keeps, append_known, WritesAllCounted, IsByFailedRead, IsUnread, MayContain, FileReading, reading_under, Outcome}
 use Rattle.std.proofs.lemmas.List.{append_cancel_left}
 use Rattle.capture3.specs.Device.{TracedReader}
 use Rattle.capture3.specs.Entries.{CountsReading}
@@ -9,13 +8,10 @@ use Rattle.capture3.specs.declared.fault.Error.TheVariants as errors
 use Rattle.capture3.specs.Entry.{Entry}
 use Rattle.capture3.specs.Told.{Told, Gave, GavePrefix}
 use Rattle.capture3.proofs.Lemmas.Reader.ToldLemmas.{IsPrefixOf, prefix_of_told}
-use Rattle.canon3.specs.EntryWriter.{WritesAllCounted}
 use Rattle.canon3.specs.WriteErrors.{IsOfWriting}
 use Rattle.canon3.specs.declared.summary.Summary.{Summary}
 use Rattle.program3.specs.Files.{FailsToOpen, KeepsForm, RewritesFile, WrittenFile}
-use Rattle.program3.specs.Readings.{IsByFailedRead, IsUnread, MayContain, FileReading, reading_under}
 use Rattle.program3.specs.Writing.{WritesOut}
-use Rattle.program3.specs.declared.outcome.Outcome.{Outcome}
 use Rattle.program3.specs.declared.outcome.Outcome.TheVariants as outcomes
 
 -- a source that tells what is left, and gave nothing yet, gives a prefix of that

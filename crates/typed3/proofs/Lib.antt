@@ -1,2 +1,3 @@
 -- Lemmas of messages as values.
 pub mod MessageLemmas
+pub mod Common

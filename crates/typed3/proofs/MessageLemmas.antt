@@ -1,10 +1,8 @@
 -- Messages as values: what judging their bodies says of them.
-use Rattle.std.specs.Prelude.{IfErr}
-use Rattle.std.proofs.Common.{◌≡◌, ℕ, Bool, true, cond, List, [], ◌∷◌, Some, None, Result, Ok, Err, refl, sym, ap, ◌∙◌, eq-eqb}
-use Rattle.std.proofs.Math.Logic.{∥∥₁_elim}
+use Rattle.typed3.proofs.Common.{IfErr, ◌≡◌, ℕ, Bool, true, cond, List, [], ◌∷◌, Some, None, Result, Ok, Err, refl, sym, ap, ◌∙◌, eq-eqb, ∥∥₁_elim, Item, call_head_items, reply_head_items, IsCall, IsReply, procedure_of, xid_in, judge_call, judge_reply, is_same_self, same_is, CallMsg, call_items, is_success}
 use mathlib.Core.Bool.{Bool-set}
 use Rattle.xdr3.specs.declared.reason.GetError.{GetError}
-use Rattle.xdr3.specs.Item.{Item, followed_by}
+use Rattle.xdr3.specs.Item.{followed_by}
 use Rattle.xdr3.specs.Reading.{reading}
 use Rattle.rpc_head.specs.declared.values.call.CallHead.{CallHead}
 use Rattle.rpc_head.specs.declared.values.call.ProcId.{ProcId}
@@ -13,20 +11,14 @@ use Rattle.rpc_head.specs.declared.values.reply.Accept.TheVariants.{Success, Pro
 use Rattle.rpc_head.specs.declared.values.reply.Deny.TheVariants.{RpcMismatch, AuthError}
 use Rattle.rpc_head.specs.declared.values.reply.ReplyHead.{ReplyHead}
 use Rattle.rpc_head.specs.declared.values.reply.ReplyHead.TheVariants.{Accepted, Denied}
-use Rattle.rpc_head.specs.Calls.{call_head_items}
 use Rattle.rpc_head.specs.HeadScan.{procedure_told, tells_success}
 use Rattle.rpc_head.specs.Messages.{procedure_in}
-use Rattle.rpc_head.specs.Replies.{reply_head_items}
 use Rattle.rpc_head.specs.Shapes.{message_start}
 use Rattle.rpc_head.specs.MessageStart.{start_items}
-use Rattle.capture3.specs.Bodies.{IsCall, IsReply, procedure_of, xid_in}
-use Rattle.capture3.specs.BodyProgram.{is_same, judge_call, judge_reply}
+use Rattle.capture3.specs.BodyProgram.{is_same}
 use Rattle.capture3.specs.machinery.ScannedMessages.{StopsMessage}
 use Rattle.capture3.specs.machinery.Spelled.{SpellsCall}
-use Rattle.capture3.proofs.Lemmas.Messages.BodiesLemmas.{is_same_self, same_is}
 use Rattle.capture3.proofs.Lemmas.Messages.SpelledLemmas.{asking, call_never_stops, one_call, one_reply, reply_has_xid, reply_never_stops}
-use Rattle.typed3.specs.declared.message.CallMsg.{CallMsg}
-use Rattle.typed3.specs.Messages.{call_items, is_success}
 use Rattle.typed3.specs.machinery.UnspelledMessages.{SpellsNoCall, SpellsNoReply}
 
 -- ---- calls

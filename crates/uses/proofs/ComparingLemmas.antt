@@ -1,15 +1,9 @@
 -- Handles of items one after another, and where two lists part.
-use Rattle.std.proofs.Common.{◌≡◌, ℕ, ◌+◌, ◌<◌, ◌≤◌, Bool, true, false, not, Some, List, [], ◌∷◌, ◌++◌, length, map, take, refl, sym, ap, arith, ◌∙◌}
-use mathlib.Core.Bool.{true≢false}
-use Rattle.std.specs.Prelude.{slice_get, slice_index_or}
-use Rattle.std.specs.Option.{option_map}
-use Rattle.uses.proofs.Common.{flat_map, handle_bytes, Entry, items_of}
+use Rattle.uses.proofs.Common.{option_map, ◌≡◌, ℕ, ◌+◌, ◌<◌, ◌≤◌, Bool, true, false, not, Some, List, [], ◌∷◌, ◌++◌, length, map, take, refl, sym, ap, arith, ◌∙◌, true≢false, slice_get, slice_index_or, flat_map, handle_bytes, Entry, items_of, Item, Opaque, Handle, handle_of_item, handles_of_items}
 use Rattle.std.proofs.lemmas.List.{append-nil, take_all, take_more_same}
 use Rattle.std.proofs.lemmas.List.Concat.{flat_map-append}
 use Rattle.std.proofs.lemmas.Option.{get_or_from_slice_get, none-some, slice_get-get_or, slice_get-map, slice_get_past, slice_get_read, slice_get_within}
-use Rattle.xdr3.specs.Item.{Item, Opaque, Handle}
 use Rattle.nfs3_types.specs.declared.values.handle.Handle.{Handle as FileHandle}
-use Rattle.uses.specs.Comparing.{handle_of_item, handles_of_items}
 
 -- an item that is no handle adds none
 pub no_handle : (handles : List (List ℕ)) (items : List Item) (item : Item)

@@ -1,9 +1,7 @@
 -- What one entry more adds to the calls that are counted.
-use Rattle.std.proofs.Common.{◌≡◌, ℕ, ◌+◌, Bool, true, false, cond, List, [], ◌∷◌, ◌++◌, count_by, refl, sym, ap, subst, arith, ◌∙◌}
-use Rattle.uses.proofs.Common.{sum_by-append, sum_by-cons, Kind, Entry, IsOfKind}
+use Rattle.uses.proofs.Common.{◌≡◌, ℕ, ◌+◌, Bool, true, false, cond, List, [], ◌∷◌, ◌++◌, count_by, refl, sym, ap, subst, arith, ◌∙◌, sum_by-append, sum_by-cons, Kind, Entry, IsOfKind, is_call_of, same_procedure}
 use Rattle.rpc_head.specs.declared.values.call.ProcId.{ProcId}
 use Rattle.capture3.specs.declared.reader.entry.Kind.TheVariants as kinds
-use Rattle.uses.specs.Counting.{is_call_of, same_procedure}
 
 same_as_itself : (id : ProcId) → same_procedure id id ≡ true
 same_as_itself id = grind arith

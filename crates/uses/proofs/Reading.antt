@@ -1,15 +1,12 @@
 -- A loop over the entries of a reader: what it has read so far, and what follows at its end.
-use Rattle.std.proofs.Common.{◌≡◌, ℕ, Option, Some, None, Ok, Err, List, [], ◌∷◌, ◌++◌, subst, refl}
 use Rattle.capture3.specs.Told.{Told, Gave}
 use Rattle.capture3.proofs.Lemmas.Reader.ToldLemmas.{gave_both, prefix_of_told, shown_of_all}
 use Rattle.std.specs.declared.hash.BuildHasher as BuildHasher
 use Rattle.std.specs.declared.hash.Hasher as Hasher
-use Rattle.uses.proofs.Common.{Item, Adds, Kind, Entry, items_of, IsOfKind}
+use Rattle.uses.proofs.Common.{◌≡◌, ℕ, Option, Some, None, Ok, Err, List, [], ◌∷◌, ◌++◌, subst, refl, Item, Adds, Kind, Entry, items_of, IsOfKind, OnRefused, source_of, StandsFor}
 use Rattle.capture3.specs.declared.reader.entries.Entries.{Entries}
 use Rattle.capture3.specs.declared.fault.Error.{Error}
 use Rattle.capture3.specs.declared.fault.Error.TheVariants as errors
-use Rattle.capture3.specs.Entries.{OnRefused, source_of}
-use Rattle.capture3.specs.machinery.EntriesHistory.{StandsFor}
 use Rattle.capture3.specs.FirstFault.{FirstFault}
 use Rattle.capture3.specs.Handing.{HandsOut, HandsOutGiven}
 use Rattle.capture3.specs.Typed.{Typed}

@@ -1,7 +1,5 @@
 -- What items and entries add to the sums.
-use Rattle.std.proofs.Common.{◌≡◌, ℕ, ◌+◌, min, List, [], ◌∷◌, ◌++◌, ap, arith, ◌∙◌}
-use Rattle.std.specs.Prelude.{sum_by}
-use Rattle.uses.proofs.Common.{sum_by-append, sum_by-cons, Item}
+use Rattle.uses.proofs.Common.{◌≡◌, ℕ, ◌+◌, min, List, [], ◌∷◌, ◌++◌, ap, arith, ◌∙◌, sum_by, sum_by-append, sum_by-cons, Item}
 use Rattle.uses.specs.declared.summing.DataBytes.{DataBytes}
 use Rattle.uses.specs.Summing.{data_bytes, HasSummed, largest}
 

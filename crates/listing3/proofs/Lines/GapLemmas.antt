@@ -1,12 +1,5 @@
 -- Digits that are written part by part, and text around them.
-use Rattle.listing3.proofs.Common.{◌≡◌, ℕ, List, [], ◌∷◌, ◌++◌, length, take, drop, refl, sym, ap, ap₂, ◌∙◌, subst, append_assoc, append-nil, arith, Appends, AppendsFront, encode_lower, encode_with}
-use Rattle.std.specs.Prelude.{Option, min}
-use Rattle.std.proofs.Common.{inl, inr}
-use Rattle.std.proofs.KnownBytes.{Appends-trans}
-use Rattle.std.proofs.lemmas.Bool.{cases_lt}
-use Rattle.std.proofs.lemmas.List.{take_all, drop_all}
-use Rattle.canon3.specs.machinery.PartialWrites.{TookUpTo}
-use Rattle.canon3.proofs.Lemmas.Writing.SinkWritesLemmas.{front_of_first, front_of_second}
+use Rattle.listing3.proofs.Common.{◌≡◌, ℕ, List, [], ◌∷◌, ◌++◌, length, take, drop, refl, sym, ap, ap₂, ◌∙◌, subst, append_assoc, append-nil, arith, Appends, AppendsFront, encode_lower, encode_with, Option, min, inl, inr, Appends-trans, cases_lt, take_all, drop_all, TookUpTo, front_of_first, front_of_second}
 use Rattle.listing3.proofs.Halves.{hex_parts}
 
 -- ---- digits, part by part

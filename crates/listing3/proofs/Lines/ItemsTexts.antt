@@ -1,16 +1,7 @@
 -- One item more in a text of items.
-use Rattle.listing3.proofs.Common.{◌≡◌, ℕ, ◌+◌, ◌%◌, ◌<◌, List, [], ◌∷◌, ◌++◌, length, take, drop, refl, sym, ap, ◌∙◌, subst, append_assoc, append-nil, arith, flat_map-append, encode_lower, encode_with, Item, Word, Hyper, Fixed, WriteVerf, Opaque, Rest, PlainField, run_items, opening, shown_item, shown_items}
-use Rattle.std.specs.Prelude.{◌^◌, Option, None, Some}
-use Rattle.std.proofs.lemmas.List.{drop-append-le, length-append, length-drop, take-append-le, take_all, drop_all}
-use Rattle.std.proofs.Math.Seq.{drop-append_seam, take-append_seam}
-use Rattle.xdr3.specs.Item.{Kind, Spells, Var, residue, word_bytes}
-use Rattle.xdr3.specs.Plain.{run_size}
-use Rattle.xdr3.specs.Visit.{Adds, Keeps}
+use Rattle.listing3.proofs.Common.{◌≡◌, ℕ, ◌+◌, ◌%◌, ◌<◌, List, [], ◌∷◌, ◌++◌, length, take, drop, refl, sym, ap, ◌∙◌, subst, append_assoc, append-nil, arith, flat_map-append, encode_lower, encode_with, Item, Word, Hyper, Fixed, WriteVerf, Opaque, Rest, PlainField, run_items, opening, shown_item, shown_items, ◌^◌, Option, None, Some, drop-append-le, length-append, length-drop, take-append-le, take_all, drop_all, drop-append_seam, take-append_seam, Kind, Spells, Var, residue, word_bytes, run_size, Adds, Keeps, Gap, ItemsText, filled, IsTextOfBody, IsWithin, TextStands}
 use Rattle.xdr3.proofs.Lemmas.Reading.Items.{Spells-single, Spells-split}
 use Rattle.canon3.proofs.Lemmas.Writing.Noting.{bytes_fixed, hyper_fixed, opaque_size, plain_fixed, rest_fixed, word_fixed}
-use Rattle.listing3.specs.declared.items_text.Gap.{Gap}
-use Rattle.listing3.specs.declared.items_text.ItemsText.{ItemsText}
-use Rattle.listing3.specs.machinery.ItemsText.{filled, IsTextOfBody, IsWithin, TextStands}
 
 -- the text as it is
 abbrev pub TextOf : List ℕ → List Item → Type 0

@@ -1,19 +1,9 @@
 -- A line, and what is held after it.
-use Rattle.std.proofs.Common.{◌≡◌, ◌⊎◌, inl, inr, ℕ, List, [], ◌∷◌, ◌++◌, ◌<◌, length, drop, refl, sym, ap, ap₂, ◌∙◌, subst, append_assoc, append-nil, length-append, arith, Result, Ok, Err}
-use Rattle.listing3.proofs.Common.{Appends, PlainField, Item, Word, Hyper, Opaque, Handle, run_items, ProcId, head_names, AppendsFront}
-use Rattle.std.specs.Prelude.{◌^◌, Option, None, Some, codes, decimal, OnErr, OnOk}
-use Rattle.std.proofs.KnownBytes.{Appends-trans}
-use Rattle.xdr3.specs.Item.{Spells}
-use Rattle.xdr3.specs.Visit.{Adds, Keeps}
-use Rattle.xdr3.proofs.Lemmas.Shapes.Walks.{adds_nothing}
-use Rattle.rpc_head.specs.Messages.{procedure_in}
+use Rattle.listing3.proofs.Common.{◌≡◌, ◌⊎◌, inl, inr, ℕ, List, [], ◌∷◌, ◌++◌, ◌<◌, length, drop, refl, sym, ap, ap₂, ◌∙◌, subst, append_assoc, append-nil, length-append, arith, Result, Ok, Err, Appends, PlainField, Item, Word, Hyper, Opaque, Handle, run_items, ProcId, head_names, AppendsFront, ◌^◌, Option, None, Some, codes, decimal, OnErr, OnOk, Appends-trans, Spells, Adds, Keeps, adds_nothing, procedure_in, Entry, Begin, Call, Turn, Reply, Close, End, Gap, ItemsText, is_headed_call, is_headed_reply, front_of_second, filled, IsTextOfBody, TextStands, always, after_front, HasLineUnderWay, IsTextOf, items_before, LineStands, SkipsOthers, entry_line, line, opening, prefix, procedure_name, shown, shown_items}
 use Rattle.capture3.specs.declared.reader.entry.Kind.{Kind}
 use Rattle.capture3.specs.declared.reader.entry.Kind.TheVariants as kinds
 use Rattle.capture3.specs.declared.fault.Error.{Error}
-use Rattle.capture3.specs.Entry.{Entry, Begin, Call, Turn, Reply, Close, End}
 use Rattle.capture3.specs.Kept.{IsOfKind}
-use Rattle.listing3.specs.declared.items_text.Gap.{Gap}
-use Rattle.listing3.specs.declared.items_text.ItemsText.{ItemsText}
 use Rattle.listing3.specs.declared.line_writer.LineWriter.{LineWriter}
 use Rattle.canon3.specs.declared.entries.progress.Progress.{Progress}
 use Rattle.canon3.specs.EntryWriter.{HasWrittenOrCut}
@@ -22,13 +12,8 @@ use Rattle.canon3.specs.Progress.{HasPassed}
 use Rattle.canon3.specs.Values.{handles_in}
 use Rattle.canon3.proofs.Lemmas.Numbers.HandleTableLemmas.{none_in_run}
 use Rattle.canon3.proofs.Lemmas.WellFormed.Laid.{IsLaidOut, last_laid}
-use Rattle.canon3.proofs.Lemmas.WellFormed.Messages.{is_headed_call, is_headed_reply}
-use Rattle.canon3.proofs.Lemmas.Writing.SinkWritesLemmas.{front_of_second}
 use Rattle.listing3.proofs.Lines.ItemsTexts.{filled_more}
 use Rattle.listing3.proofs.ListingLemmas.{shown_push}
-use Rattle.listing3.specs.machinery.ItemsText.{filled, IsTextOfBody, TextStands}
-use Rattle.listing3.specs.machinery.LineWriter.{always, after_front, HasLineUnderWay, IsTextOf, items_before, LineStands, SkipsOthers}
-use Rattle.listing3.specs.Listing.{entry_line, line, opening, prefix, procedure_name, shown, shown_items}
 
 -- ---- pieces of a line
 

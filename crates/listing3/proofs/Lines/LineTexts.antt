@@ -1,13 +1,10 @@
 -- What lines tell: where two listings are equal, so are the messages of the connections.
-use Rattle.std.proofs.Common.{◌≡◌, ◌≢◌, ◌≤◌, ◌<◌, ◌^◌, ℕ, zero, suc, ◌+◌, Bool, true, false, List, [], ◌∷◌, ◌++◌, length, map, slice_index, Option, Some, None, refl, sym, ap, ap₂, ◌∙◌, subst, append_assoc, arith}
-use Rattle.std.specs.Prelude.{codes, decimal, nat_eq, if◌then◌else◌, nat_le}
-use Rattle.listing3.proofs.Common.{AllByRecursion, list_all, and_parts, leb-true, decimal_injective, Item, ProcId, procedure_in, Entry, Call, Turn, Close, Conversation}
+use Rattle.std.specs.Prelude.{nat_eq, nat_le}
+use Rattle.listing3.proofs.Common.{◌≡◌, ◌≢◌, ◌≤◌, ◌<◌, ◌^◌, ℕ, zero, suc, ◌+◌, Bool, true, false, List, [], ◌∷◌, ◌++◌, length, map, slice_index, Option, Some, None, refl, sym, ap, ap₂, ◌∙◌, subst, append_assoc, arith, codes, decimal, if◌then◌else◌, AllByRecursion, list_all, and_parts, leb-true, decimal_injective, Item, ProcId, procedure_in, Entry, Call, Turn, Close, Conversation, ReplyItems, xid_in, client, line, lines_after, message_text, named, prefix, procedure_name, server, shown_item, shown_items}
 use Rattle.procs3.specs.Names.{mount_name, name_of_procedure, nfs_name}
 use Rattle.procs3.specs.Table.{is_mount, is_nfs}
-use Rattle.capture3.specs.Bodies.{ReplyItems, xid_in}
 use Rattle.capture3.specs.Typed.{HaveOneProcedure, IsIn, reply_entry}
 use Rattle.canon3.proofs.Lemmas.WellFormed.Files.{all_of, all_regrouped}
-use Rattle.listing3.specs.Listing.{client, line, lines_after, message_text, named, prefix, procedure_name, server, shown_item, shown_items}
 use Rattle.listing3.proofs.NamedItems.{AreNamed}
 use Rattle.listing3.proofs.Texts.{decimal_digits, Ends, IsSpellable, items_end, same_digits, same_item, same_items, same_runs, Stops}
 

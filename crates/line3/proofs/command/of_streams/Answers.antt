@@ -1,6 +1,4 @@
-use Rattle.std.proofs.Common.{rules, arith, subst, sym, ◌≡◌, ◌≤◌, ◌∷◌, ℕ, List, IfErr, IfOk, codes, length, map, string_bytes}
-use Rattle.std.proofs.lemmas.List.{length-map}
-use Rattle.line3.specs.Asked.{AreRefused, Asks}
+use Rattle.line3.proofs.Common.{rules, arith, subst, sym, ◌≡◌, ◌≤◌, ◌∷◌, ℕ, List, IfErr, IfOk, codes, length, map, string_bytes, length-map, AreRefused, Asks}
 use Rattle.line3.proofs.LineLemmas.{told_other}
 use Rattle.line3.proofs.command.of_streams.Goals as goal
 

@@ -1,5 +1,4 @@
-use Rattle.std.proofs.Common.{arith, subst, sym, ◌∷◌, ℕ, List, [], IfErr, IfOk}
-use Rattle.line3.specs.Asked.{AreRefused, Asks}
+use Rattle.line3.proofs.Common.{arith, subst, sym, ◌∷◌, ℕ, List, [], IfErr, IfOk, AreRefused, Asks}
 use Rattle.line3.proofs.LineLemmas.{told_other}
 use Rattle.line3.proofs.command.of_two_files.Goals as goal
 

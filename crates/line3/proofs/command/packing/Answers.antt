@@ -1,5 +1,4 @@
-use Rattle.std.proofs.Common.{arith, refl, inr, ap, sym, subst, ◌≡◌, ◌≤◌, ◌∙◌, ◌%◌, ℕ, List, Contains, length, map, string_bytes}
-use Rattle.std.proofs.lemmas.List.{length-map}
+use Rattle.line3.proofs.Common.{arith, refl, inr, ap, sym, subst, ◌≡◌, ◌≤◌, ◌∙◌, ◌%◌, ℕ, List, Contains, length, map, string_bytes, length-map}
 use Rattle.line3.proofs.LineLemmas.{among, not_among}
 use Rattle.line3.proofs.command.packing.Goals as goal
 

@@ -1,6 +1,4 @@
-use Rattle.std.proofs.Common.{rules, refl, arith, IfErr, IfOk, sym, subst, map, string_bytes, ◌≡◌, length}
-use Rattle.std.proofs.lemmas.List.{length-map}
-use Rattle.line3.specs.Asked.{AreRefused, Asks}
+use Rattle.line3.proofs.Common.{rules, refl, arith, IfErr, IfOk, sym, subst, map, string_bytes, ◌≡◌, length, length-map, AreRefused, Asks}
 use Rattle.line3.proofs.LineLemmas.{four_words, many_words, no_form_so_short, three_words, told}
 use Rattle.line3.proofs.command.placed.Goals as goal
 

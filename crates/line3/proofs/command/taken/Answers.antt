@@ -1,7 +1,5 @@
-use Rattle.std.proofs.Common.{arith, ap, ◌≡◌, ◌≤◌, ◌∙◌, length, map, string_bytes}
-use Rattle.std.proofs.lemmas.List.{length-map}
+use Rattle.line3.proofs.Common.{arith, ap, ◌≡◌, ◌≤◌, ◌∙◌, length, map, string_bytes, length-map, App, takes}
 use Rattle.clap.specs.Lexer.{usize_max}
-use Rattle.clap.specs.Words.{App, takes}
 use Rattle.line3.proofs.GrammarLemmas.{refuses}
 use Rattle.line3.proofs.command.taken.Goals as goal
 

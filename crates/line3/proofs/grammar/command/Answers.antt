@@ -1,6 +1,5 @@
-use Rattle.std.proofs.Common.{rules, ap, ap₂, sym, refl, ◌≡◌, ◌∙◌, ◌&&◌, Bool, true, false, not}
+use Rattle.line3.proofs.Common.{rules, ap, ap₂, sym, refl, ◌≡◌, ◌∙◌, ◌&&◌, Bool, true, false, not, App, app_of, with_subcommand}
 use Rattle.std.proofs.lemmas.Result.{IfOk-weaker}
-use Rattle.clap.specs.Words.{App, app_of, with_subcommand}
 use Rattle.line3.specs.Grammar.{bare}
 use Rattle.line3.proofs.grammar.command.Goals as goal
 

@@ -1,6 +1,5 @@
-use Rattle.listing3.proofs.Common.{ℕ, subst, chunks_rest, ◌∙◌, rules}
+use Rattle.listing3.proofs.Common.{ℕ, subst, chunks_rest, ◌∙◌, rules, on_err}
 use Rattle.canon3.specs.WriteErrors.{CountsWriting}
-use Rattle.xdr3.proofs.Lemmas.Shapes.Walks.{on_err}
 use Rattle.listing3.proofs.Lines.GapLemmas.{all_taken, part_cut, part_taken}
 use Rattle.listing3.proofs.filling.write_digits.Goals as goal
 

@@ -1,5 +1,4 @@
-use Rattle.listing3.proofs.Common.{◌≡◌, encode_lower, chunks_rest}
-use Rattle.canon3.specs.machinery.PartialWrites.{TookUpTo}
+use Rattle.listing3.proofs.Common.{◌≡◌, encode_lower, chunks_rest, TookUpTo}
 use Rattle.listing3.proofs.filling.write_digits.Given as goal
 
 abbrev pub invariant-loop-part : goal.invariant-loop-part

@@ -1,5 +1,4 @@
-use Rattle.listing3.proofs.Common.{ℕ, List, ◌++◌, take, drop, subst, on_err_weaker, take_rest, Appends, AppendsFront, encode_lower}
-use Rattle.xdr3.proofs.Lemmas.Shapes.Walks.{on_err}
+use Rattle.listing3.proofs.Common.{ℕ, List, ◌++◌, take, drop, subst, on_err_weaker, take_rest, Appends, AppendsFront, encode_lower, on_err}
 use Rattle.listing3.proofs.Lines.GapLemmas.{cut_after, cut_before, cut_within}
 use Rattle.listing3.proofs.filling.write_filled.Goals as goal
 

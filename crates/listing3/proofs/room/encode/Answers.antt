@@ -1,5 +1,4 @@
-use Rattle.listing3.proofs.Common.{rules, sym, ap, subst, ◌∙◌, lower_digits, AreHalves}
-use Rattle.std.specs.Prelude.{map, slice_index}
+use Rattle.listing3.proofs.Common.{rules, sym, ap, subst, ◌∙◌, lower_digits, AreHalves, map, slice_index}
 use Rattle.listing3.proofs.Halves.{digits_of_halves, halves_below}
 use Rattle.listing3.proofs.room.encode.Goals as goal
 

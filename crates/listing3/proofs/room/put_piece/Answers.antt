@@ -1,5 +1,4 @@
-use Rattle.listing3.proofs.Common.{◌≡◌, ℕ, List, ◌++◌, length, take, ap, sym, ◌∙◌, flat_map, quoted_byte}
-use Rattle.std.proofs.Math.Seq.{take-length}
+use Rattle.listing3.proofs.Common.{◌≡◌, ℕ, List, ◌++◌, length, take, ap, sym, ◌∙◌, flat_map, quoted_byte, take-length}
 use Rattle.listing3.proofs.room.put_piece.Goals as goal
 
 -- a piece of plain bytes was written

@@ -1,5 +1,4 @@
-use Rattle.listing3.proofs.Common.{arith, slice_index, ◌∙◌, lower_digits}
-use Rattle.std.proofs.lemmas.List.{length-set}
+use Rattle.listing3.proofs.Common.{arith, slice_index, ◌∙◌, lower_digits, length-set}
 use Rattle.listing3.proofs.Halves.{same_at, replaced, rest_kept}
 use Rattle.listing3.proofs.room.spell.Goals as goal
 

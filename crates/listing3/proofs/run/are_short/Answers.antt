@@ -1,8 +1,6 @@
-use Rattle.std.proofs.Common.{◌≡◌, ℕ, ◌+◌, ◌<◌, ◌≤◌, ◌&&◌, Bool, true, false, leb, List, length, take, get_or, refl, sym, ap, arith}
-use Rattle.listing3.proofs.Common.{All, take_all, PlainField}
-use Rattle.std.proofs.lemmas.Bool.{false≢true, leb-true}
+use Rattle.std.proofs.Common.{leb}
+use Rattle.listing3.proofs.Common.{◌≡◌, ℕ, ◌+◌, ◌<◌, ◌≤◌, ◌&&◌, Bool, true, false, List, length, take, get_or, refl, sym, ap, arith, All, take_all, PlainField, false≢true, leb-true, field_name, HasShortName}
 use Rattle.std.proofs.lemmas.List.Elements.{All-more, All-same}
-use Rattle.listing3.specs.machinery.Fields.{field_name, HasShortName}
 use Rattle.listing3.proofs.run.are_short.Goals as goal
 
 both : (a b : Bool) → (a && b) ≡ true → (a ≡ true) × (b ≡ true)

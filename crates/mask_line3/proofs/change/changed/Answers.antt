@@ -1,5 +1,4 @@
-use Rattle.std.proofs.Common.{sym, subst, ◌∙◌}
-use Rattle.mask_line3.specs.machinery.ChangeWords.{AreChanges}
+use Rattle.mask_line3.proofs.Common.{sym, subst, ◌∙◌, AreChanges}
 use Rattle.mask_line3.proofs.ChangeLemmas.{one_more, says_each}
 use Rattle.mask_line3.proofs.change.changed.Goals as goal
 

@@ -1,5 +1,4 @@
-use Rattle.std.proofs.Common.{map, string_bytes, take}
-use Rattle.mask_line3.specs.machinery.ChangeWords.{AreChanges}
+use Rattle.mask_line3.proofs.Common.{map, string_bytes, take, AreChanges}
 use Rattle.mask_line3.proofs.change.changed.Given as goal
 
 abbrev pub invariant-loop-word : goal.invariant-loop-word

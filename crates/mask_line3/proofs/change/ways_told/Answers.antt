@@ -1,6 +1,4 @@
-use Rattle.std.proofs.Common.{◌∷◌, []}
-use Rattle.mask_line3.specs.declared.asked.MaskClass.TheVariants.{Times, Stamps, Machines, Space, Ids, Fsids, Cookies, CookieVerifiers, CreateVerifiers, Owners, Wcc, SillyNames}
-use Rattle.mask_line3.specs.Changes.{change_of}
+use Rattle.mask_line3.proofs.Common.{◌∷◌, [], Times, Stamps, Machines, Space, Ids, Fsids, Cookies, CookieVerifiers, CreateVerifiers, Owners, Wcc, SillyNames, change_of}
 use Rattle.mask_line3.proofs.ChangeLemmas.{told_more}
 use Rattle.mask_line3.proofs.change.ways_told.Goals as goal
 

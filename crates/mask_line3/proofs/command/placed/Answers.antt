@@ -1,5 +1,4 @@
-use Rattle.std.proofs.Common.{rules, sym, subst, IfErr, IfOk}
-use Rattle.mask_line3.specs.MaskLine.{AreMaskWordsRefused, AsksForMask}
+use Rattle.mask_line3.proofs.Common.{rules, sym, subst, IfErr, IfOk, AreMaskWordsRefused, AsksForMask}
 use Rattle.mask_line3.proofs.ChangeLemmas.{names_first}
 use Rattle.mask_line3.proofs.command.placed.Goals as goal
 

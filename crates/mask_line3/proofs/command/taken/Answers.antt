@@ -1,7 +1,5 @@
-use Rattle.std.proofs.Common.{arith, ap, ◌≡◌, ◌≤◌, ◌∙◌, length, map, string_bytes}
+use Rattle.mask_line3.proofs.Common.{arith, ap, ◌≡◌, ◌≤◌, ◌∙◌, length, map, string_bytes, usize_max, App, takes}
 use Rattle.std.proofs.lemmas.List.{length-map}
-use Rattle.clap.specs.Lexer.{usize_max}
-use Rattle.clap.specs.Words.{App, takes}
 use Rattle.mask_line3.proofs.GrammarLemmas.{mask_refuses}
 use Rattle.mask_line3.proofs.command.taken.Goals as goal
 

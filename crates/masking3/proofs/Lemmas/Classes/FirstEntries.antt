@@ -1,10 +1,9 @@
 -- The first entries of a well-formed file have xids of no class, and room for the numbers of their
 -- values.
-use Rattle.masking3.proofs.Common.{◌<◌, ◌^◌, List, [], ◌∷◌, ◌++◌, length, map, sym, subst, arith, ap, ◌∙◌, AllByRecursion, Item, Word, Hyper, Fixed, WriteVerf, Opaque, Rest, Entry, Begin, Call, Turn, Reply, Close, End, AreFirst, Same, all_entries, holds, is_headed_call, is_headed_reply, Class, Way, Keep, Zero, Number, Ways, masked, masked_values, values, with_text, ReplyItems, bytes_of, IsSpelledCall, IsSpelledReply, SameBut, named_by, names_by, unnamed_items}
+use Rattle.masking3.proofs.Common.{◌<◌, ◌^◌, List, [], ◌∷◌, ◌++◌, length, map, sym, subst, arith, ap, ◌∙◌, AllByRecursion, Item, Word, Hyper, Fixed, WriteVerf, Opaque, Rest, Entry, Begin, Call, Turn, Reply, Close, End, AreFirst, Same, all_entries, holds, is_headed_call, is_headed_reply, Class, Way, Keep, Zero, Number, Ways, masked, masked_values, values, with_text, ReplyItems, bytes_of, IsSpelledCall, IsSpelledReply, SameBut, named_by, names_by, unnamed_items, MaskedBytesDecide, MaskedFormsDecide}
 use Rattle.canon3.proofs.Lemmas.Renaming.Equality.{same_reflexive, same_symmetric, same_transitive}
 use Rattle.canon3.proofs.Lemmas.Order.First.{first_in_order, same_from_bytes}
 use Rattle.canon3.proofs.Lemmas.Canonical.OneFormLemmas.{canonical-same}
-use Rattle.masking3.specs.Laws.{MaskedBytesDecide, MaskedFormsDecide}
 use Rattle.masking3.proofs.Lemmas.Classes.FewValues.{few_of_first}
 use Rattle.masking3.proofs.Lemmas.Classes.SpotLemmas.{xid_free}
 use Rattle.masking3.proofs.Lemmas.Masked.MaskedFiles.{masked_is_file}

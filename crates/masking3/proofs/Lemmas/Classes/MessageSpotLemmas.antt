@@ -1,7 +1,6 @@
 -- The spot that is found while the items of a message come, by its side.
-use Rattle.masking3.proofs.Common.{◌≡◌, ℕ, Bool, false, List, [], ◌∷◌, ◌++◌, refl, sym, ap, ap₂, ◌∙◌, subst, append_assoc, append-nil, Decides-eqb, Item, Word, ProcId, head_names, names, Side, Client, Server, Entry, Reply, FitsCall, FitsReply, is_headed_call, is_headed_reply, by_test, Class, Spot, class_of, next_spot, ◌==◌, ◌||◌, IsTrue, fold, Option, None, Some, is_listed, listed, Fits}
+use Rattle.masking3.proofs.Common.{◌≡◌, ℕ, Bool, false, List, [], ◌∷◌, ◌++◌, refl, sym, ap, ap₂, ◌∙◌, subst, append_assoc, append-nil, Decides-eqb, Item, Word, ProcId, head_names, names, Side, Client, Server, Entry, Reply, FitsCall, FitsReply, is_headed_call, is_headed_reply, by_test, Class, Spot, class_of, next_spot, ◌==◌, ◌||◌, IsTrue, fold, Option, None, Some, is_listed, listed, Fits, BeginsOn, class_found, first_spot, found_after, found_next, mtype_of}
 use Rattle.std.proofs.lemmas.List.Sums.{fold-append}
-use Rattle.masking3.specs.machinery.MessageSpot.{BeginsOn, class_found, first_spot, found_after, found_next, mtype_of}
 use Rattle.masking3.proofs.Lemmas.Classes.SpotLemmas.{mtype_free, spot_after, still, xid_free}
 
 -- ---- how messages begin

@@ -1,6 +1,5 @@
 -- Where the items of a message stand.
-use Rattle.masking3.proofs.Common.{◌≡◌, ℕ, true, List, [], ◌∷◌, ◌++◌, refl, sym, ap, ◌∙◌, subst, append_assoc, bytes_eq-Decides, Item, Word, Hyper, Fixed, WriteVerf, Opaque, Rest, head_names, names, Side, Client, Server, by_test, cond_either, Class, Spot, InCall, InReply, InDirectory, InWcc, Ways, class_of, class_of_word, masked_item, masked_items, value_in, values_in, ⊤, ◌==◌, bytes_eq, fold, None, Some}
-use Rattle.masking3.specs.Spots.{after_word, next_spot}
+use Rattle.masking3.proofs.Common.{◌≡◌, ℕ, true, List, [], ◌∷◌, ◌++◌, refl, sym, ap, ◌∙◌, subst, append_assoc, bytes_eq-Decides, Item, Word, Hyper, Fixed, WriteVerf, Opaque, Rest, head_names, names, Side, Client, Server, by_test, cond_either, Class, Spot, InCall, InReply, InDirectory, InWcc, Ways, class_of, class_of_word, masked_item, masked_items, value_in, values_in, ⊤, ◌==◌, bytes_eq, fold, None, Some, after_word, next_spot}
 
 -- the spot after items
 abbrev pub spot_after : Spot → List Item → Spot

@@ -1,9 +1,5 @@
 -- Masking again changes nothing.
-use Rattle.masking3.proofs.Common.{◌≡◌, ◌≢◌, ℕ, ◌+◌, ◌<◌, ◌^◌, Bool, true, false, List, [], ◌∷◌, ◌++◌, length, map, refl, sym, ap, ap₂, ◌∙◌, append-nil, arith, ◌==◌, ◌&&◌, nat_eq, Option, None, Some, Decides-eqb, map-append, Item, Word, Hyper, Fixed, WriteVerf, Opaque, Rest, Entry, Begin, Call, Turn, Reply, Close, End, rank, Class, Spot, InCall, InReply, Way, Keep, Zero, Number, Ways, by_way, is_zero_that_stays, masked, masked_values, masked_entry, masked_item, masked_items, number_among, substitute, value_in, value_where, values, values_in, values_in_entry, with_value, next_spot, names_by, way_of, big_number-reads_back, Member, here, there}
-use Rattle.byteorder.specs.Endian.{big_bytes, big_number}
-use Rattle.canon3.proofs.Lemmas.Numbers.RankLemmas.{by_test, rank-le-length, rank-map, same_rank}
-use Rattle.masking3.specs.Classes.{class_of, position, class_value, zero_stays}
-use Rattle.masking3.specs.Laws.{HasRoomForNumbers, KeepsAll, KeepsValues, StaysMasked}
+use Rattle.masking3.proofs.Common.{◌≡◌, ◌≢◌, ℕ, ◌+◌, ◌<◌, ◌^◌, Bool, true, false, List, [], ◌∷◌, ◌++◌, length, map, refl, sym, ap, ap₂, ◌∙◌, append-nil, arith, ◌==◌, ◌&&◌, nat_eq, Option, None, Some, Decides-eqb, map-append, Item, Word, Hyper, Fixed, WriteVerf, Opaque, Rest, Entry, Begin, Call, Turn, Reply, Close, End, rank, Class, Spot, InCall, InReply, Way, Keep, Zero, Number, Ways, by_way, is_zero_that_stays, masked, masked_values, masked_entry, masked_item, masked_items, number_among, substitute, value_in, value_where, values, values_in, values_in_entry, with_value, next_spot, names_by, way_of, big_number-reads_back, Member, here, there, big_bytes, big_number, by_test, rank-le-length, rank-map, same_rank, class_of, position, class_value, zero_stays, HasRoomForNumbers, KeepsAll, KeepsValues, StaysMasked}
 use Rattle.masking3.proofs.Lemmas.Classes.ClassLemmas.{none_of_other, same_class}
 use Rattle.masking3.proofs.Lemmas.Classes.SpotLemmas.{still}
 use Rattle.masking3.proofs.Lemmas.Masked.MaskedLemmas.{AreAmong, EntryIsAmong, IsAmong, ItemsAreAmong, among_own, unmasked, value_given}

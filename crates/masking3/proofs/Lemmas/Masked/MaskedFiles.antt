@@ -1,12 +1,7 @@
 -- The masked form of a well-formed file is a well-formed file.
-use Rattle.masking3.proofs.Common.{◌≡◌, ℕ, ◌≤◌, List, [], ◌∷◌, ◌++◌, length, map, refl, sym, ap, ap₂, ◌∙◌, subst, arith, length-append, AllByRecursion, Item, zero_spelling, procedure_in, max_bytes, Entry, Begin, Call, Turn, Reply, Close, End, record_bytes, Class, Spot, InCall, InReply, Ways, masked, masked_entry, values, length-map, map-append, ReplyItems, xid_in, named_call, named_entry}
+use Rattle.masking3.proofs.Common.{◌≡◌, ℕ, ◌≤◌, List, [], ◌∷◌, ◌++◌, length, map, refl, sym, ap, ap₂, ◌∙◌, subst, arith, length-append, AllByRecursion, Item, zero_spelling, procedure_in, max_bytes, Entry, Begin, Call, Turn, Reply, Close, End, record_bytes, Class, Spot, InCall, InReply, Ways, masked, masked_entry, values, length-map, map-append, ReplyItems, xid_in, named_call, named_entry, AnswerCalls, HaveOneProcedure, IsIn, Typed, connection_entries, reply_entry, AreOfTheirBytes, AreConversing, Conversation, IsSpelledCall, IsSpelledReply, in_map, items_of_reply, length_of_record, map_in, of_all, reply_items, stream_of, weight, AreCapture, all_of, entries_of, holds, total_of_anew, total_weight, typed_anew, all_mapped, all_weaker}
 use Rattle.std.proofs.lemmas.Simd.{map-map}
 use Rattle.capture3.specs.Capture.{total_size}
-use Rattle.capture3.specs.Typed.{AnswerCalls, HaveOneProcedure, IsIn, Typed, connection_entries, reply_entry}
-use Rattle.canon3.specs.Laws.{AreOfTheirBytes}
-use Rattle.canon3.proofs.Lemmas.WellFormed.Conversations.{AreConversing, Conversation, IsSpelledCall, IsSpelledReply, in_map, items_of_reply, length_of_record, map_in, of_all, reply_items, stream_of, weight}
-use Rattle.canon3.proofs.Lemmas.WellFormed.Files.{AreCapture, all_of, entries_of, holds, total_of_anew, total_weight, typed_anew}
-use Rattle.canon3.proofs.Lemmas.Renaming.RenamingLemmas.{all_mapped, all_weaker}
 use Rattle.masking3.proofs.Lemmas.Classes.FewValues.{few_of_file}
 use Rattle.masking3.proofs.Lemmas.Masked.MaskedMessages.{call_under, call_xid_under, message_length, message_spelled, procedure_under, reply_under, reply_xid_under, under}
 use Rattle.masking3.proofs.Lemmas.Unnamed.TextShapes.{length_with_texts, reply_with_texts, spelled_with_texts, with_texts, xid_with_texts}

@@ -1,11 +1,5 @@
 -- Messages with masked texts are messages of the same procedures, and no longer.
-use Rattle.masking3.proofs.Common.{◌≡◌, ℕ, zero, suc, ◌<◌, ◌≤◌, ◌^◌, true, false, List, [], ◌∷◌, ◌++◌, length, map, replicate, refl, sym, ap, ap₂, ◌∙◌, subst, arith, append-nil, length-append, ProcId, has_results, procedure_in, head_names, call_head, reply_head, names, arguments_of, results_of, xid_in, cond_either, Spot, InCall, InReply, Way, Keep, Zero, Number, Ways, length-map, length-replicate, map-append, Shape, choose, hyper, fixed, write_verf, opaque, nothing, both, linked, counted, sized, listed, links, Fits, HasParts, Part, parts_weaker, word_part, hyper_part, fixed_part, write_verf_part, rest_part, opaque_part, size_part, AreBytes-nil, all_mapped, FitsCall, FitsReply, call_next, headed_call_fits, headed_reply_fits, is_headed_call, is_headed_reply, reply_next, host_by, is_silly_name, silly_by, silly_zero, text_by, with_text}
-use Rattle.std.specs.Prelude.{bytes_eq, nat_lt, if◌then◌else◌}
-use Rattle.std.specs.List.{AllByRecursion, list_all}
-use Rattle.std.proofs.lemmas.Bool.{and_parts, ltb-true}
-use Rattle.xdr3.specs.Item.{Item, Word, Opaque, Var, Text, Handle, AreBytes, Spells, SpellsItem, residue, zero_spelling, zero_spelling_of}
-use Rattle.xdr3.specs.Layout.{Layout, exactly, rest, after, FitsLayout, number_of_word, word_in}
-use Rattle.canon3.proofs.Lemmas.WellFormed.Items.{IsEach, all_in_message, joined_mapped, length_of_opaque, links_mapped, zero_spelled_one}
+use Rattle.masking3.proofs.Common.{◌≡◌, ℕ, zero, suc, ◌<◌, ◌≤◌, ◌^◌, true, false, List, [], ◌∷◌, ◌++◌, length, map, replicate, refl, sym, ap, ap₂, ◌∙◌, subst, arith, append-nil, length-append, ProcId, has_results, procedure_in, head_names, call_head, reply_head, names, arguments_of, results_of, xid_in, cond_either, Spot, InCall, InReply, Way, Keep, Zero, Number, Ways, length-map, length-replicate, map-append, Shape, choose, hyper, fixed, write_verf, opaque, nothing, both, linked, counted, sized, listed, links, Fits, HasParts, Part, parts_weaker, word_part, hyper_part, fixed_part, write_verf_part, rest_part, opaque_part, size_part, AreBytes-nil, all_mapped, FitsCall, FitsReply, call_next, headed_call_fits, headed_reply_fits, is_headed_call, is_headed_reply, reply_next, host_by, is_silly_name, silly_by, silly_zero, text_by, with_text, bytes_eq, nat_lt, if◌then◌else◌, AllByRecursion, list_all, and_parts, ltb-true, Item, Word, Opaque, Var, Text, Handle, AreBytes, Spells, SpellsItem, residue, zero_spelling, zero_spelling_of, Layout, exactly, rest, after, FitsLayout, number_of_word, word_in, IsEach, all_in_message, joined_mapped, length_of_opaque, links_mapped, zero_spelled_one}
 use Rattle.masking3.proofs.Lemmas.Masked.MaskedShapes.{KeepsSize, RowTakesMasks, TakesMasks, arguments_take, call_head_takes, mtype_takes, reply_head_takes, reply_takes}
 use Rattle.masking3.proofs.Lemmas.Unnamed.TextsLemmas.{by_name, by_text, text_shorter}
 

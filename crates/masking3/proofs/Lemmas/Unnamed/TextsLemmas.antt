@@ -1,6 +1,5 @@
 -- Masked texts, apart from the values that are masked.
-use Rattle.masking3.proofs.Common.{◌≡◌, ℕ, ◌+◌, ◌≤◌, Bool, true, false, List, [], ◌∷◌, ◌++◌, length, map, refl, sym, ap, ap₂, ◌∙◌, arith, ⊤, ◌==◌, bytes_eq, if◌then◌else◌, Option, None, Some, Decides-eqb, Item, Word, Hyper, Fixed, WriteVerf, Opaque, Rest, Var, Text, Handle, residue, names, by_test, Class, Spot, Way, Keep, Zero, Number, Ways, class_of, class_value, TellsNoMore, masked_item, masked_items, substitute, value_in, values_in, with_value, next_spot, emptied, less_by, text_size, and_parts}
-use Rattle.masking3.specs.Texts.{host_by, is_silly_name, silly_by, silly_zero, text_by, with_text, zero_name}
+use Rattle.masking3.proofs.Common.{◌≡◌, ℕ, ◌+◌, ◌≤◌, Bool, true, false, List, [], ◌∷◌, ◌++◌, length, map, refl, sym, ap, ap₂, ◌∙◌, arith, ⊤, ◌==◌, bytes_eq, if◌then◌else◌, Option, None, Some, Decides-eqb, Item, Word, Hyper, Fixed, WriteVerf, Opaque, Rest, Var, Text, Handle, residue, names, by_test, Class, Spot, Way, Keep, Zero, Number, Ways, class_of, class_value, TellsNoMore, masked_item, masked_items, substitute, value_in, values_in, with_value, next_spot, emptied, less_by, text_size, and_parts, host_by, is_silly_name, silly_by, silly_zero, text_by, with_text, zero_name}
 use Rattle.masking3.proofs.Lemmas.Classes.SpotLemmas.{still_after}
 
 -- ---- an item and its masked text

@@ -1,10 +1,6 @@
 -- The body of a call without the name of its machine, from its items.
-use Rattle.std.proofs.Common.{◌≡◌, ℕ, ◌+◌, ◌-◌, ◌≤◌, ◌<◌, ◌^◌, Bool, true, false, List, ◌++◌, length, drop, refl, sym, ap, ap₂, ◌∙◌, length-append, arith, replicate}
-use Rattle.std.specs.Prelude.{◌&&◌, nat_le, if◌then◌else◌}
 use Rattle.std.proofs.Math.Seq.{drop-append-add, drop-append_seam}
-use Rattle.std.proofs.lemmas.Bool.{le-leb}
-use Rattle.masking3.proofs.Common.{length-replicate, big_number-reads_back, residue, word_bytes}
-use Rattle.masking3.specs.machinery.UnnamedBody.{has_name, head_less_by, name_room, unnamed_body}
+use Rattle.masking3.proofs.Common.{◌≡◌, ℕ, ◌+◌, ◌-◌, ◌≤◌, ◌<◌, ◌^◌, Bool, true, false, List, ◌++◌, length, drop, refl, sym, ap, ap₂, ◌∙◌, length-append, arith, replicate, ◌&&◌, nat_le, if◌then◌else◌, le-leb, length-replicate, big_number-reads_back, residue, word_bytes, has_name, head_less_by, name_room, unnamed_body}
 
 module _ (a b c d e f n stamp : ℕ) (name back : List ℕ) where
   abbrev front : List ℕ → List ℕ

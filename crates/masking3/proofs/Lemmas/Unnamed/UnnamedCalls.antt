@@ -1,7 +1,5 @@
 -- Calls with masked names are calls of the same procedures, and no longer.
-use Rattle.std.proofs.Common.{◌≡◌, ◌⊎◌, inl, inr, ℕ, zero, suc, ◌+◌, ◌-◌, ◌<◌, ◌≤◌, Bool, true, false, List, [], ◌∷◌, ◌++◌, length, replicate, refl, sym, ap, ap₂, ◌∙◌, subst, arith, append-nil, length-append, ⊎_elim}
-use Rattle.masking3.proofs.Common.{◌==◌, ◌||◌, IsTrue, bytes_eq, nat_eq, if◌then◌else◌, Decides-eqb, length-replicate, bytes_eq-Decides, length-bytes_high_first, procedure_in, head_names, arguments_of, xid_in, zero_spelled_one, FitsCall, headed_call_fits, is_headed_call, by_test, Way, Keep, Zero, Number, Ways, Item, Word, Hyper, Fixed, WriteVerf, Opaque, Rest, Var, Text, Handle, Spells, SpellsItem, residue, word_bytes, zero_spelling, zero_spelling_of, FitsLayout, word_in, Shape, ◌then◌, is_listed, opaque, word, Fits, AreBytes-nil, after_first, emptied, less_by, named_by, named_call, text_size, unnamed_credential, unnamed_items, body_by, unnamed_body}
-use Rattle.rpc_head.specs.Shapes.{auth_sys, call_head, credential, credential_flavors, gids, parameters, rpc_versions, verifier}
+use Rattle.masking3.proofs.Common.{◌≡◌, ◌⊎◌, inl, inr, ℕ, zero, suc, ◌+◌, ◌-◌, ◌<◌, ◌≤◌, Bool, true, false, List, [], ◌∷◌, ◌++◌, length, replicate, refl, sym, ap, ap₂, ◌∙◌, subst, arith, append-nil, length-append, ⊎_elim, ◌==◌, ◌||◌, IsTrue, bytes_eq, nat_eq, if◌then◌else◌, Decides-eqb, length-replicate, bytes_eq-Decides, length-bytes_high_first, procedure_in, head_names, arguments_of, xid_in, zero_spelled_one, FitsCall, headed_call_fits, is_headed_call, by_test, Way, Keep, Zero, Number, Ways, Item, Word, Hyper, Fixed, WriteVerf, Opaque, Rest, Var, Text, Handle, Spells, SpellsItem, residue, word_bytes, zero_spelling, zero_spelling_of, FitsLayout, word_in, Shape, ◌then◌, is_listed, opaque, word, Fits, AreBytes-nil, after_first, emptied, less_by, named_by, named_call, text_size, unnamed_credential, unnamed_items, body_by, unnamed_body, auth_sys, call_head, credential, credential_flavors, gids, parameters, rpc_versions, verifier}
 use Rattle.masking3.proofs.Lemmas.Masked.MaskedMessages.{first_word, mtype_is}
 use Rattle.masking3.proofs.Lemmas.Unnamed.TextShapes.{call_with_texts, length_with_texts, procedure_with_texts, spelled_with_texts, with_texts, xid_with_texts}
 use Rattle.masking3.proofs.Lemmas.Unnamed.UnnamedBodyLemmas.{not_spliced, spliced}

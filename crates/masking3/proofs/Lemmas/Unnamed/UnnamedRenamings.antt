@@ -1,6 +1,6 @@
 -- Captures that are renamed, or whose values change, do so with masked names as well.
-use Rattle.masking3.proofs.Common.{◌≡◌, ℕ, zero, suc, false, List, map, refl, sym, ap, subst, bytes_eq, Option, None, Some, Item, Word, Hyper, Fixed, WriteVerf, Opaque, Rest, Var, Text, Handle, head_names, Entry, Pairs, by_test, Class, Spot, InCall, InReply, Way, Keep, Zero, Number, Ways, class_of, next_spot, with_text, after_first, emptied, less_by, named_by, names_by, text_size, unnamed_credential, way_of, AreAlike, words, hypers, eights, ChangesBy, ChangesOf, ChangesItem, ChangesItems, over, along, ChangesEntry, begin, call, turn, reply, close, end}
-use Rattle.canon3.specs.Renaming.{IsPlain, RenamesItem, handle, verifier, plain, Pairwise, none, more, RenamesMessage, message, Renames, ended, begins, calls, turns, replies, closes, ends, Same}
+use Rattle.masking3.proofs.Common.{◌≡◌, ℕ, zero, suc, false, List, map, refl, sym, ap, subst, bytes_eq, Option, None, Some, Item, Word, Hyper, Fixed, WriteVerf, Opaque, Rest, Var, Text, Handle, head_names, Entry, Pairs, by_test, Class, Spot, InCall, InReply, Way, Keep, Zero, Number, Ways, class_of, next_spot, with_text, after_first, emptied, less_by, named_by, names_by, text_size, unnamed_credential, way_of, AreAlike, words, hypers, eights, ChangesBy, ChangesOf, ChangesItem, ChangesItems, over, along, ChangesEntry, begin, call, turn, reply, close, end, IsPlain, RenamesItem, handle, plain, Pairwise, none, more, RenamesMessage, message, Renames, ended, begins, calls, turns, replies, closes, ends, Same}
+use Rattle.canon3.specs.Renaming.{verifier}
 use Rattle.masking3.proofs.Lemmas.Unnamed.TextsLemmas.{by_text, text_spot}
 use Rattle.masking3.proofs.Lemmas.Unnamed.UnnamedLemmas.{free_length, other_word}
 

@@ -1,11 +1,9 @@
 -- What was written of the masked form, entry by entry.
-use Rattle.std.proofs.Common.{◌≡◌, ℕ, List, [], ◌∷◌, ◌++◌, Option, refl, sym, ap, ◌∙◌, subst, append_assoc}
-use Rattle.masking3.proofs.Common.{⊤, AllByRecursion, flat_map, zero_spelling, Client, Entry, Begin, Call, Turn, Reply, Close, End, items_of, AreFirst, AppendsFront, all_entries, holds, FitsCall, FitsReply, Class, InCall, Ways, named_entry, BeginsOn, first_spot, body_by, Appends, chunk_bytes, entry_bytes, record_bytes, masked_bytes, masked_entry, masked_items, told_entry, values_so_far, written_as, are_some, magic_unless}
+use Rattle.masking3.proofs.Common.{◌≡◌, ℕ, List, [], ◌∷◌, ◌++◌, Option, refl, sym, ap, ◌∙◌, subst, append_assoc, ⊤, AllByRecursion, flat_map, zero_spelling, Client, Entry, Begin, Call, Turn, Reply, Close, End, items_of, AreFirst, AppendsFront, all_entries, holds, FitsCall, FitsReply, Class, InCall, Ways, named_entry, BeginsOn, first_spot, body_by, Appends, chunk_bytes, entry_bytes, record_bytes, masked_bytes, masked_entry, masked_items, told_entry, values_so_far, written_as, are_some, magic_unless, magic_before}
 use Rattle.std.proofs.KnownBytes.{Appends-trans}
 use Rattle.capture3.specs.declared.reader.entry.Kind.{Kind}
 use Rattle.capture3.specs.declared.reader.entry.Kind.TheVariants as kinds
 use Rattle.capture3.specs.Kept.{IsOfKind}
-use Rattle.canon3.specs.Bytes.{magic_before}
 use Rattle.canon3.specs.Parting.{connections}
 use Rattle.canon3.proofs.Lemmas.Canonical.CanonicalFormLemmas.{the_magic}
 use Rattle.canon3.proofs.Lemmas.Writing.SinkWritesLemmas.{front_of_first, front_of_second, whole_front}

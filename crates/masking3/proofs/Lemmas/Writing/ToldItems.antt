@@ -1,7 +1,5 @@
 -- What stands for the items of the messages before has their values and their handles.
-use Rattle.masking3.proofs.Common.{◌≡◌, ℕ, List, [], ◌∷◌, ◌++◌, refl, sym, ap, ap₂, ◌∙◌, append-nil, Option, None, Some, flat_map, flat_map-append, Item, Word, Hyper, Fixed, WriteVerf, Opaque, Rest, Entry, Begin, Call, Turn, Reply, Close, End, items_of, Class, Spot, InCall, InReply, class_of, class_of_fixed, class_of_hyper, class_of_word, class_value, value_where, values, values_in, values_in_entry, next_spot, first_spot}
-use Rattle.canon3.specs.Values.{handle_in, handles, handles_in}
-use Rattle.masking3.specs.machinery.MaskingWriter.{told_entry, told_item, told_items, told_value, values_so_far}
+use Rattle.masking3.proofs.Common.{◌≡◌, ℕ, List, [], ◌∷◌, ◌++◌, refl, sym, ap, ap₂, ◌∙◌, append-nil, Option, None, Some, flat_map, flat_map-append, Item, Word, Hyper, Fixed, WriteVerf, Opaque, Rest, Entry, Begin, Call, Turn, Reply, Close, End, items_of, Class, Spot, InCall, InReply, class_of, class_of_fixed, class_of_hyper, class_of_word, class_value, value_where, values, values_in, values_in_entry, next_spot, first_spot, handle_in, handles, handles_in, told_entry, told_item, told_items, told_value, values_so_far}
 use Rattle.masking3.proofs.Lemmas.Classes.ClassLemmas.{seen_alike}
 use Rattle.masking3.proofs.Lemmas.Classes.MessageSpotLemmas.{entry_side}
 

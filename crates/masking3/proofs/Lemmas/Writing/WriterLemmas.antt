@@ -1,12 +1,9 @@
 -- A message is masked item by item.
-use Rattle.masking3.proofs.Common.{◌≡◌, ℕ, List, [], ◌∷◌, ◌++◌, length, map, refl, sym, ap, ap₂, ◌∙◌, subst, append_assoc, append-nil, arith, Option, None, Some, flat_map, flat_map-append, map-append, Item, Word, Hyper, Fixed, WriteVerf, Opaque, Rest, zero_spelling, Side, Spot, Ways, Class, class_of, class_value, masked_item, masked_items, substitute, value_in, value_where, values_in, with_value, with_text, HoldsValues, tables_in, with_one, handle_in, handles_in, member-append_right, BeginsOn, class_found, first_spot, found_next}
-use Rattle.xdr3.specs.Visit.{Adds, Keeps}
+use Rattle.masking3.proofs.Common.{◌≡◌, ℕ, List, [], ◌∷◌, ◌++◌, length, map, refl, sym, ap, ap₂, ◌∙◌, subst, append_assoc, append-nil, arith, Option, None, Some, flat_map, flat_map-append, map-append, Item, Word, Hyper, Fixed, WriteVerf, Opaque, Rest, zero_spelling, Side, Spot, Ways, Class, class_of, class_value, masked_item, masked_items, substitute, value_in, value_where, values_in, with_value, with_text, HoldsValues, tables_in, with_one, handle_in, handles_in, member-append_right, BeginsOn, class_found, first_spot, found_next, Adds, Keeps, Gathers, HoldsHandles, after_messages, HasMaskedUnderWay, HasMemory, MaskStands, told_items, told_value, values_so_far}
 use Rattle.nfs3_types.specs.declared.values.handle.Handle as handles
-use Rattle.canon3.specs.HandleTable.{Gathers, HoldsHandles}
 use Rattle.canon3.proofs.Lemmas.Numbers.HandleTableLemmas.{gathers_none}
 use Rattle.masking3.specs.declared.class_tables.ClassTables.{ClassTables}
 use Rattle.masking3.specs.declared.masking_writer.MaskingWriter.{MaskingWriter}
-use Rattle.masking3.specs.machinery.MaskingWriter.{after_messages, HasMaskedUnderWay, HasMemory, MaskStands, told_items, told_value, values_so_far}
 use Rattle.masking3.proofs.Lemmas.Classes.ClassLemmas.{holds_without, seen_alike}
 use Rattle.masking3.proofs.Lemmas.Classes.MessageSpotLemmas.{begins_before, found_class, found_more}
 use Rattle.masking3.proofs.Lemmas.Classes.SpotLemmas.{IsNoWord, masked_items-append, spot_after, still_after, values_in-append}

@@ -1,8 +1,7 @@
-use Rattle.masking3.proofs.Common.{◌≢◌, ℕ, ◌<◌, ◌^◌, List, length, refl, arith, AllByRecursion, names, head_names, Entry, Class, masked_values, values, SameButValues}
+use Rattle.masking3.proofs.Common.{◌≢◌, ℕ, ◌<◌, ◌^◌, List, length, refl, arith, AllByRecursion, names, head_names, Entry, Class, masked_values, values, SameButValues, usual}
 use Rattle.canon3.specs.Canonical.{canonical}
 use Rattle.canon3.proofs.Checks.{not_same_by, same_by}
 use Rattle.masking3.specs.Examples.{list_from, getattrs_of_two}
-use Rattle.masking3.specs.Ways.{usual}
 use Rattle.masking3.proofs.Lemmas.Classes.ClassLemmas.{for_each}
 use Rattle.masking3.proofs.Lemmas.Classes.SpotLemmas.{xid_free}
 use Rattle.masking3.proofs.Lemmas.Masked.SameButLemmas.{HasFreeXid, same_but_from_same, same_from_same_but}

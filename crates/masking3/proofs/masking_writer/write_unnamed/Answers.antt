@@ -1,5 +1,4 @@
-use Rattle.std.proofs.Common.{ℕ, List, OnErr, OnOk, subst}
-use Rattle.masking3.proofs.Common.{Appends, chunk_bytes, record_bytes, AppendsFront}
+use Rattle.masking3.proofs.Common.{ℕ, List, OnErr, OnOk, subst, Appends, chunk_bytes, record_bytes, AppendsFront}
 use Rattle.masking3.proofs.masking_writer.write_unnamed.Goals as goal
 
 pub returns-in-Ok : goal.returns-in-Ok

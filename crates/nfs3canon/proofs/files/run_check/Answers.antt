@@ -1,5 +1,4 @@
-use Rattle.std.proofs.Common.{[], ◌∷◌, ◌∙◌, ap}
-use Rattle.program3.specs.Readings.{reading_in, reading_under}
+use Rattle.nfs3canon.proofs.Common.{[], ◌∷◌, ◌∙◌, ap, reading_in, reading_under}
 use Rattle.nfs3canon.proofs.FilesLemmas.{counts_read}
 use Rattle.nfs3canon.proofs.files.run_check.Goals as goal
 

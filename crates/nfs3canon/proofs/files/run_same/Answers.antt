@@ -1,5 +1,4 @@
-use Rattle.std.proofs.Common.{[], ◌∷◌, ◌∙◌, ap, ap₂}
-use Rattle.program3.specs.Readings.{reading_in, reading_under}
+use Rattle.nfs3canon.proofs.Common.{[], ◌∷◌, ◌∙◌, ap, ap₂, reading_in, reading_under}
 use Rattle.nfs3canon.proofs.FilesLemmas.{compares_read}
 use Rattle.nfs3canon.proofs.files.run_same.Goals as goal
 

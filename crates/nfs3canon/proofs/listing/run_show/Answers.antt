@@ -1,5 +1,4 @@
-use Rattle.std.proofs.Common.{◌∙◌, ap, inl, refl, subst, sym}
-use Rattle.program3.specs.Readings.{IsByFailedRead, MayContain, reading_in}
+use Rattle.nfs3canon.proofs.Common.{◌∙◌, ap, inl, refl, subst, sym, IsByFailedRead, MayContain, reading_in}
 use Rattle.nfs3canon.proofs.listing.run_show.Goals as goal
 
 pub returns-in-Ok-form_written : goal.returns-in-Ok-form_written

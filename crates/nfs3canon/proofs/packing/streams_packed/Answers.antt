@@ -1,11 +1,7 @@
-use Rattle.std.proofs.Common.{◌≡◌, ◌≤◌, ◌∙◌, ◌*◌, ◌+◌, ◌++◌, [], ◌∷◌, Err, ℕ, List, Option, Some, ap, append_assoc, arith, length, map, string_bytes, subst, sym, take}
-use Rattle.std.proofs.lemmas.List.{length-map, take_all}
+use Rattle.nfs3canon.proofs.Common.{◌≡◌, ◌≤◌, ◌∙◌, ◌*◌, ◌+◌, ◌++◌, [], ◌∷◌, Err, ℕ, List, Option, Some, ap, append_assoc, arith, length, map, string_bytes, subst, sym, take, length-map, take_all, CountsReadings, IsUnread, FileReading, reading_in, reading_under, AreReadStreams, OneHasFailed}
 use Rattle.capture3.specs.declared.fault.Error.TheVariants as errors
 use Rattle.capture3.proofs.Lemmas.Reader.PassedOn.{error_is}
-use Rattle.packing3.specs.Devices.{CountsReadings}
 use Rattle.packing3.specs.Packing.{HasWrittenCapture}
-use Rattle.program3.specs.Readings.{IsUnread, FileReading, reading_in, reading_under}
-use Rattle.nfs3canon.specs.Files.{AreReadStreams, OneHasFailed}
 use Rattle.nfs3canon.proofs.PackingLemmas.{both_closed, pair_failed, pushed, stops_at, stops_error, streams_more, two_more, whole}
 use Rattle.nfs3canon.proofs.packing.streams_packed.Goals as goal
 

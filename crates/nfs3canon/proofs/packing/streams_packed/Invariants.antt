@@ -1,8 +1,5 @@
-use Rattle.std.proofs.Common.{◌≡◌, ◌*◌, List, map, take, string_bytes}
-use Rattle.capture3.specs.SidedChunks.{Streams}
+use Rattle.nfs3canon.proofs.Common.{◌≡◌, ◌*◌, List, map, take, string_bytes, Streams, reading_in, AreReadStreams}
 use Rattle.packing3.specs.Packing.{HasAdded}
-use Rattle.program3.specs.Readings.{reading_in}
-use Rattle.nfs3canon.specs.Files.{AreReadStreams}
 use Rattle.nfs3canon.proofs.packing.streams_packed.Given as goal
 
 -- the streams of the first pairs were read and added

@@ -1,5 +1,4 @@
-use Rattle.packing3.proofs.Common.{rules, ap, sym, ◌≡◌, ◌∙◌, ◌≤◌, ◌+◌, ℕ, List, ◌++◌, length, take, gave_both}
-use Rattle.std.proofs.lemmas.List.{take-append-le, length-take-le}
+use Rattle.packing3.proofs.Common.{rules, ap, sym, ◌≡◌, ◌∙◌, ◌≤◌, ◌+◌, ℕ, List, ◌++◌, length, take, gave_both, take-append-le, length-take-le}
 use Rattle.std.proofs.Math.Seq.{take-append-add}
 use Rattle.packing3.proofs.block.fill.Goals as goal
 

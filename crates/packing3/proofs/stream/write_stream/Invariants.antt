@@ -1,5 +1,4 @@
-use Rattle.packing3.proofs.Common.{◌≡◌, ◌≤◌, ◌-◌, length, max_bytes, full_size}
-use Rattle.packing3.specs.machinery.Streaming.{HasFull, GrowsLittle}
+use Rattle.packing3.proofs.Common.{◌≡◌, ◌≤◌, ◌-◌, length, max_bytes, full_size, HasFull, GrowsLittle}
 use Rattle.packing3.proofs.stream.write_stream.Given as goal
 
 abbrev pub invariant-loop-count : goal.invariant-loop-count

@@ -1,5 +1,4 @@
-use Rattle.std.proofs.Common.{◌∙◌, inl, refl, subst, sym}
-use Rattle.std.specs.Io.KnownBytes.{Appends}
+use Rattle.program3.proofs.Common.{◌∙◌, inl, refl, subst, sym, Appends}
 use Rattle.program3.proofs.EndingLemmas.{unless_failed}
 use Rattle.program3.proofs.ending.tell_ended.Goals as goal
 

@@ -1,5 +1,4 @@
-use mathlib.Core.Path.{refl}
-use Rattle.program3.specs.Hashing.{folded_multiply}
+use Rattle.program3.proofs.Common.{refl, folded_multiply}
 use Rattle.program3.proofs.hashing.folded_multiply.Goals as goal
 
 pub returns : goal.returns

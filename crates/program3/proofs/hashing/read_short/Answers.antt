@@ -1,6 +1,4 @@
-use Rattle.std.specs.Prelude.{length}
-use borrow.Author.Tests.{eq-eqb, le-ltb, lt-ltb, ne_eqb}
-use Rattle.program3.specs.Hashing.{read_short}
+use Rattle.program3.proofs.Common.{length, eq-eqb, le-ltb, lt-ltb, ne_eqb, read_short}
 use Rattle.program3.proofs.hashing.read_short.Goals as goal
 
 pub returns-then-len-gt4 : goal.returns-then-len-gt4

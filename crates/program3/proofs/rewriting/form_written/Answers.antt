@@ -1,8 +1,5 @@
-use Rattle.std.proofs.Common.{ap, subst, sym, ◌∙◌}
+use Rattle.program3.proofs.Common.{ap, subst, sym, ◌∙◌, append_known, WritesAllCounted, reading_under}
 use Rattle.std.specs.Io.Buffered.{writer_buffer, writer_contents}
-use Rattle.std.specs.Io.KnownBytes.{append_known}
-use Rattle.canon3.specs.EntryWriter.{WritesAllCounted}
-use Rattle.program3.specs.Readings.{reading_under}
 use Rattle.program3.proofs.FilesLemmas.{append_none, failed_out, one_failed, prefix_of, written_all}
 use Rattle.program3.proofs.rewriting.form_written.Goals as goal
 

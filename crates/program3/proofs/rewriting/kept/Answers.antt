@@ -1,6 +1,4 @@
-use Rattle.std.proofs.Common.{Ok, refl, subst}
-use Rattle.canon3.specs.EntryWriter.{WritesAllCounted}
-use Rattle.program3.specs.Readings.{IsByFailedRead, reading_under}
+use Rattle.program3.proofs.Common.{Ok, refl, subst, WritesAllCounted, IsByFailedRead, reading_under}
 use Rattle.program3.proofs.FilesLemmas.{keeps_none, keeps_whole}
 use Rattle.program3.proofs.rewriting.kept.Goals as goal
 

@@ -1,6 +1,5 @@
-use Rattle.std.proofs.Common.{◌∙◌, ap, inl, refl, subst, sym}
+use Rattle.program3.proofs.Common.{◌∙◌, ap, inl, refl, subst, sym, IsByFailedRead, MayContain, reading_in}
 use Rattle.program3.specs.Files.{KeepsForm}
-use Rattle.program3.specs.Readings.{IsByFailedRead, MayContain, reading_in}
 use Rattle.program3.proofs.rewriting.run_rewriting.Goals as goal
 
 pub returns-in-Ok : goal.returns-in-Ok

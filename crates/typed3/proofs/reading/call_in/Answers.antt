@@ -1,14 +1,5 @@
-use Rattle.std.proofs.Common.{arith, ◌≡◌, ◌≢◌, [], Bool, length, Ok, Err, ap, refl, sym, ◌∙◌}
-use Rattle.std.proofs.lemmas.Bool.{false≢true}
-use Rattle.xdr3.specs.declared.reason.Reason.TheVariants.{WrongSide}
-use Rattle.xdr3.specs.declared.reason.Stop.{Stop}
-use Rattle.rpc_head.specs.Calls.{call_head_items}
-use Rattle.capture3.specs.BodyProgram.{judge_call}
-use Rattle.capture3.proofs.Lemmas.Messages.BodiesLemmas.{the_calls}
+use Rattle.typed3.proofs.Common.{arith, ◌≡◌, ◌≢◌, [], Bool, length, Ok, Err, ap, refl, sym, ◌∙◌, false≢true, WrongSide, Stop, call_head_items, judge_call, the_calls, error_stops, stop_stops, CallMsg, args_items}
 use Rattle.capture3.proofs.Lemmas.Messages.BodySteps.{CallBegins, call_accepted, call_bad_arguments, call_bad_head, call_bad_start, call_trails, call_wrong_side, refusal_judged, whole_call}
-use Rattle.capture3.proofs.Lemmas.Messages.MessageScanLemmas.{error_stops, stop_stops}
-use Rattle.typed3.specs.declared.message.CallMsg.{CallMsg}
-use Rattle.typed3.specs.Items.{args_items}
 use Rattle.typed3.proofs.MessageLemmas.{call_head_told, no_call}
 use Rattle.typed3.proofs.reading.call_in.Goals as goal
 

@@ -1,5 +1,4 @@
-use Rattle.std.proofs.Math.Logic.{∥∥₁_elim}
-use mathlib.Core.HLevel.{⊥_prop}
+use Rattle.typed3.proofs.Common.{∥∥₁_elim, ⊥_prop}
 use Rattle.typed3.proofs.MessageLemmas.{call_has_procedure}
 use Rattle.typed3.proofs.reading.read_call.Goals as goal
 

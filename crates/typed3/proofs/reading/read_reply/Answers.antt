@@ -1,5 +1,4 @@
-use Rattle.std.proofs.Math.Logic.{∥∥₁_elim}
-use mathlib.Core.HLevel.{⊥_prop}
+use Rattle.typed3.proofs.Common.{∥∥₁_elim, ⊥_prop}
 use Rattle.typed3.proofs.reading.read_reply.Goals as goal
 
 pub unreachable-requires : goal.unreachable-requires

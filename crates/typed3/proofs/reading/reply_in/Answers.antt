@@ -1,16 +1,6 @@
-use Rattle.std.proofs.Common.{arith, ◌≡◌, ◌≢◌, List, [], Bool, length, Some, Ok, Err, ap, refl, sym, ◌∙◌}
-use Rattle.std.proofs.lemmas.Bool.{false≢true}
-use Rattle.xdr3.specs.declared.reason.Reason.TheVariants.{WrongSide}
-use Rattle.xdr3.specs.declared.reason.Stop.{Stop}
-use Rattle.xdr3.specs.Item.{Item}
-use Rattle.rpc_head.specs.Replies.{reply_head_items}
-use Rattle.capture3.specs.Bodies.{procedure_of, xid_in}
-use Rattle.capture3.specs.BodyProgram.{judge_reply}
-use Rattle.capture3.proofs.Lemmas.Messages.BodiesLemmas.{the_replies}
+use Rattle.typed3.proofs.Common.{arith, ◌≡◌, ◌≢◌, List, [], Bool, length, Some, Ok, Err, ap, refl, sym, ◌∙◌, false≢true, WrongSide, Stop, Item, reply_head_items, procedure_of, xid_in, judge_reply, the_replies, error_stops, stop_stops, is_success, items_after_head}
 use Rattle.capture3.proofs.Lemmas.Messages.BodySteps.{ReplyBegins, not_false, not_true, refusal_judged, reply_accepted, reply_bad_head, reply_bad_results, reply_bad_start, reply_trails, reply_wrong_side, whole_reply}
-use Rattle.capture3.proofs.Lemmas.Messages.MessageScanLemmas.{error_stops, stop_stops}
 use Rattle.typed3.specs.declared.message.ReplyMsg.{ReplyMsg}
-use Rattle.typed3.specs.Messages.{is_success, items_after_head}
 use Rattle.typed3.proofs.MessageLemmas.{asked, asked_by, no_reply, success_told, the_call}
 use Rattle.typed3.proofs.reading.reply_in.Goals as goal
 

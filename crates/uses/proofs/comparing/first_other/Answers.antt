@@ -1,10 +1,8 @@
-use Rattle.std.proofs.Common.{◌≡◌, ◌<◌, ◌≤◌, false, Some, [], length, map, take, refl, sym, ap, subst, arith, ltb-false, ltb-true, nat_lt, ◌∙◌}
-use Rattle.std.specs.Prelude.{is_some, slice_get}
+use Rattle.uses.proofs.Common.{◌≡◌, ◌<◌, ◌≤◌, false, Some, [], length, map, take, refl, sym, ap, subst, arith, ltb-false, ltb-true, nat_lt, ◌∙◌, is_some, slice_get, handle_bytes}
 use Rattle.std.proofs.lemmas.Bool.Decides.{Decides-not}
 use Rattle.std.proofs.lemmas.List.{length-map}
 use Rattle.std.proofs.lemmas.Option.{same_Some}
 use Rattle.std.proofs.lemmas.Slice.Eq.{bytes_eq-Decides}
-use Rattle.nfs3_types.specs.Handle.{handle_bytes}
 use Rattle.uses.proofs.ComparingLemmas.{agree_further, agree_throughout, at_handle, differs_at_end, is_equal, longer_differs}
 use Rattle.uses.proofs.comparing.first_other.Goals as goal
 

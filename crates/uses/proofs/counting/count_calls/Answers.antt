@@ -1,5 +1,4 @@
-use Rattle.std.proofs.Common.{ap, IsSome, ℕ, refl, sym, arith, subst, ◌∙◌}
-use Rattle.uses.proofs.Common.{IsOfKind, error_is}
+use Rattle.uses.proofs.Common.{ap, IsSome, ℕ, refl, sym, arith, subst, ◌∙◌, IsOfKind, error_is}
 use Rattle.uses.proofs.CountingLemmas.{differ, none_counted, one_counted}
 use Rattle.uses.proofs.Reading.{all_returned, none_is, one_more, refused}
 use Rattle.uses.proofs.counting.count_calls.Goals as goal

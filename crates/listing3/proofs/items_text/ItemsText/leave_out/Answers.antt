@@ -1,6 +1,4 @@
-use Rattle.listing3.proofs.Common.{◌+◌, ◌%◌, length, ap, refl}
-use Rattle.std.specs.Prelude.{◌^◌}
-use Rattle.xdr3.proofs.Lemmas.Shapes.Walks.{on_err}
+use Rattle.listing3.proofs.Common.{◌+◌, ◌%◌, length, ap, refl, ◌^◌, on_err}
 use Rattle.listing3.proofs.Lines.ItemsTexts.{adds_gap, keeps_still, same_text}
 use Rattle.listing3.proofs.items_text.ItemsText.leave_out.Goals as goal
 

@@ -1,5 +1,4 @@
-use Rattle.listing3.proofs.Common.{refl, [], ◌∷◌, Opaque}
-use Rattle.xdr3.specs.Item.{Text}
+use Rattle.listing3.proofs.Common.{refl, [], ◌∷◌, Opaque, Text}
 use Rattle.listing3.proofs.Lines.ItemsTexts.{adds_text, data_size}
 use Rattle.listing3.proofs.items_text.ItemsTextVisit.text.Goals as goal
 

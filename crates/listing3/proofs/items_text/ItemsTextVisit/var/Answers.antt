@@ -1,5 +1,4 @@
-use Rattle.listing3.proofs.Common.{refl, [], ◌∷◌, Opaque}
-use Rattle.xdr3.specs.Item.{Var}
+use Rattle.listing3.proofs.Common.{refl, [], ◌∷◌, Opaque, Var}
 use Rattle.listing3.proofs.Lines.ItemsTexts.{adds_text, data_size}
 use Rattle.listing3.proofs.items_text.ItemsTextVisit.var.Goals as goal
 

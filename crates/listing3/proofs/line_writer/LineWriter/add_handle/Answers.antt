@@ -1,5 +1,4 @@
-use Rattle.listing3.proofs.Common.{[], ◌∷◌, ◌∙◌, ap, length, refl, Handle, Opaque}
-use Rattle.xdr3.proofs.Lemmas.Shapes.Walks.{on_err}
+use Rattle.listing3.proofs.Common.{[], ◌∷◌, ◌∙◌, ap, length, refl, Handle, Opaque, on_err}
 use Rattle.listing3.proofs.Lines.ItemsTexts.{adds_text, data_size, keeps_still, same_text, text_appended, text_cut}
 use Rattle.listing3.proofs.Lines.LineLemmas.{adds_both, kept_both, keeps_text, told_err, told_ok}
 use Rattle.listing3.proofs.line_writer.LineWriter.add_handle.Goals as goal

@@ -1,6 +1,4 @@
-use Rattle.listing3.proofs.Common.{ℕ, List, ◌++◌, drop, ap, ap₂, sym, ◌∙◌, subst, on_err_weaker, AppendsFront}
-use Rattle.std.specs.Prelude.{Some}
-use Rattle.listing3.specs.machinery.ItemsText.{filled}
+use Rattle.listing3.proofs.Common.{ℕ, List, ◌++◌, drop, ap, ap₂, sym, ◌∙◌, subst, on_err_weaker, AppendsFront, Some, filled}
 use Rattle.listing3.proofs.line_writer.LineWriter.hand_over.Goals as goal
 
 pub returns-in-Some-clause-err : goal.returns-in-Some-clause-err

@@ -1,9 +1,4 @@
-use Rattle.listing3.proofs.Common.{◌∷◌, ◌+◌, subst, Appends, Word, ProcId, head_names, all_items, AppendsFront, after_front, LineStands}
-use Rattle.std.specs.Prelude.{OnErr, OnOk}
-use Rattle.xdr3.specs.Item.{Spells}
-use Rattle.std.proofs.KnownBytes.{Appends-nil}
-use Rattle.capture3.specs.Entry.{Entry, items_of}
-use Rattle.listing3.specs.Listing.{client, entry_line, line}
+use Rattle.listing3.proofs.Common.{◌∷◌, ◌+◌, subst, Appends, Word, ProcId, head_names, all_items, AppendsFront, after_front, LineStands, OnErr, OnOk, Spells, Appends-nil, Entry, items_of, client, entry_line, line}
 use Rattle.listing3.proofs.Lines.LineLemmas.{listed_call, listed_reply, no_line}
 use Rattle.listing3.proofs.line_writer.LineWriter.write_entry.Goals as goal
 

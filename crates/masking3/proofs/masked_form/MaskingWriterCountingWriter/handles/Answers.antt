@@ -1,6 +1,4 @@
-use Rattle.std.proofs.Common.{List, ℕ, [], ap, append-nil, ◌∙◌, length, min, subst}
-use Rattle.masking3.proofs.Common.{bytes_eq, flat_map, Client, told_entry, Gathers}
-use Rattle.canon3.specs.Rank.{distinct, number_limit}
+use Rattle.masking3.proofs.Common.{List, ℕ, [], ap, append-nil, ◌∙◌, length, min, subst, bytes_eq, flat_map, Client, told_entry, Gathers, distinct, number_limit}
 use Rattle.masking3.proofs.Lemmas.Classes.MessageSpotLemmas.{begins_none}
 use Rattle.masking3.proofs.Lemmas.Writing.ToldItems.{handles_before}
 use Rattle.masking3.proofs.Lemmas.Writing.WriterLemmas.{is_after}

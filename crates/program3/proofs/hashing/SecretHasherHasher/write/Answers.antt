@@ -1,8 +1,5 @@
-use Rattle.std.specs.Prelude.{◌≡◌, ℕ, suc, ◌+◌, ◌-◌, ◌*◌, ◌/◌, length}
-use mathlib.Core.Path.{refl}
-use native.Mathlib.Omega.{arith}
+use Rattle.program3.proofs.Common.{◌≡◌, ℕ, suc, ◌+◌, ◌-◌, ◌*◌, ◌/◌, length, refl, arith, mix_blocks, write}
 use borrow.Author.Tests.{le-leb, lt-leb}
-use Rattle.program3.specs.Hashing.{mix_blocks, write}
 use Rattle.program3.proofs.hashing.SecretHasherHasher.write.Goals as goal
 
 pub returns-then-len-le8 : goal.returns-then-len-le8

@@ -1,5 +1,4 @@
-use Rattle.std.specs.Prelude.{◌≡◌, ◌-◌, ◌/◌, ◌%◌, ◌<◌}
-use Rattle.program3.specs.Hashing.{mix_blocks}
+use Rattle.program3.proofs.Common.{◌≡◌, ◌-◌, ◌/◌, ◌%◌, ◌<◌, mix_blocks}
 use Rattle.program3.proofs.hashing.SecretHasherHasher.write.Given as goal
 
 abbrev pub invariant-loop-at : goal.invariant-loop-at

@@ -1,5 +1,4 @@
-use Rattle.std.proofs.Common.{◌≡◌, length}
-use Rattle.std.specs.Io.KnownBytes.{Keeps}
+use Rattle.program3.proofs.Common.{◌≡◌, length, Keeps}
 use Rattle.program3.proofs.retried.RetriedRead.read.Given as goal
 
 abbrev pub invariant-loop : goal.invariant-loop

@@ -1,6 +1,4 @@
-use Rattle.xdr3.proofs.Lemmas.Shapes.Layouts.{layout_is_read}
-use Rattle.xdr3.proofs.Lemmas.Reading.Within.{layout_given_within}
-use Rattle.typed3.specs.Items.{args_items}
+use Rattle.typed3.proofs.Common.{layout_is_read, layout_given_within, args_items}
 use Rattle.procs3.specs.Table.{arguments_of}
 use Rattle.typed3.proofs.args.Args.get.Goals as goal
 

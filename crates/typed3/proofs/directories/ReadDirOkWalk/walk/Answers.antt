@@ -1,5 +1,4 @@
-use Rattle.xdr3.proofs.Lemmas.Shapes.Walks.{next_adds_some, on_err, steps_add}
-use Rattle.nfs3_types.specs.Names.{names}
+use Rattle.typed3.proofs.Common.{next_adds_some, on_err, steps_add, names}
 use Rattle.typed3.proofs.directories.ReadDirOkWalk.walk.Goals as goal
 
 pub returns-in_err-walk_fields-2-clause-err : goal.returns-in_err-walk_fields-2-clause-err

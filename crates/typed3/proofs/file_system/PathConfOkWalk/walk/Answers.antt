@@ -1,5 +1,4 @@
-use Rattle.xdr3.proofs.Lemmas.Shapes.Walks.{next_adds_some, next_within, on_err, steps_add}
-use Rattle.nfs3_types.specs.Names.{names}
+use Rattle.typed3.proofs.Common.{next_adds_some, next_within, on_err, steps_add, names}
 use Rattle.typed3.proofs.file_system.PathConfOkWalk.walk.Goals as goal
 
 pub walk_fields-requires-clause-limit : goal.walk_fields-requires-clause-limit

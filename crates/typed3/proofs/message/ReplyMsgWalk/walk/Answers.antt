@@ -1,10 +1,6 @@
-use Rattle.std.proofs.Common.{[], List, sym, subst}
-use Rattle.std.proofs.lemmas.List.{append-nil}
-use Rattle.xdr3.proofs.Lemmas.Shapes.Walks.{steps_add}
-use Rattle.xdr3.specs.Item.{Item}
+use Rattle.typed3.proofs.Common.{[], List, sym, subst, append-nil, steps_add, Item, reply_head_items}
 use Rattle.xdr3.specs.Visit.{Adds}
 use Rattle.rpc_head.specs.Names.{head_names}
-use Rattle.rpc_head.specs.Replies.{reply_head_items}
 use Rattle.typed3.proofs.message.ReplyMsgWalk.walk.Goals as goal
 
 adds_nothing : {V : Type 0} (stands : V → List Item → Type 0) (v : V) → Adds stands v v []

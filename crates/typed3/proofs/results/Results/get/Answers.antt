@@ -1,6 +1,4 @@
-use Rattle.xdr3.proofs.Lemmas.Shapes.Layouts.{layout_is_read}
-use Rattle.xdr3.proofs.Lemmas.Reading.Within.{layout_given_within}
-use Rattle.typed3.specs.Items.{results_items}
+use Rattle.typed3.proofs.Common.{layout_is_read, layout_given_within, results_items}
 use Rattle.procs3.specs.Table.{results_of}
 use Rattle.typed3.proofs.results.Results.get.Goals as goal
 
