@@ -26,7 +26,7 @@ import make  # noqa: E402
 LIMITS = {
     'check small': 7.1,
     'canon small': 11.1,
-    'show small': 16.7,
+    'show small': 16.4,
     'same small': 19.6,
     'check mixed': 5.4,
     'canon mixed': 12.9,

@@ -40,7 +40,7 @@ pub(crate) fn encoded_size(len: usize) -> usize
     requires { len ≤ body_limit }
     ensures { result ≡ 4 + (len + residue len) }
 {
-    4 + (len + (4 - len % 4) % 4)
+    (len + 7) / 4 * 4
 }
 
 impl ItemsText {

@@ -86,6 +86,7 @@ impl LineText {
     }
 
     /// Appends ` xid=` and the xid, a space and the procedure's name.
+    #[inline(always)]
     pub(crate) fn append_xid_and_name(
         &mut self,
         xid: u32,
@@ -158,7 +159,7 @@ impl LineText {
         Ok(())
     }
 
-    #[inline(never)]
+    #[inline(always)]
     fn append_digits(&mut self, name: &'static str, bytes: &[u8]) -> Result<(), AllocError>
         requires { length bytes.now ≤ body_limit }
         ensures ok { OnOk result
