@@ -433,9 +433,9 @@ def folders_that_no_path_names(place: Place) -> None:
     """An output is written again as the first time if the name of its folder is no text, or the path is longer than the system takes."""
     for names in ([b'\xff'], [b'd' * 200] * 30):
         folder = os.open(place.folder, os.O_RDONLY)
-        for name in names:
-            os.mkdir(name, dir_fd=folder)
-            folder = os.open(name, os.O_RDONLY, dir_fd=folder)
+        for part in names:
+            os.mkdir(part, dir_fd=folder)
+            folder = os.open(part, os.O_RDONLY, dir_fd=folder)
         with open(os.open('a', os.O_WRONLY | os.O_CREAT, dir_fd=folder), 'wb') as file:
             file.write(GOOD)
         os.symlink('out', 'link', dir_fd=folder)
