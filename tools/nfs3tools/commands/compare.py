@@ -50,7 +50,7 @@ from ..comparison.classes import CLASSES, in_any_order, mask_word, told
 from ..comparison.comparing import Compared, Framing, Run
 from ..comparison.deciding import judged, run_of
 from ..comparison.ignoring import ignored_of, without
-from .messages import REFUSED, add_losses, add_options, advice_on, options_of, parser_of
+from .messages import REFUSED, add_losses, add_options, add_program, advice_on, options_of, parser_of
 from ..comparison.orders import Choices
 from ..shared.outputs import check_output, held, write_file
 from ..reporting.pages import Content, Recorded
@@ -105,7 +105,7 @@ def words_of(words: list[str]) -> argparse.Namespace:
     parser.add_argument('--junit', metavar='FILE', help='writes the verdict and the findings as JUnit XML')
     add_options(parser)
     add_losses(parser, 'same in part')
-    parser.add_argument('--program', help='the program, if it is not the one of this folder')
+    add_program(parser)
     parser.add_argument('first', metavar='A')
     parser.add_argument('second', metavar='B')
     chosen = parser.parse_args(words)

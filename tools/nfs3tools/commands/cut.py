@@ -24,7 +24,7 @@ from collections.abc import Iterable, Iterator
 from typing import NamedTuple
 
 from ..captures.container import capture_of
-from .messages import ABSENT, add_options, ended, options_of, parser_of
+from .messages import ABSENT, add_options, add_program, ended, options_of, parser_of
 from ..comparison.outlines import Outlines
 from ..shared.outputs import CAPTURE, check_output, held, write_file
 from ..recordings.parts import files_of
@@ -116,7 +116,7 @@ def main(words: list[str]) -> int:
     parser.add_argument('place', metavar='POSITION')
     parser.add_argument('out', metavar='OUT')
     parser.add_argument('--origins', action='store_true', help='takes the exchanges too that gave the file handles')
-    parser.add_argument('--program', metavar='PROGRAM', help='nfs3canon')
+    add_program(parser)
     add_options(parser)
     chosen = parser.parse_args(words)
     place, inputs = parse_place(chosen.place), files_of(chosen.recording)

@@ -182,6 +182,11 @@ def add_losses(parser: argparse.ArgumentParser, words: str) -> None:
     parser.add_argument('--allow-losses', action='store_true', help=f'takes `{words}` as the status 0')
 
 
+def add_program(parser: argparse.ArgumentParser) -> None:
+    """The option that names the program."""
+    parser.add_argument('--program', metavar='PROGRAM', help='the nfs3canon to run, if it is not the one of this folder')
+
+
 def options_of(chosen: argparse.Namespace) -> Options:
     return Options(chosen.midstream, chosen.whole_records, chosen.filter)
 

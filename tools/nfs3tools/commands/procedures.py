@@ -31,7 +31,7 @@ from collections import Counter
 from collections.abc import Iterator, Sequence
 
 from .judging import Verdict, named, status_of, sums_of, tell_notes
-from .messages import add_losses, add_options, options_of, parser_of
+from .messages import add_losses, add_options, add_program, options_of, parser_of
 from ..shared.outputs import check_output, write_file
 from ..recordings.parts import files_of
 from ..shared.printed import columns, escaped, printable
@@ -222,7 +222,7 @@ def words_of(words: list[str]) -> argparse.Namespace:
     parser.add_argument('--total', action='store_true', help='prints no tables of connections')
     parser.add_argument('--json', metavar='FILE', help='writes the verdicts and the tables as JSON')
     parser.add_argument('--csv', metavar='FILE', help='writes the tables as comma-separated values')
-    parser.add_argument('--program', metavar='PROGRAM', help='nfs3canon')
+    add_program(parser)
     add_options(parser)
     add_losses(parser, 'ok in part')
     chosen = parser.parse_args(words)

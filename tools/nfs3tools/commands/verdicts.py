@@ -34,7 +34,7 @@ import xml.etree.ElementTree
 
 from .following import follow
 from .judging import HEADS, Verdict, error_of, of_left_out, row_of, status_of, sums_of, tell_notes, told, verdict_of
-from .messages import add_losses, add_options, advice_on, options_of, parser_of, words_of
+from .messages import add_losses, add_options, add_program, advice_on, options_of, parser_of, words_of
 from ..shared.outputs import check_output, write_file
 from ..recordings.parts import files_of
 from ..shared.places import Place, parse_fault
@@ -113,7 +113,7 @@ def main(words: list[str]) -> int:
     parser.add_argument('--json', metavar='FILE', help='writes the verdicts as JSON')
     parser.add_argument('-j', metavar='N', type=positive, help='judges N recordings at once')
     parser.add_argument('--follow', action='store_true', help='judges one recording while it is made, and prints each verdict at once')
-    parser.add_argument('--program', metavar='PROGRAM', help='nfs3canon')
+    add_program(parser)
     add_options(parser)
     add_losses(parser, 'ok in part')
     chosen = parser.parse_args(words)
