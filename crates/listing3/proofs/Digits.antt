@@ -2,6 +2,7 @@
 use Rattle.listing3.proofs.Common.{◌≡◌, ℕ, zero, suc, ◌+◌, ◌-◌, ◌*◌, ◌/◌, ◌%◌, ◌^◌, ◌<◌, ◌≤◌, Bool, true, ◌&&◌, T, eqb, List, [], ◌∷◌, ◌++◌, length, take, set, get_or, refl, ap, sym, ◌∙◌, inl, inr, arith, eq-zero-or-pos, eqb→eq, append_assoc, length-set, decimal_digit, decimal_step, take_more_set, decimal}
 use lib.Ieee.Fits.{and_l, and_r}
 use Rattle.listing3.specs.declared.room.TheConstants.{PAIRS}
+use Rattle.listing3.specs.machinery.Puts.{Puts}
 use Rattle.listing3.specs.machinery.Digits.{eight_digits, four_digits, two_digits}
 
 -- ---- the table
@@ -29,16 +30,21 @@ pair_at p h = below 100 p tt h
 
 -- a pair of the table that is put at a place
 pub pair_written : (xs : List ℕ) (at p : ℕ) → p < 100 → at + 2 ≤ length xs
-    → take (at + 2) (set (set xs at (get_or PAIRS (2 * p) 0)) (at + 1) (get_or PAIRS (2 * p + 1) 0))
-    ≡ take at xs ++ two_digits p
+    → Puts xs
+    (set (set xs at (get_or PAIRS (2 * p) 0)) (at + 1) (get_or PAIRS (2 * p + 1) 0))
+    at (at + 2) (two_digits p)
 pair_written xs at p h l =
     let t = pair_at p h in
-    let e : at + 2 ≡ (at + 1) + 1 = omega arith in
-    rw (t.0, t.1, e)
-    (take_more_set (set xs at (48 + p / 10)) (at + 1) (48 + p % 10)
-    (omega (arith, length-set xs at (48 + p / 10)))
-    ∙ ap (λ (l : List ℕ). l ++ (48 + p % 10) ∷ []) (take_more_set xs at (48 + p / 10) (omega arith))
-    ∙ append_assoc (take at xs) ((48 + p / 10) ∷ []) ((48 + p % 10) ∷ []))
+    let e : at + 2 ≡ (at + 1) + 1 = omega arith in (
+      rw (t.0, t.1, e)
+          (take_more_set (set xs at (48 + p / 10)) (at + 1) (48 + p % 10)
+          (omega (arith, length-set xs at (48 + p / 10)))
+          ∙ ap (λ (l : List ℕ). l ++ (48 + p % 10) ∷ [])
+              (take_more_set xs at (48 + p / 10) (omega arith))
+          ∙ append_assoc (take at xs) ((48 + p / 10) ∷ []) ((48 + p % 10) ∷ [])),
+      length-set (set xs at (get_or PAIRS (2 * p) 0)) (at + 1) (get_or PAIRS (2 * p + 1) 0)
+          ∙ length-set xs at (get_or PAIRS (2 * p) 0),
+    )
 
 -- ---- decimal text
 
@@ -97,9 +103,12 @@ decimal_eight n lo hi =
     ) (append_assoc (decimal (n / 100000000)) (four_digits (n % 100000000 / 10000))
     (four_digits (n % 10000)))
 
--- digits that are written after others
-pub after_digits : (now before start first last all : List ℕ) → now ≡ before ++ last
-    → before ≡ start ++ first → all ≡ first ++ last → now ≡ start ++ all
-after_digits now before start first last all second written is =
-    second ∙ ap (λ (l : List ℕ). l ++ last) written ∙ append_assoc start first last
-    ∙ ap (λ (l : List ℕ). start ++ l) (sym is)
+-- digits that are put after others
+pub after_digits : (old between new : List ℕ) (at middle end : ℕ) (first last all : List ℕ)
+    → Puts between new middle end last → Puts old between at middle first → all ≡ first ++ last
+    → Puts old new at end all
+after_digits old between new at middle end first last all second written is = (
+  second.0 ∙ ap (λ (l : List ℕ). l ++ last) written.0 ∙ append_assoc (take at old) first last
+      ∙ ap (λ (l : List ℕ). take at old ++ l) (sym is),
+  second.1 ∙ written.1,
+)

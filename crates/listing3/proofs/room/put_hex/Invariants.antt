@@ -8,7 +8,6 @@ invariant-loop-piece l = record {
   size : chunks_size l.piece-iterator ≡ 512;
   text : take l.end l.room ++ encode_lower (chunks_rest l.piece-iterator)
       ≡ take l.fn.at l.fn.room ++ encode_lower l.fn.bytes;
-  kept : take l.fn.at l.room ≡ take l.fn.at l.fn.room;
   after : l.fn.at ≤ l.end;
   left : l.end + 2 * length (chunks_rest l.piece-iterator) ≡ l.fn.at + 2 * length l.fn.bytes;
   len : length l.room ≡ length l.fn.room;

@@ -10,8 +10,10 @@ plain_piece now start bytes piece long is plain put =
     ∙ ap (λ (l : List ℕ). start ++ l)
     (is ∙ ap (λ (n : ℕ). take n bytes) (sym long) ∙ take-length bytes ∙ sym plain)
 
-pub returns-then-are_plain-clause-written : goal.returns-then-are_plain-clause-written
-returns-then-are_plain-clause-written c =
-    plain_piece (take c.put_bytes.result c.put_bytes.new.room) (take c.args.at c.args.room.now)
-    c.args.bytes.now c.block.result c.if-bytes-eq-PIECE.true c.block.ensures
-    (c.are_plain.ensures c.if-are_plain.true) c.put_bytes.ensures.written
+pub returns-then-are_plain-clause-puts : goal.returns-then-are_plain-clause-puts
+returns-then-are_plain-clause-puts c = (
+  plain_piece (take c.put_bytes.result c.put_bytes.new.room) (take c.args.at c.args.room.now)
+      c.args.bytes.now c.block.result c.if-bytes-eq-PIECE.true c.block.ensures
+      (c.are_plain.ensures c.if-are_plain.true) c.put_bytes.ensures.written,
+  c.put_bytes.ensures.len,
+)

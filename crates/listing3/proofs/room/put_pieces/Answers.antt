@@ -1,5 +1,5 @@
 use Rattle.listing3.proofs.Common.{◌≡◌, ℕ, List, ◌++◌, take, sym, ap, ◌∙◌, append_assoc, arith, rules, flat_map, chunks_rest, common_steps, flat_map-append, quoted_byte}
-use Rattle.listing3.proofs.Rooms.{kept_below}
+use Rattle.listing3.proofs.Rooms.{kept_below, kept_by}
 use Rattle.listing3.proofs.room.put_pieces.Goals as goal
 
 -- a piece was written, and the rest is left
@@ -26,10 +26,15 @@ loop-piece-preserved c =
           piece_written (take c.loop-piece.end c.loop-piece.room.items)
           _ _ (chunks_rest c.loop-piece.piece-iterator) c.in-Some.piece.now
           (chunks_rest c.next.new.self) steps.1.0
-          (grind (arith, common_steps, put.written, room.kept)) so_far.text;
+          (grind (arith, common_steps, put.puts.0, room.kept)) so_far.text;
       kept =
           kept_below c.args.at c.loop-piece.end _ _ so_far.after
-          (grind (arith, common_steps, put.kept))
+          (grind (
+            arith,
+            common_steps,
+            kept_by _ _ c.loop-piece.end c.put_piece-end.result _ put.puts
+                put.within.0 (grind (arith, common_steps)),
+          ))
           ∙ (kept_below c.args.at c.loop-piece.end _ _ so_far.after room.kept ∙ so_far.kept);
       after = omega (arith, so_far.after, put.within.0);
       within = grind (arith, common_steps);

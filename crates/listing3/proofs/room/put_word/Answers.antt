@@ -2,12 +2,12 @@ use Rattle.std.proofs.Common.{arith}
 use Rattle.listing3.proofs.Digits.{after_digits, decimal_eight, decimal_four}
 use Rattle.listing3.proofs.room.put_word.Goals as goal
 
-pub returns-then-n-lt100000000-clause-written : goal.returns-then-n-lt100000000-clause-written
-returns-then-n-lt100000000-clause-written c =
-    after_digits _ _ _ _ _ _ c.put_four.ensures.written c.put_few-end.ensures.written
+pub returns-then-n-lt100000000-clause-puts : goal.returns-then-n-lt100000000-clause-puts
+returns-then-n-lt100000000-clause-puts c =
+    after_digits _ _ _ _ _ _ _ _ _ c.put_four.ensures.puts c.put_few-end.ensures.puts
     (decimal_four c.args.n (omega arith) (omega arith))
 
-pub returns-clause-written : goal.returns-clause-written
-returns-clause-written c =
-    after_digits _ _ _ _ _ _ c.put_eight.ensures.written c.put_two-end.ensures.written
+pub returns-clause-puts : goal.returns-clause-puts
+returns-clause-puts c =
+    after_digits _ _ _ _ _ _ _ _ _ c.put_eight.ensures.puts c.put_two-end.ensures.puts
     (decimal_eight c.args.n (omega arith) (omega arith))
