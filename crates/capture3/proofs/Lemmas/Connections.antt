@@ -3,3 +3,4 @@ pub mod ConnectionMachineLemmas
 pub mod JudgedInTurn
 pub mod HashedCallsLemmas
 pub mod LineLemmas
+pub mod RankLemmas
