@@ -1,6 +1,6 @@
 -- Connections, and the tables of their calls.
 pub mod ConnectionMachineLemmas
 pub mod JudgedInTurn
-pub mod HashedCallsLemmas
+pub mod KnownLemmas
 pub mod LineLemmas
 pub mod RankLemmas

@@ -15,6 +15,7 @@ use Rattle.capture3.specs.declared.fault.Error.TheVariants as errors
 use Rattle.capture3.specs.declared.fault.Noted.{Noted}
 use Rattle.capture3.specs.declared.container.Container.{Container}
 use Rattle.capture3.specs.machinery.Container.{room_in}
+use Rattle.capture3.specs.machinery.CountedCalls.{known_of}
 use Rattle.capture3.specs.Entry.{Entry, items_of}
 use Rattle.capture3.specs.machinery.EntryParser.{HasCome, IsHeld}
 use Rattle.capture3.specs.Kept.{IsOfKind}
@@ -58,7 +59,8 @@ module _ {R S H : Type 0} {builds : BuildHasher.Ghosts S H} {hashes : Hasher.Gho
     pub judged : List ℕ
     pub split : given ≡ judged ++ unjudged entries
     pub counted : entries.judged ≡ length judged
-    pub machine : HasCome entries.parser.container entries.parser.calls judged handed
+    pub machine : HasCome entries.parser.container (known_of entries.parser.calls) judged
+        handed
 
   abbrev pub StandsIn : Stage → Told → Entries R S H builds hashes → List ℕ → List Entry → Type 0
   StandsIn Reading told entries given handed = IsReading entries given handed

@@ -10,7 +10,7 @@ use Rattle.record_mark.specs.Machine.{Ends, Runs, Stops, after}
 use Rattle.record_mark.specs.Taking.{Taking, IsWhole, body_of, released}
 use Rattle.rpc_head.specs.declared.values.call.ProcId.{ProcId}
 use Rattle.rpc_head.specs.Messages.{procedure_in}
-use Rattle.capture3.specs.declared.message.calls.NumberedCall.{NumberedCall}
+use Rattle.capture3.specs.machinery.Calls.{Known}
 use Rattle.capture3.specs.declared.reader.entry.Kind.{Kind}
 use Rattle.capture3.specs.declared.reader.entry.Kind.TheVariants as kinds
 use Rattle.capture3.specs.declared.fault.Error.{Error}
@@ -39,7 +39,7 @@ use Rattle.capture3.specs.machinery.ContainerMachine.{Unpacking, Unpacked, Has, 
 
 -- these bytes have led the machine for the file here, and these entries are whole
 pub record StandsAt (position : Position) (taking : Taking) (streams : Streams)
-    (table : List NumberedCall) (bytes : List ℕ) (entries : List Entry) : Type 0 where
+    (table : Known) (bytes : List ℕ) (entries : List Entry) : Type 0 where
   pub so_far : Judged
   pub agrees : Agrees (unpacking_of position taking streams) so_far
   pub calls : IsTableOf table so_far.calls
@@ -51,7 +51,7 @@ abbrev pub after_side_word : Position → Unpacking
 after_side_word p = before_mark Two p.at p.total p.connections 0 Between
 
 -- the same; or the last of the bytes was that of a side word 0, and the streams' records are judged
-abbrev pub StandsOrRecalls : Option Cursor → Position → Taking → Streams → List NumberedCall
+abbrev pub StandsOrRecalls : Option Cursor → Position → Taking → Streams → Known
     → List ℕ → List Entry → Type 0
 StandsOrRecalls None position taking streams table bytes entries =
     StandsAt position taking streams table bytes entries
@@ -60,7 +60,7 @@ StandsOrRecalls (Some cursor) position taking streams table bytes entries =
     entries
 
 -- the same where the record that became whole last, if one did, is let go
-abbrev pub HasCome : Container → List NumberedCall → List ℕ → List Entry → Type 0
+abbrev pub HasCome : Container → Known → List ℕ → List Entry → Type 0
 HasCome c table bytes entries =
     StandsOrRecalls c.cursor c.position (released c.joiner.taking) c.streams.kept table bytes
     entries
@@ -79,7 +79,7 @@ abbrev pub met_in : Event → Container → Unpacked
 met_in event c = met event c.position c.joiner.taking c.streams.kept
 
 -- the last of the bytes made this whole, after these entries
-pub record HasMet (container : Container) (table : List NumberedCall) (event : Event)
+pub record HasMet (container : Container) (table : Known) (event : Event)
     (bytes : List ℕ) (entries : List Entry) : Type 0 where
   pub so_far : Judged
   pub front : List ℕ
@@ -94,7 +94,7 @@ pub record HasMet (container : Container) (table : List NumberedCall) (event : E
   pub emits : EmitsOn so_far entries (Ends (met_in event container))
 
 -- the next record of the streams is whole, after these entries
-pub record HasRecalled (container : Container) (table : List NumberedCall) (side : Side)
+pub record HasRecalled (container : Container) (table : Known) (side : Side)
     (bytes : List ℕ) (entries : List Entry) : Type 0 where
   pub taken : ℕ
   pub records : ℕ
@@ -108,7 +108,7 @@ pub record HasRecalled (container : Container) (table : List NumberedCall) (side
   pub records_are : container.position.records ≡ records + 1
 
 -- the next thing of streams that were kept is whole: a record, or an end, which is an entry
-abbrev pub MeetsKept : Container → List NumberedCall → Event → List ℕ → List Entry → Type 0
+abbrev pub MeetsKept : Container → Known → Event → List ℕ → List Entry → Type 0
 MeetsKept container table (Record side) bytes entries =
     HasRecalled container table side bytes entries
 MeetsKept container table Turn bytes entries =
@@ -118,7 +118,7 @@ MeetsKept container table Close bytes entries =
 MeetsKept container table _ bytes entries = ⊥
 
 -- something is whole, in one way or the other
-abbrev pub MeetsEvent : Container → List NumberedCall → Event → List ℕ → List Entry → Type 0
+abbrev pub MeetsEvent : Container → Known → Event → List ℕ → List Entry → Type 0
 MeetsEvent container table event bytes entries =
     ((container.cursor ≡ None) × HasMet container table event bytes entries)
     ⊎ MeetsKept container table event bytes entries
@@ -153,7 +153,7 @@ SpellsLast (Some kind) taking = SpellsKind kind taking
 -- The bytes lead to there, and the entry, if there is one, is told a visitor. A whole record stands
 -- until the next call.
 abbrev pub GoesTo : {V : Type 0} → (V → List Item → Type 0) → (was now : V) → Option Kind
-    → Container → List NumberedCall → List ℕ → List Entry → Type 0
+    → Container → Known → List ℕ → List Entry → Type 0
 GoesTo stands was now None container table bytes entries = HasCome container table bytes entries
 GoesTo stands was now (Some kind) container table bytes entries =
     (entry : Entry) × IsHeld kind container.joiner.taking entry
@@ -171,7 +171,7 @@ FailsAt bytes entries _ = ⊥
 
 -- the body was a call, which is told a visitor and joins the calls of its connection
 pub record JudgesCall {V : Type 0} (stands : V → List Item → Type 0) (was now : V)
-    (calls : List (List Item)) (body : List ℕ) (table : List NumberedCall)
+    (calls : List (List Item)) (body : List ℕ) (table : Known)
     (id : ProcId) : Type 0 where
   pub items : List Item
   pub judged : judge_call calls body ≡ Ok items

@@ -2,7 +2,7 @@
 -- their records are judged one by one, while no byte of the file is taken.
 use Rattle.std.specs.Prelude.{◌≡◌, ℕ, List, [], ◌∷◌, ◌++◌, length, drop}
 use Rattle.record_mark.specs.Machine.{Runs}
-use Rattle.capture3.specs.declared.message.calls.NumberedCall.{NumberedCall}
+use Rattle.capture3.specs.machinery.Calls.{Known}
 use Rattle.capture3.specs.declared.fault.Fault.{Fault}
 use Rattle.capture3.specs.declared.fault.Side.{Side}
 use Rattle.capture3.specs.declared.fault.Side.TheVariants.{Client, Server}
@@ -41,7 +41,7 @@ RecallsAt Server taken records streams j handed =
 -- The last byte of these is that of the side word 0, after which `u` stands. Of the side's stream
 -- so many bytes and records were taken, and these entries were handed out.
 pub record Recalls (u : Unpacking) (streams : Streams) (side : Side) (taken records : ℕ)
-    (table : List NumberedCall) (bytes : List ℕ) (handed : List Entry) : Type 0 where
+    (table : Known) (bytes : List ℕ) (handed : List Entry) : Type 0 where
   pub front : List ℕ
   pub byte : ℕ
   pub state : Parsing

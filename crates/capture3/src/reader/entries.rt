@@ -19,7 +19,7 @@ use crate::container::position::file_fault;
 use crate::device::DeviceFailed;
 use crate::device::source::Source;
 use crate::fault::{Error, Noted};
-use crate::message::calls::HashedCalls;
+use crate::message::counted_calls::CountedCalls;
 use crate::reader::entry::{EntryRef, Kind};
 use crate::reader::entry_parser::EntryParser;
 use std::alloc::{AllocError, Global};
@@ -58,7 +58,7 @@ pub struct Entries<'r, R, S: BuildHasher + Drop> {
     end: usize,
     // How many bytes were judged.
     judged: u64,
-    parser: EntryParser<HashedCalls<S>>,
+    parser: EntryParser<CountedCalls<S>>,
     // What the entry is that was handed out last, whose record stands.
     last: Option<Kind>,
     stage: Stage,
@@ -97,7 +97,7 @@ impl<'r, R: Source, S: BuildHasher + Drop> Entries<'r, R, S> {
             start: 0,
             end: 0,
             judged: 0,
-            parser: EntryParser::new(alloc, HashedCalls::new(alloc, hasher)),
+            parser: EntryParser::new(alloc, CountedCalls::new(alloc, hasher)),
             last: None,
             stage: Stage::Reading,
         }

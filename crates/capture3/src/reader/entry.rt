@@ -7,7 +7,7 @@ ghost use Rattle.capture3.specs.Bodies.{IsCall, IsReply, xid_in};
 ghost use Rattle.capture3.specs.MessageScan.{TellsCall, TellsReply};
 ghost use Rattle.capture3.specs.machinery.Spelled.{SpellsCall, SpellsReply};
 
-use crate::message::calls::NumberedCall;
+use crate::message::calls::{NumberedCall, OneCall};
 use crate::message::scan::{scan_call, scan_reply};
 use rpc_head::{ProcId, start};
 use std::alloc::{AllocError, Global};
@@ -146,7 +146,7 @@ impl<'a> ReplyRef<'a> {
         ensures { OnOk result
             (TellsReply V.stands self.now.body.now self.now.id visitor.old visitor.new) }
     {
-        match scan_reply(&Some(self.answered()), self.body, visitor) {
+        match scan_reply(&self.answered(), self.body, visitor) {
             Ok(_) => Ok(()),
             Err(GetError::Memory) => Err(AllocError),
             // The body was read as a message before.
@@ -155,14 +155,17 @@ impl<'a> ReplyRef<'a> {
     }
 
     /// Returns the call that it answers.
-    fn answered(&self) -> NumberedCall
-        ensures id { result.id ≡ self.now.id }
+    fn answered(&self) -> OneCall
+        ensures id { result.call.id ≡ self.now.id }
         ensures xid { (items : List Item) → IsReply self.now.body.now
             (record { id = self.now.id; items = items }) → result.xid ≡ xid_in items }
     {
-        NumberedCall {
+        OneCall {
             xid: self.xid(),
-            id: self.id,
+            call: NumberedCall {
+                number: 1,
+                id: self.id,
+            },
         }
     }
 }

@@ -9,6 +9,7 @@ ghost use Rattle.capture3.specs.machinery.EntryParser.{entry_cost, error_at, Fai
 ghost use Rattle.capture3.specs.Kept.{IsLent, kind_of};
 ghost use Rattle.capture3.specs.machinery.Spelled.{SpellsCall, SpellsReply};
 ghost use Rattle.capture3.specs.BodyProgram.{judge_call, judge_reply};
+ghost use Rattle.capture3.specs.machinery.Calls.{KnowsNone};
 ghost use Rattle.capture3.specs.machinery.Messages.{IsTableOf};
 ghost use Rattle.capture3.specs.machinery.Position.{IsEndSpot, IsSoundPosition, most_things};
 
@@ -34,12 +35,12 @@ pub(crate) struct EntryParser<C: Drop> {
 
 impl<C: CallTable + Drop> EntryParser<C> {
     pub(crate) fn new(alloc: Global, calls: C) -> EntryParser<C>
-        requires none { C.calls calls ≡ [] }
+        requires none { KnowsNone (C.known calls) }
         ensures sound { IsSoundPosition result.container.position }
         ensures stored { IsStored result.container }
         ensures ready { IsReady result.container.cursor (released result.container.joiner.taking) }
         ensures room { room_in result.container ≤ most_things }
-        ensures machine { HasCome result.container (C.calls result.calls) [] [] }
+        ensures machine { HasCome result.container (C.known result.calls) [] [] }
     {
         EntryParser {
             container: Container::new(alloc),
@@ -71,12 +72,12 @@ impl<C: CallTable + Drop> EntryParser<C> {
 
         // What is whole with them.
         ensures machine { (bytes : List ℕ) (entries : List spec.Entry)
-            → HasCome self.old.container (C.calls self.old.calls) bytes entries
+            → HasCome self.old.container (C.known self.old.calls) bytes entries
             → IfOk result
             (λ r. GoesTo V.stands visitor.old visitor.new r.1 self.new.container
-            (C.calls self.new.calls) (bytes ++ take r.0 piece.now) entries) }
+            (C.known self.new.calls) (bytes ++ take r.0 piece.now) entries) }
         ensures fault { (bytes : List ℕ) (entries : List spec.Entry)
-            → HasCome self.old.container (C.calls self.old.calls) bytes entries
+            → HasCome self.old.container (C.known self.old.calls) bytes entries
             → OnErr result (FailsAt (bytes ++ piece.now) entries self.new.error) }
         ensures not_end { IfOk result (λ r. r.1 ≢ Some Kind.End) }
         ensures spells { IfOk result (λ r. ∥ SpellsLast r.1 self.new.container.joiner.taking ∥₁) }
@@ -151,12 +152,12 @@ impl<C: CallTable + Drop> EntryParser<C> {
         ensures not_end { IfOk result (λ kind. kind ≢ Kind.End) }
         ensures spells { IfOk result (λ kind. SpellsKind kind self.new.container.joiner.taking) }
         ensures machine { (bytes : List ℕ) (entries : List spec.Entry)
-            → MeetsEvent self.old.container (C.calls self.old.calls) event bytes entries
+            → MeetsEvent self.old.container (C.known self.old.calls) event bytes entries
             → IfOk result
             (λ kind. GoesTo V.stands visitor.old visitor.new (Some kind) self.new.container
-            (C.calls self.new.calls) bytes entries) }
+            (C.known self.new.calls) bytes entries) }
         ensures fault { (bytes : List ℕ) (entries : List spec.Entry)
-            → MeetsEvent self.old.container (C.calls self.old.calls) event bytes entries
+            → MeetsEvent self.old.container (C.known self.old.calls) event bytes entries
             → OnErr result (FailsAt bytes entries self.new.error) }
         ensures device { OnErr result (IsOfBytes self.new.error) }
     {
@@ -180,13 +181,13 @@ impl<C: CallTable + Drop> EntryParser<C> {
         ensures not_end { IfOk result (λ kind. kind ≢ Kind.End) }
         ensures spells { IfOk result (λ kind. SpellsKind kind self.new.container.joiner.taking) }
         ensures machine { (bytes : List ℕ) (entries : List spec.Entry)
-            → MeetsEvent self.old.container (C.calls self.old.calls) (Event.Record side) bytes
+            → MeetsEvent self.old.container (C.known self.old.calls) (Event.Record side) bytes
             entries
             → IfOk result
             (λ kind. GoesTo V.stands visitor.old visitor.new (Some kind) self.new.container
-            (C.calls self.new.calls) bytes entries) }
+            (C.known self.new.calls) bytes entries) }
         ensures fault { (bytes : List ℕ) (entries : List spec.Entry)
-            → MeetsEvent self.old.container (C.calls self.old.calls) (Event.Record side) bytes
+            → MeetsEvent self.old.container (C.known self.old.calls) (Event.Record side) bytes
             entries
             → OnErr result (FailsAt bytes entries self.new.error) }
         ensures device { OnErr result (IsOfBytes self.new.error) }
@@ -210,11 +211,11 @@ impl<C: CallTable + Drop> EntryParser<C> {
         ensures container { self.new.container ≡ self.old.container }
         ensures spells { IfOk result
             (λ id. ∥ SpellsCall id (body_of self.old.container.joiner.taking) ∥₁) }
-        ensures ok { (calls : List (List Item)) → IsTableOf (C.calls self.old.calls) calls
+        ensures ok { (calls : List (List Item)) → IsTableOf (C.known self.old.calls) calls
             → IfOk result
             (JudgesCall V.stands visitor.old visitor.new calls
-            (body_of self.old.container.joiner.taking) (C.calls self.new.calls)) }
-        ensures err { (calls : List (List Item)) → IsTableOf (C.calls self.old.calls) calls
+            (body_of self.old.container.joiner.taking) (C.known self.new.calls)) }
+        ensures err { (calls : List (List Item)) → IsTableOf (C.known self.old.calls) calls
             → OnErr result
             (RefusesBody self.old.container.position Side.Client
             (judge_call calls (body_of self.old.container.joiner.taking)) self.new.error) }
@@ -225,7 +226,7 @@ impl<C: CallTable + Drop> EntryParser<C> {
             Err(error) => return Err(self.note(Side::Client, error)),
         };
         match self.calls.admit(call.xid, call.id) {
-            Ok(true) => {
+            Ok(Some(_)) => {
                 // Written out, so that the words are not moved in two parts, of eight bytes and of four.
                 let ProcId {
                     prog,
@@ -238,7 +239,7 @@ impl<C: CallTable + Drop> EntryParser<C> {
                     proc_no,
                 })
             }
-            Ok(false) => Err(self.note(Side::Client, stop(0, Reason::XidConflict))),
+            Ok(None) => Err(self.note(Side::Client, stop(0, Reason::XidConflict))),
             Err(_) => Err(self.note(Side::Client, GetError::Memory)),
         }
     }
@@ -247,21 +248,21 @@ impl<C: CallTable + Drop> EntryParser<C> {
     fn reply<V: Visit>(&mut self, visitor: &mut V) -> Result<ProcId, Noted>
         requires { IsWhole self.old.container.joiner.taking }
         ensures container { self.new.container ≡ self.old.container }
-        ensures calls { C.calls self.new.calls ≡ C.calls self.old.calls }
+        ensures calls { C.known self.new.calls ≡ C.known self.old.calls }
         ensures spells { IfOk result
             (λ id. ∥ SpellsReply id (body_of self.old.container.joiner.taking) ∥₁) }
-        ensures ok { (calls : List (List Item)) → IsTableOf (C.calls self.old.calls) calls
+        ensures ok { (calls : List (List Item)) → IsTableOf (C.known self.old.calls) calls
             → IfOk result
             (JudgesReply V.stands visitor.old visitor.new calls
             (body_of self.old.container.joiner.taking)) }
-        ensures err { (calls : List (List Item)) → IsTableOf (C.calls self.old.calls) calls
+        ensures err { (calls : List (List Item)) → IsTableOf (C.known self.old.calls) calls
             → OnErr result
             (RefusesBody self.old.container.position Side.Server
             (judge_reply calls (body_of self.old.container.joiner.taking)) self.new.error) }
         ensures device { OnErr result (IsOfBytes self.new.error) }
     {
         match scan_reply(&self.calls, self.container.body(), visitor) {
-            Ok(id) => Ok(id),
+            Ok(call) => Ok(call.id),
             Err(error) => Err(self.note(Side::Server, error)),
         }
     }

@@ -114,7 +114,7 @@ module _ {K : Type 0} (same : K → K → Bool) (laws : IsEquivalence same) wher
       → rank same x l ≡ 1 + position_or_len (same x) (distinct same l)
   rank-place x l = ap (λ n. 1 + n) (sym (place-distinct x l [] refl))
 
-  before-push : (x : K) (l : List K) → before same x (l ++ x ∷ []) ≡ before same x l
+  pub before-push : (x : K) (l : List K) → before same x (l ++ x ∷ []) ≡ before same x l
   before-push x [] = rw (laws.refl x) refl
   before-push x (y ∷ l) = ap (λ (k : List K). cond (same x y) [] (y ∷ k)) (before-push x l)
 
@@ -148,3 +148,23 @@ module _ {K : Type 0} (same : K → K → Bool) (laws : IsEquivalence same) wher
   length-with_keys [] ks = omega arith
   length-with_keys (y ∷ l) ks =
       omega (arith, length-with_keys l (with_key same ks y), length-with_key y ks)
+
+  pub before-absent : (x : K) (l : List K) → list_any (same x) l ≡ false → before same x l ≡ l
+  before-absent x [] e = refl
+  before-absent x (y ∷ l) e =
+      by_test (same x y)
+      (λ t. absurd (cc (t, e)))
+      (λ f. rw f (ap (λ (k : List K). y ∷ k) (before-absent x l (rw f at e))))
+
+  -- a key that is like none of the list is like no distinct one
+  pub any-absent : (x : K) (l ks : List K) → list_any (same x) ks ≡ false
+      → list_any (same x) l ≡ false → list_any (same x) (with_keys same ks l) ≡ false
+  any-absent x [] ks none e = none
+  any-absent x (y ∷ l) ks none e =
+      by_test (same x y)
+      (λ t. absurd (cc (t, e)))
+      (λ f.
+      any-absent x l (with_key same ks y)
+      (cond_either (λ ls. list_any (same x) ls ≡ false) (list_any (same y) ks) none
+      (any-push x y ks f none))
+      (rw f at e))

@@ -1,5 +1,5 @@
 -- Judging the records of streams that are gathered, one after another.
-use Rattle.capture3.proofs.Common.{◌≡◌, inl, inr, ℕ, ◌+◌, List, [], ◌∷◌, ◌++◌, length, map, take, drop, take-append-drop, Result, Ok, Err, refl, sym, ap, subst, ◌∙◌, append_assoc, append-nil, arith, length-append, common_steps, Stop, Item, AreBytes, Joining, Between, Header, Bytes, Joined, Whole, TooLong, join_next, Next, Goes, Ends, Run, Runs, Stops, Stopped, after, landed, within, last_running, after-append, last_running-append, NumberedCall, Fault, Side, Client, Server, ReplyItems, Two, Entry, Shows, FirstFault, judge_call, judge_reply, Opening, Closing, judge_replies, server_said, client_said, Parsing, file_next, file_start, parsed, emitted, verdict, verdict_of, AreFirstReached, Reached, RecordFault, Streams, reply_entry, connection_entries, Unpacking, Mark, ShownFault, client_refusal, server_refusal, IsTableOf, Judge, Reading, judged, StreamEnd, Held, Faulty, left_in, end_of, rest_end, stream_end, stream_next, recorded, Judged, parsing_in, parsing_at, client_entries, server_entries, with_call, with_reply, turned, connection_closed, unpacking_with, reading_with}
+use Rattle.capture3.proofs.Common.{◌≡◌, inl, inr, ℕ, ◌+◌, List, [], ◌∷◌, ◌++◌, length, map, take, drop, take-append-drop, Result, Ok, Err, refl, sym, ap, subst, ◌∙◌, append_assoc, append-nil, arith, length-append, common_steps, Stop, Item, AreBytes, Joining, Between, Header, Bytes, Joined, Whole, TooLong, join_next, Next, Goes, Ends, Run, Runs, Stops, Stopped, after, landed, within, last_running, after-append, last_running-append, Known, Fault, Side, Client, Server, ReplyItems, Two, Entry, Shows, FirstFault, judge_call, judge_reply, Opening, Closing, judge_replies, server_said, client_said, Parsing, file_next, file_start, parsed, emitted, verdict, verdict_of, AreFirstReached, Reached, RecordFault, Streams, reply_entry, connection_entries, Unpacking, Mark, ShownFault, client_refusal, server_refusal, IsTableOf, Judge, Reading, judged, StreamEnd, Held, Faulty, left_in, end_of, rest_end, stream_end, stream_next, recorded, Judged, parsing_in, parsing_at, client_entries, server_entries, with_call, with_reply, turned, connection_closed, unpacking_with, reading_with}
 use Rattle.capture3.specs.Entry as entries
 use Rattle.capture3.specs.FileMachine as parsing
 use Rattle.capture3.specs.machinery.KeptStreams.{between_records, Recalls, ShowsFirst}
@@ -52,10 +52,10 @@ said u j n =
     within (λ p. parsing_in Two j.start j.before u.connections j.entries (parsing.Inside p))
     (parsing.closed Two u.connections j.entries) n
 
-module _ (u : Unpacking) (streams : Streams) (taken records : ℕ) (table : List NumberedCall)
+module _ (u : Unpacking) (streams : Streams) (taken records : ℕ) (table : Known)
     (bytes : List ℕ) (handed : List Entry)
     (r : Recalls u streams Client taken records table bytes handed) where
-  pub call_recalled : (count : ℕ) (body : List ℕ) (call : List Item) (new : List NumberedCall)
+  pub call_recalled : (count : ℕ) (body : List ℕ) (call : List Item) (new : Known)
       → after join_next (Runs Between) (take count (drop taken streams.client)) ≡ Stops (Whole body)
       → judge_call r.so_far.calls body ≡ Ok call
       → IsTableOf new (r.so_far.calls ++ call ∷ [])
@@ -141,7 +141,7 @@ module _ (u : Unpacking) (streams : Streams) (taken records : ℕ) (table : List
 
 -- ---- the server stream
 
-module _ (u : Unpacking) (streams : Streams) (taken records : ℕ) (table : List NumberedCall)
+module _ (u : Unpacking) (streams : Streams) (taken records : ℕ) (table : Known)
     (bytes : List ℕ) (handed : List Entry)
     (r : Recalls u streams Server taken records table bytes handed) where
   pub reply_recalled : (count : ℕ) (body : List ℕ) (reply : ReplyItems)
@@ -367,7 +367,7 @@ rest_extends {M} judge s rest = by_run (after (stream_next judge) (Runs s) rest)
 
 -- whatever bytes come, what was handed out are the first entries that all reach
 module _ (u : Unpacking) (streams : Streams) (side : Side) (taken records : ℕ)
-    (table : List NumberedCall) (bytes rest : List ℕ) (handed : List Entry)
+    (table : Known) (bytes rest : List ℕ) (handed : List Entry)
     (are : AreBytes (bytes ++ rest))
     (r : Recalls u streams side taken records table bytes handed) where
   -- a refusal reaches them
@@ -456,7 +456,7 @@ more_replies before calls replies all more is =
     (map reply_entry more))
 
 pub recalled_first : (u : Unpacking) (streams : Streams) (side : Side) (taken records : ℕ)
-    (table : List NumberedCall) (bytes rest : List ℕ) (handed : List Entry)
+    (table : Known) (bytes rest : List ℕ) (handed : List Entry)
     → AreBytes (bytes ++ rest) → Recalls u streams side taken records table bytes handed
     → AreFirstReached (bytes ++ rest) handed
 recalled_first u streams Client taken records table bytes rest handed are r =

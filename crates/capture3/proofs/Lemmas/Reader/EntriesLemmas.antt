@@ -1,6 +1,8 @@
 -- What a reader of entries makes of its histories, step by step.
 use Rattle.std.proofs.Common.{◌≡◌, ◌≢◌, inl, inr, ℕ, ◌+◌, ◌-◌, ◌≤◌, ◌<◌, Option, Some, None, Result, Ok, Err, IsSome, List, [], ◌∷◌, ◌++◌, length, take, drop, slice_range, refl, sym, ap, subst, ◌∙◌, append_assoc, append-nil, length-append, arith, take-append-drop, length-take, length-drop, vec_len}
-use Rattle.capture3.proofs.Common.{common_steps, ∥∥₁_elim, CaptureCut, AreBytes, Item, Runs, Stops, Stopped, Taking, Led, OutOfMemory, IsRunning, released, NumberedCall, Kind, Error, Spot, Container, Cursor, Two, max_connections, Entry, End, FirstFault, IsClean, begins, most_bytes, Parsing, parsed, emitted, AreFirstReached, AreWhole, Reached, parsing_at, Streams, file_fault, IsWellFormed, Typed, props, Told, Gave, IsSpent, AreStored, IsReady, IsStored, room_in, unpacking_of}
+use Rattle.capture3.proofs.Common.{common_steps, ∥∥₁_elim, CaptureCut, AreBytes, Item, Runs, Stops, Stopped, Taking, Led, OutOfMemory, IsRunning, released, Known, Kind, Error, Spot, Container, Cursor, Two, max_connections, Entry, End, FirstFault, IsClean, begins, most_bytes, Parsing, parsed, emitted, AreFirstReached, AreWhole, Reached, parsing_at, Streams, file_fault, IsWellFormed, Typed, props, Told, Gave, IsSpent, AreStored, IsReady, IsStored, room_in, unpacking_of}
+use Rattle.capture3.specs.declared.message.counted_calls.CountedCalls.{CountedCalls}
+use Rattle.capture3.specs.machinery.CountedCalls.{known_of}
 use Rattle.std.proofs.lemmas.List.{drop-take}
 use Rattle.capture3.proofs.Lemmas.Reader.ToldLemmas.{gave_both, gave_none, gave_none_as}
 use Rattle.std.specs.declared.hash.BuildHasher as BuildHasher
@@ -112,7 +114,7 @@ kind_held kinds.End t entry is = is
 -- ---- after bytes that the machine has taken
 
 module _ (bytes : List ℕ) (p : Position) (t : Taking) (streams : Streams)
-    (table : List NumberedCall) (model : List Entry) (are : AreBytes bytes)
+    (table : Known) (model : List Entry) (are : AreBytes bytes)
     (s : StandsAt p t streams table bytes model) where
   state : Parsing
   state = parsing_at (unpacking_of p t streams) s.so_far
@@ -136,7 +138,7 @@ module _ (bytes : List ℕ) (p : Position) (t : Taking) (streams : Streams)
   clean_here = clean_from_runs bytes state runs_is
 
 -- where streams that were kept are judged, the last byte may show a fault
-come_length : (c : Container) (table : List NumberedCall) (bytes : List ℕ) (handed : List Entry)
+come_length : (c : Container) (table : Known) (bytes : List ℕ) (handed : List Entry)
     → AreBytes bytes → HasCome c table bytes handed → length bytes ≤ most_bytes Two + 1
 come_length c table bytes handed are h = by_cursor c.cursor h
   where
@@ -159,7 +161,7 @@ come_length c table bytes handed are h = by_cursor c.cursor h
         )
 
 -- what was handed out are the first entries that the bytes reach, whatever comes after
-come_first : (c : Container) (table : List NumberedCall) (bytes rest : List ℕ) (handed : List Entry)
+come_first : (c : Container) (table : Known) (bytes rest : List ℕ) (handed : List Entry)
     → AreBytes (bytes ++ rest) → HasCome c table bytes handed
     → AreFirstReached (bytes ++ rest) handed
 come_first c table bytes rest handed are h = by_cursor c.cursor h
@@ -176,7 +178,7 @@ come_first c table bytes rest handed are h = by_cursor c.cursor h
         c.position.records table bytes rest handed are r
 
 -- no streams are judged
-stands_unopened : (c : Container) (table : List NumberedCall) (bytes : List ℕ) (handed : List Entry)
+stands_unopened : (c : Container) (table : Known) (bytes : List ℕ) (handed : List Entry)
     → c.cursor ≡ None → HasCome c table bytes handed
     → StandsAt c.position (released c.joiner.taking) c.streams.kept table bytes handed
 stands_unopened c table bytes handed none h =
@@ -218,20 +220,20 @@ split_range block start end count fits =
 -- ---- the end, and a fault
 
 pub typed_here : (bytes : List ℕ) (p : Position) (t : Taking) (streams : Streams)
-    (table : List NumberedCall) (model : List Entry) → AreBytes bytes
+    (table : Known) (model : List Entry) → AreBytes bytes
     → StandsAt p t streams table bytes model → IsEndSpot p.spot → Typed bytes (model ++ End ∷ [])
 typed_here bytes p t streams table model are s ended =
     typed_at bytes p t streams table model are s ended
 
 pub cut_here : (bytes : List ℕ) (p : Position) (t : Taking) (streams : Streams)
-    (table : List NumberedCall) (model : List Entry) → AreBytes bytes
+    (table : Known) (model : List Entry) → AreBytes bytes
     → StandsAt p t streams table bytes model → (IsEndSpot p.spot → ⊥)
     → FirstFault bytes (file_fault (length bytes) CaptureCut)
 cut_here bytes p t streams table model are s not = cut_at bytes p t streams table model are s not
 
 -- short of the end, what was emitted is what the bytes reach
 pub not_ended : (bytes : List ℕ) (p : Position) (t : Taking) (streams : Streams)
-    (table : List NumberedCall) (model : List Entry) → AreBytes bytes
+    (table : Known) (model : List Entry) → AreBytes bytes
     → StandsAt p t streams table bytes model → (IsEndSpot p.spot → ⊥)
     → (IsWellFormed bytes → ⊥) × Reached bytes model
 not_ended bytes p t streams table model are s not =
@@ -257,7 +259,7 @@ not_ended bytes p t streams table model are s not =
     )
 
 pub all_before_end : (bytes : List ℕ) (p : Position) (t : Taking) (streams : Streams)
-    (table : List NumberedCall) (model : List Entry) → AreBytes bytes
+    (table : Known) (model : List Entry) → AreBytes bytes
     → StandsAt p t streams table bytes model → AreAllBeforeEnd bytes model
 all_before_end bytes p t streams table model are s = by_spot p.spot refl
   where
@@ -315,7 +317,8 @@ module _ {R S H : Type 0} {builds : BuildHasher.Ghosts S H} {hashes : Hasher.Gho
   same_last : (old new : Entries R S H builds hashes) (handed : List Entry) → new.last ≡ old.last
       → new.parser ≡ old.parser → HoldsLast old handed → HoldsLast new handed
   same_last old new handed last same h front entry ends kind is =
-      subst (λ (c : EntryParser (List NumberedCall)). IsHeld kind c.container.joiner.taking entry)
+      subst (λ (c : EntryParser (CountedCalls S H builds hashes)).
+      IsHeld kind c.container.joiner.taking entry)
       (sym same) (h front entry ends kind (sym last ∙ is))
 
   now_last : (e : Entries R S H builds hashes) (handed : List Entry) (came : Kind) (entry : Entry)
@@ -334,7 +337,7 @@ module _ {R S H : Type 0} {builds : BuildHasher.Ghosts S H} {hashes : Hasher.Gho
       → AreBytes given → IsReading e given handed → AreFirstReached given handed
   first_in e given handed are r =
       subst (λ (b : List ℕ). AreFirstReached b handed) (sym r.split) (come_first e.parser.container
-      e.parser.calls r.judged (unjudged e) handed (subst AreBytes r.split are) r.machine)
+      (known_of e.parser.calls) r.judged (unjudged e) handed (subst AreBytes r.split are) r.machine)
 
   -- it reads on
   pub stands_reading : (e : Entries R S H builds hashes) (given : List ℕ) (handed : List Entry)
@@ -407,10 +410,10 @@ module _ {R S H : Type 0} {builds : BuildHasher.Ghosts S H} {hashes : Hasher.Gho
   machine_at : (e : Entries R S H builds hashes) (given : List ℕ) (handed : List Entry)
       → e.start ≡ e.end → e.parser.container.cursor ≡ None → IsReading e given handed
       → StandsAt e.parser.container.position (released e.parser.container.joiner.taking)
-      e.parser.container.streams.kept e.parser.calls given handed
+      e.parser.container.streams.kept (known_of e.parser.calls) given handed
   machine_at e given handed empty none r =
-      stands_unopened e.parser.container e.parser.calls given handed none (subst
-      (λ (b : List ℕ). HasCome e.parser.container e.parser.calls b handed)
+      stands_unopened e.parser.container (known_of e.parser.calls) given handed none (subst
+      (λ (b : List ℕ). HasCome e.parser.container (known_of e.parser.calls) b handed)
       (sym (all_judged e given handed empty r)) r.machine)
 
   pub has_read : (old new : Entries R S H builds hashes) (given more : List ℕ) (handed : List Entry)
@@ -436,7 +439,7 @@ module _ {R S H : Type 0} {builds : BuildHasher.Ghosts S H} {hashes : Hasher.Gho
             (omega (
               arith,
               room_before old given handed is s,
-              ap (λ (c : EntryParser (List NumberedCall)). room_in c.container) same,
+              ap (λ (c : EntryParser (CountedCalls S H builds hashes)). room_in c.container) same,
             ))
             (omega (arith, length-append given more, bounded, within))
             (same_last old new handed last same s.holds)
@@ -446,8 +449,8 @@ module _ {R S H : Type 0} {builds : BuildHasher.Ghosts S H} {hashes : Hasher.Gho
               counted = count ∙ r.counted;
               machine =
                   subst
-                  (λ (c : EntryParser (List NumberedCall)).
-                  HasCome c.container c.calls r.judged handed) (sym same) r.machine;
+                  (λ (c : EntryParser (CountedCalls S H builds hashes)).
+                  HasCome c.container (known_of c.calls) r.judged handed) (sym same) r.machine;
             });
       }
 
@@ -474,7 +477,8 @@ module _ {R S H : Type 0} {builds : BuildHasher.Ghosts S H} {hashes : Hasher.Gho
       → unjudged new ≡ slice_range old.block.items (old.start + count) old.end
       → old.start + count ≤ old.end → old.end ≤ length old.block.items
       → (r : IsReading old given handed)
-      → HasCome new.parser.container new.parser.calls (r.judged ++ take count (unjudged old)) all
+      → HasCome new.parser.container (known_of new.parser.calls)
+      (r.judged ++ take count (unjudged old)) all
       → IsReading new given all
   moves_on old new count given handed all judged block fits within r machine =
       let piece : List ℕ = take count (unjudged old) in
@@ -514,8 +518,8 @@ module _ {R S H : Type 0} {builds : BuildHasher.Ghosts S H} {hashes : Hasher.Gho
       → old.start + count ≤ old.end → old.end ≤ length old.block.items
       → room_in new.parser.container + entry_cost came ≤ room_in old.parser.container
       → (s : StandsFor told old given handed)
-      → ((judged : List ℕ) → HasCome old.parser.container old.parser.calls judged handed
-      → GoesTo stands was now came new.parser.container new.parser.calls
+      → ((judged : List ℕ) → HasCome old.parser.container (known_of old.parser.calls) judged handed
+      → GoesTo stands was now came new.parser.container (known_of new.parser.calls)
       (judged ++ take count (unjudged old)) handed)
       → HandsOutOrGoesOn told stands new was now given handed (Ok came)
   judged_on stands was now old new count given handed None is goes last size judged block fits
@@ -552,7 +556,7 @@ module _ {R S H : Type 0} {builds : BuildHasher.Ghosts S H} {hashes : Hasher.Gho
   pub judged_failed : (old new : Entries R S H builds hashes) (error : Error) (given : List ℕ)
       (handed : List Entry) → old.stage ≡ Reading → new.stage ≡ Failed error → new.last ≡ None
       → vec_len new.block ≡ vec_len old.block → (s : StandsFor told old given handed)
-      → ((judged : List ℕ) → HasCome old.parser.container old.parser.calls judged handed
+      → ((judged : List ℕ) → HasCome old.parser.container (known_of old.parser.calls) judged handed
       → FailsAt (judged ++ unjudged old) handed error) → StandsFor told new given handed
   judged_failed old new error given handed is fails none block s shows =
       let r = reading_of old given handed is s in

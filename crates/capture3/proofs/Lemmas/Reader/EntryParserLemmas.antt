@@ -1,6 +1,5 @@
 -- A capture whose records are judged as they come: step after step.
-use Rattle.capture3.proofs.Common.{ap₂, ◌≡◌, inl, inr, suc, ◌+◌, length, arith, append-nil, ℕ, Bool, true, false, cond, nat_eq, is_some, Option, Some, None, List, [], ◌∷◌, ◌++◌, take, drop, refl, sym, ap, ◌∙◌, subst, append_assoc, take-append-drop, Item, RecordCut, RecordTooLong, Joining, Between, Header, Bytes, Whole, TooLong, join_next, Ends, Runs, Stops, Stopped, after, landed, ProcId, procedure_in, NumberedCall, Container, Error, Fault, Side, Client, Server, Event, Spot, ReplyItems, procedure_of, xid_in, refusal, Entry, fault_at, Streams, Cursor, after-append, agrees, judge_call, judge_reply, Parsing, file_next, file_start, parsed, emitted, IsBeforeMark, opened_at, unpacking_at, StoredWith, Two, Adds, found, with_numbered_call, Recalls, ShowsFirst, IsTableOf, Judged, parsing_at, resumed, call_judged, reply_judged, emitted_at, connection_begun, turned, connection_closed, unpacking_with, fault_in_record}
-use Rattle.std.proofs.lemmas.Bool.{eqb-true}
+use Rattle.capture3.proofs.Common.{ap₂, ◌≡◌, inl, inr, suc, ◌+◌, length, arith, append-nil, ℕ, Option, Some, None, List, [], ◌∷◌, ◌++◌, take, drop, refl, sym, ap, ◌∙◌, subst, append_assoc, take-append-drop, Item, RecordCut, RecordTooLong, Joining, Between, Header, Bytes, Whole, TooLong, join_next, Ends, Runs, Stops, Stopped, after, landed, ProcId, Known, Container, Error, Fault, Side, Client, Server, Event, Spot, ReplyItems, refusal, Entry, fault_at, Streams, Cursor, after-append, judge_call, judge_reply, Parsing, file_next, file_start, parsed, emitted, IsBeforeMark, opened_at, unpacking_at, StoredWith, Two, Adds, KnowsNone, Recalls, ShowsFirst, IsTableOf, Judged, parsing_at, resumed, call_judged, reply_judged, emitted_at, connection_begun, turned, connection_closed, unpacking_with, fault_in_record}
 use Rattle.record_mark.specs.Taking.{Taking, Led, OutOfMemory, IsRunning, IsWhole, body_of, joined_body, joining_of, released, unbegun}
 use Rattle.capture3.specs.declared.reader.entry.Kind.TheVariants as kinds
 use Rattle.capture3.specs.declared.fault.Error.TheVariants as errors
@@ -18,86 +17,7 @@ use Rattle.capture3.specs.machinery.ContainerMachine.{Mark, Unpacking, Refuses, 
 use Rattle.capture3.proofs.Lemmas.Reader.FileStandingLemmas.{whole_connections, runs_follow, stops_follow}
 use Rattle.capture3.proofs.Lemmas.Reader.WholeEntries.{runs_emit, stops_emit}
 use Rattle.capture3.proofs.Lemmas.Reached.Growing.{stops_at_last}
-
--- ---- the table of calls
-
--- the first of two
-or_else : {A : Type 0} → Option A → Option A → Option A
-or_else (Some x) other = Some x
-or_else None other = other
-
-abbrev pub if_same : ℕ → ProcId → ℕ → Option ProcId
-if_same xid id q = cond (nat_eq xid q) (Some id) None
-
-chosen_or_else : (b : Bool) (id : ProcId) (x y : Option ProcId) (z : Option ProcId)
-    → x ≡ or_else y z → cond b (Some id) x ≡ or_else (cond b (Some id) y) z
-unfolding or_else
-chosen_or_else true id x y z e = refl
-chosen_or_else false id x y z e = e
-
-found_more : (table : List NumberedCall) (xid : ℕ) (id : ProcId) (q : ℕ)
-    → found (table ++ record { xid = xid; id = id } ∷ []) q
-    ≡ or_else (found table q) (if_same xid id q)
-unfolding or_else
-found_more [] xid id q = refl
-found_more (call ∷ table) xid id q =
-    chosen_or_else (nat_eq call.xid q) call.id
-    (found (table ++ record { xid = xid; id = id } ∷ []) q) (found table q) (if_same xid id q)
-    (found_more table xid id q)
-
-procedure_more : (calls : List (List Item)) (call : List Item) (q : ℕ)
-    → procedure_of (calls ++ call ∷ []) q
-    ≡ or_else (procedure_of calls q) (if_same (xid_in call) (procedure_in call) q)
-unfolding or_else
-procedure_more [] call q = refl
-procedure_more (one ∷ calls) call q =
-    chosen_or_else (nat_eq (xid_in one) q) (procedure_in one) (procedure_of (calls ++ call ∷ []) q)
-    (procedure_of calls q) (if_same (xid_in call) (procedure_in call) q)
-    (procedure_more calls call q)
-
--- where the xid has a procedure, another call with it changes nothing
-or_else_known : (f : ℕ → Option ProcId) (xid : ℕ) (id : ProcId) (q : ℕ) → is_some (f xid) ≡ true
-    → or_else (f q) (if_same xid id q) ≡ f q
-unfolding or_else
-or_else_known f xid id q known = by_value (f q) refl (nat_eq xid q) refl
-  where
-    by_value : (y : Option ProcId) → f q ≡ y → (b : Bool) → nat_eq xid q ≡ b
-        → or_else y (cond b (Some id) None) ≡ y
-    by_value (Some y) e b same = refl
-    by_value None e false same = refl
-    by_value None e true same =
-        let equal : xid ≡ q = eqb-true xid q same in
-        let none : f xid ≡ None = ap f equal ∙ e in
-        absurd (cc)
-
-pub table_added : (table : List NumberedCall) (calls : List (List Item)) (call : List Item)
-    (xid : ℕ) (id : ProcId) → xid_in call ≡ xid → procedure_in call ≡ id
-    → IsTableOf table calls → IsTableOf (with_numbered_call table xid id) (calls ++ call ∷ [])
-table_added table calls call xid id xid_is id_is same q = by_test (is_some (found table xid)) refl
-  where
-    by_test : (b : Bool) → is_some (found table xid) ≡ b
-        → found (cond b table (table ++ record { xid = xid; id = id } ∷ [])) q
-        ≡ procedure_of (calls ++ call ∷ []) q
-    by_test true known =
-        same q
-        ∙ sym (or_else_known (procedure_of calls) (xid_in call) (procedure_in call) q
-        (ap (λ (x : ℕ). is_some (procedure_of calls x)) xid_is ∙ ap is_some (sym (same xid))
-        ∙ known))
-        ∙ sym (procedure_more calls call q)
-    by_test false known =
-        found_more table xid id q
-        ∙ ap (λ p. or_else p (if_same xid id q)) (same q)
-        ∙ ap (λ (x : ℕ). or_else (procedure_of calls q) (if_same x id q)) (sym xid_is)
-        ∙ ap (λ (i : ProcId). or_else (procedure_of calls q) (if_same (xid_in call) i q))
-        (sym id_is)
-        ∙ sym (procedure_more calls call q)
-
--- what the table answers holds of its calls
-pub table_agrees : (table : List NumberedCall) (calls : List (List Item)) (xid : ℕ) (id : ProcId)
-    (answer : Bool) → IsTableOf table calls → answer ≡ agrees (found table xid) id
-    → answer ≡ true → agrees (procedure_of calls xid) id ≡ true
-table_agrees table calls xid id answer same is agree =
-    ap (λ (p : Option ProcId). agrees p id) (sym (same xid)) ∙ sym is ∙ agree
+use Rattle.capture3.proofs.Lemmas.Connections.KnownLemmas.{table_empty}
 
 -- ---- the first byte
 
@@ -105,12 +25,12 @@ abbrev pub nothing_judged : Judged
 nothing_judged = whole_connections []
 
 stands_at_start : (position : Position) (taking : Taking) (streams : Streams)
-    (table : List NumberedCall) → unpacking_of position taking streams ≡ unpacking_start
-    → table ≡ [] → StandsAt position taking streams table [] []
+    (table : Known) → unpacking_of position taking streams ≡ unpacking_start
+    → KnowsNone table → StandsAt position taking streams table [] []
 stands_at_start position taking streams table at none = record {
   so_far = nothing_judged;
   agrees = subst (λ (u : Unpacking). resuming.Agrees u nothing_judged) (sym at) refl;
-  calls = λ q. ap (λ (t : List NumberedCall). found t q) none;
+  calls = table_empty table none;
   stands = sym (ap (λ (u : Unpacking). Runs (parsing_at u nothing_judged)) at);
   emitted = sym (ap (λ (u : Unpacking). emitted_at u.opened nothing_judged) at);
 }
@@ -123,7 +43,7 @@ led_on : (bytes piece : List ℕ) (s : Parsing) → parsed bytes ≡ Runs s
 led_on bytes piece s e =
     after-append file_next (Runs file_start) bytes piece ∙ ap (λ r. after file_next r piece) e
 
-pub stands_on : (p q : Position) (t u : Taking) (old new : Streams) (table : List NumberedCall)
+pub stands_on : (p q : Position) (t u : Taking) (old new : Streams) (table : Known)
     (bytes : List ℕ) (all : List Entry) (piece : List ℕ) (event : Option Event)
     → StandsAt p t old table bytes all → event ≡ None
     → Arrives (unpacking_of p t old) piece event q u new
@@ -153,7 +73,7 @@ met_is Close q u streams = refl
 met_is events.Streams q u streams = refl
 
 pub stands_met : (p : Position) (t : Taking) (old : Streams) (new : Container)
-    (table : List NumberedCall) (bytes : List ℕ) (all : List Entry) (piece : List ℕ) (event : Event)
+    (table : Known) (bytes : List ℕ) (all : List Entry) (piece : List ℕ) (event : Event)
     (came : Option Event)
     → StandsAt p t old table bytes all → came ≡ Some event
     → Arrives (unpacking_of p t old) piece came new.position new.joiner.taking new.streams.kept
@@ -188,14 +108,14 @@ stands_met p t old new table bytes all piece event came s is arrives_at =
     }
 
 -- where the bytes with the last lead
-met_leads : (c : Container) (table : List NumberedCall) (event : Event) (bytes : List ℕ)
+met_leads : (c : Container) (table : Known) (event : Event) (bytes : List ℕ)
     (all : List Entry) → (m : HasMet c table event bytes all)
     → parsed bytes ≡ landed (resumed m.so_far (Ends (met_in event c)))
 met_leads c table event bytes all m =
     ap parsed m.split ∙ led_on m.front (m.byte ∷ []) m.state m.runs ∙ ap landed m.ends
 
 -- a fault of the container
-pub stands_fails : (p : Position) (t : Taking) (streams : Streams) (table : List NumberedCall)
+pub stands_fails : (p : Position) (t : Taking) (streams : Streams) (table : Known)
     (bytes : List ℕ) (all : List Entry) (piece : List ℕ) (error : Error)
     → StandsAt p t streams table bytes all → ShowsError (unpacking_of p t streams) piece error
     → FailsAt (bytes ++ piece) all error
@@ -250,7 +170,7 @@ fails_longer bytes piece n all errors.Write f = f
 fails_longer bytes piece n all errors.Memory f = tt
 
 -- a whole record was let go
-pub let_released : (old new : Container) (table : List NumberedCall) (bytes : List ℕ)
+pub let_released : (old new : Container) (table : Known) (bytes : List ℕ)
     (all : List Entry) → new.position ≡ old.position
     → new.joiner.taking ≡ released old.joiner.taking → new.streams.kept ≡ old.streams.kept
     → new.cursor ≡ old.cursor
@@ -296,7 +216,7 @@ leaves_running (Some Close) t h = at_rest_runs t h
 leaves_running (Some events.Streams) t h = at_rest_runs t h
 leaves_running None t h = at_rest_runs t h
 
-come_at_rest : (c : Container) (table : List NumberedCall) (bytes : List ℕ) (all : List Entry)
+come_at_rest : (c : Container) (table : Known) (bytes : List ℕ) (all : List Entry)
     → c.cursor ≡ None → IsRunning c.joiner.taking
     → StandsAt c.position c.joiner.taking c.streams.kept table bytes all → HasCome c table bytes all
 come_at_rest c table bytes all none runs s =
@@ -307,17 +227,17 @@ come_at_rest c table bytes all none runs s =
     (subst (λ (u : Taking). StandsAt c.position u c.streams.kept table bytes all)
     (sym (at_rest c.joiner.taking runs)) s)
 
-pub come_at_start : (c : Container) (table : List NumberedCall) → c.cursor ≡ None
+pub come_at_start : (c : Container) (table : Known) → c.cursor ≡ None
     → IsRunning c.joiner.taking
-    → unpacking_of c.position c.joiner.taking c.streams.kept ≡ unpacking_start → table ≡ []
+    → unpacking_of c.position c.joiner.taking c.streams.kept ≡ unpacking_start → KnowsNone table
     → HasCome c table [] []
 come_at_start c table none runs at empty =
     come_at_rest c table [] [] none runs
     (stands_at_start c.position c.joiner.taking c.streams.kept table at empty)
 
 module _ {V : Type 0} (stands : V → List Item → Type 0) where
-  pub begin_goes : (v : V) (c : Container) (table none : List NumberedCall) (bytes : List ℕ)
-      (all : List Entry) → none ≡ [] → IsRunning c.joiner.taking
+  pub begin_goes : (v : V) (c : Container) (table none : Known) (bytes : List ℕ)
+      (all : List Entry) → KnowsNone none → IsRunning c.joiner.taking
       → MeetsEvent c table Begin bytes all → GoesTo stands v v (Some kinds.Begin) c none bytes all
   begin_goes v c table none bytes all empty runs (inl (unopened, m)) = (
     entries.Begin,
@@ -326,14 +246,14 @@ module _ {V : Type 0} (stands : V → List Item → Type 0) where
     come_at_rest c none bytes (all ++ entries.Begin ∷ []) unopened runs (record {
       so_far = connection_begun (unpacking_of c.position c.joiner.taking c.streams.kept) m.so_far;
       agrees = m.agrees;
-      calls = λ q. ap (λ (l : List NumberedCall). found l q) empty;
+      calls = table_empty none empty;
       stands = met_leads c table Begin bytes all m;
       emitted = sym m.emits;
     }),
   )
   begin_goes v c table none bytes all empty runs (inr m) = absurd m
 
-  pub turn_goes : (v : V) (c : Container) (table : List NumberedCall) (bytes : List ℕ)
+  pub turn_goes : (v : V) (c : Container) (table : Known) (bytes : List ℕ)
       (all : List Entry) → IsRunning c.joiner.taking → MeetsEvent c table Turn bytes all
       → GoesTo stands v v (Some kinds.Turn) c table bytes all
   turn_goes v c table bytes all runs (inl (unopened, m)) = (
@@ -351,7 +271,7 @@ module _ {V : Type 0} (stands : V → List Item → Type 0) where
   )
   turn_goes v c table bytes all runs (inr come) = (entries.Turn, refl, untold stands v, come)
 
-  pub close_goes : (v : V) (c : Container) (table : List NumberedCall) (bytes : List ℕ)
+  pub close_goes : (v : V) (c : Container) (table : Known) (bytes : List ℕ)
       (all : List Entry) → IsRunning c.joiner.taking → MeetsEvent c table Close bytes all
       → GoesTo stands v v (Some kinds.Close) c table bytes all
   close_goes v c table bytes all runs (inl (unopened, m)) = (
@@ -371,7 +291,7 @@ module _ {V : Type 0} (stands : V → List Item → Type 0) where
 
   -- ---- a call, from the file or from streams
 
-  call_goes : (was now : V) (c : Container) (table new : List NumberedCall) (bytes : List ℕ)
+  call_goes : (was now : V) (c : Container) (table new : Known) (bytes : List ℕ)
       (all : List Entry) (id : ProcId) → IsWhole c.joiner.taking
       → MeetsEvent c table (Record Client) bytes all
       → ((calls : List (List Item)) → IsTableOf table calls
@@ -423,7 +343,7 @@ module _ {V : Type 0} (stands : V → List Item → Type 0) where
 
   -- ---- a reply
 
-  reply_goes : (was now : V) (c : Container) (table : List NumberedCall) (bytes : List ℕ)
+  reply_goes : (was now : V) (c : Container) (table : Known) (bytes : List ℕ)
       (all : List Entry) (id : ProcId) → IsWhole c.joiner.taking
       → MeetsEvent c table (Record Server) bytes all
       → ((calls : List (List Item)) → IsTableOf table calls
@@ -477,7 +397,7 @@ module _ {V : Type 0} (stands : V → List Item → Type 0) where
 
 -- the same with the side and the container as the code has them
 module _ {V : Type 0} (stands : V → List Item → Type 0) (was now : V) (old new : Container)
-    (table after_it : List NumberedCall) (bytes : List ℕ) (all : List Entry) (id : ProcId) where
+    (table after_it : Known) (bytes : List ℕ) (all : List Entry) (id : ProcId) where
   pub call_goes_at : {side : Side} → side ≡ Client → new ≡ old → IsWhole old.joiner.taking
       → MeetsEvent old table (Record side) bytes all
       → ((calls : List (List Item)) → IsTableOf table calls
@@ -498,14 +418,14 @@ module _ {V : Type 0} (stands : V → List Item → Type 0) (was now : V) (old n
       subst (λ (c : Container). GoesTo stands was now (Some (kinds.Reply id)) c after_it bytes all)
       (sym same)
       (subst
-      (λ (l : List NumberedCall). GoesTo stands was now (Some (kinds.Reply id)) old l bytes all)
+      (λ (l : Known). GoesTo stands was now (Some (kinds.Reply id)) old l bytes all)
       (sym kept)
       (reply_goes stands was now old table bytes all id whole
       (subst (λ (s : Side). MeetsEvent old table (Record s) bytes all) is m) tells))
 
 -- ---- a message that is refused
 
-module _ (c : Container) (table : List NumberedCall) (bytes : List ℕ) (all : List Entry) where
+module _ (c : Container) (table : Known) (bytes : List ℕ) (all : List Entry) where
   call_fails : (error : Error) → MeetsEvent c table (Record Client) bytes all
       → ((calls : List (List Item)) → IsTableOf table calls
       → RefusesBody c.position Client (judge_call calls (body_of c.joiner.taking)) error)
@@ -589,7 +509,7 @@ running_between (Led (Stopped x)) h e = absurd h
 running_between OutOfMemory h e = absurd h
 
 -- the streams are whole: their judging begins
-streams_open : (c : Container) (table : List NumberedCall) (bytes : List ℕ) (all : List Entry)
+streams_open : (c : Container) (table : Known) (bytes : List ℕ) (all : List Entry)
     → HasMet c table events.Streams bytes all
     → StandsOrRecalls (Some first_cursor) c.position c.joiner.taking c.streams.kept table bytes all
 streams_open c table bytes all m =
@@ -618,7 +538,7 @@ before_mark streams spot at before =
     ap (λ (s : Spot). opened_at streams s at) is.2 ∙ ap₂ Mark is.3 is.4
 
 -- what is whole next in them
-module _ (cursor : Cursor) (old new : Container) (table : List NumberedCall) (bytes : List ℕ)
+module _ (cursor : Cursor) (old new : Container) (table : Known) (bytes : List ℕ)
     (all : List Entry) (s : StandsOrRecalls (Some cursor) old.position old.joiner.taking
     old.streams.kept table bytes all) where
   recalled_record : (side : Side)
@@ -713,7 +633,7 @@ left_open messages (Header body part) h = refl
 left_open messages (Bytes body last left) h = refl
 
 recall_fails_at : (side : Side) (taken : ℕ) (p : Position) (streams : Streams)
-    (table : List NumberedCall) (bytes : List ℕ) (all : List Entry) (fault : Fault)
+    (table : Known) (bytes : List ℕ) (all : List Entry) (fault : Fault)
     → Recalls (after_side_word p) streams side taken p.records table bytes all
     → RecallFails (record { side = side; taken = taken }) p streams (errors.Refused fault)
     → ShowsFirst bytes all fault
@@ -747,7 +667,7 @@ recall_fails_at Server taken p streams table bytes all fault r (inr (j, open_is,
     (left_open r.so_far.replies j open_is))
 
 recall_fails : (cursor : Cursor) (p : Position) (t : Taking) (streams : Streams)
-    (table : List NumberedCall) (bytes : List ℕ) (all : List Entry) (error : Error)
+    (table : Known) (bytes : List ℕ) (all : List Entry) (error : Error)
     → StandsOrRecalls (Some cursor) p t streams table bytes all
     → RecallFails cursor p streams error → FailsAt bytes all error
 recall_fails cursor p t streams table bytes all (errors.Refused fault) s f =
@@ -758,7 +678,7 @@ recall_fails cursor p t streams table bytes all errors.Memory s f = tt
 
 -- ---- what comes next, from the file or from streams that were kept
 
-unopened_at : (c : Container) (table : List NumberedCall) (bytes : List ℕ) (all : List Entry)
+unopened_at : (c : Container) (table : Known) (bytes : List ℕ) (all : List Entry)
     → c.cursor ≡ None
     → StandsOrRecalls c.cursor c.position c.joiner.taking c.streams.kept table bytes all
     → StandsAt c.position c.joiner.taking c.streams.kept table bytes all
@@ -767,7 +687,7 @@ unopened_at c table bytes all none s =
     (λ (n : Option Cursor).
     StandsOrRecalls n c.position c.joiner.taking c.streams.kept table bytes all) none s
 
-opened_with : (c : Container) (cursor : Cursor) (table : List NumberedCall) (bytes : List ℕ)
+opened_with : (c : Container) (cursor : Cursor) (table : Known) (bytes : List ℕ)
     (all : List Entry) → c.cursor ≡ Some cursor
     → StandsOrRecalls c.cursor c.position c.joiner.taking c.streams.kept table bytes all
     → StandsOrRecalls (Some cursor) c.position c.joiner.taking c.streams.kept table bytes all
@@ -777,7 +697,7 @@ opened_with c cursor table bytes all some s =
     StandsOrRecalls n c.position c.joiner.taking c.streams.kept table bytes all) some s
 
 -- the streams of a connection are whole with these bytes
-first_kept : (old mid : Container) (table : List NumberedCall) (bytes : List ℕ) (all : List Entry)
+first_kept : (old mid : Container) (table : Known) (bytes : List ℕ) (all : List Entry)
     (piece : List ℕ) → old.cursor ≡ None
     → StandsOrRecalls old.cursor old.position old.joiner.taking old.streams.kept table bytes all
     → Arrives (unpacking_of old.position old.joiner.taking old.streams.kept) piece
@@ -793,7 +713,7 @@ one_event : (came : Option Event) (event one : Event) → came ≡ Some event �
     → one ≡ event
 one_event came event one is also = cc
 
-module _ (old new : Container) (table : List NumberedCall) (bytes : List ℕ) (all : List Entry)
+module _ (old new : Container) (table : Known) (bytes : List ℕ) (all : List Entry)
     (piece : List ℕ) (came : Option Event) (s : StandsOrRecalls old.cursor old.position
     old.joiner.taking old.streams.kept table bytes all) where
   pub comes_on : came ≡ None → Leaves came new.joiner.taking → Comes old new piece came
@@ -833,7 +753,7 @@ module _ (old new : Container) (table : List NumberedCall) (bytes : List ℕ) (a
       (subst (λ (n : Option Cursor). AreStored old.position n old.streams.kept) some stored)
       recalled))
 
-pub comes_to_fault : (old : Container) (table : List NumberedCall) (bytes : List ℕ)
+pub comes_to_fault : (old : Container) (table : Known) (bytes : List ℕ)
     (all : List Entry) (piece : List ℕ) (error : Error)
     → StandsOrRecalls old.cursor old.position old.joiner.taking old.streams.kept table bytes all
     → ComesToFault old piece error → FailsAt (bytes ++ piece) all error

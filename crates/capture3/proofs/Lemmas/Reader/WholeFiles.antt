@@ -1,5 +1,5 @@
 -- A whole file: from where its machine stands to what is to be said of it.
-use Rattle.capture3.proofs.Common.{Result, ◌≡◌, ℕ, zero, suc, ◌+◌, ◌-◌, Option, Some, None, take-append-drop, List, [], ◌∷◌, ◌++◌, length, take, take_all, drop, length-drop, append-nil, arith, refl, sym, ap, ◌∙◌, subst, Ok, Err, Bool, false, is_some, CaptureCut, AreBytes, Item, Joining, Taking, released, NumberedCall, Kind, Error, Client, Server, Spot, Container, Cursor, Version, unpacking_of, Entry, End, FirstFault, begins, concluded, verdict_of, ShowsFirst, Streams, file_fault, Typed, StandsAt, StandsOrRecalls, HasCome, GoesTo, FailsAt, IsHeld, opened_at, version_of, IsEndSpot, Judged, resumed_at, emitted_at, MAGIC}
+use Rattle.capture3.proofs.Common.{Result, ◌≡◌, ℕ, zero, suc, ◌+◌, ◌-◌, Option, Some, None, take-append-drop, List, [], ◌∷◌, ◌++◌, length, take, take_all, drop, length-drop, append-nil, arith, refl, sym, ap, ◌∙◌, subst, Ok, Err, Bool, false, is_some, CaptureCut, AreBytes, Item, Joining, Taking, released, Known, Kind, Error, Client, Server, Spot, Container, Cursor, Version, unpacking_of, Entry, End, FirstFault, begins, concluded, verdict_of, ShowsFirst, Streams, file_fault, Typed, StandsAt, StandsOrRecalls, HasCome, GoesTo, FailsAt, IsHeld, opened_at, version_of, IsEndSpot, Judged, resumed_at, emitted_at, MAGIC}
 use Rattle.capture3.specs.declared.reader.entry.Entry as kept
 use Rattle.capture3.specs.declared.reader.entry.Entry.TheVariants as variants
 use Rattle.capture3.specs.declared.fault.Error.TheVariants as errors
@@ -87,7 +87,7 @@ ended_only version streams (spots.SideChunk side left) at e = absurd (cc)
 -- ---- the verdict
 
 module _ (bytes : List ℕ) (p : Position) (t : Taking) (streams : Streams)
-    (table : List NumberedCall) (model : List Entry) (are : AreBytes bytes)
+    (table : Known) (model : List Entry) (are : AreBytes bytes)
     (s : StandsAt p t streams table bytes model) where
   opened_here : Opened
   opened_here = opened_at streams p.spot p.at
@@ -142,7 +142,7 @@ first_fault (Err errors.Memory) bytes n entries error is are f = tt
 
 -- ---- along the bytes
 
-come_more : (c : Container) (bytes : List ℕ) (n m : ℕ) (table : List NumberedCall)
+come_more : (c : Container) (bytes : List ℕ) (n m : ℕ) (table : Known)
     (model : List Entry)
     → HasCome c table (take n bytes ++ take m (take (length bytes - n) (drop n bytes))) model
     → HasCome c table (take (n + m) bytes) model
@@ -155,7 +155,7 @@ not_recalling None answer is untrue = refl
 not_recalling (Some one) answer is untrue = absurd (cc)
 
 -- all bytes are taken, and no streams are judged
-pub judged_all : (c : Container) (table : List NumberedCall) (bytes all : List ℕ)
+pub judged_all : (c : Container) (table : Known) (bytes all : List ℕ)
     (model : List Entry) → bytes ≡ all → c.cursor ≡ None → HasCome c table bytes model
     → StandsAt c.position (released c.joiner.taking) c.streams.kept table all model
 judged_all c table bytes all model is none h =
@@ -167,11 +167,11 @@ judged_all c table bytes all model is none h =
     StandsOrRecalls cursor c.position (released c.joiner.taking) c.streams.kept table bytes
     model) none h)
 
-abbrev pub Keeps : Container → List NumberedCall → List ℕ → List kept.Entry → Type 0
+abbrev pub Keeps : Container → Known → List ℕ → List kept.Entry → Type 0
 Keeps c table bytes items = (model : List Entry) × HasCome c table bytes model × AreKept items model
 
 module _ {V : Type 0} (stands : V → List Item → Type 0) (was now : V) (c : Container)
-    (bytes : List ℕ) (n m : ℕ) (table : List NumberedCall) (items : List kept.Entry)
+    (bytes : List ℕ) (n m : ℕ) (table : Known) (items : List kept.Entry)
     (model : List Entry) where
   abbrev Goes : Option Kind → Type 0
   Goes came =

@@ -1,4 +1,4 @@
-use Rattle.capture3.proofs.Common.{◌≤◌, ◌+◌, ◌-◌, length, take, vec_len, released, IsReady, IsStored, room_in}
+use Rattle.capture3.proofs.Common.{◌≤◌, ◌+◌, ◌-◌, length, take, vec_len, released, IsReady, IsStored, known_listed, room_in}
 use Rattle.capture3.specs.machinery.Position.{IsSoundPosition, most_things}
 use Rattle.capture3.proofs.Lemmas.Reader.WholeFiles.{Keeps}
 use Rattle.capture3.proofs.reader.whole.parse.Given as goal
@@ -10,7 +10,8 @@ invariant-loop-taken l = record {
   stored : IsStored l.parser.container;
   ready : IsReady l.parser.container.cursor (released l.parser.container.joiner.taking);
   room : vec_len l.entries + room_in l.parser.container ≤ most_things;
-  machine : Keeps l.parser.container l.parser.calls (take l.taken l.bytes) l.entries.items;
+  machine : Keeps l.parser.container (known_listed l.parser.calls.calls.items)
+      (take l.taken l.bytes) l.entries.items;
 }
 
 abbrev pub decreases-loop-taken : goal.decreases-loop-taken

@@ -6,10 +6,13 @@ returns-in-Ok-clause-ok g c calls table =
     let scanned = c.in-Ok.ensures.ok in
     record {
       items = scanned.items;
-      judged = ap (judge_reply calls) (sym c.body.ensures.body) ∙ scanned.accepted calls table;
+      judged =
+          ap (judge_reply calls) (sym c.body.ensures.body)
+          ∙ scanned.accepted calls table.procedures;
       is_reply =
           subst
-          (λ (body : List ℕ). IsReply body (record { id = c.in-Ok.id; items = scanned.items }))
+          (λ (body : List ℕ).
+          IsReply body (record { id = c.in-Ok.call.id; items = scanned.items }))
           c.body.ensures.body scanned.is_reply;
       adds = scanned.adds;
     }
@@ -21,6 +24,6 @@ returns-in-Ok-clause-spells g c =
       scanned.items,
       subst
           (λ (body : List ℕ).
-          IsReply body (record { id = c.in-Ok.id; items = scanned.items }))
+          IsReply body (record { id = c.in-Ok.call.id; items = scanned.items }))
           c.body.ensures.body scanned.is_reply,
     ) ∣₁
