@@ -26,4 +26,5 @@ pub mod MessageScan
 pub mod Handing
 pub mod Rank
 pub mod OpenXids
+pub mod Numbering
 pub mod machinery

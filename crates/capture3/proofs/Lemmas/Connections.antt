@@ -2,5 +2,6 @@
 pub mod ConnectionMachineLemmas
 pub mod JudgedInTurn
 pub mod KnownLemmas
+pub mod NumberingLemmas
 pub mod LineLemmas
 pub mod RankLemmas

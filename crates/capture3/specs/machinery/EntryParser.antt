@@ -1,5 +1,5 @@
 -- A capture whose records are judged as they come: where the machine for its file stands.
-use Rattle.std.specs.Prelude.{◌≡◌, ◌⊎◌, ℕ, ◌+◌, Option, Some, None, Result, Ok, Err, List, [], ◌∷◌, ◌++◌, take, drop}
+use Rattle.std.specs.Prelude.{◌≡◌, ◌⊎◌, ℕ, ◌+◌, min, nat_eq, Option, Some, None, Result, Ok, Err, List, [], ◌∷◌, ◌++◌, take, drop}
 use Rattle.xdr3.specs.declared.reason.GetError.{GetError}
 use Rattle.xdr3.specs.declared.reason.GetError.TheVariants as gets
 use Rattle.xdr3.specs.declared.reason.Stop.{Stop}
@@ -25,12 +25,14 @@ use Rattle.capture3.specs.machinery.KeptStreams.{Recalls, ShowsFirst}
 use Rattle.capture3.specs.SidedChunks.{Streams}
 use Rattle.capture3.specs.declared.container.position.Position.{Position}
 use Rattle.capture3.specs.declared.container.Container.{Container}
-use Rattle.capture3.specs.Bodies.{IsCall, IsReply}
+use Rattle.capture3.specs.Bodies.{IsCall, IsReply, xid_in}
+use Rattle.capture3.specs.OpenXids.{open_xids, xid_of}
+use Rattle.capture3.specs.Rank.{number_limit, rank}
 use Rattle.capture3.specs.machinery.Container.{stream_of, unpacking_of}
 use Rattle.capture3.specs.Entry.{Entry, items_of}
 use Rattle.capture3.specs.Entry as whole
 use Rattle.capture3.specs.BodyProgram.{judge_call, judge_reply}
-use Rattle.capture3.specs.machinery.Messages.{IsTableOf}
+use Rattle.capture3.specs.machinery.Messages.{IsTableOf, xids_in}
 use Rattle.capture3.specs.FileMachine.{Parsing, file_next, parsed, emitted}
 use Rattle.capture3.specs.machinery.Position.{unpacking_at}
 use Rattle.capture3.specs.machinery.Spelled.{SpellsCall, SpellsReply}
@@ -43,6 +45,7 @@ pub record StandsAt (position : Position) (taking : Taking) (streams : Streams)
   pub so_far : Judged
   pub agrees : Agrees (unpacking_of position taking streams) so_far
   pub calls : IsTableOf table so_far.calls
+  pub opened : open_xids [] entries ≡ xids_in so_far.calls
   pub stands : parsed bytes ≡ Runs (parsing_at (unpacking_of position taking streams) so_far)
   pub emitted : entries ≡ emitted_at (unpacking_of position taking streams).opened so_far
 
@@ -87,6 +90,7 @@ pub record HasMet (container : Container) (table : Known) (event : Event)
   pub state : Parsing
   pub agrees : AgreesOn so_far (Ends (met_in event container))
   pub calls : IsTableOf table so_far.calls
+  pub opened : open_xids [] entries ≡ xids_in so_far.calls
   pub split : bytes ≡ front ++ byte ∷ []
   pub runs : parsed front ≡ Runs state
   pub before : emitted state ≡ entries
@@ -136,6 +140,14 @@ IsHeld (kinds.Reply id) taking entry = (items : List Item) × IsWhole taking
 IsHeld kinds.Close taking entry = entry ≡ whole.Close
 IsHeld kinds.End taking entry = entry ≡ whole.End
 
+-- a message has the number of its xid among these; nothing is said of other entries
+abbrev pub HasNumber : ℕ → List ℕ → Entry → Type 0
+HasNumber number xids (whole.Call items) =
+    number ≡ min (rank nat_eq (xid_in items) xids) number_limit
+HasNumber number xids (whole.Reply id items) =
+    number ≡ min (rank nat_eq (xid_in items) xids) number_limit
+HasNumber number xids _ = Unit {0}
+
 -- a whole record stands that spells a message of this kind; nothing is said of the other kinds
 abbrev pub SpellsKind : Kind → Taking → Type 0
 SpellsKind kinds.Begin taking = Unit {0}
@@ -150,13 +162,15 @@ abbrev pub SpellsLast : Option Kind → Taking → Type 0
 SpellsLast None taking = Unit {0}
 SpellsLast (Some kind) taking = SpellsKind kind taking
 
--- The bytes lead to there, and the entry, if there is one, is told a visitor. A whole record stands
--- until the next call.
+-- The bytes lead to there, and the entry, if there is one, is told a visitor and has this number. A
+-- whole record stands until the next call.
 abbrev pub GoesTo : {V : Type 0} → (V → List Item → Type 0) → (was now : V) → Option Kind
-    → Container → Known → List ℕ → List Entry → Type 0
-GoesTo stands was now None container table bytes entries = HasCome container table bytes entries
-GoesTo stands was now (Some kind) container table bytes entries =
+    → (number : ℕ) → Container → Known → List ℕ → List Entry → Type 0
+GoesTo stands was now None number container table bytes entries =
+    HasCome container table bytes entries
+GoesTo stands was now (Some kind) number container table bytes entries =
     (entry : Entry) × IsHeld kind container.joiner.taking entry
+    × HasNumber number (open_xids [] (entries ++ entry ∷ [])) entry
     × Adds stands was now (items_of entry)
     × HasCome container table bytes (entries ++ entry ∷ [])
 
@@ -171,21 +185,25 @@ FailsAt bytes entries _ = ⊥
 
 -- the body was a call, which is told a visitor and joins the calls of its connection
 pub record JudgesCall {V : Type 0} (stands : V → List Item → Type 0) (was now : V)
-    (calls : List (List Item)) (body : List ℕ) (table : Known)
+    (calls : List (List Item)) (body : List ℕ) (table : Known) (number : ℕ)
     (id : ProcId) : Type 0 where
   pub items : List Item
   pub judged : judge_call calls body ≡ Ok items
   pub is_call : IsCall body items
   pub id_is : id ≡ procedure_in items
   pub added : IsTableOf table (calls ++ items ∷ [])
+  pub begins : xid_of items ≡ xid_in items ∷ []
+  pub numbered : number
+      ≡ min (rank nat_eq (xid_in items) (xids_in (calls ++ items ∷ []))) number_limit
   pub adds : Adds stands was now items
 
 -- the body was a reply, which is told a visitor
 pub record JudgesReply {V : Type 0} (stands : V → List Item → Type 0) (was now : V)
-    (calls : List (List Item)) (body : List ℕ) (id : ProcId) : Type 0 where
+    (calls : List (List Item)) (body : List ℕ) (number : ℕ) (id : ProcId) : Type 0 where
   pub items : List Item
   pub judged : judge_reply calls body ≡ Ok (record { id = id; items = items })
   pub is_reply : IsReply body (record { id = id; items = items })
+  pub numbered : number ≡ min (rank nat_eq (xid_in items) (xids_in calls)) number_limit
   pub adds : Adds stands was now items
 
 -- the body was refused, unless memory ran out

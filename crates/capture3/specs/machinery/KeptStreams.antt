@@ -10,7 +10,8 @@ use Rattle.capture3.specs.Connections.{ShownFault}
 use Rattle.capture3.specs.Entry.{Entry}
 use Rattle.capture3.specs.Entry as entries
 use Rattle.capture3.specs.BodyProgram.{judge_call}
-use Rattle.capture3.specs.machinery.Messages.{IsTableOf}
+use Rattle.capture3.specs.machinery.Messages.{IsTableOf, xids_in}
+use Rattle.capture3.specs.OpenXids.{open_xids}
 use Rattle.capture3.specs.ConnectionMachine.{judge_replies}
 use Rattle.capture3.specs.FileMachine.{Parsing, file_next, parsed, emitted}
 use Rattle.capture3.specs.StreamMachine.{Reading, Held, rest_end, stream_end, reading_with}
@@ -51,6 +52,7 @@ pub record Recalls (u : Unpacking) (streams : Streams) (side : Side) (taken reco
   pub ends : file_next state byte ≡ conversed u so_far streams
   pub emits : emitted state ≡ so_far.entries ++ entries.Begin ∷ []
   pub calls : IsTableOf table so_far.calls
+  pub opened : open_xids [] handed ≡ xids_in so_far.calls
   pub here : RecallsAt side taken records streams so_far handed
 
 -- One of the bytes shows the fault. The machine runs up to it, and what was handed out are the

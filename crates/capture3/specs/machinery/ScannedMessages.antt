@@ -1,5 +1,5 @@
 -- What the scan of a message tells, and where it stops.
-use Rattle.std.specs.Prelude.{◌≡◌, ℕ, ◌<◌, ◌^◌, List, Some, Result, Ok, Err, cond}
+use Rattle.std.specs.Prelude.{◌≡◌, ℕ, ◌<◌, ◌^◌, List, [], ◌∷◌, Some, Result, Ok, Err, cond}
 use Rattle.xdr3.specs.declared.reason.Reason.TheVariants.{XidConflict}
 use Rattle.xdr3.specs.declared.reason.GetError.{GetError}
 use Rattle.xdr3.specs.declared.reason.GetError.TheVariants as errors
@@ -14,6 +14,7 @@ use Rattle.capture3.specs.Bodies.{IsCall, IsReply, procedure_of, xid_in}
 use Rattle.capture3.specs.machinery.Calls.{Known}
 use Rattle.capture3.specs.BodyProgram.{agrees, judge_call, judge_reply}
 use Rattle.capture3.specs.machinery.Messages.{HasProcedures}
+use Rattle.capture3.specs.OpenXids.{xid_of}
 
 -- The body spells a call with this xid and this procedure, it is accepted after calls that agree
 -- with it, and a visitor was told its items.
@@ -22,6 +23,7 @@ pub record ScansCall {V : Type 0} (stands : V → List Item → Type 0) (body : 
   pub items : List Item
   pub is_call : IsCall body items
   pub xid_is : xid_in items ≡ call.xid
+  pub begins : xid_of items ≡ xid_in items ∷ []
   pub procedure_is : procedure_in items ≡ call.id
   pub judged : (before : List (List Item))
       → judge_call before body

@@ -78,6 +78,7 @@ impl<'r, R: Source, S: BuildHasher + Drop> Entries<'r, R, S> {
     ghost use Rattle.capture3.specs.Kept.{IsLent, kind_lent};
     ghost use Rattle.capture3.specs.Entries.{block_size, CountsReads, failure_of, IsOver, last_of, loan_of, source_of};
     ghost use Rattle.capture3.specs.Handing.{HandsOutGiven};
+    ghost use Rattle.capture3.specs.Numbering.{number_after, number_lent};
     ghost use Rattle.capture3.specs.machinery.EntriesHistory.{answer_in, entries_left, HandsOutOrGoesOn, HasRead, StandsFor, Turns};
 
     /// Returns a reader through a block that is not empty. It reads nothing yet. The hasher is for
@@ -171,6 +172,9 @@ impl<'r, R: Source, S: BuildHasher + Drop> Entries<'r, R, S> {
         ensures lent { (given : List ℕ) (handed : List spec.Entry) (entry : spec.Entry)
             → StandsFor R.told self.now given (handed ++ entry ∷ [])
             → IfSome result (λ lent. IsLent lent entry) }
+        ensures numbered { (given : List ℕ) (handed : List spec.Entry) (entry : spec.Entry)
+            → StandsFor R.told self.now given (handed ++ entry ∷ [])
+            → IfSome result (λ lent. number_lent lent ≡ number_after handed entry) }
     {
         match self.last {
             Some(kind) => Some(self.parser.lend(kind)),

@@ -1,12 +1,13 @@
 //! A capture whose records are checked as they come.
 
-ghost use Rattle.std.specs.Prelude.{is_some, ◌≡◌, ◌≢◌, ◌≤◌, ◌<◌, ◌+◌, ◌++◌, ℕ, List, [], length, take, IfErr, IfOk, OnErr, OnOk, None, Some};
+ghost use Rattle.std.specs.Prelude.{is_some, ◌≡◌, ◌≢◌, ◌≤◌, ◌<◌, ◌+◌, ◌++◌, ℕ, List, [], length, take, IfErr, IfOk, IfSome, OnErr, OnOk, None, Some};
 ghost use Rattle.record_mark.specs.Taking.{IsRunning, IsWhole, body_of, released, unbegun};
 ghost use Rattle.xdr3.specs.Item.{Item};
 ghost use Rattle.capture3.specs.machinery.Container.{IsReady, IsStored, Leaves, room_in};
 ghost use Rattle.capture3.specs.Entry as spec;
 ghost use Rattle.capture3.specs.machinery.EntryParser.{entry_cost, error_at, FailsAt, GoesTo, HasCome, IsHeld, IsOfBytes, MeetsEvent, RefusesBody, SpellsKind, SpellsLast, JudgesCall, JudgesReply};
 ghost use Rattle.capture3.specs.Kept.{IsLent, kind_of};
+ghost use Rattle.capture3.specs.Numbering.{number_lent};
 ghost use Rattle.capture3.specs.machinery.Spelled.{SpellsCall, SpellsReply};
 ghost use Rattle.capture3.specs.BodyProgram.{judge_call, judge_reply};
 ghost use Rattle.capture3.specs.machinery.Calls.{KnowsNone};
@@ -29,6 +30,8 @@ use xdr3::{GetError, Reason, Visit};
 pub(crate) struct EntryParser<C: Drop> {
     pub(crate) container: Container,
     pub(crate) calls: C,
+    /// The number of the last message.
+    pub(crate) number: u32,
     /// Why `next` failed, if it has.
     pub(crate) error: Error,
 }
@@ -45,6 +48,7 @@ impl<C: CallTable + Drop> EntryParser<C> {
         EntryParser {
             container: Container::new(alloc),
             calls,
+            number: 0,
             error: Error::Memory,
         }
     }
@@ -74,7 +78,7 @@ impl<C: CallTable + Drop> EntryParser<C> {
         ensures machine { (bytes : List ℕ) (entries : List spec.Entry)
             → HasCome self.old.container (C.known self.old.calls) bytes entries
             → IfOk result
-            (λ r. GoesTo V.stands visitor.old visitor.new r.1 self.new.container
+            (λ r. GoesTo V.stands visitor.old visitor.new r.1 self.new.number self.new.container
             (C.known self.new.calls) (bytes ++ take r.0 piece.now) entries) }
         ensures fault { (bytes : List ℕ) (entries : List spec.Entry)
             → HasCome self.old.container (C.known self.old.calls) bytes entries
@@ -117,16 +121,19 @@ impl<C: CallTable + Drop> EntryParser<C> {
         ensures kind { kind_of result ≡ kind }
         ensures lent { (entry : spec.Entry) → IsHeld kind self.now.container.joiner.taking entry
             → IsLent result entry }
+        ensures number { IfSome (number_lent result) (λ number. number ≡ self.now.number) }
     {
         match kind {
             Kind::Begin => EntryRef::Begin,
             Kind::Call(id) => EntryRef::Call(CallRef {
                 id,
+                number: self.number,
                 body: self.container.body(),
             }),
             Kind::Turn => EntryRef::Turn,
             Kind::Reply(id) => EntryRef::Reply(ReplyRef {
                 id,
+                number: self.number,
                 body: self.container.body(),
             }),
             Kind::Close => EntryRef::Close,
@@ -154,7 +161,8 @@ impl<C: CallTable + Drop> EntryParser<C> {
         ensures machine { (bytes : List ℕ) (entries : List spec.Entry)
             → MeetsEvent self.old.container (C.known self.old.calls) event bytes entries
             → IfOk result
-            (λ kind. GoesTo V.stands visitor.old visitor.new (Some kind) self.new.container
+            (λ kind. GoesTo V.stands visitor.old visitor.new (Some kind) self.new.number
+            self.new.container
             (C.known self.new.calls) bytes entries) }
         ensures fault { (bytes : List ℕ) (entries : List spec.Entry)
             → MeetsEvent self.old.container (C.known self.old.calls) event bytes entries
@@ -184,7 +192,8 @@ impl<C: CallTable + Drop> EntryParser<C> {
             → MeetsEvent self.old.container (C.known self.old.calls) (Event.Record side) bytes
             entries
             → IfOk result
-            (λ kind. GoesTo V.stands visitor.old visitor.new (Some kind) self.new.container
+            (λ kind. GoesTo V.stands visitor.old visitor.new (Some kind) self.new.number
+            self.new.container
             (C.known self.new.calls) bytes entries) }
         ensures fault { (bytes : List ℕ) (entries : List spec.Entry)
             → MeetsEvent self.old.container (C.known self.old.calls) (Event.Record side) bytes
@@ -214,7 +223,7 @@ impl<C: CallTable + Drop> EntryParser<C> {
         ensures ok { (calls : List (List Item)) → IsTableOf (C.known self.old.calls) calls
             → IfOk result
             (JudgesCall V.stands visitor.old visitor.new calls
-            (body_of self.old.container.joiner.taking) (C.known self.new.calls)) }
+            (body_of self.old.container.joiner.taking) (C.known self.new.calls) self.new.number) }
         ensures err { (calls : List (List Item)) → IsTableOf (C.known self.old.calls) calls
             → OnErr result
             (RefusesBody self.old.container.position Side.Client
@@ -226,7 +235,8 @@ impl<C: CallTable + Drop> EntryParser<C> {
             Err(error) => return Err(self.note(Side::Client, error)),
         };
         match self.calls.admit(call.xid, call.id) {
-            Ok(Some(_)) => {
+            Ok(Some(number)) => {
+                self.number = number;
                 // Written out, so that the words are not moved in two parts, of eight bytes and of four.
                 let ProcId {
                     prog,
@@ -254,7 +264,7 @@ impl<C: CallTable + Drop> EntryParser<C> {
         ensures ok { (calls : List (List Item)) → IsTableOf (C.known self.old.calls) calls
             → IfOk result
             (JudgesReply V.stands visitor.old visitor.new calls
-            (body_of self.old.container.joiner.taking)) }
+            (body_of self.old.container.joiner.taking) self.new.number) }
         ensures err { (calls : List (List Item)) → IsTableOf (C.known self.old.calls) calls
             → OnErr result
             (RefusesBody self.old.container.position Side.Server
@@ -262,7 +272,10 @@ impl<C: CallTable + Drop> EntryParser<C> {
         ensures device { OnErr result (IsOfBytes self.new.error) }
     {
         match scan_reply(&self.calls, self.container.body(), visitor) {
-            Ok(call) => Ok(call.id),
+            Ok(call) => {
+                self.number = call.number;
+                Ok(call.id)
+            }
             Err(error) => Err(self.note(Side::Server, error)),
         }
     }

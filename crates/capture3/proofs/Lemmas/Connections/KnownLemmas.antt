@@ -107,7 +107,7 @@ either None other = other
 either (Some id) other = Some id
 
 -- equal numbers
-equality : IsEquivalence nat_eq
+pub equality : IsEquivalence nat_eq
 equality = record {
   refl = λ x. eq-eqb x x refl;
   symm = λ x y. same_either_way x y;
@@ -303,6 +303,15 @@ module _ (old : Known) (calls : List (List Item)) (xid : ℕ) (id : ProcId) (sma
       → result ≡ number_for old xid id → agrees (procedure_of calls xid) id ≡ true
   admits_agree result number some is =
       by_test (agrees (procedure_in_call (old.call_of xid)) id) (λ t. known_agrees ∙ t)
+      (λ f. absurd (none-some number
+      (sym (sym some ∙ is ∙ ap (λ b. cond b (Some (number_in old xid)) None) f))))
+
+  pub admits_number : (result : Option ℕ) (number : ℕ) → result ≡ Some number
+      → result ≡ number_for old xid id → number ≡ number_in old xid
+  admits_number result number some is =
+      by_test (agrees (procedure_in_call (old.call_of xid)) id)
+      (λ t. same_Some number (number_in old xid)
+      (sym some ∙ is ∙ ap (λ b. cond b (Some (number_in old xid)) None) t))
       (λ f. absurd (none-some number
       (sym (sym some ∙ is ∙ ap (λ b. cond b (Some (number_in old xid)) None) f))))
 

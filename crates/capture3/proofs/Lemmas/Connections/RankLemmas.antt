@@ -149,6 +149,12 @@ module _ {K : Type 0} (same : K → K → Bool) (laws : IsEquivalence same) wher
   length-with_keys (y ∷ l) ks =
       omega (arith, length-with_keys l (with_key same ks y), length-with_key y ks)
 
+  pub length-before : (x : K) (l : List K) → length (before same x l) ≤ length l
+  length-before x [] = omega arith
+  length-before x (y ∷ l) =
+      cond_either (λ k. length k ≤ length (y ∷ l)) (same x y) (omega arith)
+      (omega (arith, length-before x l))
+
   pub before-absent : (x : K) (l : List K) → list_any (same x) l ≡ false → before same x l ≡ l
   before-absent x [] e = refl
   before-absent x (y ∷ l) e =

@@ -1,5 +1,5 @@
 -- Judging the records of streams that are gathered, one after another.
-use Rattle.capture3.proofs.Common.{◌≡◌, inl, inr, ℕ, ◌+◌, List, [], ◌∷◌, ◌++◌, length, map, take, drop, take-append-drop, Result, Ok, Err, refl, sym, ap, subst, ◌∙◌, append_assoc, append-nil, arith, length-append, common_steps, Stop, Item, AreBytes, Joining, Between, Header, Bytes, Joined, Whole, TooLong, join_next, Next, Goes, Ends, Run, Runs, Stops, Stopped, after, landed, within, last_running, after-append, last_running-append, Known, Fault, Side, Client, Server, ReplyItems, Two, Entry, Shows, FirstFault, judge_call, judge_reply, Opening, Closing, judge_replies, server_said, client_said, Parsing, file_next, file_start, parsed, emitted, verdict, verdict_of, AreFirstReached, Reached, RecordFault, Streams, reply_entry, connection_entries, Unpacking, Mark, ShownFault, client_refusal, server_refusal, IsTableOf, Judge, Reading, judged, StreamEnd, Held, Faulty, left_in, end_of, rest_end, stream_end, stream_next, recorded, Judged, parsing_in, parsing_at, client_entries, server_entries, with_call, with_reply, turned, connection_closed, unpacking_with, reading_with}
+use Rattle.capture3.proofs.Common.{◌≡◌, inl, inr, ℕ, ◌+◌, List, [], ◌∷◌, ◌++◌, length, map, take, drop, take-append-drop, Result, Ok, Err, refl, sym, ap, subst, ◌∙◌, append_assoc, append-nil, arith, length-append, common_steps, Stop, Item, AreBytes, Joining, Between, Header, Bytes, Joined, Whole, TooLong, join_next, Next, Goes, Ends, Run, Runs, Stops, Stopped, after, landed, within, last_running, after-append, last_running-append, Known, Fault, Side, Client, Server, ReplyItems, Two, Entry, Shows, FirstFault, judge_call, judge_reply, Opening, Closing, judge_replies, server_said, client_said, Parsing, file_next, file_start, parsed, emitted, verdict, verdict_of, AreFirstReached, Reached, RecordFault, Streams, reply_entry, connection_entries, Unpacking, Mark, ShownFault, client_refusal, server_refusal, IsTableOf, xid_in, xids_in, Judge, Reading, judged, StreamEnd, Held, Faulty, left_in, end_of, rest_end, stream_end, stream_next, recorded, Judged, parsing_in, parsing_at, client_entries, server_entries, with_call, with_reply, turned, connection_closed, unpacking_with, reading_with}
 use Rattle.capture3.specs.Entry as entries
 use Rattle.capture3.specs.FileMachine as parsing
 use Rattle.capture3.specs.machinery.KeptStreams.{between_records, Recalls, ShowsFirst}
@@ -11,6 +11,8 @@ use Rattle.capture3.proofs.Lemmas.Reached.ReachedBeforeFaults.{first_reached_at}
 use Rattle.capture3.proofs.Lemmas.Files.Verdicts.{clean_from_runs, shows_from_stops, stays, told, verdict_from_typed}
 use Rattle.capture3.proofs.Lemmas.Reached.ReachedLemmas.{stands_whole}
 use Rattle.capture3.proofs.Lemmas.Reader.FileStandingLemmas.{whole_connections}
+use Rattle.capture3.specs.OpenXids.{xid_of}
+use Rattle.capture3.proofs.Lemmas.Connections.NumberingLemmas.{opened_more, opened_still}
 
 -- ---- the rest of a stream
 
@@ -58,10 +60,10 @@ module _ (u : Unpacking) (streams : Streams) (taken records : ℕ) (table : Know
   pub call_recalled : (count : ℕ) (body : List ℕ) (call : List Item) (new : Known)
       → after join_next (Runs Between) (take count (drop taken streams.client)) ≡ Stops (Whole body)
       → judge_call r.so_far.calls body ≡ Ok call
-      → IsTableOf new (r.so_far.calls ++ call ∷ [])
+      → IsTableOf new (r.so_far.calls ++ call ∷ []) → xid_of call ≡ xid_in call ∷ []
       → Recalls u streams Client (taken + count) (records + 1) new bytes
       (handed ++ entries.Call call ∷ [])
-  call_recalled count body call new whole ok table_is =
+  call_recalled count body call new whole ok table_is begins =
       let h = r.here in
       record {
         front = r.front;
@@ -73,6 +75,7 @@ module _ (u : Unpacking) (streams : Streams) (taken records : ℕ) (table : Know
         ends = r.ends;
         emits = r.emits;
         calls = table_is;
+        opened = opened_more handed r.so_far.calls call begins r.opened;
         here = (
           h.0 ∙ cut_rest judge_call (between_records r.so_far.calls) taken count streams.client
               ∙ rest_accepts judge_call r.so_far.calls (take count (drop taken streams.client))
@@ -130,6 +133,8 @@ module _ (u : Unpacking) (streams : Streams) (taken records : ℕ) (table : Know
         ends = r.ends;
         emits = r.emits;
         calls = r.calls;
+        opened =
+            opened_still handed entries.Turn (xids_in r.so_far.calls) (λ xs. refl) r.opened;
         here = (
           h.0 ∙ rest_leaves judge_call r.so_far.calls (drop taken streams.client) Between runs,
           refl,
@@ -161,6 +166,8 @@ module _ (u : Unpacking) (streams : Streams) (taken records : ℕ) (table : Know
         ends = r.ends;
         emits = r.emits;
         calls = r.calls;
+        opened =
+            opened_still handed (reply_entry reply) (xids_in r.so_far.calls) (λ xs. refl) r.opened;
         here = (
           h.0,
           h.1

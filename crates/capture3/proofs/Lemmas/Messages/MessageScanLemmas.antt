@@ -9,7 +9,7 @@ use Rattle.xdr3.proofs.Lemmas.Shapes.Walks.{adds_both}
 use Rattle.rpc_head.specs.HeadScan.{ScansCallHead, ScansReplyHead}
 use Rattle.capture3.specs.machinery.ScannedMessages.{ScansCall, ScansReply, StopsMessage}
 use Rattle.capture3.proofs.Lemmas.Messages.BodiesLemmas.{the_calls, the_replies}
-use Rattle.capture3.proofs.Lemmas.Messages.BodySteps.{CallBegins, ReplyBegins, call_accepted, call_bad_arguments, call_bad_head, call_procedure, call_whole, call_xid, refusal_judged, reply_accepted, reply_bad_head, reply_bad_results, reply_xid, whole_call, whole_reply}
+use Rattle.capture3.proofs.Lemmas.Messages.BodySteps.{call_begins, CallBegins, ReplyBegins, call_accepted, call_bad_arguments, call_bad_head, call_procedure, call_whole, call_xid, refusal_judged, reply_accepted, reply_bad_head, reply_bad_results, reply_xid, whole_call, whole_reply}
 use Rattle.capture3.proofs.Lemmas.Messages.SpelledLemmas.{asking}
 
 -- ---- what the code hands on
@@ -120,6 +120,7 @@ call_scans stands body s id head end last old new are r is = record {
   is_call = (the_calls.accepted [] body (whole_call s r.front r.more) are
       (call_accepted [] body s id r.front head end last.at r.more r.begins r.read is refl)).0;
   xid_is = call_xid s r.front r.more;
+  begins = call_begins s r.front r.more;
   procedure_is = call_procedure body s id r.front r.more head end r.begins;
   judged = λ before. call_whole before body s id r.front head end last.at r.more r.begins r.read is;
   adds = r.adds;

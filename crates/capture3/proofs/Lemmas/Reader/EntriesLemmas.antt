@@ -3,6 +3,7 @@ use Rattle.std.proofs.Common.{◌≡◌, ◌≢◌, inl, inr, ℕ, ◌+◌, ◌-
 use Rattle.capture3.proofs.Common.{common_steps, ∥∥₁_elim, CaptureCut, AreBytes, Item, Runs, Stops, Stopped, Taking, Led, OutOfMemory, IsRunning, released, Known, Kind, Error, Spot, Container, Cursor, Two, max_connections, Entry, End, FirstFault, IsClean, begins, most_bytes, Parsing, parsed, emitted, AreFirstReached, AreWhole, Reached, parsing_at, Streams, file_fault, IsWellFormed, Typed, props, Told, Gave, IsSpent, AreStored, IsReady, IsStored, room_in, unpacking_of}
 use Rattle.capture3.specs.declared.message.counted_calls.CountedCalls.{CountedCalls}
 use Rattle.capture3.specs.machinery.CountedCalls.{known_of}
+use Rattle.capture3.specs.OpenXids.{open_xids}
 use Rattle.std.proofs.lemmas.List.{drop-take}
 use Rattle.capture3.proofs.Lemmas.Reader.ToldLemmas.{gave_both, gave_none, gave_none_as}
 use Rattle.std.specs.declared.hash.BuildHasher as BuildHasher
@@ -20,7 +21,7 @@ use Rattle.capture3.specs.declared.container.position.Spot.TheVariants as spots
 use Rattle.capture3.specs.Entries.{AreAllBeforeEnd, IsMetBy, failure_in, failure_of}
 use Rattle.capture3.specs.machinery.EntriesHistory.{entries_left_in, entries_left, unjudged, IsReading, StandsIn, StandsFor, HoldsLast, HasRead, HandsOutOrGoesOn, Turns}
 use Rattle.capture3.specs.Handing.{HandsOut, HandsOutGiven}
-use Rattle.capture3.specs.machinery.EntryParser.{StandsAt, StandsOrRecalls, HasCome, after_side_word, GoesTo, FailsAt, IsHeld, IsOfBytes, entry_cost}
+use Rattle.capture3.specs.machinery.EntryParser.{StandsAt, StandsOrRecalls, HasCome, HasNumber, after_side_word, GoesTo, FailsAt, IsHeld, IsOfBytes, entry_cost}
 use Rattle.capture3.specs.Kept.{IsOfKind}
 use Rattle.capture3.specs.machinery.Position.{AreEmpty, IsBeforeMark, IsEndSpot, IsSoundPosition, IsSoundSpot, StoredAt, opened_at}
 use Rattle.capture3.specs.Laws.{most_entries}
@@ -318,19 +319,26 @@ module _ {R S H : Type 0} {builds : BuildHasher.Ghosts S H} {hashes : Hasher.Gho
       → new.parser ≡ old.parser → HoldsLast old handed → HoldsLast new handed
   same_last old new handed last same h front entry ends kind is =
       subst (λ (c : EntryParser (CountedCalls S H builds hashes)).
-      IsHeld kind c.container.joiner.taking entry)
+      IsHeld kind c.container.joiner.taking entry
+      × HasNumber c.number (open_xids [] (front ++ entry ∷ [])) entry)
       (sym same) (h front entry ends kind (sym last ∙ is))
 
   now_last : (e : Entries R S H builds hashes) (handed : List Entry) (came : Kind) (entry : Entry)
       → e.last ≡ Some came → IsHeld came e.parser.container.joiner.taking entry
+      → HasNumber e.parser.number (open_xids [] (handed ++ entry ∷ [])) entry
       → HoldsLast e (handed ++ entry ∷ [])
-  now_last e handed came entry last held front other ends kind is =
+  now_last e handed came entry last held has front other ends kind is =
       let one : Some other ≡ Some entry =
       ap (λ (e : Entry). Some e) (sym (same_from_push handed front entry other ends).1) in
       let entries : entry ≡ other = cc in
-      let kinds : came ≡ kind = cc in
-      subst (λ (one : Entry). IsHeld kind e.parser.container.joiner.taking one) entries
-      (subst (λ (k : Kind). IsHeld k e.parser.container.joiner.taking entry) kinds held)
+      let kinds : came ≡ kind = cc in (
+        subst (λ (one : Entry). IsHeld kind e.parser.container.joiner.taking one) entries
+            (subst (λ (k : Kind). IsHeld k e.parser.container.joiner.taking entry) kinds held),
+        subst (λ (one : Entry). HasNumber e.parser.number (open_xids [] (front ++ other ∷ [])) one)
+            entries
+            (subst (λ (all : List Entry). HasNumber e.parser.number (open_xids [] all) entry) ends
+            has),
+      )
 
   -- what was handed out are the first entries that the bytes reach
   first_in : (e : Entries R S H builds hashes) (given : List ℕ) (handed : List Entry)
@@ -519,7 +527,8 @@ module _ {R S H : Type 0} {builds : BuildHasher.Ghosts S H} {hashes : Hasher.Gho
       → room_in new.parser.container + entry_cost came ≤ room_in old.parser.container
       → (s : StandsFor told old given handed)
       → ((judged : List ℕ) → HasCome old.parser.container (known_of old.parser.calls) judged handed
-      → GoesTo stands was now came new.parser.container (known_of new.parser.calls)
+      → GoesTo stands was now came new.parser.number new.parser.container
+      (known_of new.parser.calls)
       (judged ++ take count (unjudged old)) handed)
       → HandsOutOrGoesOn told stands new was now given handed (Ok came)
   judged_on stands was now old new count given handed None is goes last size judged block fits
@@ -532,14 +541,14 @@ module _ {R S H : Type 0} {builds : BuildHasher.Ghosts S H} {hashes : Hasher.Gho
   judged_on stands was now old new count given handed (Some kind) is goes last size judged block
       fits within room s leads =
       let r = reading_of old given handed is s in
-      let (entry, held, adds, machine) = leads r.judged r.machine in (
+      let (entry, held, has, adds, machine) = leads r.judged r.machine in (
         entry,
         kind_held kind new.parser.container.joiner.taking entry held,
         adds,
         stands_reading new given (handed ++ entry ∷ []) goes s.bytes
             (omega
             (arith, room_before old given handed is s, room, length-append handed (entry ∷ [])))
-            (omega (arith, s.limits.most, size)) (now_last new handed kind entry last held)
+            (omega (arith, s.limits.most, size)) (now_last new handed kind entry last held has)
             (moves_on old new count given handed (handed ++ entry ∷ []) judged block fits within r
             machine),
       )
@@ -590,7 +599,7 @@ module _ {R S H : Type 0} {builds : BuildHasher.Ghosts S H} {hashes : Hasher.Gho
           connections = (typed_within given (handed ++ End ∷ []) typed).few;
           most = omega (arith, s.limits.most, block);
         };
-        holds = now_last new handed kinds.End End last refl;
+        holds = now_last new handed kinds.End End last refl tt;
         here =
             subst
             (λ (stage : Stage).

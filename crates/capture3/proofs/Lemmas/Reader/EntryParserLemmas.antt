@@ -1,5 +1,5 @@
 -- A capture whose records are judged as they come: step after step.
-use Rattle.capture3.proofs.Common.{ap₂, ◌≡◌, inl, inr, suc, ◌+◌, length, arith, append-nil, ℕ, Option, Some, None, List, [], ◌∷◌, ◌++◌, take, drop, refl, sym, ap, ◌∙◌, subst, append_assoc, take-append-drop, Item, RecordCut, RecordTooLong, Joining, Between, Header, Bytes, Whole, TooLong, join_next, Ends, Runs, Stops, Stopped, after, landed, ProcId, Known, Container, Error, Fault, Side, Client, Server, Event, Spot, ReplyItems, refusal, Entry, fault_at, Streams, Cursor, after-append, judge_call, judge_reply, Parsing, file_next, file_start, parsed, emitted, IsBeforeMark, opened_at, unpacking_at, StoredWith, Two, Adds, KnowsNone, Recalls, ShowsFirst, IsTableOf, Judged, parsing_at, resumed, call_judged, reply_judged, emitted_at, connection_begun, turned, connection_closed, unpacking_with, fault_in_record}
+use Rattle.capture3.proofs.Common.{ap₂, ◌≡◌, inl, inr, suc, ◌+◌, length, arith, append-nil, ℕ, Option, Some, None, List, [], ◌∷◌, ◌++◌, take, drop, refl, sym, ap, ◌∙◌, subst, append_assoc, take-append-drop, Item, RecordCut, RecordTooLong, Joining, Between, Header, Bytes, Whole, TooLong, join_next, Ends, Runs, Stops, Stopped, after, landed, ProcId, Known, Container, Error, Fault, Side, Client, Server, Event, Spot, ReplyItems, refusal, Entry, fault_at, Streams, Cursor, after-append, judge_call, judge_reply, Parsing, file_next, file_start, parsed, emitted, IsBeforeMark, opened_at, unpacking_at, StoredWith, Two, Adds, KnowsNone, Recalls, ShowsFirst, IsTableOf, xids_in, Judged, parsing_at, resumed, call_judged, reply_judged, emitted_at, connection_begun, turned, connection_closed, unpacking_with, fault_in_record, nat_eq, xid_in}
 use Rattle.record_mark.specs.Taking.{Taking, Led, OutOfMemory, IsRunning, IsWhole, body_of, joined_body, joining_of, released, unbegun}
 use Rattle.capture3.specs.declared.reader.entry.Kind.TheVariants as kinds
 use Rattle.capture3.specs.declared.fault.Error.TheVariants as errors
@@ -17,7 +17,11 @@ use Rattle.capture3.specs.machinery.ContainerMachine.{Mark, Unpacking, Refuses, 
 use Rattle.capture3.proofs.Lemmas.Reader.FileStandingLemmas.{whole_connections, runs_follow, stops_follow}
 use Rattle.capture3.proofs.Lemmas.Reader.WholeEntries.{runs_emit, stops_emit}
 use Rattle.capture3.proofs.Lemmas.Reached.Growing.{stops_at_last}
+use Rattle.std.specs.Prelude.{min}
+use Rattle.capture3.specs.OpenXids.{open_xids}
+use Rattle.capture3.specs.Rank.{number_limit, rank}
 use Rattle.capture3.proofs.Lemmas.Connections.KnownLemmas.{table_empty}
+use Rattle.capture3.proofs.Lemmas.Connections.NumberingLemmas.{open-append, opened_more, opened_still}
 
 -- ---- the first byte
 
@@ -31,6 +35,7 @@ stands_at_start position taking streams table at none = record {
   so_far = nothing_judged;
   agrees = subst (λ (u : Unpacking). resuming.Agrees u nothing_judged) (sym at) refl;
   calls = table_empty table none;
+  opened = refl;
   stands = sym (ap (λ (u : Unpacking). Runs (parsing_at u nothing_judged)) at);
   emitted = sym (ap (λ (u : Unpacking). emitted_at u.opened nothing_judged) at);
 }
@@ -57,6 +62,7 @@ stands_on p q t u old new table bytes all piece event s is came =
       so_far = s.so_far;
       agrees = next.1;
       calls = s.calls;
+      opened = s.opened;
       stands = led_on bytes piece (parsing_at (unpacking_of p t old) s.so_far) s.stands ∙ next.0;
       emitted =
           s.emitted
@@ -96,6 +102,7 @@ stands_met p t old new table bytes all piece event came s is arrives_at =
       state = m.state;
       agrees = next.1;
       calls = s.calls;
+      opened = s.opened;
       split =
           ap (λ (b : List ℕ). bytes ++ b) m.split ∙ sym (append_assoc bytes m.front (m.byte ∷ []));
       runs = led_on bytes m.front (parsing_at (unpacking_of p t old) s.so_far) s.stands ∙ m.runs;
@@ -236,68 +243,77 @@ come_at_start c table none runs at empty =
     (stands_at_start c.position c.joiner.taking c.streams.kept table at empty)
 
 module _ {V : Type 0} (stands : V → List Item → Type 0) where
-  pub begin_goes : (v : V) (c : Container) (table none : Known) (bytes : List ℕ)
+  pub begin_goes : (v : V) (number : ℕ) (c : Container) (table none : Known) (bytes : List ℕ)
       (all : List Entry) → KnowsNone none → IsRunning c.joiner.taking
-      → MeetsEvent c table Begin bytes all → GoesTo stands v v (Some kinds.Begin) c none bytes all
-  begin_goes v c table none bytes all empty runs (inl (unopened, m)) = (
+      → MeetsEvent c table Begin bytes all
+      → GoesTo stands v v (Some kinds.Begin) number c none bytes all
+  begin_goes v number c table none bytes all empty runs (inl (unopened, m)) = (
     entries.Begin,
     refl,
+    tt,
     untold stands v,
     come_at_rest c none bytes (all ++ entries.Begin ∷ []) unopened runs (record {
       so_far = connection_begun (unpacking_of c.position c.joiner.taking c.streams.kept) m.so_far;
       agrees = m.agrees;
       calls = table_empty none empty;
+      opened = open-append all (entries.Begin ∷ []) [];
       stands = met_leads c table Begin bytes all m;
       emitted = sym m.emits;
     }),
   )
-  begin_goes v c table none bytes all empty runs (inr m) = absurd m
+  begin_goes v number c table none bytes all empty runs (inr m) = absurd m
 
-  pub turn_goes : (v : V) (c : Container) (table : Known) (bytes : List ℕ)
+  pub turn_goes : (v : V) (number : ℕ) (c : Container) (table : Known) (bytes : List ℕ)
       (all : List Entry) → IsRunning c.joiner.taking → MeetsEvent c table Turn bytes all
-      → GoesTo stands v v (Some kinds.Turn) c table bytes all
-  turn_goes v c table bytes all runs (inl (unopened, m)) = (
+      → GoesTo stands v v (Some kinds.Turn) number c table bytes all
+  turn_goes v number c table bytes all runs (inl (unopened, m)) = (
     entries.Turn,
     refl,
+    tt,
     untold stands v,
     come_at_rest c table bytes (all ++ entries.Turn ∷ []) unopened runs (record {
       so_far =
           turned m.so_far;
       agrees = m.agrees;
       calls = m.calls;
+      opened = opened_still all entries.Turn (xids_in m.so_far.calls) (λ xs. refl) m.opened;
       stands = met_leads c table Turn bytes all m;
       emitted = sym m.emits;
     }),
   )
-  turn_goes v c table bytes all runs (inr come) = (entries.Turn, refl, untold stands v, come)
+  turn_goes v number c table bytes all runs (inr come) =
+      (entries.Turn, refl, tt, untold stands v, come)
 
-  pub close_goes : (v : V) (c : Container) (table : Known) (bytes : List ℕ)
+  pub close_goes : (v : V) (number : ℕ) (c : Container) (table : Known) (bytes : List ℕ)
       (all : List Entry) → IsRunning c.joiner.taking → MeetsEvent c table Close bytes all
-      → GoesTo stands v v (Some kinds.Close) c table bytes all
-  close_goes v c table bytes all runs (inl (unopened, m)) = (
+      → GoesTo stands v v (Some kinds.Close) number c table bytes all
+  close_goes v number c table bytes all runs (inl (unopened, m)) = (
     entries.Close,
     refl,
+    tt,
     untold stands v,
     come_at_rest c table bytes (all ++ entries.Close ∷ []) unopened runs (record {
       so_far =
           connection_closed m.so_far;
       agrees = m.agrees;
       calls = m.calls;
+      opened = opened_still all entries.Close (xids_in m.so_far.calls) (λ xs. refl) m.opened;
       stands = met_leads c table Close bytes all m;
       emitted = sym m.emits;
     }),
   )
-  close_goes v c table bytes all runs (inr come) = (entries.Close, refl, untold stands v, come)
+  close_goes v number c table bytes all runs (inr come) =
+      (entries.Close, refl, tt, untold stands v, come)
 
   -- ---- a call, from the file or from streams
 
   call_goes : (was now : V) (c : Container) (table new : Known) (bytes : List ℕ)
-      (all : List Entry) (id : ProcId) → IsWhole c.joiner.taking
+      (all : List Entry) (number : ℕ) (id : ProcId) → IsWhole c.joiner.taking
       → MeetsEvent c table (Record Client) bytes all
       → ((calls : List (List Item)) → IsTableOf table calls
-      → JudgesCall stands was now calls (body_of c.joiner.taking) new id)
-      → GoesTo stands was now (Some (kinds.Call id)) c new bytes all
-  call_goes was now c table new bytes all id whole (inl (none, m)) tells =
+      → JudgesCall stands was now calls (body_of c.joiner.taking) new number id)
+      → GoesTo stands was now (Some (kinds.Call id)) number c new bytes all
+  call_goes was now c table new bytes all number id whole (inl (none, m)) tells =
       let k = tells m.so_far.calls m.calls in
       let v : Unpacking = unpacking_at c.position c.streams.kept Between in
       let at : unpacking_of c.position (released c.joiner.taking) c.streams.kept ≡ v =
@@ -306,6 +322,9 @@ module _ {V : Type 0} (stands : V → List Item → Type 0) where
       let j : Judged = resuming.with_call m.so_far k.items in (
         entries.Call k.items,
         (k.items, whole, k.is_call, k.id_is, refl),
+        k.numbered
+            ∙ ap (λ (xs : List ℕ). min (rank nat_eq (xid_in k.items) xs) number_limit) (sym
+            (opened_more all m.so_far.calls k.items k.begins m.opened)),
         k.adds,
         subst
             (λ (n : Option Cursor).
@@ -315,6 +334,7 @@ module _ {V : Type 0} (stands : V → List Item → Type 0) where
               so_far = j;
               agrees = subst (λ (w : Unpacking). resuming.Agrees w j) (sym at) (m.agrees.0 k.items);
               calls = k.added;
+              opened = opened_more all m.so_far.calls k.items k.begins m.opened;
               stands =
                   met_leads c table (Record Client) bytes all m
                   ∙ ap (λ r. landed (call_judged v m.so_far r)) k.judged
@@ -323,11 +343,14 @@ module _ {V : Type 0} (stands : V → List Item → Type 0) where
                   sym (m.emits k.items) ∙ ap (λ (w : Unpacking). emitted_at w.opened j) (sym at);
             }),
       )
-  call_goes was now c table new bytes all id whole (inr m) tells =
+  call_goes was now c table new bytes all number id whole (inr m) tells =
       let k = tells m.stood.so_far.calls m.stood.calls in
       let u : Unpacking = after_side_word c.position in (
         entries.Call k.items,
         (k.items, whole, k.is_call, k.id_is, refl),
+        k.numbered
+            ∙ ap (λ (xs : List ℕ). min (rank nat_eq (xid_in k.items) xs) number_limit) (sym
+            (opened_more all m.stood.so_far.calls k.items k.begins m.stood.opened)),
         k.adds,
         subst
             (λ (n : Option Cursor).
@@ -338,27 +361,32 @@ module _ {V : Type 0} (stands : V → List Item → Type 0) where
             Recalls u c.streams.kept Client (m.taken + m.count) n new bytes
             (all ++ entries.Call k.items ∷ [])) (sym m.records_are)
             (call_recalled u c.streams.kept m.taken m.records table bytes all m.stood m.count
-            (body_of c.joiner.taking) k.items new m.joins k.judged k.added)),
+            (body_of c.joiner.taking) k.items new m.joins k.judged k.added k.begins)),
       )
 
   -- ---- a reply
 
   reply_goes : (was now : V) (c : Container) (table : Known) (bytes : List ℕ)
-      (all : List Entry) (id : ProcId) → IsWhole c.joiner.taking
+      (all : List Entry) (number : ℕ) (id : ProcId) → IsWhole c.joiner.taking
       → MeetsEvent c table (Record Server) bytes all
       → ((calls : List (List Item)) → IsTableOf table calls
-      → JudgesReply stands was now calls (body_of c.joiner.taking) id)
-      → GoesTo stands was now (Some (kinds.Reply id)) c table bytes all
-  reply_goes was now c table bytes all id whole (inl (none, m)) tells =
+      → JudgesReply stands was now calls (body_of c.joiner.taking) number id)
+      → GoesTo stands was now (Some (kinds.Reply id)) number c table bytes all
+  reply_goes was now c table bytes all number id whole (inl (none, m)) tells =
       let k = tells m.so_far.calls m.calls in
       let v : Unpacking = unpacking_at c.position c.streams.kept Between in
       let at : unpacking_of c.position (released c.joiner.taking) c.streams.kept ≡ v =
       ap (λ (t : Taking). unpacking_of c.position t c.streams.kept) (let_go c.joiner.taking whole)
       in
       let answer : ReplyItems = record { id = id; items = k.items } in
-      let j : Judged = resuming.with_reply m.so_far answer in (
+      let j : Judged = resuming.with_reply m.so_far answer in
+      let opened : open_xids [] (all ++ entries.Reply id k.items ∷ []) ≡ xids_in m.so_far.calls =
+      opened_still all (entries.Reply id k.items) (xids_in m.so_far.calls) (λ xs. refl) m.opened
+      in (
         entries.Reply id k.items,
         (k.items, whole, k.is_reply, refl),
+        k.numbered
+            ∙ ap (λ (xs : List ℕ). min (rank nat_eq (xid_in k.items) xs) number_limit) (sym opened),
         k.adds,
         subst
             (λ (n : Option Cursor).
@@ -368,6 +396,7 @@ module _ {V : Type 0} (stands : V → List Item → Type 0) where
               so_far = j;
               agrees = subst (λ (w : Unpacking). resuming.Agrees w j) (sym at) (m.agrees.0 answer);
               calls = m.calls;
+              opened = opened;
               stands =
                   met_leads c table (Record Server) bytes all m
                   ∙ ap (λ r. landed (reply_judged v m.so_far r)) k.judged
@@ -376,12 +405,16 @@ module _ {V : Type 0} (stands : V → List Item → Type 0) where
                   sym (m.emits answer) ∙ ap (λ (w : Unpacking). emitted_at w.opened j) (sym at);
             }),
       )
-  reply_goes was now c table bytes all id whole (inr m) tells =
+  reply_goes was now c table bytes all number id whole (inr m) tells =
       let k = tells m.stood.so_far.calls m.stood.calls in
       let answer : ReplyItems = record { id = id; items = k.items } in
       let u : Unpacking = after_side_word c.position in (
         entries.Reply id k.items,
         (k.items, whole, k.is_reply, refl),
+        k.numbered
+            ∙ ap (λ (xs : List ℕ). min (rank nat_eq (xid_in k.items) xs) number_limit) (sym
+            (opened_still all (entries.Reply id k.items) (xids_in m.stood.so_far.calls) (λ xs. refl)
+            m.stood.opened)),
         k.adds,
         subst
             (λ (n : Option Cursor).
@@ -397,30 +430,32 @@ module _ {V : Type 0} (stands : V → List Item → Type 0) where
 
 -- the same with the side and the container as the code has them
 module _ {V : Type 0} (stands : V → List Item → Type 0) (was now : V) (old new : Container)
-    (table after_it : Known) (bytes : List ℕ) (all : List Entry) (id : ProcId) where
+    (table after_it : Known) (bytes : List ℕ) (all : List Entry) (number : ℕ) (id : ProcId) where
   pub call_goes_at : {side : Side} → side ≡ Client → new ≡ old → IsWhole old.joiner.taking
       → MeetsEvent old table (Record side) bytes all
       → ((calls : List (List Item)) → IsTableOf table calls
-      → JudgesCall stands was now calls (body_of old.joiner.taking) after_it id)
-      → GoesTo stands was now (Some (kinds.Call id)) new after_it bytes all
+      → JudgesCall stands was now calls (body_of old.joiner.taking) after_it number id)
+      → GoesTo stands was now (Some (kinds.Call id)) number new after_it bytes all
   call_goes_at {side} is same whole m tells =
-      subst (λ (c : Container). GoesTo stands was now (Some (kinds.Call id)) c after_it bytes all)
+      subst (λ (c : Container).
+      GoesTo stands was now (Some (kinds.Call id)) number c after_it bytes all)
       (sym same)
-      (call_goes stands was now old table after_it bytes all id whole
+      (call_goes stands was now old table after_it bytes all number id whole
       (subst (λ (s : Side). MeetsEvent old table (Record s) bytes all) is m) tells)
 
   pub reply_goes_at : {side : Side} → side ≡ Server → new ≡ old → after_it ≡ table
       → IsWhole old.joiner.taking → MeetsEvent old table (Record side) bytes all
       → ((calls : List (List Item)) → IsTableOf table calls
-      → JudgesReply stands was now calls (body_of old.joiner.taking) id)
-      → GoesTo stands was now (Some (kinds.Reply id)) new after_it bytes all
+      → JudgesReply stands was now calls (body_of old.joiner.taking) number id)
+      → GoesTo stands was now (Some (kinds.Reply id)) number new after_it bytes all
   reply_goes_at {side} is same kept whole m tells =
-      subst (λ (c : Container). GoesTo stands was now (Some (kinds.Reply id)) c after_it bytes all)
+      subst (λ (c : Container).
+      GoesTo stands was now (Some (kinds.Reply id)) number c after_it bytes all)
       (sym same)
       (subst
-      (λ (l : Known). GoesTo stands was now (Some (kinds.Reply id)) old l bytes all)
+      (λ (l : Known). GoesTo stands was now (Some (kinds.Reply id)) number old l bytes all)
       (sym kept)
-      (reply_goes stands was now old table bytes all id whole
+      (reply_goes stands was now old table bytes all number id whole
       (subst (λ (s : Side). MeetsEvent old table (Record s) bytes all) is m) tells))
 
 -- ---- a message that is refused
@@ -524,6 +559,7 @@ streams_open c table bytes all m =
       ends = m.ends;
       emits = m.before ∙ m.emits;
       calls = subst (IsTableOf table) m.agrees.2 m.calls;
+      opened = m.opened ∙ ap xids_in m.agrees.2;
       here = (refl, m.agrees.1, m.emits);
     }
 
@@ -605,6 +641,8 @@ module _ (cursor : Cursor) (old new : Container) (table : Known) (bytes : List �
             subst (λ (x : Unpacking). resuming.Agrees x (connection_closed at.so_far)) (sym here)
             refl;
         calls = at.calls;
+        opened =
+            opened_still all entries.Close (xids_in at.so_far.calls) (λ xs. refl) at.opened;
         stands =
             closes.0
             ∙ ap (λ (x : Unpacking). Runs (parsing_at x (connection_closed at.so_far)))

@@ -34,7 +34,7 @@ returns-in-Ok-clause-goes_on g c given handed s =
     (λ judged at. subst
     (λ (items : List ℕ).
     GoesTo g.V.Visit.stands c.args.visitor.now c.next.new.visitor c.in-Ok.kind
-    c.next.new.self.container (known_of c.next.new.self.calls)
+    c.next.new.self.number c.next.new.self.container (known_of c.next.new.self.calls)
     (judged
     ++ take c.in-Ok.count (slice_range items c.args.self.now.start c.args.self.now.end))
     handed)

@@ -1,5 +1,7 @@
-use Rattle.capture3.proofs.Common.{ap, is_some, arith, subst, sym, ◌∙◌, List, ℕ, IsCall, judge_call}
-use Rattle.capture3.proofs.Lemmas.Connections.KnownLemmas.{admits_agree, table_added}
+use Rattle.capture3.proofs.Common.{ap, is_some, arith, subst, sym, ◌∙◌, List, ℕ, IsCall, judge_call, nat_eq, xids_in, ◌++◌, ◌∷◌, []}
+use Rattle.capture3.proofs.Lemmas.Connections.KnownLemmas.{admits_agree, admits_number, number_added, table_added}
+use Rattle.std.specs.Prelude.{min}
+use Rattle.capture3.specs.Rank.{number_limit, rank}
 use Rattle.capture3.proofs.Lemmas.Messages.MessageScanLemmas.{call_agrees}
 use Rattle.capture3.proofs.reader.entry_parser.EntryParser.call.Goals as goal
 
@@ -11,6 +13,7 @@ returns-in-Ok-Some-clause-ok g c calls table =
     let agree =
     admits_agree known calls call.xid call.id (omega arith) table c.in-Ok-Some.field-0 _
     c.in-Ok-Some.field-0-is c.in-Ok-Some.ensures.0 in
+    let gains = c.in-Ok-Some.ensures.1 (ap is_some c.in-Ok-Some.field-0-is) in
     record {
       items = scanned.items;
       judged =
@@ -23,6 +26,14 @@ returns-in-Ok-Some-clause-ok g c calls table =
           table_added known _ calls scanned.items call.xid call.id scanned.xid_is
           scanned.procedure_is (omega arith) table agree
           (c.in-Ok-Some.ensures.1 (ap is_some c.in-Ok-Some.field-0-is));
+      begins = scanned.begins;
+      numbered =
+          admits_number known calls call.xid call.id (omega arith) table c.in-Ok-Some.field-0
+          c.in-Ok-Some.number c.in-Ok-Some.field-0-is c.in-Ok-Some.ensures.0
+          ∙ number_added known _ calls scanned.items call.xid call.id scanned.xid_is
+          scanned.procedure_is (omega arith) table agree gains
+          ∙ ap (λ (x : ℕ). min (rank nat_eq x (xids_in (calls ++ scanned.items ∷ []))) number_limit)
+          (sym scanned.xid_is);
       adds = scanned.adds;
     }
 

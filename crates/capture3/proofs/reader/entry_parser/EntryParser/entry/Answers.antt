@@ -5,7 +5,7 @@ use Rattle.capture3.proofs.reader.entry_parser.EntryParser.entry.Goals as goal
 pub returns-in-Begin-clause-machine : goal.returns-in-Begin-clause-machine
 returns-in-Begin-clause-machine g c bytes all m =
     let container = c.args.self.now.container in
-    begin_goes g.V.Visit.stands c.args.visitor.now container
+    begin_goes g.V.Visit.stands c.args.visitor.now _ container
     (g.C.KnownCalls.known c.args.self.now.calls) _ bytes all c.clear.ensures
     (subst (λ (e : Event). Leaves (Some e) container.joiner.taking) c.in-Begin.is c.requires.leaves)
     (subst
@@ -16,7 +16,7 @@ returns-in-Begin-clause-machine g c bytes all m =
 pub returns-in-Turn-clause-machine : goal.returns-in-Turn-clause-machine
 returns-in-Turn-clause-machine g c bytes all m =
     let container = c.args.self.now.container in
-    turn_goes g.V.Visit.stands c.args.visitor.now container
+    turn_goes g.V.Visit.stands c.args.visitor.now _ container
     (g.C.KnownCalls.known c.args.self.now.calls) bytes all
     (subst (λ (e : Event). Leaves (Some e) container.joiner.taking) c.in-Turn.is c.requires.leaves)
     (subst
@@ -27,7 +27,7 @@ returns-in-Turn-clause-machine g c bytes all m =
 pub returns-in-Close-clause-machine : goal.returns-in-Close-clause-machine
 returns-in-Close-clause-machine g c bytes all m =
     let container = c.args.self.now.container in
-    close_goes g.V.Visit.stands c.args.visitor.now container
+    close_goes g.V.Visit.stands c.args.visitor.now _ container
     (g.C.KnownCalls.known c.args.self.now.calls) bytes all
     (subst (λ (e : Event). Leaves (Some e) container.joiner.taking) c.in-Close.is c.requires.leaves)
     (subst

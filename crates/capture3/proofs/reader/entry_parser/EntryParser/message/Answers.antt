@@ -4,12 +4,12 @@ use Rattle.capture3.proofs.reader.entry_parser.EntryParser.message.Goals as goal
 
 pub returns-in-Ok-clause-machine : goal.returns-in-Ok-clause-machine
 returns-in-Ok-clause-machine g c bytes all m =
-    call_goes_at g.V.Visit.stands _ _ _ _ _ _ bytes all c.in-Ok.id c.in-Client.is
+    call_goes_at g.V.Visit.stands _ _ _ _ _ _ bytes all _ c.in-Ok.id c.in-Client.is
     c.in-Ok.ensures.container c.requires m c.in-Ok.ensures.ok
 
 pub returns-in-Ok-reply-clause-machine : goal.returns-in-Ok-reply-clause-machine
 returns-in-Ok-reply-clause-machine g c bytes all m =
-    reply_goes_at g.V.Visit.stands _ _ _ _ _ _ bytes all c.in-Ok-reply.id c.in-Server.is
+    reply_goes_at g.V.Visit.stands _ _ _ _ _ _ bytes all _ c.in-Ok-reply.id c.in-Server.is
     c.in-Ok-reply.ensures.container c.in-Ok-reply.ensures.calls c.requires m
     c.in-Ok-reply.ensures.ok
 

@@ -1,4 +1,4 @@
-use Rattle.capture3.proofs.Common.{ap, subst, sym, ◌∙◌, List, ℕ, IsReply, judge_reply}
+use Rattle.capture3.proofs.Common.{ap, subst, sym, ◌∙◌, List, ℕ, IsReply, judge_reply, xid_in}
 use Rattle.capture3.proofs.reader.entry_parser.EntryParser.reply.Goals as goal
 
 pub returns-in-Ok-clause-ok : goal.returns-in-Ok-clause-ok
@@ -14,6 +14,7 @@ returns-in-Ok-clause-ok g c calls table =
           (λ (body : List ℕ).
           IsReply body (record { id = c.in-Ok.call.id; items = scanned.items }))
           c.body.ensures.body scanned.is_reply;
+      numbered = table.numbers (xid_in scanned.items) scanned.is_xid c.in-Ok.call scanned.asked;
       adds = scanned.adds;
     }
 
