@@ -162,8 +162,7 @@ impl<C: CallTable + Drop> EntryParser<C> {
             → MeetsEvent self.old.container (C.known self.old.calls) event bytes entries
             → IfOk result
             (λ kind. GoesTo V.stands visitor.old visitor.new (Some kind) self.new.number
-            self.new.container
-            (C.known self.new.calls) bytes entries) }
+            self.new.container (C.known self.new.calls) bytes entries) }
         ensures fault { (bytes : List ℕ) (entries : List spec.Entry)
             → MeetsEvent self.old.container (C.known self.old.calls) event bytes entries
             → OnErr result (FailsAt bytes entries self.new.error) }
@@ -174,43 +173,21 @@ impl<C: CallTable + Drop> EntryParser<C> {
                 self.calls.clear();
                 Ok(Kind::Begin)
             }
-            Event::Record(side) => self.message(side, visitor),
+            // Written out, since `?` takes more instructions for each message.
+            Event::Record(side) => match side {
+                Side::Client => match self.call(visitor) {
+                    Ok(id) => Ok(Kind::Call(id)),
+                    Err(Noted) => Err(Noted),
+                },
+                Side::Server => match self.reply(visitor) {
+                    Ok(id) => Ok(Kind::Reply(id)),
+                    Err(Noted) => Err(Noted),
+                },
+            },
             Event::Turn => Ok(Kind::Turn),
             Event::Close => Ok(Kind::Close),
             // The container gives what the streams hold, and not the streams.
             Event::Streams => unreachable!(),
-        }
-    }
-
-    /// Returns the message that is whole.
-    fn message<V: Visit>(&mut self, side: Side, visitor: &mut V) -> Result<Kind, Noted>
-        requires { IsWhole self.old.container.joiner.taking }
-        ensures container { self.new.container ≡ self.old.container }
-        ensures not_end { IfOk result (λ kind. kind ≢ Kind.End) }
-        ensures spells { IfOk result (λ kind. SpellsKind kind self.new.container.joiner.taking) }
-        ensures machine { (bytes : List ℕ) (entries : List spec.Entry)
-            → MeetsEvent self.old.container (C.known self.old.calls) (Event.Record side) bytes
-            entries
-            → IfOk result
-            (λ kind. GoesTo V.stands visitor.old visitor.new (Some kind) self.new.number
-            self.new.container
-            (C.known self.new.calls) bytes entries) }
-        ensures fault { (bytes : List ℕ) (entries : List spec.Entry)
-            → MeetsEvent self.old.container (C.known self.old.calls) (Event.Record side) bytes
-            entries
-            → OnErr result (FailsAt bytes entries self.new.error) }
-        ensures device { OnErr result (IsOfBytes self.new.error) }
-    {
-        // Written out, since `?` takes more instructions for each message.
-        match side {
-            Side::Client => match self.call(visitor) {
-                Ok(id) => Ok(Kind::Call(id)),
-                Err(Noted) => Err(Noted),
-            },
-            Side::Server => match self.reply(visitor) {
-                Ok(id) => Ok(Kind::Reply(id)),
-                Err(Noted) => Err(Noted),
-            },
         }
     }
 

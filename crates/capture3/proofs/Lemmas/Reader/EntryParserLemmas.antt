@@ -428,35 +428,37 @@ module _ {V : Type 0} (stands : V → List Item → Type 0) where
             (body_of c.joiner.taking) answer m.joins k.judged)),
       )
 
--- the same with the side and the container as the code has them
+-- the same with the event and the container as the code has them
 module _ {V : Type 0} (stands : V → List Item → Type 0) (was now : V) (old new : Container)
     (table after_it : Known) (bytes : List ℕ) (all : List Entry) (number : ℕ) (id : ProcId) where
-  pub call_goes_at : {side : Side} → side ≡ Client → new ≡ old → IsWhole old.joiner.taking
-      → MeetsEvent old table (Record side) bytes all
+  pub call_goes_at : {event : Event} → event ≡ Record Client → new ≡ old
+      → Leaves (Some event) old.joiner.taking → MeetsEvent old table event bytes all
       → ((calls : List (List Item)) → IsTableOf table calls
       → JudgesCall stands was now calls (body_of old.joiner.taking) after_it number id)
       → GoesTo stands was now (Some (kinds.Call id)) number new after_it bytes all
-  call_goes_at {side} is same whole m tells =
+  call_goes_at {event} is same leaves m tells =
       subst (λ (c : Container).
       GoesTo stands was now (Some (kinds.Call id)) number c after_it bytes all)
       (sym same)
-      (call_goes stands was now old table after_it bytes all number id whole
-      (subst (λ (s : Side). MeetsEvent old table (Record s) bytes all) is m) tells)
+      (call_goes stands was now old table after_it bytes all number id
+      (subst (λ (e : Event). Leaves (Some e) old.joiner.taking) is leaves)
+      (subst (λ (e : Event). MeetsEvent old table e bytes all) is m) tells)
 
-  pub reply_goes_at : {side : Side} → side ≡ Server → new ≡ old → after_it ≡ table
-      → IsWhole old.joiner.taking → MeetsEvent old table (Record side) bytes all
+  pub reply_goes_at : {event : Event} → event ≡ Record Server → new ≡ old → after_it ≡ table
+      → Leaves (Some event) old.joiner.taking → MeetsEvent old table event bytes all
       → ((calls : List (List Item)) → IsTableOf table calls
       → JudgesReply stands was now calls (body_of old.joiner.taking) number id)
       → GoesTo stands was now (Some (kinds.Reply id)) number new after_it bytes all
-  reply_goes_at {side} is same kept whole m tells =
+  reply_goes_at {event} is same kept leaves m tells =
       subst (λ (c : Container).
       GoesTo stands was now (Some (kinds.Reply id)) number c after_it bytes all)
       (sym same)
       (subst
       (λ (l : Known). GoesTo stands was now (Some (kinds.Reply id)) number old l bytes all)
       (sym kept)
-      (reply_goes stands was now old table bytes all number id whole
-      (subst (λ (s : Side). MeetsEvent old table (Record s) bytes all) is m) tells))
+      (reply_goes stands was now old table bytes all number id
+      (subst (λ (e : Event). Leaves (Some e) old.joiner.taking) is leaves)
+      (subst (λ (e : Event). MeetsEvent old table e bytes all) is m) tells))
 
 -- ---- a message that is refused
 
@@ -519,21 +521,21 @@ module _ (c : Container) (table : Known) (bytes : List ℕ) (all : List Entry) w
   reply_fails errors.Write (inr m) h = h m.stood.so_far.calls m.stood.calls
   reply_fails errors.Memory m h = tt
 
-  pub call_fails_at : (error : Error) {side : Side} → side ≡ Client
-      → MeetsEvent c table (Record side) bytes all
+  pub call_fails_at : (error : Error) {event : Event} → event ≡ Record Client
+      → MeetsEvent c table event bytes all
       → ((calls : List (List Item)) → IsTableOf table calls
       → RefusesBody c.position Client (judge_call calls (body_of c.joiner.taking)) error)
       → FailsAt bytes all error
   call_fails_at error is m refuses =
-      call_fails error (subst (λ (s : Side). MeetsEvent c table (Record s) bytes all) is m) refuses
+      call_fails error (subst (λ (e : Event). MeetsEvent c table e bytes all) is m) refuses
 
-  pub reply_fails_at : (error : Error) {side : Side} → side ≡ Server
-      → MeetsEvent c table (Record side) bytes all
+  pub reply_fails_at : (error : Error) {event : Event} → event ≡ Record Server
+      → MeetsEvent c table event bytes all
       → ((calls : List (List Item)) → IsTableOf table calls
       → RefusesBody c.position Server (judge_reply calls (body_of c.joiner.taking)) error)
       → FailsAt bytes all error
   reply_fails_at error is m refuses =
-      reply_fails error (subst (λ (s : Side). MeetsEvent c table (Record s) bytes all) is m) refuses
+      reply_fails error (subst (λ (e : Event). MeetsEvent c table e bytes all) is m) refuses
 
 -- ---- streams that were kept
 
