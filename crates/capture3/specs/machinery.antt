@@ -4,7 +4,7 @@ pub mod CountedCalls
 pub mod Container
 pub mod Counting
 pub mod EntriesHistory
-pub mod EntryParser
+pub mod Pairing
 pub mod ScannedMessages
 pub mod Messages
 pub mod Position

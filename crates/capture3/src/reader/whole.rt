@@ -16,7 +16,7 @@ use crate::fault::{Error, Noted};
 use crate::message::calls::CallList;
 use crate::message::silent::Silent;
 use crate::reader::entry::Entry;
-use crate::reader::entry_parser::EntryParser;
+use crate::reader::pairing::Pairing;
 use std::alloc::Global;
 
 /// Returns the entries of a capture.
@@ -41,22 +41,22 @@ pub fn parse(alloc: Global, bytes: &[u8]) -> Result<Vec<Entry>, Error>
         (λ _. (entries : List spec.Entry) → Typed bytes.now entries → spelled entries ≤ max_bytes) }
     ensures few { IfOk result (λ kept. vec_len kept ≤ most_entries) }
 {
-    let mut parser = EntryParser::new(alloc, CallList::new(alloc));
+    let mut pairing = Pairing::new(alloc, CallList::new(alloc));
     let mut entries = Vec::new(alloc);
     let mut taken = 0;
-    while taken < bytes.len() || parser.is_recalling() {
-        match parser.next(&bytes[taken..], &mut Silent) {
+    while taken < bytes.len() || pairing.is_recalling() {
+        match pairing.next(&bytes[taken..], &mut Silent) {
             Ok((count, kind)) => {
                 taken += count;
                 if let Some(kind) = kind {
-                    let entry = parser.lend(kind).keep(alloc)?;
+                    let entry = pairing.lend(kind).keep(alloc)?;
                     entries.push(entry)?;
                 }
             }
-            Err(Noted) => return Err(parser.error),
+            Err(Noted) => return Err(pairing.error),
         }
     }
-    parser.end(bytes.len() as u64)?;
+    pairing.end(bytes.len() as u64)?;
     entries.push(Entry::End)?;
     Ok(entries)
 }

@@ -11,7 +11,7 @@ use Rattle.capture3.specs.Kept.{IsCopy, IsLent}
 use Rattle.capture3.specs.Numbering.{number_after, number_kept, number_lent, numbers_after, rank_among}
 use Rattle.capture3.specs.OpenXids.{open_xids, xid_of}
 use Rattle.capture3.specs.Rank.{before, number_limit, rank}
-use Rattle.capture3.specs.machinery.EntryParser.{HasNumber}
+use Rattle.capture3.specs.machinery.Pairing.{HasNumber}
 use Rattle.capture3.proofs.Lemmas.Connections.KnownLemmas.{equality}
 use Rattle.capture3.proofs.Lemmas.Connections.RankLemmas.{length-before, length-with_keys}
 

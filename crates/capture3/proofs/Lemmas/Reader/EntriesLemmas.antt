@@ -15,19 +15,19 @@ use Rattle.capture3.specs.declared.reader.entries.Stage.TheVariants.{Reading, Ov
 use Rattle.capture3.specs.declared.reader.entry.Kind.TheVariants as kinds
 use Rattle.capture3.specs.declared.fault.Error.TheVariants as errors
 use Rattle.capture3.specs.declared.fault.Noted.{Noted}
-use Rattle.capture3.specs.declared.reader.entry_parser.EntryParser.{EntryParser}
+use Rattle.capture3.specs.declared.reader.pairing.Pairing.{Pairing}
 use Rattle.capture3.specs.declared.container.position.Position.{Position}
 use Rattle.capture3.specs.declared.container.position.Spot.TheVariants as spots
 use Rattle.capture3.specs.Entries.{AreAllBeforeEnd, IsMetBy, failure_in, failure_of}
 use Rattle.capture3.specs.machinery.EntriesHistory.{entries_left_in, entries_left, unjudged, IsReading, StandsIn, StandsFor, HoldsLast, HasRead, HandsOutOrGoesOn, Turns}
 use Rattle.capture3.specs.Handing.{HandsOut, HandsOutGiven}
-use Rattle.capture3.specs.machinery.EntryParser.{StandsAt, StandsOrRecalls, HasCome, HasNumber, after_side_word, GoesTo, FailsAt, IsHeld, IsOfBytes, entry_cost}
+use Rattle.capture3.specs.machinery.Pairing.{StandsAt, StandsOrRecalls, HasCome, HasNumber, after_side_word, GoesTo, FailsAt, IsHeld, IsOfBytes, entry_cost}
 use Rattle.capture3.specs.Kept.{IsOfKind}
 use Rattle.capture3.specs.machinery.Position.{AreEmpty, IsBeforeMark, IsEndSpot, IsSoundPosition, IsSoundSpot, StoredAt, opened_at}
 use Rattle.capture3.specs.Laws.{most_entries}
 use Rattle.capture3.proofs.Lemmas.Reached.ReachedMore.{reached_within}
 use Rattle.capture3.proofs.Lemmas.Container.BytesOf.{AreBytes-append, split_bytes}
-use Rattle.capture3.proofs.Lemmas.Reader.EntryParserLemmas.{untold}
+use Rattle.capture3.proofs.Lemmas.Reader.PairingLemmas.{untold}
 use Rattle.capture3.proofs.Lemmas.Reached.Limits.{begins-append, typed_within}
 use Rattle.capture3.proofs.Lemmas.Reached.Growing.{emitted_is}
 use Rattle.capture3.proofs.Lemmas.Reader.WholeFiles.{cut_at, typed_at}
@@ -306,8 +306,8 @@ module _ {R S H : Type 0} {builds : BuildHasher.Ghosts S H} {hashes : Hasher.Gho
       by_stage (Failed error) is h = absurd (cc)
 
   left_is : (e : Entries R S H builds hashes) → e.stage ≡ Reading
-      → entries_left e ≡ room_in e.parser.container + 1
-  left_is e is = ap (λ (stage : Stage). entries_left_in stage e.parser.container) is
+      → entries_left e ≡ room_in e.pairing.container + 1
+  left_is e is = ap (λ (stage : Stage). entries_left_in stage e.pairing.container) is
 
   -- ---- the entry that was handed out last
 
@@ -316,27 +316,27 @@ module _ {R S H : Type 0} {builds : BuildHasher.Ghosts S H} {hashes : Hasher.Gho
   none_last e handed none front entry ends kind is = absurd (cc)
 
   same_last : (old new : Entries R S H builds hashes) (handed : List Entry) → new.last ≡ old.last
-      → new.parser ≡ old.parser → HoldsLast old handed → HoldsLast new handed
+      → new.pairing ≡ old.pairing → HoldsLast old handed → HoldsLast new handed
   same_last old new handed last same h front entry ends kind is =
-      subst (λ (c : EntryParser (CountedCalls S H builds hashes)).
+      subst (λ (c : Pairing (CountedCalls S H builds hashes)).
       IsHeld kind c.container.joiner.taking entry
       × HasNumber c.number (open_xids [] (front ++ entry ∷ [])) entry)
       (sym same) (h front entry ends kind (sym last ∙ is))
 
   now_last : (e : Entries R S H builds hashes) (handed : List Entry) (came : Kind) (entry : Entry)
-      → e.last ≡ Some came → IsHeld came e.parser.container.joiner.taking entry
-      → HasNumber e.parser.number (open_xids [] (handed ++ entry ∷ [])) entry
+      → e.last ≡ Some came → IsHeld came e.pairing.container.joiner.taking entry
+      → HasNumber e.pairing.number (open_xids [] (handed ++ entry ∷ [])) entry
       → HoldsLast e (handed ++ entry ∷ [])
   now_last e handed came entry last held has front other ends kind is =
       let one : Some other ≡ Some entry =
       ap (λ (e : Entry). Some e) (sym (same_from_push handed front entry other ends).1) in
       let entries : entry ≡ other = cc in
       let kinds : came ≡ kind = cc in (
-        subst (λ (one : Entry). IsHeld kind e.parser.container.joiner.taking one) entries
-            (subst (λ (k : Kind). IsHeld k e.parser.container.joiner.taking entry) kinds held),
-        subst (λ (one : Entry). HasNumber e.parser.number (open_xids [] (front ++ other ∷ [])) one)
+        subst (λ (one : Entry). IsHeld kind e.pairing.container.joiner.taking one) entries
+            (subst (λ (k : Kind). IsHeld k e.pairing.container.joiner.taking entry) kinds held),
+        subst (λ (one : Entry). HasNumber e.pairing.number (open_xids [] (front ++ other ∷ [])) one)
             entries
-            (subst (λ (all : List Entry). HasNumber e.parser.number (open_xids [] all) entry) ends
+            (subst (λ (all : List Entry). HasNumber e.pairing.number (open_xids [] all) entry) ends
             has),
       )
 
@@ -344,13 +344,13 @@ module _ {R S H : Type 0} {builds : BuildHasher.Ghosts S H} {hashes : Hasher.Gho
   first_in : (e : Entries R S H builds hashes) (given : List ℕ) (handed : List Entry)
       → AreBytes given → IsReading e given handed → AreFirstReached given handed
   first_in e given handed are r =
-      subst (λ (b : List ℕ). AreFirstReached b handed) (sym r.split) (come_first e.parser.container
-      (known_of e.parser.calls) r.judged (unjudged e) handed (subst AreBytes r.split are) r.machine)
+      subst (λ (b : List ℕ). AreFirstReached b handed) (sym r.split) (come_first e.pairing.container
+      (known_of e.pairing.calls) r.judged (unjudged e) handed (subst AreBytes r.split are) r.machine)
 
   -- it reads on
   pub stands_reading : (e : Entries R S H builds hashes) (given : List ℕ) (handed : List Entry)
       → e.stage ≡ Reading → AreBytes given
-      → length handed + (room_in e.parser.container + 1) ≤ most_entries
+      → length handed + (room_in e.pairing.container + 1) ≤ most_entries
       → length given ≤ most_bytes Two + vec_len e.block → HoldsLast e handed
       → IsReading e given handed → StandsFor told e given handed
   stands_reading e given handed is are few most holds r = record {
@@ -377,7 +377,7 @@ module _ {R S H : Type 0} {builds : BuildHasher.Ghosts S H} {hashes : Hasher.Gho
         omega (
           arith,
           s.limits.few,
-          ap (λ (stage : Stage). entries_left_in stage new.parser.container) is,
+          ap (λ (stage : Stage). entries_left_in stage new.pairing.container) is,
         );
     limits =
         record {
@@ -393,7 +393,7 @@ module _ {R S H : Type 0} {builds : BuildHasher.Ghosts S H} {hashes : Hasher.Gho
 
   room_before : (e : Entries R S H builds hashes) (given : List ℕ) (handed : List Entry)
       → e.stage ≡ Reading → StandsFor told e given handed
-      → length handed + (room_in e.parser.container + 1) ≤ most_entries
+      → length handed + (room_in e.pairing.container + 1) ≤ most_entries
   room_before e given handed is s = omega (arith, s.few, left_is e is)
 
   pub stands_first : (e : Entries R S H builds hashes) (given : List ℕ) (handed : List Entry)
@@ -416,17 +416,17 @@ module _ {R S H : Type 0} {builds : BuildHasher.Ghosts S H} {hashes : Hasher.Gho
       ∙ append-nil r.judged
 
   machine_at : (e : Entries R S H builds hashes) (given : List ℕ) (handed : List Entry)
-      → e.start ≡ e.end → e.parser.container.cursor ≡ None → IsReading e given handed
-      → StandsAt e.parser.container.position (released e.parser.container.joiner.taking)
-      e.parser.container.streams.kept (known_of e.parser.calls) given handed
+      → e.start ≡ e.end → e.pairing.container.cursor ≡ None → IsReading e given handed
+      → StandsAt e.pairing.container.position (released e.pairing.container.joiner.taking)
+      e.pairing.container.streams.kept (known_of e.pairing.calls) given handed
   machine_at e given handed empty none r =
-      stands_unopened e.parser.container (known_of e.parser.calls) given handed none (subst
-      (λ (b : List ℕ). HasCome e.parser.container (known_of e.parser.calls) b handed)
+      stands_unopened e.pairing.container (known_of e.pairing.calls) given handed none (subst
+      (λ (b : List ℕ). HasCome e.pairing.container (known_of e.pairing.calls) b handed)
       (sym (all_judged e given handed empty r)) r.machine)
 
   pub has_read : (old new : Entries R S H builds hashes) (given more : List ℕ) (handed : List Entry)
       → old.stage ≡ Reading → new.stage ≡ Reading → old.start ≡ old.end
-      → old.parser.container.cursor ≡ None → new.parser ≡ old.parser → new.last ≡ old.last
+      → old.pairing.container.cursor ≡ None → new.pairing ≡ old.pairing → new.last ≡ old.last
       → new.judged ≡ old.judged → unjudged new ≡ more → AreBytes more
       → length more ≤ vec_len new.block
       → Gave (told old.source.now) (told new.source.now) more → StandsFor told old given handed
@@ -447,7 +447,7 @@ module _ {R S H : Type 0} {builds : BuildHasher.Ghosts S H} {hashes : Hasher.Gho
             (omega (
               arith,
               room_before old given handed is s,
-              ap (λ (c : EntryParser (CountedCalls S H builds hashes)). room_in c.container) same,
+              ap (λ (c : Pairing (CountedCalls S H builds hashes)). room_in c.container) same,
             ))
             (omega (arith, length-append given more, bounded, within))
             (same_last old new handed last same s.holds)
@@ -457,7 +457,7 @@ module _ {R S H : Type 0} {builds : BuildHasher.Ghosts S H} {hashes : Hasher.Gho
               counted = count ∙ r.counted;
               machine =
                   subst
-                  (λ (c : EntryParser (CountedCalls S H builds hashes)).
+                  (λ (c : Pairing (CountedCalls S H builds hashes)).
                   HasCome c.container (known_of c.calls) r.judged handed) (sym same) r.machine;
             });
       }
@@ -465,7 +465,7 @@ module _ {R S H : Type 0} {builds : BuildHasher.Ghosts S H} {hashes : Hasher.Gho
   pub has_failed : (old new : Entries R S H builds hashes) (given : List ℕ) (handed : List Entry)
       → old.stage ≡ Reading → new.stage ≡ Failed errors.Read → new.last ≡ None
       → vec_len new.block ≡ vec_len old.block → old.start ≡ old.end
-      → old.parser.container.cursor ≡ None
+      → old.pairing.container.cursor ≡ None
       → Gave (told old.source.now) (told new.source.now) [] → StandsFor told old given handed
       → HasRead told old new given handed
   has_failed old new given handed is fails none block empty unopened kept s =
@@ -485,7 +485,7 @@ module _ {R S H : Type 0} {builds : BuildHasher.Ghosts S H} {hashes : Hasher.Gho
       → unjudged new ≡ slice_range old.block.items (old.start + count) old.end
       → old.start + count ≤ old.end → old.end ≤ length old.block.items
       → (r : IsReading old given handed)
-      → HasCome new.parser.container (known_of new.parser.calls)
+      → HasCome new.pairing.container (known_of new.pairing.calls)
       (r.judged ++ take count (unjudged old)) all
       → IsReading new given all
   moves_on old new count given handed all judged block fits within r machine =
@@ -524,11 +524,11 @@ module _ {R S H : Type 0} {builds : BuildHasher.Ghosts S H} {hashes : Hasher.Gho
       → new.judged ≡ old.judged + count
       → unjudged new ≡ slice_range old.block.items (old.start + count) old.end
       → old.start + count ≤ old.end → old.end ≤ length old.block.items
-      → room_in new.parser.container + entry_cost came ≤ room_in old.parser.container
+      → room_in new.pairing.container + entry_cost came ≤ room_in old.pairing.container
       → (s : StandsFor told old given handed)
-      → ((judged : List ℕ) → HasCome old.parser.container (known_of old.parser.calls) judged handed
-      → GoesTo stands was now came new.parser.number new.parser.container
-      (known_of new.parser.calls)
+      → ((judged : List ℕ) → HasCome old.pairing.container (known_of old.pairing.calls) judged handed
+      → GoesTo stands was now came new.pairing.number new.pairing.container
+      (known_of new.pairing.calls)
       (judged ++ take count (unjudged old)) handed)
       → HandsOutOrGoesOn told stands new was now given handed (Ok came)
   judged_on stands was now old new count given handed None is goes last size judged block fits
@@ -543,7 +543,7 @@ module _ {R S H : Type 0} {builds : BuildHasher.Ghosts S H} {hashes : Hasher.Gho
       let r = reading_of old given handed is s in
       let (entry, held, has, adds, machine) = leads r.judged r.machine in (
         entry,
-        kind_held kind new.parser.container.joiner.taking entry held,
+        kind_held kind new.pairing.container.joiner.taking entry held,
         adds,
         stands_reading new given (handed ++ entry ∷ []) goes s.bytes
             (omega
@@ -565,7 +565,7 @@ module _ {R S H : Type 0} {builds : BuildHasher.Ghosts S H} {hashes : Hasher.Gho
   pub judged_failed : (old new : Entries R S H builds hashes) (error : Error) (given : List ℕ)
       (handed : List Entry) → old.stage ≡ Reading → new.stage ≡ Failed error → new.last ≡ None
       → vec_len new.block ≡ vec_len old.block → (s : StandsFor told old given handed)
-      → ((judged : List ℕ) → HasCome old.parser.container (known_of old.parser.calls) judged handed
+      → ((judged : List ℕ) → HasCome old.pairing.container (known_of old.pairing.calls) judged handed
       → FailsAt (judged ++ unjudged old) handed error) → StandsFor told new given handed
   judged_failed old new error given handed is fails none block s shows =
       let r = reading_of old given handed is s in
@@ -578,7 +578,7 @@ module _ {R S H : Type 0} {builds : BuildHasher.Ghosts S H} {hashes : Hasher.Gho
   pub finished : (old new : Entries R S H builds hashes) (given : List ℕ) (handed : List Entry)
       → old.stage ≡ Reading → new.stage ≡ Over → new.last ≡ Some kinds.End
       → vec_len new.block ≡ vec_len old.block → old.start ≡ old.end
-      → old.parser.container.cursor ≡ None → IsEndSpot old.parser.container.position.spot
+      → old.pairing.container.cursor ≡ None → IsEndSpot old.pairing.container.position.spot
       → IsSpent (told new.source.now)
       → StandsFor told old given handed → StandsFor told new given (handed ++ End ∷ [])
   finished old new given handed is over last block empty none ended end s =
@@ -592,7 +592,7 @@ module _ {R S H : Type 0} {builds : BuildHasher.Ghosts S H} {hashes : Hasher.Gho
               arith,
               room_before old given handed is s,
               length-append handed (End ∷ []),
-              ap (λ (stage : Stage). entries_left_in stage new.parser.container) over,
+              ap (λ (stage : Stage). entries_left_in stage new.pairing.container) over,
             );
         limits = record {
           few = omega (arith, room_before old given handed is s, length-append handed (End ∷ []));
@@ -610,7 +610,7 @@ module _ {R S H : Type 0} {builds : BuildHasher.Ghosts S H} {hashes : Hasher.Gho
   pub cut_short : (old new : Entries R S H builds hashes) (error : Error) (given : List ℕ)
       (handed : List Entry) → old.stage ≡ Reading → new.stage ≡ Failed error → new.last ≡ None
       → vec_len new.block ≡ vec_len old.block → old.start ≡ old.end
-      → old.parser.container.cursor ≡ None → (IsEndSpot old.parser.container.position.spot → ⊥)
+      → old.pairing.container.cursor ≡ None → (IsEndSpot old.pairing.container.position.spot → ⊥)
       → error ≡ errors.Refused (file_fault old.judged CaptureCut) → IsSpent (told new.source.now)
       → StandsFor told old given handed → StandsFor told new given handed
   cut_short old new error given handed is fails none block empty unopened not cut end s =
@@ -707,7 +707,7 @@ module _ {R S H : Type 0} {builds : BuildHasher.Ghosts S H} {hashes : Hasher.Gho
         arith,
         far,
         r.counted,
-        come_length mid.parser.container _ r.judged handed
+        come_length mid.pairing.container _ r.judged handed
             (split_bytes (given ++ read.more) r.judged (unjudged mid) r.split
             read.stands.bytes).0 r.machine,
       ))

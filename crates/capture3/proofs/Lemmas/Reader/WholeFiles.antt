@@ -10,7 +10,7 @@ use Rattle.capture3.specs.Kept.{IsKept, AreKept, begun}
 use Rattle.capture3.specs.Entries.{OnRefused}
 use Rattle.capture3.specs.Numbering.{number_after, number_kept, numbers_after}
 use Rattle.capture3.specs.OpenXids.{open_xids}
-use Rattle.capture3.specs.machinery.EntryParser.{HasNumber}
+use Rattle.capture3.specs.machinery.Pairing.{HasNumber}
 use Rattle.capture3.proofs.Lemmas.Connections.NumberingLemmas.{numbered_more}
 use Rattle.capture3.specs.machinery.ContainerMachine.{left_of_magic, Opened, Magic, Digit, Mark, Length, Chunk, Mixed, Ended}
 use Rattle.capture3.proofs.Lemmas.Container.ContainerLemmas.{taken_more}

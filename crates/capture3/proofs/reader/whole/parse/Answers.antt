@@ -1,5 +1,5 @@
 use Rattle.capture3.proofs.Common.{Err, ℕ, List, Option, arith, ap, subst, ◌≡◌, ◌∙◌, ◌++◌, ◌-◌, [], ◌∷◌, take, take_all, drop, length, length-take, length-drop, refl, End, Kind}
-use Rattle.capture3.specs.machinery.EntryParser.{entry_cost, SpellsLast}
+use Rattle.capture3.specs.machinery.Pairing.{entry_cost, SpellsLast}
 use Rattle.capture3.proofs.Lemmas.Reached.Limits.{typed_within}
 use Rattle.capture3.proofs.Lemmas.Reader.PassedOn.{error_is}
 use Rattle.capture3.specs.declared.reader.entry.Entry.TheVariants as variants
@@ -85,7 +85,7 @@ returns-clause-entries c =
     take_all c.loop-taken.taken c.args.bytes.now (omega (arith, c.if-taken-bytes.false)) in (
       invariant.machine.0 ++ End ∷ [],
       typed_at c.args.bytes.now _ _ _ _ invariant.machine.0 (λ i. omega (arith, c.type_inv.bytes i))
-          (judged_all c.loop-taken.parser.container _ _ _ _ all
+          (judged_all c.loop-taken.pairing.container _ _ _ _ all
           (not_recalling _ _ c.is_recalling.ensures c.if-is_recalling.false)
           invariant.machine.1) c.in_ok-end.ensures.ok,
       rw c.in_ok-push.ensures.items
@@ -117,7 +117,7 @@ returns-in_err-end-clause-fault c =
     take_all c.loop-taken.taken c.args.bytes.now (omega (arith, c.if-taken-bytes.false)) in
     let met =
     cut_at c.args.bytes.now _ _ _ _ invariant.machine.0 (λ i. omega (arith, c.type_inv.bytes i))
-    (judged_all c.loop-taken.parser.container _ _ _ _ all
+    (judged_all c.loop-taken.pairing.container _ _ _ _ all
     (not_recalling _ _ c.is_recalling.ensures c.if-is_recalling.false) invariant.machine.1)
     c.in_err-end.ensures.err.0 in
     rw (error_is _ _ c.from_residual-in_err-end.ensures ∙ ap Err c.in_err-end.ensures.err.1) met

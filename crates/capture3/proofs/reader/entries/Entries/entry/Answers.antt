@@ -5,7 +5,7 @@ use Rattle.capture3.proofs.reader.entries.Entries.entry.Goals as goal
 pub returns-in-Some-clause-numbered : goal.returns-in-Some-clause-numbered
 returns-in-Some-clause-numbered g c given handed entry s =
     let held = s.holds handed entry refl c.in-Some.kind c.in-Some.is in
-    lent_number c.lend.result handed entry c.args.self.now.parser.number
+    lent_number c.lend.result handed entry c.args.self.now.pairing.number
     (omega (arith, s.few, length-append handed (entry ∷ []))) (c.lend.ensures.lent entry held.0)
     c.lend.ensures.number held.1
 

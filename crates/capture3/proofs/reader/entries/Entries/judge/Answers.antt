@@ -8,11 +8,11 @@ next-requires-clause-sound g c = sound_position _ (c.args.self.now.sound c.requi
 
 pub next-requires-clause-stored : goal.next-requires-clause-stored
 next-requires-clause-stored g c =
-    stored_container c.args.self.now.parser.container (c.args.self.now.stored c.requires.reading)
+    stored_container c.args.self.now.pairing.container (c.args.self.now.stored c.requires.reading)
 
 pub next-requires-clause-ready : goal.next-requires-clause-ready
 next-requires-clause-ready g c =
-    ready_joiner c.args.self.now.parser.container.cursor
+    ready_joiner c.args.self.now.pairing.container.cursor
     _ (c.args.self.now.ready c.requires.reading)
 
 pub invariant_of-self-in-Err-clause-never_writes : goal.invariant_of-self-in-Err-clause-never_writes

@@ -3,7 +3,7 @@ use Rattle.capture3.proofs.Lemmas.Connections.KnownLemmas.{admits_agree, admits_
 use Rattle.std.specs.Prelude.{min}
 use Rattle.capture3.specs.Rank.{number_limit, rank}
 use Rattle.capture3.proofs.Lemmas.Messages.MessageScanLemmas.{call_agrees}
-use Rattle.capture3.proofs.reader.entry_parser.EntryParser.call.Goals as goal
+use Rattle.capture3.proofs.reader.pairing.Pairing.call.Goals as goal
 
 pub returns-in-Ok-Some-clause-ok : goal.returns-in-Ok-Some-clause-ok
 returns-in-Ok-Some-clause-ok g c calls table =

@@ -1,6 +1,6 @@
 use Rattle.capture3.proofs.Common.{subst, sym, List, ℕ, SpellsCall, SpellsReply}
 use Rattle.capture3.proofs.Lemmas.Reader.Lending.{call_spelled, call_whole, reply_spelled, reply_whole}
-use Rattle.capture3.proofs.reader.entry_parser.EntryParser.lend.Goals as goal
+use Rattle.capture3.proofs.reader.pairing.Pairing.lend.Goals as goal
 
 pub body-requires : goal.body-requires
 body-requires g c = call_whole _ _ _ c.in-Call.is c.requires.spells

@@ -7,7 +7,7 @@ use Rattle.capture3.specs.declared.container.position.Event.TheVariants.{Begin, 
 use Rattle.capture3.specs.declared.container.position.Position.{Position}
 use Rattle.capture3.specs.machinery.Container.{AreStored, Comes, ComesToFault, FirstKept, FromFile, InFile, InFirstKept, InNextKept, IsStored, Leaves, NextKept, Recalled, first_cursor, RecallFails, stream_of, unpacking_of, arrived, Arrives, ShowsError}
 use Rattle.capture3.specs.Entry as entries
-use Rattle.capture3.specs.machinery.EntryParser.{StandsAt, StandsOrRecalls, HasCome, after_side_word, HasMet, MeetsEvent, met, met_in, GoesTo, FailsAt, JudgesCall, JudgesReply, RefusesBody}
+use Rattle.capture3.specs.machinery.Pairing.{StandsAt, StandsOrRecalls, HasCome, after_side_word, HasMet, MeetsEvent, met, met_in, GoesTo, FailsAt, JudgesCall, JudgesReply, RefusesBody}
 use Rattle.capture3.specs.StreamMachine as reading
 use Rattle.capture3.specs.declared.container.position.Event.TheVariants as events
 use Rattle.capture3.proofs.Lemmas.Container.KeptStreamsLemmas.{call_cut, call_recalled, call_refused, close_recalled, reply_cut, reply_recalled, reply_refused, shows_at_last, turn_recalled}

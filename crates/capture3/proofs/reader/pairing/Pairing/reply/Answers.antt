@@ -1,5 +1,5 @@
 use Rattle.capture3.proofs.Common.{ap, subst, sym, ◌∙◌, List, ℕ, IsReply, judge_reply, xid_in}
-use Rattle.capture3.proofs.reader.entry_parser.EntryParser.reply.Goals as goal
+use Rattle.capture3.proofs.reader.pairing.Pairing.reply.Goals as goal
 
 pub returns-in-Ok-clause-ok : goal.returns-in-Ok-clause-ok
 returns-in-Ok-clause-ok g c calls table =

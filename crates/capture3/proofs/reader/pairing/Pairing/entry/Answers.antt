@@ -1,7 +1,7 @@
 use Rattle.capture3.proofs.Common.{Some, subst, sym, ap, ◌∙◌, IsWhole, body_of, Container, Event, Leaves, MeetsEvent, SpellsCall, SpellsReply}
 use Rattle.capture3.specs.declared.container.position.Event.TheVariants.{Record}
-use Rattle.capture3.proofs.Lemmas.Reader.EntryParserLemmas.{begin_goes, call_fails_at, call_goes_at, close_goes, reply_fails_at, reply_goes_at, turn_goes}
-use Rattle.capture3.proofs.reader.entry_parser.EntryParser.entry.Goals as goal
+use Rattle.capture3.proofs.Lemmas.Reader.PairingLemmas.{begin_goes, call_fails_at, call_goes_at, close_goes, reply_fails_at, reply_goes_at, turn_goes}
+use Rattle.capture3.proofs.reader.pairing.Pairing.entry.Goals as goal
 
 pub returns-in-Begin-clause-machine : goal.returns-in-Begin-clause-machine
 returns-in-Begin-clause-machine g c bytes all m =

@@ -1,6 +1,6 @@
 use Rattle.std.proofs.Common.{take}
-use Rattle.capture3.proofs.Lemmas.Reader.EntryParserLemmas.{comes_meets, comes_on, comes_to_fault, fails_longer, let_released, stored_still}
-use Rattle.capture3.proofs.reader.entry_parser.EntryParser.next.Goals as goal
+use Rattle.capture3.proofs.Lemmas.Reader.PairingLemmas.{comes_meets, comes_on, comes_to_fault, fails_longer, let_released, stored_still}
+use Rattle.capture3.proofs.reader.pairing.Pairing.next.Goals as goal
 
 pub returns-in-Ok-default-None-clause-machine : goal.returns-in-Ok-default-None-clause-machine
 returns-in-Ok-default-None-clause-machine g c bytes all s =

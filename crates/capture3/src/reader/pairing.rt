@@ -5,7 +5,7 @@ ghost use Rattle.record_mark.specs.Taking.{IsRunning, IsWhole, body_of, released
 ghost use Rattle.xdr3.specs.Item.{Item};
 ghost use Rattle.capture3.specs.machinery.Container.{IsReady, IsStored, Leaves, room_in};
 ghost use Rattle.capture3.specs.Entry as spec;
-ghost use Rattle.capture3.specs.machinery.EntryParser.{entry_cost, error_at, FailsAt, GoesTo, HasCome, IsHeld, IsOfBytes, MeetsEvent, RefusesBody, SpellsKind, SpellsLast, JudgesCall, JudgesReply};
+ghost use Rattle.capture3.specs.machinery.Pairing.{entry_cost, error_at, FailsAt, GoesTo, HasCome, IsHeld, IsOfBytes, MeetsEvent, RefusesBody, SpellsKind, SpellsLast, JudgesCall, JudgesReply};
 ghost use Rattle.capture3.specs.Kept.{IsLent, kind_of};
 ghost use Rattle.capture3.specs.Numbering.{number_lent};
 ghost use Rattle.capture3.specs.machinery.Spelled.{SpellsCall, SpellsReply};
@@ -27,7 +27,7 @@ use xdr3::{GetError, Reason, Visit};
 
 /// A container, and the calls of its open connection.
 #[derive(Drop)]
-pub(crate) struct EntryParser<C: Drop> {
+pub(crate) struct Pairing<C: Drop> {
     pub(crate) container: Container,
     pub(crate) calls: C,
     /// The number of the last message.
@@ -36,8 +36,8 @@ pub(crate) struct EntryParser<C: Drop> {
     pub(crate) error: Error,
 }
 
-impl<C: CallTable + Drop> EntryParser<C> {
-    pub(crate) fn new(alloc: Global, calls: C) -> EntryParser<C>
+impl<C: CallTable + Drop> Pairing<C> {
+    pub(crate) fn new(alloc: Global, calls: C) -> Pairing<C>
         requires none { KnowsNone (C.known calls) }
         ensures sound { IsSoundPosition result.container.position }
         ensures stored { IsStored result.container }
@@ -45,7 +45,7 @@ impl<C: CallTable + Drop> EntryParser<C> {
         ensures room { room_in result.container ≤ most_things }
         ensures machine { HasCome result.container (C.known result.calls) [] [] }
     {
-        EntryParser {
+        Pairing {
             container: Container::new(alloc),
             calls,
             number: 0,

@@ -1,5 +1,5 @@
-use Rattle.capture3.proofs.Lemmas.Reader.EntryParserLemmas.{come_at_start}
-use Rattle.capture3.proofs.reader.entry_parser.EntryParser.new.Goals as goal
+use Rattle.capture3.proofs.Lemmas.Reader.PairingLemmas.{come_at_start}
+use Rattle.capture3.proofs.reader.pairing.Pairing.new.Goals as goal
 
 pub returns-clause-machine : goal.returns-clause-machine
 returns-clause-machine g c =
