@@ -7,8 +7,7 @@ use Rattle.std.specs.List.{list_any}
 use Rattle.std.proofs.lemmas.Option.{none-some, same_Some}
 use Rattle.std.specs.Cmp.{IsEquivalence}
 use Rattle.capture3.specs.Rank.{distinct, number_limit, rank, with_key}
-use Rattle.capture3.proofs.Lemmas.Connections.LineLemmas.{by_test}
-use Rattle.capture3.proofs.Lemmas.Connections.RankLemmas.{any-absent, any-distinct, before-absent, before-append, before-push, distinct-push}
+use Rattle.capture3.proofs.Lemmas.Connections.RankLemmas.{any-absent, any-distinct, before-absent, before-append, before-push, by_test, distinct-push}
 use Rattle.capture3.proofs.Lemmas.Messages.BodiesLemmas.{same_is}
 
 -- ---- a call that comes
@@ -314,10 +313,3 @@ module _ (old : Known) (calls : List (List Item)) (xid : ℕ) (id : ProcId) (sma
       (sym some ∙ is ∙ ap (λ b. cond b (Some (number_in old xid)) None) t))
       (λ f. absurd (none-some number
       (sym (sym some ∙ is ∙ ap (λ b. cond b (Some (number_in old xid)) None) f))))
-
-  pub admits_differ : None ≡ number_for old xid id → agrees (procedure_of calls xid) id ≡ false
-  admits_differ is =
-      by_test (agrees (procedure_in_call (old.call_of xid)) id)
-      (λ t. absurd (none-some (number_in old xid)
-      (is ∙ ap (λ b. cond b (Some (number_in old xid)) None) t)))
-      (λ f. known_agrees ∙ f)

@@ -6,6 +6,7 @@ use Rattle.std.proofs.lemmas.Option.{slice_get_past}
 use Rattle.std.proofs.Math.Dec.{eqb-suc-suc, eqb-suc-zero, eqb-zero-suc}
 use Rattle.std.specs.Int.{from_be_bytes, to_be_bytes, to_le_bytes}
 use Rattle.std.proofs.lemmas.Nat.{be_bytes_4, from_be_bytes-to_be_bytes_4}
+use Rattle.capture3.proofs.Lemmas.Connections.RankLemmas.{by_test}
 
 -- ---- homes
 
@@ -47,10 +48,6 @@ one_at_home counting a b small_a small_b e = by_order counting.swapped e
     by_order false same = apart_still a b (2 ^ 32 - counting.first) small_a small_b same
 
 -- ---- the homes of a line that changes
-
-pub by_test : {P : Type 0} (b : Bool) → (b ≡ true → P) → (b ≡ false → P) → P
-by_test true t f = t refl
-by_test false t f = f refl
 
 pub is_apart : (a b : ℕ) → (a ≡ b → ⊥) → nat_eq a b ≡ false
 is_apart a b apart = by_test (nat_eq a b) (λ is. absurd (apart (eqb-true a b is))) (λ is. is)

@@ -60,6 +60,11 @@ opened_more all calls items begins opened =
 
 -- ---- numbers
 
+pub numbered_in : (number x : ℕ) (xs ys : List ℕ) → ys ≡ xs
+    → number ≡ min (rank nat_eq x xs) number_limit → number ≡ min (rank nat_eq x ys) number_limit
+numbered_in number x xs ys same is =
+    is ∙ ap (λ (l : List ℕ). min (rank nat_eq x l) number_limit) (sym same)
+
 rank_few : (x : ℕ) (xs : List ℕ) → rank nat_eq x xs ≤ 1 + length xs
 rank_few x xs =
     omega (

@@ -1,9 +1,7 @@
 -- What a reader of entries makes of its histories, step by step.
 use Rattle.std.proofs.Common.{◌≡◌, ◌≢◌, inl, inr, ℕ, ◌+◌, ◌-◌, ◌≤◌, ◌<◌, Option, Some, None, Result, Ok, Err, IsSome, List, [], ◌∷◌, ◌++◌, length, take, drop, slice_range, refl, sym, ap, subst, ◌∙◌, append_assoc, append-nil, length-append, arith, take-append-drop, length-take, length-drop, vec_len}
-use Rattle.capture3.proofs.Common.{common_steps, ∥∥₁_elim, CaptureCut, AreBytes, Item, Runs, Stops, Stopped, Taking, Led, OutOfMemory, IsRunning, released, Known, Kind, Error, Spot, Container, Cursor, Two, max_connections, Entry, End, FirstFault, IsClean, begins, most_bytes, Parsing, parsed, emitted, AreFirstReached, AreWhole, Reached, parsing_at, Streams, file_fault, IsWellFormed, Typed, props, Told, Gave, IsSpent, AreStored, IsReady, IsStored, room_in, unpacking_of}
+use Rattle.capture3.proofs.Common.{common_steps, known_of, open_xids, ∥∥₁_elim, CaptureCut, AreBytes, Item, Runs, Stops, Stopped, Taking, Led, OutOfMemory, IsRunning, released, Known, Kind, Error, Spot, Container, Cursor, Two, max_connections, Entry, End, FirstFault, IsClean, begins, most_bytes, Parsing, parsed, emitted, AreFirstReached, AreWhole, Reached, parsing_at, Streams, file_fault, IsWellFormed, Typed, props, Told, Gave, IsSpent, AreStored, IsReady, IsStored, room_in, unpacking_of}
 use Rattle.capture3.specs.declared.message.counted_calls.CountedCalls.{CountedCalls}
-use Rattle.capture3.specs.machinery.CountedCalls.{known_of}
-use Rattle.capture3.specs.OpenXids.{open_xids}
 use Rattle.std.proofs.lemmas.List.{drop-take}
 use Rattle.capture3.proofs.Lemmas.Reader.ToldLemmas.{gave_both, gave_none, gave_none_as}
 use Rattle.std.specs.declared.hash.BuildHasher as BuildHasher
@@ -328,9 +326,7 @@ module _ {R S H : Type 0} {builds : BuildHasher.Ghosts S H} {hashes : Hasher.Gho
       → HasNumber e.pairing.number (open_xids [] (handed ++ entry ∷ [])) entry
       → HoldsLast e (handed ++ entry ∷ [])
   now_last e handed came entry last held has front other ends kind is =
-      let one : Some other ≡ Some entry =
-      ap (λ (e : Entry). Some e) (sym (same_from_push handed front entry other ends).1) in
-      let entries : entry ≡ other = cc in
+      let entries : entry ≡ other = (same_from_push handed front entry other ends).1 in
       let kinds : came ≡ kind = cc in (
         subst (λ (one : Entry). IsHeld kind e.pairing.container.joiner.taking one) entries
             (subst (λ (k : Kind). IsHeld k e.pairing.container.joiner.taking entry) kinds held),

@@ -1,6 +1,6 @@
 -- A capture whose records are judged as they come: step after step.
-use Rattle.capture3.proofs.Common.{ap₂, ◌≡◌, inl, inr, suc, ◌+◌, length, arith, append-nil, ℕ, Option, Some, None, List, [], ◌∷◌, ◌++◌, take, drop, refl, sym, ap, ◌∙◌, subst, append_assoc, take-append-drop, Item, RecordCut, RecordTooLong, Joining, Between, Header, Bytes, Whole, TooLong, join_next, Ends, Runs, Stops, Stopped, after, landed, ProcId, Known, Container, Error, Fault, Side, Client, Server, Event, Spot, ReplyItems, refusal, Entry, fault_at, Streams, Cursor, after-append, judge_call, judge_reply, Parsing, file_next, file_start, parsed, emitted, IsBeforeMark, opened_at, unpacking_at, StoredWith, Two, Adds, KnowsNone, Recalls, ShowsFirst, IsTableOf, xids_in, Judged, parsing_at, resumed, call_judged, reply_judged, emitted_at, connection_begun, turned, connection_closed, unpacking_with, fault_in_record, nat_eq, xid_in}
-use Rattle.record_mark.specs.Taking.{Taking, Led, OutOfMemory, IsRunning, IsWhole, body_of, joined_body, joining_of, released, unbegun}
+use Rattle.capture3.proofs.Common.{open_xids, ap₂, ◌≡◌, inl, inr, suc, ◌+◌, length, arith, append-nil, ℕ, Option, Some, None, List, [], ◌∷◌, ◌++◌, take, drop, refl, sym, ap, ◌∙◌, subst, append_assoc, take-append-drop, Item, RecordCut, RecordTooLong, Joining, Between, Header, Bytes, Whole, TooLong, join_next, Ends, Runs, Stops, Stopped, after, landed, ProcId, Known, Container, Error, Fault, Side, Client, Server, Event, Spot, ReplyItems, refusal, Entry, fault_at, Streams, Cursor, after-append, judge_call, judge_reply, Parsing, file_next, file_start, parsed, emitted, IsBeforeMark, opened_at, unpacking_at, StoredWith, Two, Adds, KnowsNone, Recalls, ShowsFirst, IsTableOf, xids_in, Judged, parsing_at, resumed, call_judged, reply_judged, emitted_at, connection_begun, turned, connection_closed, unpacking_with, fault_in_record, xid_in}
+use Rattle.record_mark.specs.Taking.{Taking, Led, OutOfMemory, IsRunning, IsWhole, body_of, joined_body, released, unbegun}
 use Rattle.capture3.specs.declared.reader.entry.Kind.TheVariants as kinds
 use Rattle.capture3.specs.declared.fault.Error.TheVariants as errors
 use Rattle.capture3.specs.declared.container.position.Event.TheVariants.{Begin, Record, Turn, Close}
@@ -17,11 +17,8 @@ use Rattle.capture3.specs.machinery.ContainerMachine.{Mark, Unpacking, Refuses, 
 use Rattle.capture3.proofs.Lemmas.Reader.FileStandingLemmas.{whole_connections, runs_follow, stops_follow}
 use Rattle.capture3.proofs.Lemmas.Reader.WholeEntries.{runs_emit, stops_emit}
 use Rattle.capture3.proofs.Lemmas.Reached.Growing.{stops_at_last}
-use Rattle.std.specs.Prelude.{min}
-use Rattle.capture3.specs.OpenXids.{open_xids}
-use Rattle.capture3.specs.Rank.{number_limit, rank}
 use Rattle.capture3.proofs.Lemmas.Connections.KnownLemmas.{table_empty}
-use Rattle.capture3.proofs.Lemmas.Connections.NumberingLemmas.{open-append, opened_more, opened_still}
+use Rattle.capture3.proofs.Lemmas.Connections.NumberingLemmas.{numbered_in, open-append, opened_more, opened_still}
 
 -- ---- the first byte
 
@@ -319,12 +316,11 @@ module _ {V : Type 0} (stands : V → List Item → Type 0) where
       let at : unpacking_of c.position (released c.joiner.taking) c.streams.kept ≡ v =
       ap (λ (t : Taking). unpacking_of c.position t c.streams.kept) (let_go c.joiner.taking whole)
       in
-      let j : Judged = resuming.with_call m.so_far k.items in (
+      let j : Judged = resuming.with_call m.so_far k.items in
+      let opened = opened_more all m.so_far.calls k.items k.begins m.opened in (
         entries.Call k.items,
         (k.items, whole, k.is_call, k.id_is, refl),
-        k.numbered
-            ∙ ap (λ (xs : List ℕ). min (rank nat_eq (xid_in k.items) xs) number_limit) (sym
-            (opened_more all m.so_far.calls k.items k.begins m.opened)),
+        numbered_in number (xid_in k.items) _ _ opened k.numbered,
         k.adds,
         subst
             (λ (n : Option Cursor).
@@ -334,7 +330,7 @@ module _ {V : Type 0} (stands : V → List Item → Type 0) where
               so_far = j;
               agrees = subst (λ (w : Unpacking). resuming.Agrees w j) (sym at) (m.agrees.0 k.items);
               calls = k.added;
-              opened = opened_more all m.so_far.calls k.items k.begins m.opened;
+              opened = opened;
               stands =
                   met_leads c table (Record Client) bytes all m
                   ∙ ap (λ r. landed (call_judged v m.so_far r)) k.judged
@@ -348,9 +344,8 @@ module _ {V : Type 0} (stands : V → List Item → Type 0) where
       let u : Unpacking = after_side_word c.position in (
         entries.Call k.items,
         (k.items, whole, k.is_call, k.id_is, refl),
-        k.numbered
-            ∙ ap (λ (xs : List ℕ). min (rank nat_eq (xid_in k.items) xs) number_limit) (sym
-            (opened_more all m.stood.so_far.calls k.items k.begins m.stood.opened)),
+        numbered_in number (xid_in k.items) _ _
+            (opened_more all m.stood.so_far.calls k.items k.begins m.stood.opened) k.numbered,
         k.adds,
         subst
             (λ (n : Option Cursor).
@@ -385,8 +380,7 @@ module _ {V : Type 0} (stands : V → List Item → Type 0) where
       in (
         entries.Reply id k.items,
         (k.items, whole, k.is_reply, refl),
-        k.numbered
-            ∙ ap (λ (xs : List ℕ). min (rank nat_eq (xid_in k.items) xs) number_limit) (sym opened),
+        numbered_in number (xid_in k.items) _ _ opened k.numbered,
         k.adds,
         subst
             (λ (n : Option Cursor).
@@ -411,10 +405,9 @@ module _ {V : Type 0} (stands : V → List Item → Type 0) where
       let u : Unpacking = after_side_word c.position in (
         entries.Reply id k.items,
         (k.items, whole, k.is_reply, refl),
-        k.numbered
-            ∙ ap (λ (xs : List ℕ). min (rank nat_eq (xid_in k.items) xs) number_limit) (sym
+        numbered_in number (xid_in k.items) _ _
             (opened_still all (entries.Reply id k.items) (xids_in m.stood.so_far.calls) (λ xs. refl)
-            m.stood.opened)),
+            m.stood.opened) k.numbered,
         k.adds,
         subst
             (λ (n : Option Cursor).
@@ -538,12 +531,6 @@ module _ (c : Container) (table : Known) (bytes : List ℕ) (all : List Entry) w
       reply_fails error (subst (λ (e : Event). MeetsEvent c table e bytes all) is m) refuses
 
 -- ---- streams that were kept
-
-running_between : (t : Taking) → IsRunning t → joining_of t ≡ Between → t ≡ unbegun
-running_between (Led (Runs s)) h e = ap (λ j. Led (Runs j)) e
-running_between (Led (Stops x)) h e = absurd h
-running_between (Led (Stopped x)) h e = absurd h
-running_between OutOfMemory h e = absurd h
 
 -- the streams are whole: their judging begins
 streams_open : (c : Container) (table : Known) (bytes : List ℕ) (all : List Entry)
