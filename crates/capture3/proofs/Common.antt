@@ -80,7 +80,7 @@ pub use Rattle.capture3.specs.declared.message.calls.NumberedCall.{NumberedCall}
 pub use Rattle.capture3.specs.declared.message.counting.Counting.{Counting}
 pub use Rattle.capture3.specs.declared.message.scan.CallHead.{CallHead}
 pub use Rattle.capture3.specs.declared.reader.entry.Kind.{Kind}
-pub use Rattle.capture3.specs.machinery.Calls.{Admits, AreAbove, AreSame, Gains, Known, KnowsNone, Puts, at_home, known_by, known_in, known_listed, lined, listed, next_number, number_for, number_in, over, procedure_in_call}
+pub use Rattle.capture3.specs.machinery.Calls.{Admits, AreAbove, AreSame, Gains, Known, KnowsNone, Puts, at_home, known_by, known_in, known_in_list, lined, in_list, next_number, number_for, number_in, over, procedure_in_call}
 pub use Rattle.capture3.specs.machinery.Container.{AreStored, Arrives, FirstKept, InFirstKept, InNextKept, IsReady, IsStored, Leaves, NextKept, ShowsError, room_in, unpacking_in, unpacking_of}
 pub use Rattle.capture3.specs.machinery.ContainerMachine.{Length, Mark, Mixed, Unpacking, chunk_counted, connection_marked, fault_in_record, in_side_chunk, mixed_at, mixed_ended, sides_counted, sides_marked, unpack_next, unpacking_with}
 unfoldable pub use Rattle.capture3.specs.machinery.Counting.{home_of}
@@ -96,3 +96,5 @@ pub use Rattle.capture3.specs.machinery.Messages.{HasProcedures, IsTableOf, resu
 pub use Rattle.capture3.specs.machinery.Position.{AreEmpty, IsBeforeMark, IsEndSpot, StoredWith, opened_at, unpacking_at, version_of}
 pub use Rattle.capture3.specs.machinery.SideStart.{side_start}
 pub use Rattle.capture3.specs.machinery.Spelled.{SpellsCall, SpellsReply}
+pub use Rattle.capture3.specs.declared.message.counted_calls.CountedCalls.{CountedCalls}
+pub use Rattle.capture3.specs.declared.reader.pairing.Pairing.{Pairing}

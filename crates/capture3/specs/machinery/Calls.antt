@@ -72,8 +72,8 @@ abbrev pub lined : Counting → List NumberedCall → ℕ → Option NumberedCal
 lined counting line xid = at_home (slice_get line (home_of counting xid))
 
 -- the call of an xid in a list of pairs
-abbrev pub listed : List (ℕ × NumberedCall) → ℕ → Option NumberedCall
-listed pairs xid = lookup (nat_eq xid) pairs
+abbrev pub in_list : List (ℕ × NumberedCall) → ℕ → Option NumberedCall
+in_list pairs xid = lookup (nat_eq xid) pairs
 
 -- the first of two that is there
 abbrev pub over : Option NumberedCall → Option NumberedCall → Option NumberedCall
@@ -86,11 +86,11 @@ known_by line others count =
     record { call_of = λ xid. over (line xid) (others xid); count = count }
 
 abbrev pub known_in : Counting → List NumberedCall → List (ℕ × NumberedCall) → ℕ → Known
-known_in counting line others count = known_by (lined counting line) (listed others) count
+known_in counting line others count = known_by (lined counting line) (in_list others) count
 
 -- the calls of a list alone
-abbrev pub known_listed : List (ℕ × NumberedCall) → Known
-known_listed pairs = record { call_of = listed pairs; count = min (length pairs) number_limit }
+abbrev pub known_in_list : List (ℕ × NumberedCall) → Known
+known_in_list pairs = record { call_of = in_list pairs; count = min (length pairs) number_limit }
 
 -- one call
 abbrev pub known_one : ℕ → NumberedCall → Known
@@ -99,4 +99,4 @@ known_one xid call = record { call_of = λ q. if xid == q then Some call else No
 -- no xid with a home below this has a call
 abbrev pub AreAbove : Counting → ℕ → List (ℕ × NumberedCall) → Type 0
 AreAbove counting nearest others = (xid : ℕ) → xid < 2 ^ 32 → home_of counting xid < nearest
-    → listed others xid ≡ None
+    → in_list others xid ≡ None

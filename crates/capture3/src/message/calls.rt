@@ -1,7 +1,7 @@
 //! The calls of a connection.
 
 ghost use Rattle.std.specs.Prelude.{◌≡◌, if◌then◌else◌, None, Some};
-ghost use Rattle.capture3.specs.machinery.Calls.{known_listed, listed, next_number, Admits, KnowsNone};
+ghost use Rattle.capture3.specs.machinery.Calls.{known_in_list, in_list, next_number, Admits, KnowsNone};
 ghost use Rattle.capture3.specs.BodyProgram.{is_same};
 
 use rpc_head::ProcId;
@@ -64,7 +64,7 @@ pub(crate) struct CallList {
 
 impl CallList {
     pub(crate) fn new(alloc: Global) -> CallList
-        ensures { KnowsNone (known_listed result.calls.items) }
+        ensures { KnowsNone (known_in_list result.calls.items) }
     {
         CallList {
             calls: Vec::new(alloc),
@@ -72,7 +72,7 @@ impl CallList {
     }
 
     fn find(&self, xid: u32) -> Option<NumberedCall>
-        ensures { result ≡ listed self.now.calls.items xid }
+        ensures { result ≡ in_list self.now.calls.items xid }
     {
         for pair in &self.calls {
             if xid == pair.0 {
@@ -84,7 +84,7 @@ impl CallList {
 }
 
 impl KnownCalls for CallList {
-    ghost known = { λ list. known_listed list.calls.items };
+    ghost known = { λ list. known_in_list list.calls.items };
 
     fn call_of(&self, xid: u32) -> Option<NumberedCall> {
         self.find(xid)

@@ -56,8 +56,8 @@ impl<S: BuildHasher + Drop> CountedCalls<S> {
         }
     }
 
-    /// Adds a call that is not in the line to the others, with its number if it is new. It takes the
-    /// place of one with its xid, which is then put back, so that a new one needs one look-up.
+    /// Adds a call that is not in the line to the others, with its number if it is new. It takes
+    /// the place of one with its xid, which is then put back, so a new one needs one look-up.
     fn admit_other(&mut self, xid: u32, call: NumberedCall) -> Result<Option<u32>, AllocError>
         requires new { lined self.old.counting self.old.line.items xid ≡ None }
         requires next { call.number ≡ next_number self.old.count }
@@ -173,8 +173,8 @@ impl<S: BuildHasher + Drop> KnownCalls for CountedCalls<S> {
 }
 
 impl<S: BuildHasher + Drop> CallTable for CountedCalls<S> {
-    // `IndexMap::clear` costs what the table has room for, `truncate` what it holds. A connection of
-    // few calls may follow one of a million.
+    // `IndexMap::clear` costs what the table has room for, `truncate` what it holds. A connection
+    // of few calls may follow one of a million.
     fn clear(&mut self) {
         self.line.clear();
         self.empty_homes = 0;

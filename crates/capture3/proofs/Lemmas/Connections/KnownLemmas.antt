@@ -1,5 +1,5 @@
 -- Tables of calls: what a call that comes makes of them.
-use Rattle.capture3.proofs.Common.{◌≡◌, ℕ, ◌==◌, ◌+◌, ◌<◌, Bool, true, false, cond, if◌then◌else◌, is_some, nat_eq, Option, Some, None, List, [], ◌∷◌, ◌++◌, length, refl, sym, ap, ◌∙◌, eq-eqb, eqb-true, arith, ProcId, Item, agrees, procedure_of, procedure_in, xid_in, NumberedCall, Gains, HasProcedures, IsTableOf, Known, KnowsNone, Puts, length-append, listed, next_number, number_for, number_in, over, procedure_in_call, xids_in}
+use Rattle.capture3.proofs.Common.{◌≡◌, ℕ, ◌==◌, ◌+◌, ◌<◌, Bool, true, false, cond, if◌then◌else◌, is_some, nat_eq, Option, Some, None, List, [], ◌∷◌, ◌++◌, length, refl, sym, ap, ◌∙◌, eq-eqb, eqb-true, arith, ProcId, Item, agrees, procedure_of, procedure_in, xid_in, NumberedCall, Gains, HasProcedures, IsTableOf, Known, KnowsNone, Puts, length-append, in_list, next_number, number_for, number_in, over, procedure_in_call, xids_in}
 use Rattle.std.specs.Prelude.{◌^◌, ◌||◌, min, IsSome}
 use Rattle.std.proofs.lemmas.List.{map-append}
 use Rattle.capture3.specs.machinery.Calls.{number_or}
@@ -63,17 +63,17 @@ puts_in_line old new others xid call puts q small =
 
 -- a call at the end of a list that has none with its xid
 pub puts_listed : (pairs : List (ℕ × NumberedCall)) (xid : ℕ) (call : NumberedCall)
-    → listed pairs xid ≡ None → Puts (listed pairs) xid call (listed (pairs ++ (xid, call) ∷ []))
+    → in_list pairs xid ≡ None → Puts (in_list pairs) xid call (in_list (pairs ++ (xid, call) ∷ []))
 puts_listed [] xid call none q small =
     ap (λ b. cond b (Some call) None) (same_either_way q xid)
 puts_listed (pair ∷ pairs) xid call none q small =
     by_head (λ absent. puts_listed pairs xid call absent q small) (nat_eq xid pair.0) refl none
   where
-    by_head : (listed pairs xid ≡ None → listed (pairs ++ (xid, call) ∷ []) q
-        ≡ (if xid == q then Some call else listed pairs q)) → (b : Bool) → nat_eq xid pair.0 ≡ b
-        → cond b (Some pair.1) (listed pairs xid) ≡ None
-        → listed ((pair ∷ pairs) ++ (xid, call) ∷ []) q
-        ≡ (if xid == q then Some call else listed (pair ∷ pairs) q)
+    by_head : (in_list pairs xid ≡ None → in_list (pairs ++ (xid, call) ∷ []) q
+        ≡ (if xid == q then Some call else in_list pairs q)) → (b : Bool) → nat_eq xid pair.0 ≡ b
+        → cond b (Some pair.1) (in_list pairs xid) ≡ None
+        → in_list ((pair ∷ pairs) ++ (xid, call) ∷ []) q
+        ≡ (if xid == q then Some call else in_list (pair ∷ pairs) q)
     by_head later true is absent = absurd (none-some pair.1 (sym absent))
     by_head later false is absent =
         ap (cond (nat_eq q pair.0) (Some pair.1)) (later absent)

@@ -1,7 +1,6 @@
 -- What a reader of entries makes of its histories, step by step.
 use Rattle.std.proofs.Common.{◌≡◌, ◌≢◌, inl, inr, ℕ, ◌+◌, ◌-◌, ◌≤◌, ◌<◌, Option, Some, None, Result, Ok, Err, IsSome, List, [], ◌∷◌, ◌++◌, length, take, drop, slice_range, refl, sym, ap, subst, ◌∙◌, append_assoc, append-nil, length-append, arith, take-append-drop, length-take, length-drop, vec_len}
-use Rattle.capture3.proofs.Common.{common_steps, known_of, open_xids, ∥∥₁_elim, CaptureCut, AreBytes, Item, Runs, Stops, Stopped, Taking, Led, OutOfMemory, IsRunning, released, Known, Kind, Error, Spot, Container, Cursor, Two, max_connections, Entry, End, FirstFault, IsClean, begins, most_bytes, Parsing, parsed, emitted, AreFirstReached, AreWhole, Reached, parsing_at, Streams, file_fault, IsWellFormed, Typed, props, Told, Gave, IsSpent, AreStored, IsReady, IsStored, room_in, unpacking_of}
-use Rattle.capture3.specs.declared.message.counted_calls.CountedCalls.{CountedCalls}
+use Rattle.capture3.proofs.Common.{common_steps, Pairing, CountedCalls, known_of, open_xids, ∥∥₁_elim, CaptureCut, AreBytes, Item, Runs, Stops, Stopped, Taking, Led, OutOfMemory, IsRunning, released, Known, Kind, Error, Spot, Container, Cursor, Two, max_connections, Entry, End, FirstFault, IsClean, begins, most_bytes, Parsing, parsed, emitted, AreFirstReached, AreWhole, Reached, parsing_at, Streams, file_fault, IsWellFormed, Typed, props, Told, Gave, IsSpent, AreStored, IsReady, IsStored, room_in, unpacking_of}
 use Rattle.std.proofs.lemmas.List.{drop-take}
 use Rattle.capture3.proofs.Lemmas.Reader.ToldLemmas.{gave_both, gave_none, gave_none_as}
 use Rattle.std.specs.declared.hash.BuildHasher as BuildHasher
@@ -13,7 +12,6 @@ use Rattle.capture3.specs.declared.reader.entries.Stage.TheVariants.{Reading, Ov
 use Rattle.capture3.specs.declared.reader.entry.Kind.TheVariants as kinds
 use Rattle.capture3.specs.declared.fault.Error.TheVariants as errors
 use Rattle.capture3.specs.declared.fault.Noted.{Noted}
-use Rattle.capture3.specs.declared.reader.pairing.Pairing.{Pairing}
 use Rattle.capture3.specs.declared.container.position.Position.{Position}
 use Rattle.capture3.specs.declared.container.position.Spot.TheVariants as spots
 use Rattle.capture3.specs.Entries.{AreAllBeforeEnd, IsMetBy, failure_in, failure_of}
@@ -341,7 +339,8 @@ module _ {R S H : Type 0} {builds : BuildHasher.Ghosts S H} {hashes : Hasher.Gho
       → AreBytes given → IsReading e given handed → AreFirstReached given handed
   first_in e given handed are r =
       subst (λ (b : List ℕ). AreFirstReached b handed) (sym r.split) (come_first e.pairing.container
-      (known_of e.pairing.calls) r.judged (unjudged e) handed (subst AreBytes r.split are) r.machine)
+      (known_of e.pairing.calls) r.judged (unjudged e) handed (subst AreBytes r.split are)
+      r.machine)
 
   -- it reads on
   pub stands_reading : (e : Entries R S H builds hashes) (given : List ℕ) (handed : List Entry)
@@ -522,7 +521,8 @@ module _ {R S H : Type 0} {builds : BuildHasher.Ghosts S H} {hashes : Hasher.Gho
       → old.start + count ≤ old.end → old.end ≤ length old.block.items
       → room_in new.pairing.container + entry_cost came ≤ room_in old.pairing.container
       → (s : StandsFor told old given handed)
-      → ((judged : List ℕ) → HasCome old.pairing.container (known_of old.pairing.calls) judged handed
+      → ((judged : List ℕ)
+      → HasCome old.pairing.container (known_of old.pairing.calls) judged handed
       → GoesTo stands was now came new.pairing.number new.pairing.container
       (known_of new.pairing.calls)
       (judged ++ take count (unjudged old)) handed)
@@ -561,7 +561,8 @@ module _ {R S H : Type 0} {builds : BuildHasher.Ghosts S H} {hashes : Hasher.Gho
   pub judged_failed : (old new : Entries R S H builds hashes) (error : Error) (given : List ℕ)
       (handed : List Entry) → old.stage ≡ Reading → new.stage ≡ Failed error → new.last ≡ None
       → vec_len new.block ≡ vec_len old.block → (s : StandsFor told old given handed)
-      → ((judged : List ℕ) → HasCome old.pairing.container (known_of old.pairing.calls) judged handed
+      → ((judged : List ℕ)
+      → HasCome old.pairing.container (known_of old.pairing.calls) judged handed
       → FailsAt (judged ++ unjudged old) handed error) → StandsFor told new given handed
   judged_failed old new error given handed is fails none block s shows =
       let r = reading_of old given handed is s in

@@ -1,4 +1,4 @@
-use Rattle.capture3.proofs.Common.{◌≤◌, ◌+◌, ◌-◌, length, take, vec_len, released, IsReady, IsStored, known_listed, room_in}
+use Rattle.capture3.proofs.Common.{◌≤◌, ◌+◌, ◌-◌, length, take, vec_len, released, IsReady, IsStored, known_in_list, room_in}
 use Rattle.capture3.specs.machinery.Position.{IsSoundPosition, most_things}
 use Rattle.capture3.proofs.Lemmas.Reader.WholeFiles.{Keeps}
 use Rattle.capture3.proofs.reader.whole.parse.Given as goal
@@ -10,7 +10,7 @@ invariant-loop-taken l = record {
   stored : IsStored l.pairing.container;
   ready : IsReady l.pairing.container.cursor (released l.pairing.container.joiner.taking);
   room : vec_len l.entries + room_in l.pairing.container ≤ most_things;
-  machine : Keeps l.pairing.container (known_listed l.pairing.calls.calls.items)
+  machine : Keeps l.pairing.container (known_in_list l.pairing.calls.calls.items)
       (take l.taken l.bytes) l.entries.items;
 }
 

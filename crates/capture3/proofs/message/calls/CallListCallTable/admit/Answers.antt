@@ -1,4 +1,4 @@
-use Rattle.capture3.proofs.Common.{◌∷◌, [], ap, sym, subst, ◌∙◌, ℕ, List, arith, length, length-append, NumberedCall, Puts, known_listed, listed}
+use Rattle.capture3.proofs.Common.{◌∷◌, [], ap, sym, subst, ◌∙◌, ℕ, List, arith, length, length-append, NumberedCall, Puts, known_in_list, in_list}
 use Rattle.std.specs.Prelude.{min}
 use Rattle.capture3.specs.Rank.{number_limit}
 use Rattle.capture3.proofs.Lemmas.Connections.KnownLemmas.{known_anew, puts_listed}
@@ -8,11 +8,11 @@ pub returns : goal.returns
 returns c =
     let pairs = c.args.self.now.calls.items in
     let call : NumberedCall = record { number = c.number_after-number.result; id = c.args.id } in
-    let puts : Puts (listed pairs) c.args.xid call (listed c.push.new.self.items) =
-    subst (λ (l : List (ℕ × NumberedCall)). Puts (listed pairs) c.args.xid call (listed l))
+    let puts : Puts (in_list pairs) c.args.xid call (in_list c.push.new.self.items) =
+    subst (λ (l : List (ℕ × NumberedCall)). Puts (in_list pairs) c.args.xid call (in_list l))
     (sym c.in_ok-push.ensures.items)
     (puts_listed pairs c.args.xid call (sym c.find.ensures ∙ c.in_default.is)) in
-    known_anew (known_listed pairs) (known_listed c.push.new.self.items) c.args.xid call
+    known_anew (known_in_list pairs) (known_in_list c.push.new.self.items) c.args.xid call
     (sym c.find.ensures ∙ c.in_default.is)
     (omega (arith, c.number_after-number.ensures, c.args.self.now.calls.ok.0))
     puts

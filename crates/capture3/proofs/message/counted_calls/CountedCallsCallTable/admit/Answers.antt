@@ -1,4 +1,4 @@
-use Rattle.capture3.proofs.Common.{sym, subst, ◌∙◌, refl, List, arith, NumberedCall, Puts, lined, listed}
+use Rattle.capture3.proofs.Common.{sym, subst, ◌∙◌, refl, List, arith, NumberedCall, Puts, lined, in_list}
 use Rattle.capture3.proofs.Lemmas.Connections.LineLemmas.{nothing_past, puts_last}
 use Rattle.capture3.proofs.Lemmas.Connections.KnownLemmas.{known_anew, over_none, puts_in_line}
 use Rattle.capture3.specs.machinery.CountedCalls.{known_of}
@@ -16,8 +16,8 @@ returns-then-home-self g c =
     (puts_last counting line line c.args.xid call (omega arith) (omega arith) (λ i. refl)
     (omega (arith, c.home-home.ensures))) in
     known_anew (known_of c.args.self.now) _ c.args.xid call
-    (over_none (lined counting line c.args.xid) (listed others c.args.xid)
+    (over_none (lined counting line c.args.xid) (in_list others c.args.xid)
     (nothing_past line _ (omega (arith, c.home-home.ensures)))
     ∙ c.args.self.now.above c.args.xid (omega arith) (omega (arith, c.home-home.ensures)))
     (omega arith)
-    (puts_in_line (lined counting line) _ (listed others) c.args.xid call puts) refl
+    (puts_in_line (lined counting line) _ (in_list others) c.args.xid call puts) refl
