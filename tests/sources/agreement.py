@@ -243,7 +243,7 @@ def trees_are_of_the_code(tools: Tools) -> None:
     tools.want('trees', len(list(call_trees.trees(page))), 2)
     tools.want('calls', call_trees.calls_not_there(page), [])
     planted = (('Entries::finish', 'Entries::failure', ['Entries::turn does not call Entries::failure',
-                                                        'Entries::failure does not call EntryParser::end']),
+                                                        'Entries::failure does not call Pairing::end']),
                ('Position::take_mark                      capture3/src/container/position.rt', 'Position::take_mark',
                 ['Position::take_mark is not in capture3/src/container.rt']))
     for old, new, wrong in planted:

@@ -64,11 +64,12 @@ pub use Rattle.canon3.specs.Laws.{AreFirst}
 pub use Rattle.canon3.specs.Pairing.{IsHandle, IsVerifier, IsXid, Member, OneToOne, Pairs, here, there}
 pub use Rattle.canon3.specs.Parting.{IsMessageOf, IsPlaceOf, Parting, PartsAt, connections, first_ends, first_message, next_record, second_ends, second_message}
 pub use Rattle.canon3.specs.Progress.{HasPassed, steps_of}
-pub use Rattle.canon3.specs.Rank.{HoldsDistinct, before, distinct, number_limit, rank, with_key, with_keys}
+pub use Rattle.capture3.specs.Rank.{HoldsDistinct, before, distinct, number_limit, rank, with_key, with_keys}
 pub use Rattle.canon3.specs.Renaming.{IsPlain, Pairwise, Renames, RenamesItem, RenamesMessage, Same, begins, calls, closes, ended, ends, handle, message, more, none, plain, replies, turns, verifier}
 pub use Rattle.canon3.specs.SinkWrites.{AppendsFront}
 pub use Rattle.canon3.specs.Summary.{AreMessageCounts, IsSummary}
-pub use Rattle.canon3.specs.Values.{call_xids, handle_in, handles, handles_in, verifier_in, verifiers, verifiers_in, xid_of}
+pub use Rattle.capture3.specs.OpenXids.{xid_of}
+pub use Rattle.canon3.specs.Values.{call_xids, handle_in, handles, handles_in, verifier_in, verifiers, verifiers_in}
 pub use Rattle.canon3.specs.Vectors.{exchange_entries}
 pub use Rattle.canon3.specs.declared.canonical_form.message_writer.MessageWriter.{MessageWriter}
 pub use Rattle.canon3.specs.declared.canonical_form.message_writer.Stage.TheVariants.{Begins}
@@ -79,7 +80,7 @@ pub use Rattle.canon3.specs.declared.summary.Summary.{Summary}
 pub use Rattle.canon3.specs.machinery.ComparisonSteps.{Agree, HasGivenOn, IsFound, Meets, PartWith, ReadsOn, StepsOn}
 pub use Rattle.canon3.specs.machinery.FormSteps.{are_some, magic_unless}
 pub use Rattle.canon3.specs.machinery.MessageWriter.{AreFew, Before, HoldsBefore, IsGoing, IsNotedAs, IsWithinMessage, Notes, WriterStands, told_after, values_of}
-pub use Rattle.canon3.specs.machinery.OpenXids.{open_xids}
+pub use Rattle.capture3.specs.OpenXids.{open_xids}
 pub use Rattle.canon3.specs.machinery.PartialWrites.{TookUpTo}
 pub use Rattle.canon3.specs.machinery.ProgressSteps.{place_from, side_in}
 pub use Rattle.canon3.specs.machinery.Spelling.{HasSpelled, bytes_after, spelling_of}

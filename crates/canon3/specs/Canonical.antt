@@ -4,7 +4,7 @@ use Rattle.byteorder.specs.Endian.{big_bytes}
 use Rattle.xdr3.specs.Item.{Item, Word, Opaque, Handle, WriteVerf, word_bytes}
 use Rattle.capture3.specs.Entry.{Entry, Begin, Call, Turn, Reply, Close, End}
 use Rattle.canon3.specs.Values.{handles, verifiers, call_xids}
-use Rattle.canon3.specs.Rank.{rank}
+use Rattle.capture3.specs.Rank.{rank}
 
 -- an item with numbers by rank among these handles and verifiers
 abbrev pub numbered_item : (hs vs : List (List ℕ)) → Item → Item

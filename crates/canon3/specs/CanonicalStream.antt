@@ -3,8 +3,9 @@
 use Rattle.std.specs.Prelude.{ℕ, List, [], ◌∷◌, ◌++◌, nat_eq}
 use Rattle.xdr3.specs.Item.{Item, Word}
 use Rattle.capture3.specs.Entry.{Entry, Begin, Call, Turn, Reply, Close, End}
-use Rattle.canon3.specs.Values.{handle_in, verifier_in, handles_in, verifiers_in, xid_of}
-use Rattle.canon3.specs.Rank.{rank}
+use Rattle.capture3.specs.OpenXids.{xid_of}
+use Rattle.canon3.specs.Values.{handle_in, verifier_in, handles_in, verifiers_in}
+use Rattle.capture3.specs.Rank.{rank}
 use Rattle.canon3.specs.Canonical.{numbered_item}
 
 -- items, where hs and vs are the handles and write verifiers before them

@@ -7,8 +7,9 @@ use Rattle.capture3.specs.declared.fault.Side.TheVariants.{Client, Server}
 use Rattle.capture3.specs.declared.fault.Place.{Place}
 use Rattle.capture3.specs.declared.fault.Place.TheVariants as places
 use Rattle.capture3.specs.Entry.{Entry, Begin, Call, Turn, Reply, Close, End, items_of}
-use Rattle.canon3.specs.Values.{handles, verifiers, call_xids, xid_of}
-use Rattle.canon3.specs.Rank.{rank, distinct}
+use Rattle.capture3.specs.OpenXids.{xid_of}
+use Rattle.canon3.specs.Values.{handles, verifiers, call_xids}
+use Rattle.capture3.specs.Rank.{rank, distinct}
 use Rattle.canon3.specs.Canonical.{numbered_message, canonical}
 use Rattle.canon3.specs.Bytes.{bytes_of}
 use Rattle.canon3.specs.Renaming.{Same}

@@ -3,7 +3,7 @@ use Rattle.std.specs.Prelude.{◌≡◌, ℕ, Bool, List, map, bytes_eq}
 use Rattle.xdr3.specs.Item.{Item}
 use Rattle.nfs3_types.specs.declared.values.handle.Handle.{Handle}
 use Rattle.nfs3_types.specs.Handle.{handle_bytes}
-use Rattle.canon3.specs.Rank.{HoldsDistinct}
+use Rattle.capture3.specs.Rank.{HoldsDistinct}
 use Rattle.canon3.specs.Values.{handles_in}
 
 -- the two have the same bytes (RFC 1813, section 2.5)

@@ -8,7 +8,7 @@ use Rattle.capture3.specs.FirstFault.{FirstFault}
 use Rattle.capture3.specs.Typed.{Typed}
 use Rattle.canon3.specs.declared.summary.MessageCounts.{MessageCounts}
 use Rattle.canon3.specs.declared.summary.Summary.{Summary}
-use Rattle.canon3.specs.Rank.{distinct}
+use Rattle.capture3.specs.Rank.{distinct}
 use Rattle.canon3.specs.Values.{handles}
 
 abbrev pub is_begin : Entry → Bool

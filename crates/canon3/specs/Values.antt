@@ -1,7 +1,8 @@
 -- The values in the entries of a capture that a renaming changes.
 use Rattle.std.specs.Prelude.{ℕ, List, [], ◌∷◌, ◌++◌}
+use Rattle.capture3.specs.OpenXids.{xid_of}
 use Rattle.std.specs.List.{flat_map}
-use Rattle.xdr3.specs.Item.{Item, Word, Opaque, Handle, WriteVerf}
+use Rattle.xdr3.specs.Item.{Item, Opaque, Handle, WriteVerf}
 use Rattle.capture3.specs.Entry.{Entry, Begin, Call, Turn, Reply, Close, End, items_of}
 
 -- the handle of an item, where it has one that is not empty (RFC 1813, section 2.5)
@@ -21,11 +22,6 @@ handles_in items = flat_map handle_in items
 -- the write verifiers of a message, in order
 abbrev pub verifiers_in : List Item → List (List ℕ)
 verifiers_in items = flat_map verifier_in items
-
--- the xid of a message, which is its first item (RFC 5531, section 9)
-abbrev pub xid_of : List Item → List ℕ
-xid_of (Word name x ∷ items) = x ∷ []
-xid_of _ = []
 
 -- all handles that are not empty, in order
 abbrev pub handles : List Entry → List (List ℕ)

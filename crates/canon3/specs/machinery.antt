@@ -1,6 +1,5 @@
 -- What clauses inside the crate and proofs name, and no reader of a public clause has to believe.
 pub mod FormSteps
-pub mod OpenXids
 pub mod ComparisonSteps
 pub mod Reading
 pub mod WritingSteps

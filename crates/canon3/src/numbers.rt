@@ -5,7 +5,7 @@ pub(crate) mod xid_numbers;
 
 ghost use Rattle.std.specs.Prelude.{◌≡◌, ◌+◌, ◌-◌, ◌^◌, ◌++◌, ◌∷◌, min, true, List, [], length, IfOk, OnOk, OnErr, IsOk};
 ghost use Rattle.std.specs.List.{list_any};
-ghost use Rattle.canon3.specs.Rank.{rank, distinct, HoldsDistinct, number_limit};
+ghost use Rattle.capture3.specs.Rank.{rank, distinct, HoldsDistinct, number_limit};
 
 use indexmap::IndexSet;
 use std::alloc::{AllocError, Global};

@@ -77,16 +77,24 @@ pub use Rattle.capture3.specs.declared.fault.Place.TheVariants.{File}
 pub use Rattle.capture3.specs.declared.fault.Side.{Side}
 pub use Rattle.capture3.specs.declared.fault.Side.TheVariants.{Client, Server}
 pub use Rattle.capture3.specs.declared.message.calls.NumberedCall.{NumberedCall}
+pub use Rattle.capture3.specs.declared.message.counting.Counting.{Counting}
+pub use Rattle.capture3.specs.declared.message.scan.CallHead.{CallHead}
 pub use Rattle.capture3.specs.declared.reader.entry.Kind.{Kind}
-pub use Rattle.capture3.specs.machinery.Calls.{FindsSame, Puts, found, numbered_calls, with_numbered_call}
+pub use Rattle.capture3.specs.machinery.Calls.{Admits, AreAbove, AreSame, Gains, Known, KnowsNone, Puts, at_home, known_by, known_in, known_in_list, lined, in_list, next_number, number_for, number_in, over, procedure_in_call}
 pub use Rattle.capture3.specs.machinery.Container.{AreStored, Arrives, FirstKept, InFirstKept, InNextKept, IsReady, IsStored, Leaves, NextKept, ShowsError, room_in, unpacking_in, unpacking_of}
 pub use Rattle.capture3.specs.machinery.ContainerMachine.{Length, Mark, Mixed, Unpacking, chunk_counted, connection_marked, fault_in_record, in_side_chunk, mixed_at, mixed_ended, sides_counted, sides_marked, unpack_next, unpacking_with}
 unfoldable pub use Rattle.capture3.specs.machinery.Counting.{home_of}
+pub use Rattle.capture3.specs.machinery.CountedCalls.{known_of}
+pub use Rattle.capture3.specs.OpenXids.{open_xids, xid_of}
+pub use Rattle.capture3.specs.Rank.{number_limit, rank}
+pub use Rattle.std.specs.Prelude.{min}
 pub use Rattle.capture3.specs.machinery.EntriesHistory.{HasRead, StandsFor, Turns, entries_left}
-pub use Rattle.capture3.specs.machinery.EntryParser.{FailsAt, GoesTo, HasCome, IsHeld, MeetsEvent, StandsAt, StandsOrRecalls}
+pub use Rattle.capture3.specs.machinery.Pairing.{FailsAt, GoesTo, HasCome, HasNumber, IsHeld, MeetsEvent, StandsAt, StandsOrRecalls}
 pub use Rattle.capture3.specs.machinery.FileStanding.{Agrees, EmitsOn, Judged, call_judged, client_entries, connection_begun, connection_closed, emitted_at, parsing_at, reply_judged, resumed, resumed_at, server_entries, turned, with_call, with_reply}
 pub use Rattle.capture3.specs.machinery.KeptStreams.{Recalls, ShowsFirst}
-pub use Rattle.capture3.specs.machinery.Messages.{IsTableOf, results_after}
+pub use Rattle.capture3.specs.machinery.Messages.{HasProcedures, IsTableOf, results_after, xids_in}
 pub use Rattle.capture3.specs.machinery.Position.{AreEmpty, IsBeforeMark, IsEndSpot, StoredWith, opened_at, unpacking_at, version_of}
 pub use Rattle.capture3.specs.machinery.SideStart.{side_start}
 pub use Rattle.capture3.specs.machinery.Spelled.{SpellsCall, SpellsReply}
+pub use Rattle.capture3.specs.declared.message.counted_calls.CountedCalls.{CountedCalls}
+pub use Rattle.capture3.specs.declared.reader.pairing.Pairing.{Pairing}

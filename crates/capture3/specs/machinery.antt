@@ -1,9 +1,10 @@
 -- What clauses inside the crate and proofs name, and no reader of a public clause has to believe.
 pub mod Calls
+pub mod CountedCalls
 pub mod Container
 pub mod Counting
 pub mod EntriesHistory
-pub mod EntryParser
+pub mod Pairing
 pub mod ScannedMessages
 pub mod Messages
 pub mod Position

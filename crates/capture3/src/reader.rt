@@ -2,6 +2,6 @@
 
 pub(crate) mod entries;
 pub(crate) mod entry;
-pub(crate) mod entry_parser;
 pub(crate) mod hashers;
+pub(crate) mod pairing;
 pub(crate) mod whole;

@@ -5,7 +5,7 @@ use Rattle.byteorder.specs.Endian.{big_bytes}
 use Rattle.xdr3.specs.Item.{Item, Word, Hyper, Fixed}
 use Rattle.capture3.specs.Entry.{Entry, Call, Reply}
 use Rattle.canon3.specs.Bytes.{bytes_of}
-use Rattle.canon3.specs.Rank.{rank}
+use Rattle.capture3.specs.Rank.{rank}
 use Rattle.masking3.specs.declared.class.Class.{Class}
 use Rattle.masking3.specs.declared.spot.Spot.{Spot}
 use Rattle.masking3.specs.declared.spot.Spot.TheVariants.{InCall, InReply}

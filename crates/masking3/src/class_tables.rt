@@ -1,7 +1,7 @@
 //! The numbers of the values of each class.
 
 ghost use Rattle.std.specs.Prelude.{◌≡◌, ◌≢◌, ◌++◌, ◌∷◌, ℕ, List, [], Some, get_or, min, nat_eq, slice_set, IfOk, OnOk};
-ghost use Rattle.canon3.specs.Rank.{number_limit, rank};
+ghost use Rattle.capture3.specs.Rank.{number_limit, rank};
 ghost use Rattle.masking3.specs.Classes.{position};
 ghost use Rattle.masking3.specs.Masked.{number_among, substitute, value_where};
 ghost use Rattle.masking3.specs.machinery.ClassTables.{HoldsAt, HoldsValues, no_values, tables_in, with_one};

@@ -86,6 +86,6 @@ pub no_reply : {M : Type 0} (r : Result M GetError) (id : ProcId) (body : List �
     → IfErr r (λ e. SpellsNoReply e id body)
 no_reply (Ok m) id body h = tt
 no_reply (Err e) id body h = λ stop same items is.
-    reply_never_stops id body (record { xid = xid_in items; id = id }) stop refl
+    reply_never_stops id body (xid_in items) id stop refl
     (λ other was. ap xid_in (one_reply id body items other is was)) (items, is)
     (h items is stop same)

@@ -8,9 +8,9 @@ use Rattle.canon3.specs.declared.canonical_form.message_writer.MessageWriter.{Me
 use Rattle.canon3.specs.declared.canonical_form.message_writer.Stage.{Stage}
 use Rattle.canon3.specs.declared.canonical_form.message_writer.Stage.TheVariants.{Begins, Goes, Failed}
 use Rattle.canon3.specs.CanonicalStream.{items_after}
-use Rattle.canon3.specs.machinery.OpenXids.{open_xids}
+use Rattle.capture3.specs.OpenXids.{open_xids}
 use Rattle.canon3.specs.HandleTable.{HoldsHandles}
-use Rattle.canon3.specs.Rank.{HoldsDistinct, rank}
+use Rattle.capture3.specs.Rank.{HoldsDistinct, rank}
 use Rattle.canon3.specs.Values.{handles, handles_in, verifiers, verifiers_in}
 
 -- no more of each than a table has numbers for

@@ -8,7 +8,7 @@ use Rattle.canon3.specs.declared.canonical_form.spelling.Spelling.{Spelling}
 use Rattle.canon3.specs.declared.canonical_form.spelling.Spelling.TheVariants.{Zero, One, Message}
 use Rattle.canon3.specs.Bytes.{chunk_bytes, entry_bytes, record_bytes}
 use Rattle.canon3.specs.CanonicalStream.{entries_after}
-use Rattle.canon3.specs.machinery.OpenXids.{open_xids}
+use Rattle.capture3.specs.OpenXids.{open_xids}
 use Rattle.canon3.specs.machinery.MessageWriter.{HoldsBefore, message_of, values_of}
 use Rattle.canon3.specs.Values.{handles, verifiers}
 

@@ -5,7 +5,7 @@ use Rattle.xdr3.specs.Item.{Item}
 use Rattle.capture3.specs.Entry.{Entry, items_of}
 use Rattle.canon3.specs.declared.summary.MessageCounts.{MessageCounts}
 use Rattle.canon3.specs.declared.summary.Summary.{Summary}
-use Rattle.canon3.specs.Rank.{distinct, number_limit}
+use Rattle.capture3.specs.Rank.{distinct, number_limit}
 use Rattle.canon3.specs.Values.{handles}
 use Rattle.canon3.specs.Summary.{is_begin, is_call, is_reply}
 

@@ -7,7 +7,7 @@ ghost use Rattle.xdr3.specs.Visit.{Adds, body_limit};
 ghost use Rattle.canon3.specs.Bytes.{chunk_bytes, record_bytes};
 ghost use Rattle.canon3.specs.HandleTable.{HoldsHandles};
 ghost use Rattle.canon3.specs.machinery.MessageWriter.{Before, HoldsBefore, IsGoing, WriterStands, message_of, told_after, values_of};
-ghost use Rattle.canon3.specs.Rank.{number_limit, rank};
+ghost use Rattle.capture3.specs.Rank.{number_limit, rank};
 ghost use Rattle.canon3.specs.Renaming.{IsPlain};
 
 use crate::numbers::Numbers;

@@ -4,7 +4,7 @@ ghost use Rattle.std.specs.Prelude.{◌≡◌, ◌<◌, ◌≤◌, ◌+◌, ◌^
 ghost use Rattle.capture3.specs.Entry as spec;
 ghost use Rattle.canon3.specs.EntryCounts.{AreCounted, connections_in, counted_steps, records_in};
 ghost use Rattle.canon3.specs.machinery.CountedKinds.{calls, replies};
-ghost use Rattle.canon3.specs.Rank.{distinct, number_limit};
+ghost use Rattle.capture3.specs.Rank.{distinct, number_limit};
 ghost use Rattle.canon3.specs.machinery.Sums.{Sums, SumsMessages};
 ghost use Rattle.capture3.specs.Kept.{IsOfKind};
 ghost use Rattle.canon3.specs.Values as values;

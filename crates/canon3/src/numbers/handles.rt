@@ -4,7 +4,7 @@ ghost use Rattle.std.specs.Prelude.{◌≡◌, ◌++◌, ◌∷◌, List, [], by
 ghost use Rattle.xdr3.specs.Item.{Item};
 ghost use Rattle.nfs3_types.specs.declared.values.handle.Handle as handles;
 ghost use Rattle.canon3.specs.HandleTable.{Gathers, same_handle};
-ghost use Rattle.canon3.specs.Rank.{distinct, number_limit, HoldsDistinct};
+ghost use Rattle.capture3.specs.Rank.{distinct, number_limit, HoldsDistinct};
 ghost use Rattle.canon3.specs.Values.{handles_in};
 
 use crate::numbers::Numbers;

@@ -3,7 +3,7 @@
 ghost use Rattle.std.specs.Prelude.{◌≡◌, ◌<◌, ◌^◌, ◌+◌, ◌++◌, ◌∷◌, min, true, false, nat_eq, List, [], ℕ, length, IfOk, IfSome, IsOk, IsTrue, IsFalse, None, OnOk};
 ghost use Rattle.std.specs.Int.{swap_bytes, w32};
 ghost use Rattle.std.specs.List.{list_any, position_or_len};
-ghost use Rattle.canon3.specs.Rank.{rank, HoldsDistinct, number_limit, with_key};
+ghost use Rattle.capture3.specs.Rank.{rank, HoldsDistinct, number_limit, with_key};
 ghost use Rattle.canon3.specs.machinery.XidNumbers.{placed};
 
 use indexmap::IndexSet;

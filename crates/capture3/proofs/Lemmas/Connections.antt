@@ -1,5 +1,7 @@
 -- Connections, and the tables of their calls.
 pub mod ConnectionMachineLemmas
 pub mod JudgedInTurn
-pub mod HashedCallsLemmas
+pub mod KnownLemmas
+pub mod NumberingLemmas
 pub mod LineLemmas
+pub mod RankLemmas

@@ -1,6 +1,6 @@
 -- The readers `parse` and `Entries`, step by step.
 pub mod EntriesLemmas
-pub mod EntryParserLemmas
+pub mod PairingLemmas
 pub mod FileStandingLemmas
 pub mod WholeEntries
 pub mod WholeFiles

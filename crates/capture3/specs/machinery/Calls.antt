@@ -1,48 +1,102 @@
--- A list of calls by their xids.
-use Rattle.std.specs.Prelude.{◌≡◌, ℕ, ◌<◌, ◌==◌, if◌then◌else◌, is_some, map, slice_get, List, [], ◌∷◌, ◌++◌, Option, Some, None}
+-- The calls of a connection by their xids.
+use Rattle.std.specs.Prelude.{◌≡◌, ℕ, ◌+◌, ◌<◌, ◌^◌, ◌==◌, if◌then◌else◌, is_some, min, nat_eq, slice_get, IsSome, List, length, Option, Some, None, Result, Ok, Err}
+use Rattle.std.specs.Map.{lookup}
 use Rattle.rpc_head.specs.declared.values.call.ProcId.{ProcId}
+use Rattle.capture3.specs.BodyProgram.{agrees}
+use Rattle.capture3.specs.Rank.{number_limit}
 use Rattle.capture3.specs.declared.message.calls.NumberedCall.{NumberedCall}
+use Rattle.capture3.specs.declared.message.counting.Counting.{Counting}
+use Rattle.capture3.specs.machinery.Counting.{home_of}
 
--- the procedure of the first call with this xid
-abbrev pub found : List NumberedCall → ℕ → Option ProcId
-found [] xid = None
-found (call ∷ calls) xid = if call.xid == xid then Some call.id else found calls xid
+-- the call of each xid, if there is one, and how many xids have one
+pub record Known : Type 0 where
+  pub call_of : ℕ → Option NumberedCall
+  pub count : ℕ
 
--- the list with a call at its end, unless its xid is there
-abbrev pub with_numbered_call : List NumberedCall → ℕ → ProcId → List NumberedCall
-with_numbered_call calls xid id =
-    if is_some (found calls xid) then calls else calls ++ record { xid = xid; id = id } ∷ []
+-- the procedure of a call, if there is one
+abbrev pub procedure_in_call : Option NumberedCall → Option ProcId
+procedure_in_call None = None
+procedure_in_call (Some call) = Some call.id
 
--- the new calls are the old ones and one more, unless its xid was there
-abbrev pub Gains : List NumberedCall → ℕ → ProcId → List NumberedCall → Type 0
-Gains old xid id new = (q : ℕ) → found new q ≡ found (with_numbered_call old xid id) q
+abbrev pub KnowsNone : Known → Type 0
+KnowsNone known = ((xid : ℕ) → known.call_of xid ≡ None) × (known.count ≡ 0)
 
--- the new list has another call beside those of the old one, whatever its order
-abbrev pub Puts : List NumberedCall → ℕ → ProcId → List NumberedCall → Type 0
-Puts old xid id new =
-    (q : ℕ) → found new q ≡ (if xid == q then Some id else found old q)
+-- ---- a call that comes
 
--- the two have the same calls
-abbrev pub FindsSame : List NumberedCall → List NumberedCall → Type 0
-FindsSame old new = (q : ℕ) → found new q ≡ found old q
+-- the number of the next new xid
+abbrev pub next_number : ℕ → ℕ
+next_number count = min (count + 1) number_limit
 
--- each call of a line stands at the home of its xid, and maybe elsewhere too
-abbrev pub AreAtHome : (ℕ → ℕ) → List NumberedCall → Type 0
-AreAtHome home line = (i : ℕ) → (call : NumberedCall)
-    → slice_get line i ≡ Some call → slice_get line (home call.xid) ≡ Some call
+abbrev pub number_or : Option NumberedCall → ℕ → ℕ
+number_or None next = next
+number_or (Some call) next = call.number
 
--- the pairs of a table as calls
-abbrev pub numbered_calls : List (ℕ × ProcId) → List NumberedCall
-numbered_calls pairs = map (λ pair. record { xid = pair.0; id = pair.1 }) pairs
+-- the number of an xid: that of its call, or the next
+abbrev pub number_in : Known → ℕ → ℕ
+number_in known xid = number_or (known.call_of xid) (next_number known.count)
+
+-- the number, unless an earlier call has the xid and another procedure
+abbrev pub number_for : Known → ℕ → ProcId → Option ℕ
+number_for known xid id =
+    if agrees (procedure_in_call (known.call_of xid)) id then Some (number_in known xid) else None
+
+-- a call has this xid, and the other xids have what they had
+abbrev pub Puts : (ℕ → Option NumberedCall) → ℕ → NumberedCall → (ℕ → Option NumberedCall) → Type 0
+Puts old xid call new = (q : ℕ) → q < 2 ^ 32 → new q ≡ (if xid == q then Some call else old q)
+
+-- the xids have the calls that they had
+abbrev pub AreSame : (ℕ → Option NumberedCall) → (ℕ → Option NumberedCall) → Type 0
+AreSame old new = (q : ℕ) → q < 2 ^ 32 → new q ≡ old q
+
+-- the new table has one call more, unless its xid was there
+pub record Gains (old : Known) (xid : ℕ) (id : ProcId) (new : Known) : Type 0 where
+  pub puts : Puts old.call_of xid (record { number = number_in old xid; id = id }) new.call_of
+  pub counts : new.count
+      ≡ (if is_some (old.call_of xid) then old.count else next_number old.count)
+
+-- The call gets its number, and is known from then on if it has one. Only a new one can fail.
+abbrev pub Admits : {E : Type 0} → Known → ℕ → ProcId → Known → Result (Option ℕ) E → Type 0
+Admits old xid id new (Ok number) = (number ≡ number_for old xid id)
+    × (IsSome number → Gains old xid id new)
+Admits old xid id new (Err error) = old.call_of xid ≡ None
+
+-- ---- the tables
+
+-- the call at a home: one with number 0 is none
+abbrev pub at_home : Option NumberedCall → Option NumberedCall
+at_home None = None
+at_home (Some call) = if call.number == 0 then None else Some call
+
+-- the call of an xid in a line, in which each call is at the home of its xid
+abbrev pub lined : Counting → List NumberedCall → ℕ → Option NumberedCall
+lined counting line xid = at_home (slice_get line (home_of counting xid))
+
+-- the call of an xid in a list of pairs
+abbrev pub in_list : List (ℕ × NumberedCall) → ℕ → Option NumberedCall
+in_list pairs xid = lookup (nat_eq xid) pairs
+
+-- the first of two that is there
+abbrev pub over : Option NumberedCall → Option NumberedCall → Option NumberedCall
+over None other = other
+over (Some call) other = Some call
 
 -- the calls of a line, and the others
-abbrev pub all_calls : List NumberedCall → List (ℕ × ProcId) → List NumberedCall
-all_calls line pairs = line ++ numbered_calls pairs
+abbrev pub known_by : (line others : ℕ → Option NumberedCall) (count : ℕ) → Known
+known_by line others count =
+    record { call_of = λ xid. over (line xid) (others xid); count = count }
+
+abbrev pub known_in : Counting → List NumberedCall → List (ℕ × NumberedCall) → ℕ → Known
+known_in counting line others count = known_by (lined counting line) (in_list others) count
+
+-- the calls of a list alone
+abbrev pub known_in_list : List (ℕ × NumberedCall) → Known
+known_in_list pairs = record { call_of = in_list pairs; count = min (length pairs) number_limit }
+
+-- one call
+abbrev pub known_one : ℕ → NumberedCall → Known
+known_one xid call = record { call_of = λ q. if xid == q then Some call else None; count = 1 }
 
 -- no xid with a home below this has a call
-abbrev pub AreAbove : (ℕ → ℕ) → ℕ → List NumberedCall → Type 0
-AreAbove home nearest calls = (xid : ℕ) → home xid < nearest → found calls xid ≡ None
-
-abbrev pub one_or_none : Option NumberedCall → List NumberedCall
-one_or_none None = []
-one_or_none (Some call) = call ∷ []
+abbrev pub AreAbove : Counting → ℕ → List (ℕ × NumberedCall) → Type 0
+AreAbove counting nearest others = (xid : ℕ) → xid < 2 ^ 32 → home_of counting xid < nearest
+    → in_list others xid ≡ None

@@ -15,8 +15,10 @@ use Rattle.capture3.specs.declared.fault.Error.TheVariants as errors
 use Rattle.capture3.specs.declared.fault.Noted.{Noted}
 use Rattle.capture3.specs.declared.container.Container.{Container}
 use Rattle.capture3.specs.machinery.Container.{room_in}
+use Rattle.capture3.specs.machinery.CountedCalls.{known_of}
 use Rattle.capture3.specs.Entry.{Entry, items_of}
-use Rattle.capture3.specs.machinery.EntryParser.{HasCome, IsHeld}
+use Rattle.capture3.specs.machinery.Pairing.{HasCome, HasNumber, IsHeld}
+use Rattle.capture3.specs.OpenXids.{open_xids}
 use Rattle.capture3.specs.Kept.{IsOfKind}
 use Rattle.capture3.specs.Laws.{most_entries}
 use Rattle.capture3.specs.Typed.{Typed}
@@ -36,16 +38,17 @@ entries_left_in (Failed error) container = 0
 
 module _ {R S H : Type 0} {builds : BuildHasher.Ghosts S H} {hashes : Hasher.Ghosts H} where
   abbrev pub entries_left : Entries R S H builds hashes → ℕ
-  entries_left entries = entries_left_in entries.stage entries.parser.container
+  entries_left entries = entries_left_in entries.stage entries.pairing.container
 
-  -- the record of this entry stands, if it was the last
-  abbrev pub HoldsRecordOf : Entries R S H builds hashes → Entry → Type 0
-  HoldsRecordOf entries entry = (kind : Kind) → entries.last ≡ Some kind
-      → IsHeld kind entries.parser.container.joiner.taking entry
+  -- the record and the number of this entry stand, if it was the last, after the others
+  abbrev pub HoldsRecordOf : Entries R S H builds hashes → List Entry → Entry → Type 0
+  HoldsRecordOf entries before entry = (kind : Kind) → entries.last ≡ Some kind
+      → IsHeld kind entries.pairing.container.joiner.taking entry
+      × HasNumber entries.pairing.number (open_xids [] (before ++ entry ∷ [])) entry
 
   abbrev pub HoldsLast : Entries R S H builds hashes → List Entry → Type 0
   HoldsLast entries handed = (front : List Entry) (entry : Entry) → handed ≡ front ++ entry ∷ []
-      → HoldsRecordOf entries entry
+      → HoldsRecordOf entries front entry
 
   -- the bytes of the block that are not judged yet
   abbrev pub unjudged : Entries R S H builds hashes → List ℕ
@@ -58,7 +61,8 @@ module _ {R S H : Type 0} {builds : BuildHasher.Ghosts S H} {hashes : Hasher.Gho
     pub judged : List ℕ
     pub split : given ≡ judged ++ unjudged entries
     pub counted : entries.judged ≡ length judged
-    pub machine : HasCome entries.parser.container entries.parser.calls judged handed
+    pub machine : HasCome entries.pairing.container (known_of entries.pairing.calls) judged
+        handed
 
   abbrev pub StandsIn : Stage → Told → Entries R S H builds hashes → List ℕ → List Entry → Type 0
   StandsIn Reading told entries given handed = IsReading entries given handed

@@ -2,7 +2,7 @@
 -- their records are judged one by one, while no byte of the file is taken.
 use Rattle.std.specs.Prelude.{◌≡◌, ℕ, List, [], ◌∷◌, ◌++◌, length, drop}
 use Rattle.record_mark.specs.Machine.{Runs}
-use Rattle.capture3.specs.declared.message.calls.NumberedCall.{NumberedCall}
+use Rattle.capture3.specs.machinery.Calls.{Known}
 use Rattle.capture3.specs.declared.fault.Fault.{Fault}
 use Rattle.capture3.specs.declared.fault.Side.{Side}
 use Rattle.capture3.specs.declared.fault.Side.TheVariants.{Client, Server}
@@ -10,7 +10,8 @@ use Rattle.capture3.specs.Connections.{ShownFault}
 use Rattle.capture3.specs.Entry.{Entry}
 use Rattle.capture3.specs.Entry as entries
 use Rattle.capture3.specs.BodyProgram.{judge_call}
-use Rattle.capture3.specs.machinery.Messages.{IsTableOf}
+use Rattle.capture3.specs.machinery.Messages.{IsTableOf, xids_in}
+use Rattle.capture3.specs.OpenXids.{open_xids}
 use Rattle.capture3.specs.ConnectionMachine.{judge_replies}
 use Rattle.capture3.specs.FileMachine.{Parsing, file_next, parsed, emitted}
 use Rattle.capture3.specs.StreamMachine.{Reading, Held, rest_end, stream_end, reading_with}
@@ -41,7 +42,7 @@ RecallsAt Server taken records streams j handed =
 -- The last byte of these is that of the side word 0, after which `u` stands. Of the side's stream
 -- so many bytes and records were taken, and these entries were handed out.
 pub record Recalls (u : Unpacking) (streams : Streams) (side : Side) (taken records : ℕ)
-    (table : List NumberedCall) (bytes : List ℕ) (handed : List Entry) : Type 0 where
+    (table : Known) (bytes : List ℕ) (handed : List Entry) : Type 0 where
   pub front : List ℕ
   pub byte : ℕ
   pub state : Parsing
@@ -51,6 +52,7 @@ pub record Recalls (u : Unpacking) (streams : Streams) (side : Side) (taken reco
   pub ends : file_next state byte ≡ conversed u so_far streams
   pub emits : emitted state ≡ so_far.entries ++ entries.Begin ∷ []
   pub calls : IsTableOf table so_far.calls
+  pub opened : open_xids [] handed ≡ xids_in so_far.calls
   pub here : RecallsAt side taken records streams so_far handed
 
 -- One of the bytes shows the fault. The machine runs up to it, and what was handed out are the

@@ -1,5 +1,5 @@
 -- What the scan of a message tells, and where it stops.
-use Rattle.std.specs.Prelude.{◌≡◌, ℕ, List, Some, Result, Ok, Err, cond}
+use Rattle.std.specs.Prelude.{◌≡◌, ℕ, ◌<◌, ◌^◌, List, [], ◌∷◌, Some, Result, Ok, Err, cond}
 use Rattle.xdr3.specs.declared.reason.Reason.TheVariants.{XidConflict}
 use Rattle.xdr3.specs.declared.reason.GetError.{GetError}
 use Rattle.xdr3.specs.declared.reason.GetError.TheVariants as errors
@@ -7,36 +7,39 @@ use Rattle.xdr3.specs.declared.reason.Stop.{Stop}
 use Rattle.xdr3.specs.Item.{Item}
 use Rattle.xdr3.specs.Reading.{refused}
 use Rattle.xdr3.specs.Visit.{Adds}
-use Rattle.rpc_head.specs.declared.values.call.ProcId.{ProcId}
 use Rattle.rpc_head.specs.Messages.{procedure_in}
 use Rattle.capture3.specs.declared.message.calls.NumberedCall.{NumberedCall}
+use Rattle.capture3.specs.declared.message.scan.CallHead.{CallHead}
 use Rattle.capture3.specs.Bodies.{IsCall, IsReply, procedure_of, xid_in}
-use Rattle.capture3.specs.machinery.Calls.{found}
+use Rattle.capture3.specs.machinery.Calls.{Known}
 use Rattle.capture3.specs.BodyProgram.{agrees, judge_call, judge_reply}
-use Rattle.capture3.specs.machinery.Messages.{IsTableOf}
+use Rattle.capture3.specs.machinery.Messages.{HasProcedures}
+use Rattle.capture3.specs.OpenXids.{xid_of}
 
 -- The body spells a call with this xid and this procedure, it is accepted after calls that agree
 -- with it, and a visitor was told its items.
 pub record ScansCall {V : Type 0} (stands : V → List Item → Type 0) (body : List ℕ)
-    (call : NumberedCall) (old new : V) : Type 0 where
+    (call : CallHead) (old new : V) : Type 0 where
   pub items : List Item
   pub is_call : IsCall body items
   pub xid_is : xid_in items ≡ call.xid
+  pub begins : xid_of items ≡ xid_in items ∷ []
   pub procedure_is : procedure_in items ≡ call.id
   pub judged : (before : List (List Item))
       → judge_call before body
       ≡ cond (agrees (procedure_of before call.xid) call.id) (Ok items) (refused 0 XidConflict)
   pub adds : Adds stands old new items
 
--- The body spells a reply to a call of the table, which has this procedure, it is accepted after
--- these calls, and a visitor was told its items.
-pub record ScansReply {V : Type 0} (stands : V → List Item → Type 0) (table : List NumberedCall)
-    (body : List ℕ) (id : ProcId) (old new : V) : Type 0 where
+-- The body spells a reply to this call of the table, it is accepted after the table's calls, and a
+-- visitor was told its items.
+pub record ScansReply {V : Type 0} (stands : V → List Item → Type 0) (table : Known)
+    (body : List ℕ) (call : NumberedCall) (old new : V) : Type 0 where
   pub items : List Item
-  pub is_reply : IsReply body (record { id = id; items = items })
-  pub asked : found table (xid_in items) ≡ Some id
-  pub accepted : (calls : List (List Item)) → IsTableOf table calls
-      → judge_reply calls body ≡ Ok (record { id = id; items = items })
+  pub is_reply : IsReply body (record { id = call.id; items = items })
+  pub is_xid : xid_in items < 2 ^ 32
+  pub asked : table.call_of (xid_in items) ≡ Some call
+  pub accepted : (calls : List (List Item)) → HasProcedures table calls
+      → judge_reply calls body ≡ Ok (record { id = call.id; items = items })
   pub adds : Adds stands old new items
 
 -- the failure is that of judging the body, unless memory ran out

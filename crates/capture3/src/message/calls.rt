@@ -1,78 +1,82 @@
 //! The calls of a connection.
 
-ghost use Rattle.std.specs.Prelude.{◌≡◌, [], IfOk, IsOk, IsSome, IsTrue};
-ghost use Rattle.capture3.specs.machinery.Calls.{found, Gains};
-ghost use Rattle.capture3.specs.BodyProgram.{agrees};
+ghost use Rattle.std.specs.Prelude.{◌≡◌, if◌then◌else◌, None, Some};
+ghost use Rattle.capture3.specs.machinery.Calls.{known_in_list, in_list, next_number, Admits, KnowsNone};
+ghost use Rattle.capture3.specs.BodyProgram.{is_same};
 
-use crate::message::counted_calls::CountedCalls;
 use rpc_head::ProcId;
 use std::alloc::{AllocError, Global};
-use std::hash::BuildHasher;
-use std::marker::Model;
 
+/// A call of a connection. Its number says in which order the xids of the calls first came: 1 for
+/// the first, 2 for the next other one, and so on. A call that is sent again keeps its number.
 #[derive(Clone, Copy)]
 pub(crate) struct NumberedCall {
-    pub(crate) xid: u32,
+    pub(crate) number: u32,
     pub(crate) id: ProcId,
 }
 
 /// Calls that are looked up by their xids.
 pub(crate) trait KnownCalls {
-    ghost use Rattle.std.specs.Prelude.{List};
-    ghost use Rattle.capture3.specs.declared.message.calls.NumberedCall.{NumberedCall};
+    ghost use Rattle.capture3.specs.machinery.Calls.{Known};
 
-    // The xids, each with its procedure. Their order has no meaning, and one may be there twice.
-    ghost calls: { Self → List NumberedCall };
+    ghost known: { Self → Known };
 
-    /// Returns the procedure of the calls with this xid.
-    fn procedure_of(&self, xid: u32) -> Option<ProcId>
-        ensures { result ≡ found (calls self.now) xid };
+    /// Returns the call with this xid.
+    fn call_of(&self, xid: u32) -> Option<NumberedCall>
+        ensures { result ≡ (known self.now).call_of xid };
 }
 
 /// The calls of a connection, in the order in which they come.
 pub(crate) trait CallTable: KnownCalls {
     fn clear(&mut self)
-        ensures { Self.calls self.new ≡ [] };
+        ensures { KnowsNone (Self.known self.new) };
 
-    /// Adds a call if its xid is new. Returns `false` if an earlier call has the same xid but
-    /// another procedure; the calls are unspecified after that. Never fails for a known xid.
-    fn admit(&mut self, xid: u32, id: ProcId) -> Result<bool, AllocError>
-        ensures agrees { IfOk result (λ is. is ≡ agrees (found (Self.calls self.old) xid) id) }
-        ensures added { IfOk result
-            (λ is. IsTrue is → Gains (Self.calls self.old) xid id (Self.calls self.new)) }
-        ensures known { IsSome (found (Self.calls self.old) xid) → IsOk result };
+    /// Adds a call if its xid is new, and returns its number. Returns `None` if an earlier call has
+    /// the same xid but another procedure; the calls are unspecified after that. Never fails for a
+    /// known xid.
+    fn admit(&mut self, xid: u32, id: ProcId) -> Result<Option<u32>, AllocError>
+        ensures { Admits (Self.known self.old) xid id (Self.known self.new) result };
 }
 
-/// A plain list of calls, which is searched from its front.
+/// Returns the number of a call if it has this procedure.
+pub(crate) fn number_if(call: NumberedCall, id: ProcId) -> Option<u32>
+    ensures { result ≡ (if is_same call.id id then Some call.number else None) }
+{
+    if call.id == id {
+        Some(call.number)
+    } else {
+        None
+    }
+}
+
+/// Returns the number of a call that comes after so many others.
+fn number_after(count: usize) -> u32
+    ensures { result ≡ next_number count }
+{
+    u32::try_from(count).unwrap_or(u32::MAX).saturating_add(1)
+}
+
+/// A plain list of calls with their xids, which is searched from its front.
 #[derive(Drop)]
 pub(crate) struct CallList {
-    calls: Vec<NumberedCall>,
-}
-
-impl Model for CallList {
-    ghost use Rattle.std.specs.Prelude.{List};
-    ghost use Rattle.capture3.specs.declared.message.calls.NumberedCall.{NumberedCall};
-
-    ghost Value = { List NumberedCall };
-
-    ghost view = { λ list. list.calls.items };
+    calls: Vec<(u32, NumberedCall)>,
 }
 
 impl CallList {
     pub(crate) fn new(alloc: Global) -> CallList
-        ensures { result ≡ [] }
+        ensures { KnowsNone (known_in_list result.calls.items) }
     {
         CallList {
             calls: Vec::new(alloc),
         }
     }
 
-    fn find(&self, xid: u32) -> Option<ProcId>
-        ensures { result ≡ found self.now xid }
+    fn find(&self, xid: u32) -> Option<NumberedCall>
+        ensures { result ≡ in_list self.now.calls.items xid }
     {
-        for call in &self.calls {
-            if call.xid == xid {
-                return Some(call.id);
+        for pair in &self.calls {
+            if xid == pair.0 {
+                return Some(pair.1);
             }
         }
         None
@@ -80,9 +84,9 @@ impl CallList {
 }
 
 impl KnownCalls for CallList {
-    ghost calls = { λ list. list };
+    ghost known = { λ list. known_in_list list.calls.items };
 
-    fn procedure_of(&self, xid: u32) -> Option<ProcId> {
+    fn call_of(&self, xid: u32) -> Option<NumberedCall> {
         self.find(xid)
     }
 }
@@ -92,73 +96,33 @@ impl CallTable for CallList {
         self.calls.clear();
     }
 
-    fn admit(&mut self, xid: u32, id: ProcId) -> Result<bool, AllocError> {
-        match self.find(xid) {
-            Some(other) => Ok(other == id),
-            None => {
-                self.calls.push(NumberedCall { xid, id })?;
-                Ok(true)
-            }
+    fn admit(&mut self, xid: u32, id: ProcId) -> Result<Option<u32>, AllocError> {
+        if let Some(call) = self.find(xid) {
+            return Ok(number_if(call, id));
         }
+        let number = number_after(self.calls.len());
+        self.calls.push((xid, NumberedCall { number, id }))?;
+        Ok(Some(number))
     }
 }
 
-/// Calls that are found by their xids at once. The hasher affects no result.
-#[derive(Drop)]
-pub(crate) struct HashedCalls<S: BuildHasher + Drop> {
-    table: CountedCalls<S>,
+/// One call, and its xid.
+#[derive(Clone, Copy)]
+pub(crate) struct OneCall {
+    pub(crate) xid: u32,
+    pub(crate) call: NumberedCall,
 }
 
-impl<S: BuildHasher + Drop> Model for HashedCalls<S> {
-    ghost use Rattle.std.specs.Prelude.{List};
-    ghost use Rattle.capture3.specs.machinery.Calls.{all_calls};
-    ghost use Rattle.capture3.specs.declared.message.calls.NumberedCall.{NumberedCall};
+impl KnownCalls for OneCall {
+    ghost use Rattle.capture3.specs.machinery.Calls.{known_one};
 
-    ghost Value = { List NumberedCall };
+    ghost known = { λ one. known_one one.xid one.call };
 
-    ghost view = { λ calls. all_calls calls.table.line.items calls.table.others.entries };
-}
-
-impl<S: BuildHasher + Drop> HashedCalls<S> {
-    pub(crate) fn new(alloc: Global, hasher: S) -> HashedCalls<S>
-        ensures { result ≡ [] }
-    {
-        HashedCalls {
-            table: CountedCalls::new(alloc, hasher),
-        }
-    }
-}
-
-impl<S: BuildHasher + Drop> KnownCalls for HashedCalls<S> {
-    ghost calls = { λ table. table };
-
-    #[inline(always)]
-    fn procedure_of(&self, xid: u32) -> Option<ProcId> {
-        self.table.procedure_of(xid)
-    }
-}
-
-impl<S: BuildHasher + Drop> CallTable for HashedCalls<S> {
-    fn clear(&mut self) {
-        self.table.clear();
-    }
-
-    #[inline(always)]
-    fn admit(&mut self, xid: u32, id: ProcId) -> Result<bool, AllocError> {
-        self.table.admit(xid, id)
-    }
-}
-
-/// No call, or one.
-impl KnownCalls for Option<NumberedCall> {
-    ghost use Rattle.capture3.specs.machinery.Calls.{one_or_none};
-
-    ghost calls = { one_or_none };
-
-    fn procedure_of(&self, xid: u32) -> Option<ProcId> {
-        match self {
-            Some(call) if call.xid == xid => Some(call.id),
-            _ => None,
+    fn call_of(&self, xid: u32) -> Option<NumberedCall> {
+        if self.xid == xid {
+            Some(self.call)
+        } else {
+            None
         }
     }
 }

@@ -21,6 +21,17 @@ impl Counting {
         Counting { first, swapped }
     }
 
+    /// Returns the xid from which it counts.
+    pub(crate) fn first_xid(self) -> u32
+        ensures { home_of self result ≡ 0 }
+    {
+        if self.swapped {
+            self.first.swap_bytes()
+        } else {
+            self.first
+        }
+    }
+
     /// Returns how far the xid is above the first, where it belongs.
     #[inline(always)]
     pub(crate) fn home(self, xid: u32) -> usize

@@ -7,7 +7,7 @@ ghost use Rattle.xdr3.specs.Scan.{ScansLayout, StopsLayout};
 ghost use Rattle.xdr3.specs.Visit.{Adds, body_limit};
 ghost use Rattle.capture3.specs.BodyProgram as spec;
 ghost use Rattle.capture3.specs.machinery.ScannedMessages.{ScansCall, ScansReply, StopsMessage};
-ghost use Rattle.capture3.specs.machinery.Messages.{IsTableOf, results_after};
+ghost use Rattle.capture3.specs.machinery.Messages.{HasProcedures, results_after};
 
 use crate::message::calls::{KnownCalls, NumberedCall};
 use crate::message::stop;
@@ -16,10 +16,17 @@ use rpc_head::{ProcId, Start, scan_call_head, scan_reply_head, start};
 use std::alloc::AllocError;
 use xdr3::{GetError, Input, Reason, Visit};
 
+/// What a call says of itself: its xid, and the procedure that it calls.
+#[derive(Clone, Copy)]
+pub(crate) struct CallHead {
+    pub(crate) xid: u32,
+    pub(crate) id: ProcId,
+}
+
 /// Parses a record of the client's stream, and passes its items to the visitor. Returns the call's
 /// xid and procedure, without comparing them with earlier calls of the connection. After an error
 /// the contents of the visitor are unspecified.
-pub(crate) fn scan_call<V: Visit>(body: &[u8], visitor: &mut V) -> Result<NumberedCall, GetError>
+pub(crate) fn scan_call<V: Visit>(body: &[u8], visitor: &mut V) -> Result<CallHead, GetError>
     requires { length body.now ≤ body_limit }
     ensures ok { IfOk result
         (λ call. ScansCall V.stands body.now call visitor.old visitor.new) }
@@ -41,7 +48,7 @@ pub(crate) fn scan_call<V: Visit>(body: &[u8], visitor: &mut V) -> Result<Number
         vers,
         proc_no,
     } = id;
-    Ok(NumberedCall {
+    Ok(CallHead {
         xid: start.xid,
         id: ProcId {
             prog,
@@ -52,17 +59,17 @@ pub(crate) fn scan_call<V: Visit>(body: &[u8], visitor: &mut V) -> Result<Number
 }
 
 /// Parses a record of the server's stream, after all calls of its connection, and passes its items
-/// to the visitor. Returns the procedure of its call. After an error the contents of the visitor
+/// to the visitor. Returns its call. After an error the contents of the visitor
 /// are unspecified.
 pub(crate) fn scan_reply<C: KnownCalls, V: Visit>(
     calls: &C,
     body: &[u8],
     visitor: &mut V,
-) -> Result<ProcId, GetError>
+) -> Result<NumberedCall, GetError>
     requires { length body.now ≤ body_limit }
     ensures ok { IfOk result
-        (λ id. ScansReply V.stands (C.calls calls.now) body.now id visitor.old visitor.new) }
-    ensures err { (before : List (List Item)) → IsTableOf (C.calls calls.now) before
+        (λ call. ScansReply V.stands (C.known calls.now) body.now call visitor.old visitor.new) }
+    ensures err { (before : List (List Item)) → HasProcedures (C.known calls.now) before
         → IfErr result (λ error. StopsMessage error (spec.judge_reply before body.now)) }
 {
     let mut input = Input::new(body);
@@ -70,14 +77,14 @@ pub(crate) fn scan_reply<C: KnownCalls, V: Visit>(
     if !start.is_reply {
         return Err(stop(4, Reason::WrongSide));
     }
-    let Some(id) = calls.procedure_of(start.xid) else {
+    let Some(call) = calls.call_of(start.xid) else {
         return Err(stop(0, Reason::NoCall));
     };
     tell_start(start, visitor)?;
     let success = scan_reply_head(&mut input, visitor)?;
-    scan_results_after(success, id, &mut input, visitor)?;
+    scan_results_after(success, call.id, &mut input, visitor)?;
     input.end()?;
-    Ok(id)
+    Ok(call)
 }
 
 /// Visits the xid and the mtype.

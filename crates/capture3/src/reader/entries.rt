@@ -11,7 +11,7 @@ ghost use Rattle.capture3.specs.Device.{Counts};
 ghost use Rattle.capture3.specs.Entry as spec;
 ghost use Rattle.capture3.specs.Capture.{Two};
 ghost use Rattle.capture3.specs.machinery.Container.{IsReady, IsStored};
-ghost use Rattle.capture3.specs.machinery.EntryParser.{SpellsLast};
+ghost use Rattle.capture3.specs.machinery.Pairing.{SpellsLast};
 ghost use Rattle.capture3.specs.Laws.{most_bytes};
 ghost use Rattle.capture3.specs.machinery.Position.{IsSoundPosition};
 
@@ -19,9 +19,9 @@ use crate::container::position::file_fault;
 use crate::device::DeviceFailed;
 use crate::device::source::Source;
 use crate::fault::{Error, Noted};
-use crate::message::calls::HashedCalls;
+use crate::message::counted_calls::CountedCalls;
 use crate::reader::entry::{EntryRef, Kind};
-use crate::reader::entry_parser::EntryParser;
+use crate::reader::pairing::Pairing;
 use std::alloc::{AllocError, Global};
 use std::hash::BuildHasher;
 use xdr3::{Reason, Visit};
@@ -58,18 +58,18 @@ pub struct Entries<'r, R, S: BuildHasher + Drop> {
     end: usize,
     // How many bytes were judged.
     judged: u64,
-    parser: EntryParser<HashedCalls<S>>,
+    pairing: Pairing<CountedCalls<S>>,
     // What the entry is that was handed out last, whose record stands.
     last: Option<Kind>,
     stage: Stage,
     ghost ordered: { start ≤ end },
     ghost within: { end ≤ vec_len block },
     ghost roomy: { 0 < vec_len block },
-    ghost sound: { stage ≡ stages.Reading → ∥ IsSoundPosition parser.container.position ∥₁ },
-    ghost stored: { stage ≡ stages.Reading → ∥ IsStored parser.container ∥₁ },
+    ghost sound: { stage ≡ stages.Reading → ∥ IsSoundPosition pairing.container.position ∥₁ },
+    ghost stored: { stage ≡ stages.Reading → ∥ IsStored pairing.container ∥₁ },
     ghost ready: { stage ≡ stages.Reading
-        → ∥ IsReady parser.container.cursor (released parser.container.joiner.taking) ∥₁ },
-    ghost spells: { ∥ SpellsLast last parser.container.joiner.taking ∥₁ },
+        → ∥ IsReady pairing.container.cursor (released pairing.container.joiner.taking) ∥₁ },
+    ghost spells: { ∥ SpellsLast last pairing.container.joiner.taking ∥₁ },
     ghost never_writes: { stage ≢ stages.Failed errors.Write },
     ghost unlent: { (error : Error) → stage ≡ stages.Failed error → last ≡ None },
 }
@@ -78,6 +78,7 @@ impl<'r, R: Source, S: BuildHasher + Drop> Entries<'r, R, S> {
     ghost use Rattle.capture3.specs.Kept.{IsLent, kind_lent};
     ghost use Rattle.capture3.specs.Entries.{block_size, CountsReads, failure_of, IsOver, last_of, loan_of, source_of};
     ghost use Rattle.capture3.specs.Handing.{HandsOutGiven};
+    ghost use Rattle.capture3.specs.Numbering.{number_after, number_lent};
     ghost use Rattle.capture3.specs.machinery.EntriesHistory.{answer_in, entries_left, HandsOutOrGoesOn, HasRead, StandsFor, Turns};
 
     /// Returns a reader through a block that is not empty. It reads nothing yet. The hasher is for
@@ -97,7 +98,7 @@ impl<'r, R: Source, S: BuildHasher + Drop> Entries<'r, R, S> {
             start: 0,
             end: 0,
             judged: 0,
-            parser: EntryParser::new(alloc, HashedCalls::new(alloc, hasher)),
+            pairing: Pairing::new(alloc, CountedCalls::new(alloc, hasher)),
             last: None,
             stage: Stage::Reading,
         }
@@ -171,9 +172,12 @@ impl<'r, R: Source, S: BuildHasher + Drop> Entries<'r, R, S> {
         ensures lent { (given : List ℕ) (handed : List spec.Entry) (entry : spec.Entry)
             → StandsFor R.told self.now given (handed ++ entry ∷ [])
             → IfSome result (λ lent. IsLent lent entry) }
+        ensures numbered { (given : List ℕ) (handed : List spec.Entry) (entry : spec.Entry)
+            → StandsFor R.told self.now given (handed ++ entry ∷ [])
+            → IfSome result (λ lent. number_lent lent ≡ number_after handed entry) }
     {
         match self.last {
-            Some(kind) => Some(self.parser.lend(kind)),
+            Some(kind) => Some(self.pairing.lend(kind)),
             None => None,
         }
     }
@@ -280,11 +284,11 @@ impl<'r, R: Source, S: BuildHasher + Drop> Entries<'r, R, S> {
     /// Returns whether all bytes at hand are checked, and no kept streams are left.
     fn is_used_up(&self) -> bool
         ensures judged { IsTrue result → self.now.start ≡ self.now.end }
-        ensures unopened { IsTrue result → self.now.parser.container.cursor ≡ None }
-        ensures left { IsFalse result → self.now.parser.container.cursor ≡ None
+        ensures unopened { IsTrue result → self.now.pairing.container.cursor ≡ None }
+        ensures left { IsFalse result → self.now.pairing.container.cursor ≡ None
             → self.now.start < self.now.end }
     {
-        self.start == self.end && !self.parser.is_recalling()
+        self.start == self.end && !self.pairing.is_recalling()
     }
 
     /// Reads the next block. Returns `false` at the end of the bytes.
@@ -292,7 +296,7 @@ impl<'r, R: Source, S: BuildHasher + Drop> Entries<'r, R, S> {
         requires reading { self.old.stage ≡ Stage.Reading }
         requires bounded { self.old.judged ≤ most_bytes Two + 1 }
         requires judged { self.old.start ≡ self.old.end }
-        requires unopened { self.old.parser.container.cursor ≡ None }
+        requires unopened { self.old.pairing.container.cursor ≡ None }
 
         // What was read.
         ensures has_read { (given : List ℕ) (handed : List spec.Entry)
@@ -304,7 +308,7 @@ impl<'r, R: Source, S: BuildHasher + Drop> Entries<'r, R, S> {
             (λ more. IsFalse more → IsSpent (R.told (source_of self.new))) }
 
         // What stays.
-        ensures same_parser { self.new.parser ≡ self.old.parser }
+        ensures same_parser { self.new.pairing ≡ self.old.pairing }
         ensures same_count { self.new.judged ≡ self.old.judged }
         ensures reading { OnOk result (self.new.stage ≡ Stage.Reading) }
 
@@ -337,7 +341,7 @@ impl<'r, R: Source, S: BuildHasher + Drop> Entries<'r, R, S> {
     fn judge<V: Visit>(&mut self, visitor: &mut V) -> Result<Option<Kind>, Noted>
         requires reading { self.old.stage ≡ Stage.Reading }
         requires bounded { self.old.judged ≤ most_bytes Two + 1 }
-        requires some { self.old.parser.container.cursor ≡ None → self.old.start < self.old.end }
+        requires some { self.old.pairing.container.cursor ≡ None → self.old.start < self.old.end }
 
         // What is returned, and which entry is lent.
         ensures goes_on { (given : List ℕ) (handed : List spec.Entry)
@@ -367,7 +371,7 @@ impl<'r, R: Source, S: BuildHasher + Drop> Entries<'r, R, S> {
         ensures same_reference { loan_of self.new ≡ loan_of self.old }
     {
         let piece = &self.block[self.start..self.end];
-        match self.parser.next(piece, visitor) {
+        match self.pairing.next(piece, visitor) {
             Ok((count, kind)) => {
                 self.start += count;
                 self.judged += count as u64;
@@ -376,7 +380,7 @@ impl<'r, R: Source, S: BuildHasher + Drop> Entries<'r, R, S> {
             }
             Err(Noted) => {
                 self.last = None;
-                self.stage = Stage::Failed(self.parser.error);
+                self.stage = Stage::Failed(self.pairing.error);
                 Err(Noted)
             }
         }
@@ -386,7 +390,7 @@ impl<'r, R: Source, S: BuildHasher + Drop> Entries<'r, R, S> {
     fn finish(&mut self) -> Result<(), Noted>
         requires reading { self.old.stage ≡ Stage.Reading }
         requires judged { self.old.start ≡ self.old.end }
-        requires unopened { self.old.parser.container.cursor ≡ None }
+        requires unopened { self.old.pairing.container.cursor ≡ None }
         requires end { IsSpent (R.told (source_of self.old)) }
 
         // The last entry, or the fault.
@@ -409,7 +413,7 @@ impl<'r, R: Source, S: BuildHasher + Drop> Entries<'r, R, S> {
         ensures same_block { block_size self.new ≡ block_size self.old }
         ensures same_reference { loan_of self.new ≡ loan_of self.old }
     {
-        match self.parser.end(self.judged) {
+        match self.pairing.end(self.judged) {
             Ok(()) => {
                 self.last = Some(Kind::End);
                 self.stage = Stage::Over;

@@ -7,7 +7,7 @@ ghost use Rattle.capture3.specs.Bodies.{IsCall, IsReply, xid_in};
 ghost use Rattle.capture3.specs.MessageScan.{TellsCall, TellsReply};
 ghost use Rattle.capture3.specs.machinery.Spelled.{SpellsCall, SpellsReply};
 
-use crate::message::calls::NumberedCall;
+use crate::message::calls::{NumberedCall, OneCall};
 use crate::message::scan::{scan_call, scan_reply};
 use rpc_head::{ProcId, start};
 use std::alloc::{AllocError, Global};
@@ -24,19 +24,23 @@ pub enum Kind {
     End,
 }
 
-/// A borrowed call: its procedure, and the body that encodes it.
+/// A borrowed call: its procedure, its number, and the body that encodes it.
 #[derive(Clone, Copy)]
 pub struct CallRef<'a> {
     pub id: ProcId,
+    /// Says in which order the xids of the connection's calls first came: 1 for the first, 2 for
+    /// the next other one, and so on. A call that is sent again has the number of the first.
+    pub number: u32,
     pub body: &'a [u8],
     pub ghost short: { length body.now ≤ max_body },
     pub ghost spells: { ∥ SpellsCall id body.now ∥₁ },
 }
 
-/// A borrowed reply: the procedure of its call, and the body that encodes it.
+/// A borrowed reply: the procedure and the number of its call, and the body that encodes it.
 #[derive(Clone, Copy)]
 pub struct ReplyRef<'a> {
     pub id: ProcId,
+    pub number: u32,
     pub body: &'a [u8],
     pub ghost short: { length body.now ≤ max_body },
     pub ghost spells: { ∥ SpellsReply id body.now ∥₁ },
@@ -53,19 +57,21 @@ pub enum EntryRef<'a> {
     End,
 }
 
-/// An owned call: its procedure, and the body that encodes it.
+/// An owned call: its procedure, its number (see `CallRef`), and the body that encodes it.
 #[derive(Drop)]
 pub struct KeptCall {
     pub id: ProcId,
+    pub number: u32,
     pub body: Vec<u8>,
     pub ghost short: { length body.items ≤ max_body },
     pub ghost spells: { ∥ SpellsCall id body.items ∥₁ },
 }
 
-/// An owned reply: the procedure of its call, and the body that encodes it.
+/// An owned reply: the procedure and the number of its call, and the body that encodes it.
 #[derive(Drop)]
 pub struct KeptReply {
     pub id: ProcId,
+    pub number: u32,
     pub body: Vec<u8>,
     pub ghost short: { length body.items ≤ max_body },
     pub ghost spells: { ∥ SpellsReply id body.items ∥₁ },
@@ -98,10 +104,12 @@ impl<'a> CallRef<'a> {
     /// Returns the call with a body of its own.
     pub fn keep(&self, alloc: Global) -> Result<KeptCall, AllocError>
         ensures id { IfOk result (λ kept. kept.id ≡ self.now.id) }
+        ensures number { IfOk result (λ kept. kept.number ≡ self.now.number) }
         ensures body { IfOk result (λ kept. kept.body.items ≡ self.now.body.now) }
     {
+        let CallRef { id, number, .. } = *self;
         let body = Vec::from_slice(alloc, self.body)?;
-        Ok(KeptCall { id: self.id, body })
+        Ok(KeptCall { id, number, body })
     }
 
     /// Passes the items of the call to a visitor, in one pass over its body. It fails only if
@@ -134,10 +142,12 @@ impl<'a> ReplyRef<'a> {
     /// Returns the reply with a body of its own.
     pub fn keep(&self, alloc: Global) -> Result<KeptReply, AllocError>
         ensures id { IfOk result (λ kept. kept.id ≡ self.now.id) }
+        ensures number { IfOk result (λ kept. kept.number ≡ self.now.number) }
         ensures body { IfOk result (λ kept. kept.body.items ≡ self.now.body.now) }
     {
+        let ReplyRef { id, number, .. } = *self;
         let body = Vec::from_slice(alloc, self.body)?;
-        Ok(KeptReply { id: self.id, body })
+        Ok(KeptReply { id, number, body })
     }
 
     /// Passes the items of the reply to a visitor, in one pass over its body. It fails only if
@@ -146,7 +156,7 @@ impl<'a> ReplyRef<'a> {
         ensures { OnOk result
             (TellsReply V.stands self.now.body.now self.now.id visitor.old visitor.new) }
     {
-        match scan_reply(&Some(self.answered()), self.body, visitor) {
+        match scan_reply(&self.answered(), self.body, visitor) {
             Ok(_) => Ok(()),
             Err(GetError::Memory) => Err(AllocError),
             // The body was read as a message before.
@@ -155,14 +165,17 @@ impl<'a> ReplyRef<'a> {
     }
 
     /// Returns the call that it answers.
-    fn answered(&self) -> NumberedCall
-        ensures id { result.id ≡ self.now.id }
+    fn answered(&self) -> OneCall
+        ensures id { result.call.id ≡ self.now.id }
         ensures xid { (items : List Item) → IsReply self.now.body.now
             (record { id = self.now.id; items = items }) → result.xid ≡ xid_in items }
     {
-        NumberedCall {
+        OneCall {
             xid: self.xid(),
-            id: self.id,
+            call: NumberedCall {
+                number: self.number,
+                id: self.id,
+            },
         }
     }
 }
@@ -171,10 +184,12 @@ impl KeptCall {
     /// Borrows the call.
     pub fn lend(&self) -> CallRef<'_>
         ensures id { result.id ≡ self.now.id }
+        ensures number { result.number ≡ self.now.number }
         ensures body { result.body.now ≡ self.now.body.items }
     {
         CallRef {
             id: self.id,
+            number: self.number,
             body: &self.body,
         }
     }
@@ -184,10 +199,12 @@ impl KeptReply {
     /// Borrows the reply.
     pub fn lend(&self) -> ReplyRef<'_>
         ensures id { result.id ≡ self.now.id }
+        ensures number { result.number ≡ self.now.number }
         ensures body { result.body.now ≡ self.now.body.items }
     {
         ReplyRef {
             id: self.id,
+            number: self.number,
             body: &self.body,
         }
     }

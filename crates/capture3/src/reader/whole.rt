@@ -1,12 +1,13 @@
 //! A whole capture in memory.
 
-ghost use Rattle.std.specs.Prelude.{◌≡◌, ◌≢◌, ◌≤◌, ℕ, List, IfErr, IfOk, vec_len};
+ghost use Rattle.std.specs.Prelude.{◌≡◌, ◌≢◌, ◌≤◌, ℕ, [], List, map, IfErr, IfOk, vec_len};
 ghost use Rattle.capture3.specs.Capture.{max_connections};
 ghost use Rattle.capture3.specs.Chunks.{max_bytes};
 ghost use Rattle.capture3.specs.Entries.{OnRefused};
 ghost use Rattle.capture3.specs.Entry as spec;
 ghost use Rattle.capture3.specs.FirstFault.{FirstFault};
 ghost use Rattle.capture3.specs.Kept.{AreKept, begun};
+ghost use Rattle.capture3.specs.Numbering.{number_kept, numbers_after};
 ghost use Rattle.capture3.specs.Laws.{spelled};
 ghost use Rattle.capture3.specs.Laws.{most_entries};
 ghost use Rattle.capture3.specs.Typed.{Typed};
@@ -15,7 +16,7 @@ use crate::fault::{Error, Noted};
 use crate::message::calls::CallList;
 use crate::message::silent::Silent;
 use crate::reader::entry::Entry;
-use crate::reader::entry_parser::EntryParser;
+use crate::reader::pairing::Pairing;
 use std::alloc::Global;
 
 /// Returns the entries of a capture.
@@ -30,6 +31,8 @@ pub fn parse(alloc: Global, bytes: &[u8]) -> Result<Vec<Entry>, Error>
     ensures entries { IfOk result
         (λ kept. (entries : List spec.Entry) × Typed bytes.now entries
         × AreKept kept.items entries) }
+    ensures numbered { IfOk result (λ kept. (entries : List spec.Entry) → Typed bytes.now entries
+        → map number_kept kept.items ≡ numbers_after [] entries) }
     ensures fault { OnRefused result (FirstFault bytes.now) }
     ensures read { IfErr result (λ error. error ≢ Error.Read) }
     ensures write { IfErr result (λ error. error ≢ Error.Write) }
@@ -38,22 +41,22 @@ pub fn parse(alloc: Global, bytes: &[u8]) -> Result<Vec<Entry>, Error>
         (λ _. (entries : List spec.Entry) → Typed bytes.now entries → spelled entries ≤ max_bytes) }
     ensures few { IfOk result (λ kept. vec_len kept ≤ most_entries) }
 {
-    let mut parser = EntryParser::new(alloc, CallList::new(alloc));
+    let mut pairing = Pairing::new(alloc, CallList::new(alloc));
     let mut entries = Vec::new(alloc);
     let mut taken = 0;
-    while taken < bytes.len() || parser.is_recalling() {
-        match parser.next(&bytes[taken..], &mut Silent) {
+    while taken < bytes.len() || pairing.is_recalling() {
+        match pairing.next(&bytes[taken..], &mut Silent) {
             Ok((count, kind)) => {
                 taken += count;
                 if let Some(kind) = kind {
-                    let entry = parser.lend(kind).keep(alloc)?;
+                    let entry = pairing.lend(kind).keep(alloc)?;
                     entries.push(entry)?;
                 }
             }
-            Err(Noted) => return Err(parser.error),
+            Err(Noted) => return Err(pairing.error),
         }
     }
-    parser.end(bytes.len() as u64)?;
+    pairing.end(bytes.len() as u64)?;
     entries.push(Entry::End)?;
     Ok(entries)
 }

@@ -1,6 +1,6 @@
 -- Tables of the values of each class.
 use Rattle.std.specs.Prelude.{◌≡◌, ℕ, nat_eq, Option, List, [], ◌∷◌, ◌++◌, get_or}
-use Rattle.canon3.specs.Rank.{HoldsDistinct}
+use Rattle.capture3.specs.Rank.{HoldsDistinct}
 use Rattle.masking3.specs.declared.class.Class.{Class}
 use Rattle.masking3.specs.declared.class_tables.ClassTables.{ClassTables}
 use Rattle.masking3.specs.declared.ways.Way.TheVariants.{Number}

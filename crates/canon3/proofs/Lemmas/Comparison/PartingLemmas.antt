@@ -1,7 +1,7 @@
 -- Two complete captures that are not the same part at one place.
 use Rattle.canon3.proofs.Common.{◌≡◌, ◌⊎◌, inl, inr, ⊎_elim, ℕ, zero, suc, ◌+◌, ◌≤◌, List, [], ◌∷◌, ◌++◌, length, take, refl, sym, ap, ◌∙◌, subst, arith, Option, Some, None, append-nil, slice_get, bytes_eq, cases_lt, take_all, bytes_eq-Decides, Entry, Begin, Call, Turn, Reply, Close, End, Typed, Client, Server, Place, bytes_of, canonical, entries_after, open_xids, handles, verifiers, Same, ended, AreFirst, Side, IsMessageOf, IsPlaceOf, first_message, second_message, first_ends, second_ends, next_record, PartsAt, Parting}
 use Rattle.canon3.proofs.Lemmas.Order.Order.{Stage, Between, Steps, call, reply, IsWellFormed}
-use Rattle.canon3.proofs.Lemmas.Numbers.RankLemmas.{by_test}
+use Rattle.capture3.proofs.Lemmas.Connections.RankLemmas.{by_test}
 use Rattle.canon3.proofs.Lemmas.Canonical.CanonicalStreamLemmas.{canonical-after, entries_after-append}
 use Rattle.canon3.proofs.Lemmas.Order.Prefixes.{IsWellFormed-take, canonical-take}
 use Rattle.canon3.proofs.Lemmas.Comparison.Places.{AreAlike, stages_alike, stage_at, place_from_parting}

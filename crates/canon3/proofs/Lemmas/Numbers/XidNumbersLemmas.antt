@@ -4,7 +4,8 @@ use Rattle.canon3.proofs.Common.{nat_eq, list_any, position_or_len, Decides-eqb,
 use Rattle.std.specs.Int.{swap_bytes, from_be_bytes, to_be_bytes, to_le_bytes, w32}
 use Rattle.std.proofs.lemmas.List.Folds.{list_any-append}
 use Rattle.std.proofs.lemmas.Nat.{be_bytes_4, from_be_bytes-to_be_bytes_4}
-use Rattle.canon3.proofs.Lemmas.Numbers.RankLemmas.{any-distinct, by_test, distinct-push, equivalence, rank-push}
+use Rattle.capture3.proofs.Lemmas.Connections.RankLemmas.{any-distinct, by_test, distinct-push, rank-push}
+use Rattle.canon3.proofs.Lemmas.Numbers.RankLemmas.{equivalence}
 
 -- ---- four bytes in reverse
 

@@ -11,7 +11,7 @@ use Rattle.canon3.specs.machinery.CountedKinds.{calls, replies}
 use Rattle.canon3.specs.Summary.{AreMessageCounts, ConcludesAll, ConcludesGiven, is_begin, is_call, is_reply, IsSummary}
 use Rattle.canon3.specs.machinery.Sums.{all_items, Sums, SumsMessages}
 use Rattle.canon3.proofs.Lemmas.Order.InOrder.{typed_in_order}
-use Rattle.canon3.proofs.Lemmas.Numbers.RankLemmas.{length-with_keys}
+use Rattle.capture3.proofs.Lemmas.Connections.RankLemmas.{length-with_keys}
 
 -- one more is counted where it is one of them
 pub counts_after : {X : Type 0} (p : X → Bool) (n m : ℕ) (items : List X) (one : X)

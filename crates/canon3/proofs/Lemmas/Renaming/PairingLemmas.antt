@@ -2,7 +2,8 @@
 -- linked.
 use Rattle.canon3.proofs.Common.{◌≡◌, ⊎_elim, Bool, true, false, cond, List, [], ◌∷◌, ◌++◌, refl, sym, ap, ap₂, ◌∙◌, subst, Decides, list_any}
 use Rattle.canon3.specs.Pairing.{Member, here, there, Pairs, NoTwoAlike, OneToOne}
-use Rattle.canon3.proofs.Lemmas.Numbers.RankLemmas.{by_test, cond_either, itself, apart, member-append_left, member-append_right, member-append_cases, member_under}
+use Rattle.capture3.proofs.Lemmas.Connections.RankLemmas.{by_test, cond_either}
+use Rattle.canon3.proofs.Lemmas.Numbers.RankLemmas.{itself, apart, member-append_left, member-append_right, member-append_cases, member_under}
 
 -- the pairs, turned
 abbrev pub turned : {K : Type 0} → Pairs K → Pairs K

@@ -1,6 +1,7 @@
 -- A message with numbers, from its first item to its last.
 use Rattle.canon3.proofs.Common.{◌≡◌, ℕ, ◌<◌, ◌^◌, Bool, true, false, List, [], ◌∷◌, ◌++◌, length, append-nil, refl, sym, ◌∙◌, subst, ◌||◌, bytes_eq, nat_eq, list_any, Decides-eqb, Item, Word, MessageWriter, items_after, HoldsHandles, Member, here, there, distinct, rank, HoldsDistinct, handles_in, verifiers_in, Makes, Begins, AreFew, Before, told_after, HoldsBefore, IsGoing, IsNotedAs, IsWithinMessage, WriterStands}
-use Rattle.canon3.proofs.Lemmas.Numbers.RankLemmas.{any-distinct, distinct-push, equivalence, itself, rank-append}
+use Rattle.capture3.proofs.Lemmas.Connections.RankLemmas.{any-distinct, distinct-push}
+use Rattle.canon3.proofs.Lemmas.Numbers.RankLemmas.{equivalence, itself, rank-append}
 use Rattle.canon3.proofs.Lemmas.Writing.Noting.{noted_none}
 use Rattle.canon3.proofs.Lemmas.Writing.Visiting.{told_after-same}
 

@@ -1,5 +1,6 @@
 use Rattle.canon3.proofs.Common.{bytes_eq, bytes_eq-Decides}
-use Rattle.canon3.proofs.Lemmas.Numbers.RankLemmas.{equivalence, rank-push, distinct-push, rank-append}
+use Rattle.capture3.proofs.Lemmas.Connections.RankLemmas.{rank-push, distinct-push}
+use Rattle.canon3.proofs.Lemmas.Numbers.RankLemmas.{equivalence, rank-append}
 use Rattle.canon3.proofs.laws.tables_number_by_rank.Goals as goal
 
 pub returns-clause-number : goal.returns-clause-number

@@ -1,425 +1,160 @@
 -- Calls in a line, each at the home of its xid.
-use Rattle.std.proofs.Common.{◌≡◌, ◌⊎◌, inl, inr, ℕ, zero, suc, ◌==◌, ◌≤◌, Bool, true, false, cond, if◌then◌else◌, is_some, nat_eq, Option, Some, None, List, [], ◌∷◌, ◌++◌, length, replicate, set, take, refl, sym, ap, subst, ◌∙◌, eq-eqb}
-use Rattle.std.proofs.lemmas.Bool.{eqb-true}
-use Rattle.std.proofs.lemmas.List.{take_all}
-use Rattle.std.proofs.lemmas.Option.{same_Some, none-some}
-use Rattle.capture3.proofs.Common.{slice_get, ProcId, NumberedCall}
-use Rattle.capture3.specs.machinery.Calls.{found, with_numbered_call, FindsSame, Gains, AreAtHome, Puts}
+use Rattle.capture3.proofs.Common.{◌≡◌, ◌≢◌, ℕ, zero, suc, ◌==◌, ◌+◌, ◌-◌, ◌<◌, ◌≤◌, ◌%◌, Bool, true, false, cond, if◌then◌else◌, nat_eq, Option, Some, None, List, [], ◌∷◌, ◌++◌, length, take, take_all, refl, sym, ap, ◌∙◌, eq-eqb, eqb-true, arith, slice_get, swap_bytes, w32, home_of, Counting, NumberedCall, AreSame, Puts, at_home, lined}
+use Rattle.std.specs.Prelude.{◌^◌}
+use Rattle.std.proofs.Common.{get_or, replicate, reverse, set}
+use Rattle.std.proofs.lemmas.Option.{slice_get_past}
+use Rattle.std.proofs.Math.Dec.{eqb-suc-suc, eqb-suc-zero, eqb-zero-suc}
+use Rattle.std.specs.Int.{from_be_bytes, to_be_bytes, to_le_bytes}
+use Rattle.std.proofs.lemmas.Nat.{be_bytes_4, from_be_bytes-to_be_bytes_4}
+use Rattle.capture3.proofs.Lemmas.Connections.RankLemmas.{by_test}
 
--- the procedure of a call that may be there, if it has this xid
-abbrev pub named : Option NumberedCall → ℕ → Option ProcId
-named None xid = None
-named (Some call) xid = if call.xid == xid then Some call.id else None
+-- ---- homes
 
--- the first of two procedures that is there
-abbrev pub over : Option ProcId → Option ProcId → Option ProcId
-over None other = other
-over (Some id) other = Some id
+all_bytes : (n i : ℕ) → get_or (to_le_bytes w32 n) i 0 < 256
+all_bytes n zero = omega arith
+all_bytes n (suc zero) = omega arith
+all_bytes n (suc (suc zero)) = omega arith
+all_bytes n (suc (suc (suc zero))) = omega arith
+all_bytes n (suc (suc (suc (suc i)))) = omega arith
 
--- ---- where a list finds a call
+pub swapped_twice : (n : ℕ) → n < 2 ^ 32 → swap_bytes w32 (swap_bytes w32 n) ≡ n
+swapped_twice n lt =
+    let m = swap_bytes w32 n in
+    let bytes : to_be_bytes w32 m ≡ to_le_bytes w32 n =
+    be_bytes_4 (to_le_bytes w32 n) m refl (all_bytes n) refl in
+    ap (λ (l : List ℕ). from_be_bytes w32 (reverse l)) bytes ∙ from_be_bytes-to_be_bytes_4 n lt
 
-record FoundAt (line : List NumberedCall) (xid : ℕ) (id : ProcId) : Type 0 where
-  at : ℕ
-  call : NumberedCall
-  is : slice_get line at ≡ Some call
-  xid_is : call.xid ≡ xid
-  id_is : call.id ≡ id
+swapped_below : (n : ℕ) → swap_bytes w32 n < 4294967296
+swapped_below n = omega arith
 
-found_at : (line : List NumberedCall) (xid : ℕ) (id : ProcId) → found line xid ≡ Some id
-    → FoundAt line xid id
-found_at [] xid id e = absurd (none-some id e)
-found_at (call ∷ line) xid id e = by_test (found_at line xid id) (nat_eq call.xid xid) refl e
+apart_still : (m n k : ℕ) → m < 4294967296 → n < 4294967296
+    → (m + k) % 4294967296 ≡ (n + k) % 4294967296 → m ≡ n
+apart_still m n k small_m small_n e = omega (arith, small_m, small_n, e)
+
+-- no two xids have one home
+pub one_at_home : (counting : Counting) (a b : ℕ) → a < 2 ^ 32 → b < 2 ^ 32
+    → home_of counting a ≡ home_of counting b → a ≡ b
+unfolding home_of
+one_at_home counting a b small_a small_b e = by_order counting.swapped e
   where
-    by_test : (found line xid ≡ Some id → FoundAt line xid id) → (b : Bool)
-        → nat_eq call.xid xid ≡ b → cond b (Some call.id) (found line xid) ≡ Some id
-        → FoundAt (call ∷ line) xid id
-    by_test later true is e =
-        record {
-          at = zero;
-          call = call;
-          is = refl;
-          xid_is = eqb-true call.xid xid is;
-          id_is = same_Some call.id id e;
-        }
-    by_test later false is e =
-        let f = later e in
-        record { at = suc f.at; call = f.call; is = f.is; xid_is = f.xid_is; id_is = f.id_is }
+    by_order : (s : Bool)
+        → ((if s then swap_bytes w32 a else a) + (2 ^ 32 - counting.first)) % 2 ^ 32
+        ≡ ((if s then swap_bytes w32 b else b) + (2 ^ 32 - counting.first)) % 2 ^ 32 → a ≡ b
+    by_order true same =
+        let swapped =
+        apart_still (swap_bytes w32 a) (swap_bytes w32 b) (2 ^ 32 - counting.first)
+        (swapped_below a) (swapped_below b) same in
+        sym (swapped_twice a small_a) ∙ ap (swap_bytes w32) swapped ∙ swapped_twice b small_b
+    by_order false same = apart_still a b (2 ^ 32 - counting.first) small_a small_b same
 
-not_found_at : (line : List NumberedCall) (xid : ℕ) → found line xid ≡ None
-    → (i : ℕ) (call : NumberedCall) → slice_get line i ≡ Some call → nat_eq call.xid xid ≡ false
-not_found_at [] xid none i call at = absurd (none-some call at)
-not_found_at (one ∷ line) xid none i call at =
-    by_test (λ rest j. not_found_at line xid rest j call) (nat_eq one.xid xid) refl none i at
-  where
-    by_test : (found line xid ≡ None → (j : ℕ) → slice_get line j ≡ Some call
-        → nat_eq call.xid xid ≡ false) → (b : Bool) → nat_eq one.xid xid ≡ b
-        → cond b (Some one.id) (found line xid) ≡ None → (i : ℕ)
-        → slice_get (one ∷ line) i ≡ Some call → nat_eq call.xid xid ≡ false
-    by_test later true is none i at = absurd (none-some one.id (sym none))
-    by_test later false is none zero at =
-        ap (λ (c : NumberedCall). nat_eq c.xid xid) (sym (same_Some one call at)) ∙ is
-    by_test later false is none (suc i) at = later none i at
-
--- a line finds an xid at its home
-found_home : (home : ℕ → ℕ) (line : List NumberedCall) (xid : ℕ) → AreAtHome home line
-    → found line xid ≡ named (slice_get line (home xid)) xid
-found_home home line xid lined = by_found (found line xid) refl
-  where
-    at_none : (o : Option NumberedCall) → slice_get line (home xid) ≡ o → found line xid ≡ None
-        → None ≡ named o xid
-    at_none None at none = refl
-    at_none (Some call) at none =
-        ap (λ b. cond b (Some call.id) None) (sym (not_found_at line xid none (home xid) call at))
-
-    by_found : (o : Option ProcId) → found line xid ≡ o → o ≡ named (slice_get line (home xid)) xid
-    by_found None none = at_none (slice_get line (home xid)) refl none
-    by_found (Some id) is =
-        let f = found_at line xid id is in
-        let at : slice_get line (home xid) ≡ Some f.call =
-        ap (λ (k : ℕ). slice_get line (home k)) (sym f.xid_is) ∙ lined f.at f.call f.is in
-        sym (ap (λ (o : Option NumberedCall). named o xid) at
-        ∙ ap (λ b. cond b (Some f.call.id) None) (eq-eqb f.call.xid xid f.xid_is)
-        ∙ ap (λ (p : ProcId). Some p) f.id_is)
-
-pub found_there : (home : ℕ → ℕ) (line : List NumberedCall) (xid : ℕ) (there : Option NumberedCall)
-    → AreAtHome home line → slice_get line (home xid) ≡ there → found line xid ≡ named there xid
-found_there home line xid there lined is =
-    found_home home line xid lined ∙ ap (λ (o : Option NumberedCall). named o xid) is
-
-pub found_append : (front back : List NumberedCall) (xid : ℕ)
-    → found (front ++ back) xid ≡ over (found front xid) (found back xid)
-found_append [] back xid = refl
-found_append (call ∷ front) back xid = by_test (found_append front back xid) (nat_eq call.xid xid)
-  where
-    by_test : found (front ++ back) xid ≡ over (found front xid) (found back xid) → (b : Bool)
-        → cond b (Some call.id) (found (front ++ back) xid)
-        ≡ over (cond b (Some call.id) (found front xid)) (found back xid)
-    by_test later true = refl
-    by_test later false = later
-
--- ---- elements of lists that grow
-
-get_left : (front back : List NumberedCall) (i : ℕ) (call : NumberedCall)
-    → slice_get front i ≡ Some call → slice_get (front ++ back) i ≡ Some call
-get_left [] back i call at = absurd (none-some call at)
-get_left (one ∷ front) back zero call at = at
-get_left (one ∷ front) back (suc i) call at = get_left front back i call at
-
--- an element of the back
-record InBack (back : List NumberedCall) (call : NumberedCall) : Type 0 where
-  at : ℕ
-  is : slice_get back at ≡ Some call
-
-get_append : (front back : List NumberedCall) (i : ℕ) (call : NumberedCall)
-    → slice_get (front ++ back) i ≡ Some call → (slice_get front i ≡ Some call) ⊎ InBack back call
-get_append [] back i call at = inr (record { at = i; is = at })
-get_append (one ∷ front) back zero call at = inl at
-get_append (one ∷ front) back (suc i) call at = get_append front back i call at
-
-get_last : (front : List NumberedCall) (call : NumberedCall)
-    → slice_get (front ++ call ∷ []) (length front) ≡ Some call
-get_last [] call = refl
-get_last (one ∷ front) call = get_last front call
-
-get_one : (one call : NumberedCall) (i : ℕ) → slice_get (one ∷ []) i ≡ Some call → one ≡ call
-get_one one call zero at = same_Some one call at
-get_one one call (suc i) at = absurd (none-some call at)
-
-get_copy : (n : ℕ) (one call : NumberedCall) (i : ℕ) → slice_get (replicate n one) i ≡ Some call
-    → one ≡ call
-get_copy zero one call i at = absurd (none-some call at)
-get_copy (suc n) one call zero at = same_Some one call at
-get_copy (suc n) one call (suc i) at = get_copy n one call i at
-
-get_set_same : (line : List NumberedCall) (i : ℕ) (call old : NumberedCall)
-    → slice_get line i ≡ Some old → slice_get (set line i call) i ≡ Some call
-get_set_same [] i call old at = absurd (none-some old at)
-get_set_same (one ∷ line) zero call old at = refl
-get_set_same (one ∷ line) (suc i) call old at = get_set_same line i call old at
-
-apart_before : (i j : ℕ) → nat_eq (suc j) (suc i) ≡ false → nat_eq j i ≡ false
-apart_before i j apart = by_test (nat_eq j i) refl
-  where
-    by_test : (b : Bool) → nat_eq j i ≡ b → nat_eq j i ≡ false
-    by_test false is = is
-    by_test true is =
-        let same : nat_eq (suc j) (suc i) ≡ true =
-        eq-eqb (suc j) (suc i) (ap suc (eqb-true j i is)) in
-        absurd (cc)
-
-get_set_other : (line : List NumberedCall) (i j : ℕ) (call : NumberedCall) → nat_eq j i ≡ false
-    → slice_get (set line i call) j ≡ slice_get line j
-get_set_other [] i j call other = refl
-get_set_other (one ∷ line) zero zero call other = absurd (cc)
-get_set_other (one ∷ line) zero (suc j) call other = refl
-get_set_other (one ∷ line) (suc i) zero call other = refl
-get_set_other (one ∷ line) (suc i) (suc j) call other =
-    get_set_other line i j call (apart_before i j other)
-
--- ---- calls that are added
-
--- another call after those that were found
-abbrev pub more : Option ProcId → ℕ → ProcId → ℕ → Option ProcId
-more before xid id q = over before (if xid == q then Some id else None)
-
-over_none : (before : Option ProcId) → over before None ≡ before
-over_none None = refl
-over_none (Some id) = refl
-
--- a new call before or after the others is found alike
-new_first : (calls : List NumberedCall) (xid : ℕ) (id : ProcId) (q : ℕ) → found calls xid ≡ None
-    → (if xid == q then Some id else found calls q) ≡ more (found calls q) xid id q
-new_first calls xid id q none = by_test (nat_eq xid q) refl
-  where
-    by_test : (b : Bool) → nat_eq xid q ≡ b
-        → cond b (Some id) (found calls q) ≡ over (found calls q) (cond b (Some id) None)
-    by_test true is =
-        ap (λ (o : Option ProcId). over o (Some id))
-        (sym (ap (found calls) (sym (eqb-true xid q is)) ∙ none))
-    by_test false is = sym (over_none (found calls q))
-
--- a known call after the others changes nothing
-known_last : (calls : List NumberedCall) (xid : ℕ) (id : ProcId) (q : ℕ)
-    → is_some (found calls xid) ≡ true → found calls q ≡ more (found calls q) xid id q
-known_last calls xid id q known = by_test (nat_eq xid q) refl (found calls q) refl
-  where
-    by_test : (b : Bool) → nat_eq xid q ≡ b → (o : Option ProcId) → found calls q ≡ o
-        → o ≡ over o (cond b (Some id) None)
-    by_test b is (Some other) at = refl
-    by_test false is None at = refl
-    by_test true is None at =
-        let none : found calls xid ≡ None = ap (found calls) (eqb-true xid q is) ∙ at in
-        absurd (cc)
-
-with_found : (calls : List NumberedCall) (xid : ℕ) (id : ProcId) (q : ℕ)
-    → found (with_numbered_call calls xid id) q ≡ more (found calls q) xid id q
-with_found calls xid id q = by_known (is_some (found calls xid)) refl
-  where
-    by_known : (b : Bool) → is_some (found calls xid) ≡ b
-        → found (cond b calls (calls ++ record { xid = xid; id = id } ∷ [])) q
-        ≡ more (found calls q) xid id q
-    by_known true known = known_last calls xid id q known
-    by_known false known = found_append calls (record { xid = xid; id = id } ∷ []) q
-
-pub gains_put : (old new : List NumberedCall) (xid : ℕ) (id : ProcId) → found old xid ≡ None
-    → Puts old xid id new → Gains old xid id new
-gains_put old new xid id none puts q =
-    puts q ∙ new_first old xid id q none ∙ sym (with_found old xid id q)
-
-pub gains_known : (old new : List NumberedCall) (xid : ℕ) (id : ProcId)
-    → is_some (found old xid) ≡ true → FindsSame old new → Gains old xid id new
-gains_known old new xid id known same q =
-    same q ∙ known_last old xid id q known ∙ sym (with_found old xid id q)
-
-pub gains_along : (old other new : List NumberedCall) (xid : ℕ) (id : ProcId) → FindsSame old other
-    → Gains other xid id new → Gains old xid id new
-gains_along old other new xid id same gains q =
-    gains q ∙ with_found other xid id q ∙ ap (λ (o : Option ProcId). more o xid id q) (same q)
-    ∙ sym (with_found old xid id q)
-
-pub puts_push : (line : List NumberedCall) (xid : ℕ) (id : ProcId) → found line xid ≡ None
-    → Puts line xid id (line ++ record { xid = xid; id = id } ∷ [])
-puts_push line xid id none q =
-    found_append line (record { xid = xid; id = id } ∷ []) q ∙ sym (new_first line xid id q none)
-
--- ---- a line and the others
-
-pub same_before : (line new others : List NumberedCall) → FindsSame line new
-    → FindsSame (line ++ others) (new ++ others)
-same_before line new others same q =
-    found_append new others q ∙ ap (λ (o : Option ProcId). over o (found others q)) (same q)
-    ∙ sym (found_append line others q)
-
-pub found_behind : (line others : List NumberedCall) (xid : ℕ) → found line xid ≡ None
-    → found (line ++ others) xid ≡ found others xid
-found_behind line others xid none =
-    found_append line others xid ∙ ap (λ (o : Option ProcId). over o (found others xid)) none
-
-pub found_before : (line others : List NumberedCall) (xid : ℕ) (id : ProcId)
-    → found line xid ≡ Some id → found (line ++ others) xid ≡ Some id
-found_before line others xid id is =
-    found_append line others xid ∙ ap (λ (o : Option ProcId). over o (found others xid)) is
-
-pub puts_before : (line new others : List NumberedCall) (xid : ℕ) (id : ProcId)
-    → Puts line xid id new → Puts (line ++ others) xid id (new ++ others)
-puts_before line new others xid id puts q =
-    found_append new others q ∙ ap (λ (o : Option ProcId). over o (found others q)) (puts q)
-    ∙ by_test (nat_eq xid q)
-  where
-    by_test : (b : Bool)
-        → over (cond b (Some id) (found line q)) (found others q)
-        ≡ cond b (Some id) (found (line ++ others) q)
-    by_test true = refl
-    by_test false = sym (found_append line others q)
-
-pub puts_behind : (line others new : List NumberedCall) (xid : ℕ) (id : ProcId)
-    → found line xid ≡ None → Puts others xid id new → Puts (line ++ others) xid id (line ++ new)
-puts_behind line others new xid id none puts q =
-    found_append line new q ∙ ap (over (found line q)) (puts q) ∙ by_test (nat_eq xid q) refl
-  where
-    by_test : (b : Bool) → nat_eq xid q ≡ b
-        → over (found line q) (cond b (Some id) (found others q))
-        ≡ cond b (Some id) (found (line ++ others) q)
-    by_test true is =
-        ap (λ (o : Option ProcId). over o (Some id))
-        (ap (found line) (sym (eqb-true xid q is)) ∙ none)
-    by_test false is = sym (found_append line others q)
-
--- ---- lines that change
-
-lined_more : (home : ℕ → ℕ) (line back : List NumberedCall) → AreAtHome home line
-    → ((call : NumberedCall) → InBack back call
-    → slice_get (line ++ back) (home call.xid) ≡ Some call) → AreAtHome home (line ++ back)
-lined_more home line back lined behind i call at = by_part (get_append line back i call at)
-  where
-    by_part : (slice_get line i ≡ Some call) ⊎ InBack back call
-        → slice_get (line ++ back) (home call.xid) ≡ Some call
-    by_part (inl front) = get_left line back (home call.xid) call (lined i call front)
-    by_part (inr back_has) = behind call back_has
-
-pub lined_push : (home : ℕ → ℕ) (line : List NumberedCall) (one : NumberedCall)
-    → AreAtHome home line → home one.xid ≡ length line → AreAtHome home (line ++ one ∷ [])
-lined_push home line one lined at =
-    lined_more home line (one ∷ []) lined (λ call b. last call (get_one one call b.at b.is))
-  where
-    last : (call : NumberedCall) → one ≡ call
-        → slice_get (line ++ one ∷ []) (home call.xid) ≡ Some call
-    last call is =
-        ap (λ (c : NumberedCall). slice_get (line ++ one ∷ []) (home c.xid)) (sym is)
-        ∙ ap (slice_get (line ++ one ∷ [])) at ∙ get_last line one
-        ∙ ap (λ (c : NumberedCall). Some c) is
-
-pub lined_copies : (home : ℕ → ℕ) (line : List NumberedCall) (k n : ℕ) (one : NumberedCall)
-    → AreAtHome home line → slice_get line k ≡ Some one → AreAtHome home (line ++ replicate n one)
-lined_copies home line k n one lined at =
-    lined_more home line (replicate n one) lined
-    (λ call b. copied call (get_copy n one call b.at b.is))
-  where
-    copied : (call : NumberedCall) → one ≡ call
-        → slice_get (line ++ replicate n one) (home call.xid) ≡ Some call
-    copied call is =
-        get_left line (replicate n one) (home call.xid) call
-        (lined k call (at ∙ ap (λ (c : NumberedCall). Some c) is))
-
-found_copies : (n : ℕ) (one : NumberedCall) (q : ℕ) → nat_eq one.xid q ≡ false
-    → found (replicate n one) q ≡ None
-found_copies zero one q other = refl
-found_copies (suc n) one q other =
-    ap (λ b. cond b (Some one.id) (found (replicate n one) q)) other ∙ found_copies n one q other
-
-pub same_copies : (line : List NumberedCall) (k n : ℕ) (one : NumberedCall)
-    → slice_get line k ≡ Some one → FindsSame line (line ++ replicate n one)
-same_copies line k n one at q = found_append line (replicate n one) q ∙ by_found (found line q) refl
-  where
-    by_found : (o : Option ProcId) → found line q ≡ o → over o (found (replicate n one) q) ≡ o
-    by_found (Some id) is = refl
-    by_found None none = found_copies n one q (not_found_at line q none k one at)
-
--- a line that is filled up with copies of its first call
-module _ (line : List NumberedCall) (upto count : ℕ) (one : NumberedCall)
-    (short : length line ≤ upto) (first : slice_get line 0 ≡ Some one) where
-  pub lined_widened : (home : ℕ → ℕ) → AreAtHome home line
-      → AreAtHome home (take upto line ++ replicate count one)
-  lined_widened home lined =
-      subst (λ (l : List NumberedCall). AreAtHome home (l ++ replicate count one))
-      (sym (take_all upto line short)) (lined_copies home line 0 count one lined first)
-
-  pub same_widened : FindsSame line (take upto line ++ replicate count one)
-  same_widened q =
-      ap (λ (l : List NumberedCall). found (l ++ replicate count one) q) (take_all upto line short)
-      ∙ same_copies line 0 count one first q
-
--- a line that grew, or stayed where memory ran out
-pub lined_either : (home : ℕ → ℕ) (grew : Bool) (new grown old : List NumberedCall)
-    → new ≡ cond grew grown old → AreAtHome home grown → AreAtHome home old → AreAtHome home new
-lined_either home grew new grown old is more less =
-    subst (λ (l : List NumberedCall). AreAtHome home l) (sym is) (by_test grew)
-  where
-    by_test : (b : Bool) → AreAtHome home (cond b grown old)
-    by_test true = more
-    by_test false = less
-
-pub puts_along : (old line : List NumberedCall) (xid : ℕ) (id : ProcId) → FindsSame old line
-    → found old xid ≡ None → Puts old xid id (line ++ record { xid = xid; id = id } ∷ [])
-puts_along old line xid id same none q =
-    puts_push line xid id (same xid ∙ none) q
-    ∙ ap (λ (o : Option ProcId). if xid == q then Some id else o) (same q)
+-- ---- the homes of a line that changes
 
 pub is_apart : (a b : ℕ) → (a ≡ b → ⊥) → nat_eq a b ≡ false
-is_apart a b apart = by_test (nat_eq a b) refl
+is_apart a b apart = by_test (nat_eq a b) (λ is. absurd (apart (eqb-true a b is))) (λ is. is)
+
+-- the call at the i-th home
+abbrev pub home_at : List NumberedCall → ℕ → Option NumberedCall
+home_at line i = at_home (slice_get line i)
+
+pub at_home_is : (call : NumberedCall) → call.number ≢ 0 → at_home (Some call) ≡ Some call
+at_home_is call some = ap (λ b. cond b None (Some call)) (is_apart call.number 0 some)
+
+pub nothing_past : (line : List NumberedCall) (i : ℕ) → length line ≤ i → home_at line i ≡ None
+nothing_past line i past = ap at_home (slice_get_past line i past)
+
+pub emptied : (line : List NumberedCall) (n : ℕ) (none : NumberedCall) → none.number ≡ 0 → (i : ℕ)
+    → home_at (line ++ replicate n none) i ≡ home_at line i
+emptied [] zero none is i = refl
+emptied [] (suc n) none is zero = ap (λ b. cond b None (Some none)) (eq-eqb none.number 0 is)
+emptied [] (suc n) none is (suc i) = emptied [] n none is i
+emptied (call ∷ line) n none is zero = refl
+emptied (call ∷ line) n none is (suc i) = emptied line n none is i
+
+pub pushed : (line : List NumberedCall) (call : NumberedCall) → call.number ≢ 0 → (i : ℕ)
+    → home_at (line ++ call ∷ []) i ≡ (if length line == i then Some call else home_at line i)
+pushed [] call some zero = at_home_is call some
+pushed [] call some (suc i) = ap (λ b. cond b (Some call) None) (sym (eqb-zero-suc i))
+pushed (one ∷ line) call some zero =
+    ap (λ b. cond b (Some call) (home_at (one ∷ line) zero)) (sym (eqb-suc-zero (length line)))
+pushed (one ∷ line) call some (suc i) =
+    pushed line call some i
+    ∙ ap (λ b. cond b (Some call) (home_at line i)) (sym (eqb-suc-suc (length line) i))
+
+pub replaced : (line : List NumberedCall) (at : ℕ) (call : NumberedCall) → call.number ≢ 0
+    → at < length line → (i : ℕ)
+    → home_at (set line at call) i ≡ (if at == i then Some call else home_at line i)
+replaced [] at call some within i = absurd (omega (arith, within))
+replaced (one ∷ line) zero call some within zero = at_home_is call some
+replaced (one ∷ line) zero call some within (suc i) =
+    ap (λ b. cond b (Some call) (home_at line i)) (sym (eqb-zero-suc i))
+replaced (one ∷ line) (suc at) call some within zero =
+    ap (λ b. cond b (Some call) (home_at (one ∷ line) zero)) (sym (eqb-suc-zero at))
+replaced (one ∷ line) (suc at) call some within (suc i) =
+    replaced line at call some (omega (arith, within)) i
+    ∙ ap (λ b. cond b (Some call) (home_at line i)) (sym (eqb-suc-suc at i))
+
+-- ---- the xids of a line that changes
+
+-- what is put at its home is put for its xid
+pub puts_home : (counting : Counting) (old new : List NumberedCall) (xid : ℕ) (call : NumberedCall)
+    → xid < 2 ^ 32
+    → ((i : ℕ) → home_at new i
+    ≡ (if home_of counting xid == i then Some call else home_at old i))
+    → Puts (lined counting old) xid call (lined counting new)
+puts_home counting old new xid call small puts q small_q =
+    puts (home_of counting q)
+    ∙ ap (λ b. cond b (Some call) (lined counting old q))
+    (by_test (nat_eq xid q)
+    (λ t. eq-eqb (home_of counting xid) (home_of counting q) (ap (home_of counting)
+    (eqb-true xid q t)) ∙ sym t)
+    (λ f. is_apart (home_of counting xid) (home_of counting q)
+    (λ e. differ f (one_at_home counting xid q small small_q e)) ∙ sym f))
   where
-    by_test : (b' : Bool) → nat_eq a b ≡ b' → nat_eq a b ≡ false
-    by_test false is = is
-    by_test true is = absurd (apart (eqb-true a b is))
+    differ : nat_eq xid q ≡ false → xid ≡ q → ⊥
+    differ f e = let t = eq-eqb xid q e in absurd (cc)
 
--- a call at a home that was empty
-module _ (home : ℕ → ℕ) (line : List NumberedCall) (at : ℕ) (old one : NumberedCall)
-    (lined : AreAtHome home line) (there : slice_get line at ≡ Some old)
-    (empty : nat_eq (home old.xid) at ≡ false) (here : home one.xid ≡ at) where
-  pub lined_set : AreAtHome home (set line at one)
-  lined_set i call is = by_place (nat_eq i at) refl
-    where
-      own : one ≡ call → slice_get (set line at one) (home call.xid) ≡ Some call
-      own same =
-          ap (λ (c : NumberedCall). slice_get (set line at one) (home c.xid)) (sym same)
-          ∙ ap (slice_get (set line at one)) here ∙ get_set_same line at one old there
-          ∙ ap (λ (c : NumberedCall). Some c) same
+-- a call after the last home, up to which the line was filled with empty ones
+pub puts_last : (counting : Counting) (line grown : List NumberedCall) (xid : ℕ)
+    (call : NumberedCall) → xid < 2 ^ 32 → call.number ≢ 0
+    → ((i : ℕ) → home_at grown i ≡ home_at line i) → length grown ≡ home_of counting xid
+    → Puts (lined counting line) xid call (lined counting (grown ++ call ∷ []))
+puts_last counting line grown xid call small some same ends =
+    puts_home counting line (grown ++ call ∷ []) xid call small
+    (λ i. pushed grown call some i
+    ∙ ap (λ (n : ℕ). if n == i then Some call else home_at grown i) ends
+    ∙ ap (λ (o : Option NumberedCall). if home_of counting xid == i then Some call else o) (same i))
 
-      other : slice_get line (home call.xid) ≡ Some call → (b : Bool)
-          → nat_eq (home call.xid) at ≡ b → slice_get (set line at one) (home call.xid) ≡ Some call
-      other was false apart = get_set_other line at (home call.xid) one apart ∙ was
-      other was true same =
-          let place : home call.xid ≡ at = eqb-true (home call.xid) at same in
-          let old_is : old ≡ call =
-          same_Some old call (sym there ∙ ap (slice_get line) (sym place) ∙ was) in
-          let back : nat_eq (home old.xid) at ≡ true =
-          ap (λ (c : NumberedCall). nat_eq (home c.xid) at) old_is ∙ same in
-          absurd (cc)
+pub filled : (line : List NumberedCall) (upto n : ℕ) (none : NumberedCall) → length line ≤ upto
+    → none.number ≡ 0 → (i : ℕ) → home_at (take upto line ++ replicate n none) i ≡ home_at line i
+filled line upto n none short is i =
+    ap (λ (l : List NumberedCall). home_at (l ++ replicate n none) i) (take_all upto line short)
+    ∙ emptied line n none is i
 
-      by_place : (b : Bool) → nat_eq i at ≡ b
-          → slice_get (set line at one) (home call.xid) ≡ Some call
-      by_place true same =
-          own (same_Some one call (sym (get_set_same line at one old there)
-          ∙ ap (slice_get (set line at one)) (sym (eqb-true i at same)) ∙ is))
-      by_place false apart =
-          other (lined i call (sym (get_set_other line at i one apart) ∙ is))
-          (nat_eq (home call.xid) at) refl
+-- a call in a home of the line
+pub puts_set : (counting : Counting) (line : List NumberedCall) (at xid : ℕ) (call : NumberedCall)
+    → xid < 2 ^ 32 → call.number ≢ 0 → at ≡ home_of counting xid → at < length line
+    → Puts (lined counting line) xid call (lined counting (set line at call))
+puts_set counting line at xid call small some is within =
+    puts_home counting line (set line at call) xid call small
+    (λ i. replaced line at call some within i
+    ∙ ap (λ (n : ℕ). if n == i then Some call else home_at line i) is)
 
-  pub puts_set : Puts line one.xid one.id (set line at one)
-  puts_set q =
-      found_home home (set line at one) q lined_set ∙ by_place (nat_eq (home q) at) refl
-      ∙ ap (λ (o : Option ProcId). if one.xid == q then Some one.id else o)
-      (sym (found_home home line q lined))
-    where
-      at_home : home q ≡ at → named (slice_get line (home q)) q ≡ None
-      at_home place =
-          ap (λ (o : Option NumberedCall). named o q) (ap (slice_get line) place ∙ there)
-          ∙ not_named (nat_eq old.xid q) refl
-        where
-          not_named : (b : Bool) → nat_eq old.xid q ≡ b → cond b (Some old.id) None ≡ None
-          not_named false is = refl
-          not_named true is =
-              let back : nat_eq (home old.xid) at ≡ true =
-              eq-eqb (home old.xid) at (ap home (eqb-true old.xid q is) ∙ place) in
-              absurd (cc)
+-- the xid of a line's only call has the first home, however the xids count
+pub counted_anew : (old new : Counting) (line : List NumberedCall) (first : ℕ) → length line ≡ 1
+    → first < 2 ^ 32 → home_of old first ≡ 0 → home_of new first ≡ 0
+    → AreSame (lined old line) (lined new line)
+counted_anew old new line first one small in_old in_new q small_q =
+    by_test (nat_eq q first)
+    (λ t. let is = eqb-true q first t in
+    ap (home_at line) (ap (home_of new) is ∙ in_new ∙ sym in_old ∙ sym (ap (home_of old) is)))
+    (λ f. nothing_past line (home_of new q) (not_first (home_of new q)
+    (λ e. differ f (one_at_home new q first small_q small (e ∙ sym in_new))))
+    ∙ sym (nothing_past line (home_of old q) (not_first (home_of old q)
+    (λ e. differ f (one_at_home old q first small_q small (e ∙ sym in_old))))))
+  where
+    differ : nat_eq q first ≡ false → q ≡ first → ⊥
+    differ f e = let t = eq-eqb q first e in absurd (cc)
 
-      by_place : (b : Bool) → nat_eq (home q) at ≡ b
-          → named (slice_get (set line at one) (home q)) q
-          ≡ (if one.xid == q then Some one.id else named (slice_get line (home q)) q)
-      by_place true same =
-          let place : home q ≡ at = eqb-true (home q) at same in
-          ap (λ (o : Option NumberedCall). named o q)
-          (ap (slice_get (set line at one)) place ∙ get_set_same line at one old there)
-          ∙ ap (λ (o : Option ProcId). if one.xid == q then Some one.id else o)
-          (sym (at_home place))
-      by_place false apart =
-          ap (λ (o : Option NumberedCall). named o q) (get_set_other line at (home q) one apart)
-          ∙ ap (λ b. cond b (Some one.id) (named (slice_get line (home q)) q))
-          (sym (not_one (nat_eq one.xid q) refl))
-        where
-          not_one : (b : Bool) → nat_eq one.xid q ≡ b → nat_eq one.xid q ≡ false
-          not_one false is = is
-          not_one true is =
-              let back : nat_eq (home q) at ≡ true =
-              eq-eqb (home q) at (ap home (sym (eqb-true one.xid q is)) ∙ here) in
-              absurd (cc)
+    not_first : (i : ℕ) → (i ≡ 0 → ⊥) → length line ≤ i
+    not_first zero other = absurd (other refl)
+    not_first (suc i) other = omega (arith, one)

@@ -1,5 +1,5 @@
 -- Judging the records of streams that are gathered, one after another.
-use Rattle.capture3.proofs.Common.{◌≡◌, inl, inr, ℕ, ◌+◌, List, [], ◌∷◌, ◌++◌, length, map, take, drop, take-append-drop, Result, Ok, Err, refl, sym, ap, subst, ◌∙◌, append_assoc, append-nil, arith, length-append, common_steps, Stop, Item, AreBytes, Joining, Between, Header, Bytes, Joined, Whole, TooLong, join_next, Next, Goes, Ends, Run, Runs, Stops, Stopped, after, landed, within, last_running, after-append, last_running-append, NumberedCall, Fault, Side, Client, Server, ReplyItems, Two, Entry, Shows, FirstFault, judge_call, judge_reply, Opening, Closing, judge_replies, server_said, client_said, Parsing, file_next, file_start, parsed, emitted, verdict, verdict_of, AreFirstReached, Reached, RecordFault, Streams, reply_entry, connection_entries, Unpacking, Mark, ShownFault, client_refusal, server_refusal, IsTableOf, Judge, Reading, judged, StreamEnd, Held, Faulty, left_in, end_of, rest_end, stream_end, stream_next, recorded, Judged, parsing_in, parsing_at, client_entries, server_entries, with_call, with_reply, turned, connection_closed, unpacking_with, reading_with}
+use Rattle.capture3.proofs.Common.{◌≡◌, inl, inr, ℕ, ◌+◌, List, [], ◌∷◌, ◌++◌, length, map, take, drop, take-append-drop, Result, Ok, Err, refl, sym, ap, subst, ◌∙◌, append_assoc, append-nil, arith, length-append, common_steps, Stop, Item, AreBytes, Joining, Between, Header, Bytes, Joined, Whole, TooLong, join_next, Next, Goes, Ends, Run, Runs, Stops, Stopped, after, landed, within, last_running, after-append, last_running-append, Known, Fault, Side, Client, Server, ReplyItems, Two, Entry, Shows, FirstFault, judge_call, judge_reply, Opening, Closing, judge_replies, server_said, client_said, Parsing, file_next, file_start, parsed, emitted, verdict, verdict_of, AreFirstReached, Reached, RecordFault, Streams, reply_entry, connection_entries, Unpacking, Mark, ShownFault, client_refusal, server_refusal, IsTableOf, xid_in, xids_in, Judge, Reading, judged, StreamEnd, Held, Faulty, left_in, end_of, rest_end, stream_end, stream_next, recorded, Judged, parsing_in, parsing_at, client_entries, server_entries, with_call, with_reply, turned, connection_closed, unpacking_with, reading_with}
 use Rattle.capture3.specs.Entry as entries
 use Rattle.capture3.specs.FileMachine as parsing
 use Rattle.capture3.specs.machinery.KeptStreams.{between_records, Recalls, ShowsFirst}
@@ -11,6 +11,8 @@ use Rattle.capture3.proofs.Lemmas.Reached.ReachedBeforeFaults.{first_reached_at}
 use Rattle.capture3.proofs.Lemmas.Files.Verdicts.{clean_from_runs, shows_from_stops, stays, told, verdict_from_typed}
 use Rattle.capture3.proofs.Lemmas.Reached.ReachedLemmas.{stands_whole}
 use Rattle.capture3.proofs.Lemmas.Reader.FileStandingLemmas.{whole_connections}
+use Rattle.capture3.specs.OpenXids.{xid_of}
+use Rattle.capture3.proofs.Lemmas.Connections.NumberingLemmas.{opened_more, opened_still}
 
 -- ---- the rest of a stream
 
@@ -52,16 +54,16 @@ said u j n =
     within (λ p. parsing_in Two j.start j.before u.connections j.entries (parsing.Inside p))
     (parsing.closed Two u.connections j.entries) n
 
-module _ (u : Unpacking) (streams : Streams) (taken records : ℕ) (table : List NumberedCall)
+module _ (u : Unpacking) (streams : Streams) (taken records : ℕ) (table : Known)
     (bytes : List ℕ) (handed : List Entry)
     (r : Recalls u streams Client taken records table bytes handed) where
-  pub call_recalled : (count : ℕ) (body : List ℕ) (call : List Item) (new : List NumberedCall)
+  pub call_recalled : (count : ℕ) (body : List ℕ) (call : List Item) (new : Known)
       → after join_next (Runs Between) (take count (drop taken streams.client)) ≡ Stops (Whole body)
       → judge_call r.so_far.calls body ≡ Ok call
-      → IsTableOf new (r.so_far.calls ++ call ∷ [])
+      → IsTableOf new (r.so_far.calls ++ call ∷ []) → xid_of call ≡ xid_in call ∷ []
       → Recalls u streams Client (taken + count) (records + 1) new bytes
       (handed ++ entries.Call call ∷ [])
-  call_recalled count body call new whole ok table_is =
+  call_recalled count body call new whole ok table_is begins =
       let h = r.here in
       record {
         front = r.front;
@@ -73,6 +75,7 @@ module _ (u : Unpacking) (streams : Streams) (taken records : ℕ) (table : List
         ends = r.ends;
         emits = r.emits;
         calls = table_is;
+        opened = opened_more handed r.so_far.calls call begins r.opened;
         here = (
           h.0 ∙ cut_rest judge_call (between_records r.so_far.calls) taken count streams.client
               ∙ rest_accepts judge_call r.so_far.calls (take count (drop taken streams.client))
@@ -130,6 +133,8 @@ module _ (u : Unpacking) (streams : Streams) (taken records : ℕ) (table : List
         ends = r.ends;
         emits = r.emits;
         calls = r.calls;
+        opened =
+            opened_still handed entries.Turn (xids_in r.so_far.calls) (λ xs. refl) r.opened;
         here = (
           h.0 ∙ rest_leaves judge_call r.so_far.calls (drop taken streams.client) Between runs,
           refl,
@@ -141,7 +146,7 @@ module _ (u : Unpacking) (streams : Streams) (taken records : ℕ) (table : List
 
 -- ---- the server stream
 
-module _ (u : Unpacking) (streams : Streams) (taken records : ℕ) (table : List NumberedCall)
+module _ (u : Unpacking) (streams : Streams) (taken records : ℕ) (table : Known)
     (bytes : List ℕ) (handed : List Entry)
     (r : Recalls u streams Server taken records table bytes handed) where
   pub reply_recalled : (count : ℕ) (body : List ℕ) (reply : ReplyItems)
@@ -161,6 +166,8 @@ module _ (u : Unpacking) (streams : Streams) (taken records : ℕ) (table : List
         ends = r.ends;
         emits = r.emits;
         calls = r.calls;
+        opened =
+            opened_still handed (reply_entry reply) (xids_in r.so_far.calls) (λ xs. refl) r.opened;
         here = (
           h.0,
           h.1
@@ -367,7 +374,7 @@ rest_extends {M} judge s rest = by_run (after (stream_next judge) (Runs s) rest)
 
 -- whatever bytes come, what was handed out are the first entries that all reach
 module _ (u : Unpacking) (streams : Streams) (side : Side) (taken records : ℕ)
-    (table : List NumberedCall) (bytes rest : List ℕ) (handed : List Entry)
+    (table : Known) (bytes rest : List ℕ) (handed : List Entry)
     (are : AreBytes (bytes ++ rest))
     (r : Recalls u streams side taken records table bytes handed) where
   -- a refusal reaches them
@@ -456,7 +463,7 @@ more_replies before calls replies all more is =
     (map reply_entry more))
 
 pub recalled_first : (u : Unpacking) (streams : Streams) (side : Side) (taken records : ℕ)
-    (table : List NumberedCall) (bytes rest : List ℕ) (handed : List Entry)
+    (table : Known) (bytes rest : List ℕ) (handed : List Entry)
     → AreBytes (bytes ++ rest) → Recalls u streams side taken records table bytes handed
     → AreFirstReached (bytes ++ rest) handed
 recalled_first u streams Client taken records table bytes rest handed are r =

@@ -1,6 +1,7 @@
 -- Whole messages that are read and told at once: judging them by the scans of their parts.
 use Rattle.std.specs.Prelude.{IfErr}
-use Rattle.capture3.proofs.Common.{IsErrAnd, ◌≡◌, ℕ, Bool, true, false, cond, List, [], ◌∷◌, ◌++◌, length, Some, None, Result, Ok, Err, refl, sym, ap, subst, ◌∙◌, eq-eqb, XidConflict, Stop, reading_layout, reading, refused, ProcId, MessageStart, call_head, message_start, reply_head, start_items, arguments_of, NumberedCall, procedure_of, found, agrees, judge_call, judge_reply, GetError, AreBytes, Item, followed_by, Adds, results_after}
+use Rattle.std.specs.Prelude.{◌<◌, ◌^◌}
+use Rattle.capture3.proofs.Common.{IsErrAnd, ◌≡◌, ℕ, Bool, true, false, cond, List, [], ◌∷◌, ◌++◌, length, Some, None, Result, Ok, Err, refl, sym, ap, subst, ◌∙◌, eq-eqb, XidConflict, Stop, reading_layout, reading, refused, ProcId, MessageStart, call_head, message_start, reply_head, start_items, arguments_of, CallHead, Known, NumberedCall, procedure_in_call, procedure_of, agrees, judge_call, judge_reply, GetError, AreBytes, Item, followed_by, Adds, results_after}
 use Rattle.xdr3.specs.declared.reason.GetError.TheVariants as errors
 use Rattle.xdr3.specs.Scan.{ScansLayout, Stops, StopsLayout}
 use Rattle.xdr3.specs.View.{View}
@@ -8,7 +9,7 @@ use Rattle.xdr3.proofs.Lemmas.Shapes.Walks.{adds_both}
 use Rattle.rpc_head.specs.HeadScan.{ScansCallHead, ScansReplyHead}
 use Rattle.capture3.specs.machinery.ScannedMessages.{ScansCall, ScansReply, StopsMessage}
 use Rattle.capture3.proofs.Lemmas.Messages.BodiesLemmas.{the_calls, the_replies}
-use Rattle.capture3.proofs.Lemmas.Messages.BodySteps.{CallBegins, ReplyBegins, call_accepted, call_bad_arguments, call_bad_head, call_procedure, call_whole, call_xid, refusal_judged, reply_accepted, reply_bad_head, reply_bad_results, reply_xid, whole_call, whole_reply}
+use Rattle.capture3.proofs.Lemmas.Messages.BodySteps.{call_begins, CallBegins, ReplyBegins, call_accepted, call_bad_arguments, call_bad_head, call_procedure, call_whole, call_xid, refusal_judged, reply_accepted, reply_bad_head, reply_bad_results, reply_xid, whole_call, whole_reply}
 use Rattle.capture3.proofs.Lemmas.Messages.SpelledLemmas.{asking}
 
 -- ---- what the code hands on
@@ -119,6 +120,7 @@ call_scans stands body s id head end last old new are r is = record {
   is_call = (the_calls.accepted [] body (whole_call s r.front r.more) are
       (call_accepted [] body s id r.front head end last.at r.more r.begins r.read is refl)).0;
   xid_is = call_xid s r.front r.more;
+  begins = call_begins s r.front r.more;
   procedure_is = call_procedure body s id r.front r.more head end r.begins;
   judged = λ before. call_whole before body s id r.front head end last.at r.more r.begins r.read is;
   adds = r.adds;
@@ -126,7 +128,7 @@ call_scans stands body s id head end last old new are r is = record {
 
 -- a call that agrees with those before it is accepted
 pub call_agrees : {V : Type 0} (stands : V → List Item → Type 0) (before : List (List Item))
-    (body : List ℕ) (call : NumberedCall) (old new : V)
+    (body : List ℕ) (call : CallHead) (old new : V)
     → (s : ScansCall stands body call old new)
     → agrees (procedure_of before call.xid) call.id ≡ true
     → judge_call before body ≡ Ok s.items
@@ -222,26 +224,30 @@ reply_told stands body s id success v1 v2 v3 n0 n1 n2 n3 b a h x =
           (adds_both stands n1 n2 n3 h.0 x.0 h.4 x.3);
     }
 
-pub reply_scans : {V : Type 0} (stands : V → List Item → Type 0) (table : List NumberedCall)
-    (body : List ℕ) (s : MessageStart) (id : ProcId) (success : Bool) (head end : ℕ)
+pub reply_scans : {V : Type 0} (stands : V → List Item → Type 0) (table : Known)
+    (body : List ℕ) (s : MessageStart) (call : NumberedCall) (success : Bool) (head end : ℕ)
     (last : View) (old new : V) → AreBytes body
-    → ReplyRead stands body s id success head end last old new → last.at ≡ length body
-    → found table s.xid ≡ Some id → ScansReply stands table body id old new
-reply_scans stands table body s id success head end last old new are r is asked = record {
+    → ReplyRead stands body s call.id success head end last old new → last.at ≡ length body
+    → s.xid < 2 ^ 32 → table.call_of s.xid ≡ Some call
+    → ScansReply stands table body call old new
+reply_scans stands table body s call success head end last old new are r is small asked = record {
   items = whole_reply s r.front r.more;
   is_reply = ((the_replies calls).accepted [] body
-      (record { id = id; items = whole_reply s r.front r.more }) are
-      (answers calls (asked_by s.xid id))).0;
-  asked = ap (found table) (reply_xid s r.front r.more) ∙ asked;
-  accepted = λ known table. answers known (sym (table s.xid) ∙ asked);
+      (record { id = call.id; items = whole_reply s r.front r.more }) are
+      (answers calls (asked_by s.xid call.id))).0;
+  is_xid = subst (λ (x : ℕ). x < 2 ^ 32) (sym (reply_xid s r.front r.more)) small;
+  asked = ap table.call_of (reply_xid s r.front r.more) ∙ asked;
+  accepted = λ known has. answers known (sym (has s.xid small) ∙ ap procedure_in_call asked);
   adds = r.adds;
 }
   where
     calls : List (List Item)
-    calls = asking s.xid id ∷ []
+    calls = asking s.xid call.id ∷ []
 
-    answers : (known : List (List Item)) → procedure_of known s.xid ≡ Some id
-        → judge_reply known body ≡ Ok (record { id = id; items = whole_reply s r.front r.more })
+    answers : (known : List (List Item)) → procedure_of known s.xid ≡ Some call.id
+        → judge_reply known body
+        ≡ Ok (record { id = call.id; items = whole_reply s r.front r.more })
     answers known by =
-        reply_accepted known body s id success r.front head end last.at r.more (r.begins known by)
+        reply_accepted known body s call.id success r.front head end last.at r.more
+        (r.begins known by)
         r.read is

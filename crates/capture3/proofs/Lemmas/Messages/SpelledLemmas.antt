@@ -1,5 +1,5 @@
 -- A body that spells a message is read without a stop, and as a message of that procedure.
-use Rattle.capture3.proofs.Common.{◌≡◌, ℕ, Bool, true, false, cond, List, [], ◌∷◌, Some, None, Result, Ok, Err, ap, ◌∙◌, eq-eqb, Stop, reading, reads_whole, ProcId, MessageStart, call_layout, reply_layout, procedure_in, message_start, start_items, arguments_of, results_of, NumberedCall, judge_call, judge_reply, read_whole, SpellsCall, SpellsReply, Item, Word, head_names, IsCall, IsReply, Starts, xid_in, procedure_of}
+use Rattle.capture3.proofs.Common.{◌≡◌, ℕ, Bool, true, false, cond, List, [], ◌∷◌, Some, None, Result, Ok, Err, ap, ◌∙◌, eq-eqb, Stop, reading, reads_whole, ProcId, MessageStart, call_layout, reply_layout, procedure_in, message_start, start_items, arguments_of, results_of, judge_call, judge_reply, read_whole, SpellsCall, SpellsReply, Item, Word, head_names, IsCall, IsReply, Starts, xid_in, procedure_of}
 use Rattle.capture3.proofs.Lemmas.Messages.BodiesLemmas.{call_accepts, call_starts, reply_accepts, reply_starts, start_of, start_read}
 use Rattle.capture3.proofs.Lemmas.Messages.Layouts.{whole_read}
 
@@ -92,19 +92,20 @@ asking xid id =
     ∷ Word head_names.prog id.prog ∷ Word head_names.vers id.vers
     ∷ Word head_names.proc id.proc_no ∷ []
 
-pub reply_never_stops : (id : ProcId) (body : List ℕ) (call : NumberedCall) (stop : Stop)
-    → call.id ≡ id
+pub reply_never_stops : (id : ProcId) (body : List ℕ) (xid : ℕ) (own : ProcId) (stop : Stop)
+    → own ≡ id
     → ((items : List Item) → IsReply body (record { id = id; items = items })
-    → call.xid ≡ xid_in items)
-    → SpellsReply id body → judge_reply (asking call.xid call.id ∷ []) body ≡ Err stop → ⊥
-reply_never_stops id body call stop same has_xid s e =
-    let calls = asking call.xid call.id ∷ [] in
+    → xid ≡ xid_in items)
+    → SpellsReply id body → judge_reply (asking xid own ∷ []) body ≡ Err stop → ⊥
+reply_never_stops id body xid own stop same has_xid s e =
+    let calls = asking xid own ∷ [] in
     let asked : procedure_of calls (xid_in s.0) ≡ Some id =
-    ap (λ (b : Bool). cond b (Some call.id) None) (eq-eqb call.xid (xid_in s.0) (has_xid s.0 s.1))
+    ap (λ (b : Bool). cond b (Some own) None) (eq-eqb xid (xid_in s.0) (has_xid s.0 s.1))
     ∙ ap (λ (p : ProcId). Some p) same in
     ok_err (judge_reply calls body) (record { id = id; items = s.0 }) stop
     (reply_accepts calls body (record { id = id; items = s.0 }) (s.1, asked)) e
 
-pub only_one : (b : Bool) (id other : ProcId) → cond b (Some id) None ≡ Some other → other ≡ id
-only_one true id other e = cc
-only_one false id other e = absurd (cc)
+pub only_one : {A : Type 0} (b : Bool) (one other : A) → cond b (Some one) None ≡ Some other
+    → other ≡ one
+only_one true one other e = cc
+only_one false one other e = absurd (cc)

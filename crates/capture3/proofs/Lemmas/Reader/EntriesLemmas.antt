@@ -1,6 +1,6 @@
 -- What a reader of entries makes of its histories, step by step.
 use Rattle.std.proofs.Common.{◌≡◌, ◌≢◌, inl, inr, ℕ, ◌+◌, ◌-◌, ◌≤◌, ◌<◌, Option, Some, None, Result, Ok, Err, IsSome, List, [], ◌∷◌, ◌++◌, length, take, drop, slice_range, refl, sym, ap, subst, ◌∙◌, append_assoc, append-nil, length-append, arith, take-append-drop, length-take, length-drop, vec_len}
-use Rattle.capture3.proofs.Common.{common_steps, ∥∥₁_elim, CaptureCut, AreBytes, Item, Runs, Stops, Stopped, Taking, Led, OutOfMemory, IsRunning, released, NumberedCall, Kind, Error, Spot, Container, Cursor, Two, max_connections, Entry, End, FirstFault, IsClean, begins, most_bytes, Parsing, parsed, emitted, AreFirstReached, AreWhole, Reached, parsing_at, Streams, file_fault, IsWellFormed, Typed, props, Told, Gave, IsSpent, AreStored, IsReady, IsStored, room_in, unpacking_of}
+use Rattle.capture3.proofs.Common.{common_steps, Pairing, CountedCalls, known_of, open_xids, ∥∥₁_elim, CaptureCut, AreBytes, Item, Runs, Stops, Stopped, Taking, Led, OutOfMemory, IsRunning, released, Known, Kind, Error, Spot, Container, Cursor, Two, max_connections, Entry, End, FirstFault, IsClean, begins, most_bytes, Parsing, parsed, emitted, AreFirstReached, AreWhole, Reached, parsing_at, Streams, file_fault, IsWellFormed, Typed, props, Told, Gave, IsSpent, AreStored, IsReady, IsStored, room_in, unpacking_of}
 use Rattle.std.proofs.lemmas.List.{drop-take}
 use Rattle.capture3.proofs.Lemmas.Reader.ToldLemmas.{gave_both, gave_none, gave_none_as}
 use Rattle.std.specs.declared.hash.BuildHasher as BuildHasher
@@ -12,19 +12,18 @@ use Rattle.capture3.specs.declared.reader.entries.Stage.TheVariants.{Reading, Ov
 use Rattle.capture3.specs.declared.reader.entry.Kind.TheVariants as kinds
 use Rattle.capture3.specs.declared.fault.Error.TheVariants as errors
 use Rattle.capture3.specs.declared.fault.Noted.{Noted}
-use Rattle.capture3.specs.declared.reader.entry_parser.EntryParser.{EntryParser}
 use Rattle.capture3.specs.declared.container.position.Position.{Position}
 use Rattle.capture3.specs.declared.container.position.Spot.TheVariants as spots
 use Rattle.capture3.specs.Entries.{AreAllBeforeEnd, IsMetBy, failure_in, failure_of}
 use Rattle.capture3.specs.machinery.EntriesHistory.{entries_left_in, entries_left, unjudged, IsReading, StandsIn, StandsFor, HoldsLast, HasRead, HandsOutOrGoesOn, Turns}
 use Rattle.capture3.specs.Handing.{HandsOut, HandsOutGiven}
-use Rattle.capture3.specs.machinery.EntryParser.{StandsAt, StandsOrRecalls, HasCome, after_side_word, GoesTo, FailsAt, IsHeld, IsOfBytes, entry_cost}
+use Rattle.capture3.specs.machinery.Pairing.{StandsAt, StandsOrRecalls, HasCome, HasNumber, after_side_word, GoesTo, FailsAt, IsHeld, IsOfBytes, entry_cost}
 use Rattle.capture3.specs.Kept.{IsOfKind}
 use Rattle.capture3.specs.machinery.Position.{AreEmpty, IsBeforeMark, IsEndSpot, IsSoundPosition, IsSoundSpot, StoredAt, opened_at}
 use Rattle.capture3.specs.Laws.{most_entries}
 use Rattle.capture3.proofs.Lemmas.Reached.ReachedMore.{reached_within}
 use Rattle.capture3.proofs.Lemmas.Container.BytesOf.{AreBytes-append, split_bytes}
-use Rattle.capture3.proofs.Lemmas.Reader.EntryParserLemmas.{untold}
+use Rattle.capture3.proofs.Lemmas.Reader.PairingLemmas.{untold}
 use Rattle.capture3.proofs.Lemmas.Reached.Limits.{begins-append, typed_within}
 use Rattle.capture3.proofs.Lemmas.Reached.Growing.{emitted_is}
 use Rattle.capture3.proofs.Lemmas.Reader.WholeFiles.{cut_at, typed_at}
@@ -112,7 +111,7 @@ kind_held kinds.End t entry is = is
 -- ---- after bytes that the machine has taken
 
 module _ (bytes : List ℕ) (p : Position) (t : Taking) (streams : Streams)
-    (table : List NumberedCall) (model : List Entry) (are : AreBytes bytes)
+    (table : Known) (model : List Entry) (are : AreBytes bytes)
     (s : StandsAt p t streams table bytes model) where
   state : Parsing
   state = parsing_at (unpacking_of p t streams) s.so_far
@@ -136,7 +135,7 @@ module _ (bytes : List ℕ) (p : Position) (t : Taking) (streams : Streams)
   clean_here = clean_from_runs bytes state runs_is
 
 -- where streams that were kept are judged, the last byte may show a fault
-come_length : (c : Container) (table : List NumberedCall) (bytes : List ℕ) (handed : List Entry)
+come_length : (c : Container) (table : Known) (bytes : List ℕ) (handed : List Entry)
     → AreBytes bytes → HasCome c table bytes handed → length bytes ≤ most_bytes Two + 1
 come_length c table bytes handed are h = by_cursor c.cursor h
   where
@@ -159,7 +158,7 @@ come_length c table bytes handed are h = by_cursor c.cursor h
         )
 
 -- what was handed out are the first entries that the bytes reach, whatever comes after
-come_first : (c : Container) (table : List NumberedCall) (bytes rest : List ℕ) (handed : List Entry)
+come_first : (c : Container) (table : Known) (bytes rest : List ℕ) (handed : List Entry)
     → AreBytes (bytes ++ rest) → HasCome c table bytes handed
     → AreFirstReached (bytes ++ rest) handed
 come_first c table bytes rest handed are h = by_cursor c.cursor h
@@ -176,7 +175,7 @@ come_first c table bytes rest handed are h = by_cursor c.cursor h
         c.position.records table bytes rest handed are r
 
 -- no streams are judged
-stands_unopened : (c : Container) (table : List NumberedCall) (bytes : List ℕ) (handed : List Entry)
+stands_unopened : (c : Container) (table : Known) (bytes : List ℕ) (handed : List Entry)
     → c.cursor ≡ None → HasCome c table bytes handed
     → StandsAt c.position (released c.joiner.taking) c.streams.kept table bytes handed
 stands_unopened c table bytes handed none h =
@@ -218,20 +217,20 @@ split_range block start end count fits =
 -- ---- the end, and a fault
 
 pub typed_here : (bytes : List ℕ) (p : Position) (t : Taking) (streams : Streams)
-    (table : List NumberedCall) (model : List Entry) → AreBytes bytes
+    (table : Known) (model : List Entry) → AreBytes bytes
     → StandsAt p t streams table bytes model → IsEndSpot p.spot → Typed bytes (model ++ End ∷ [])
 typed_here bytes p t streams table model are s ended =
     typed_at bytes p t streams table model are s ended
 
 pub cut_here : (bytes : List ℕ) (p : Position) (t : Taking) (streams : Streams)
-    (table : List NumberedCall) (model : List Entry) → AreBytes bytes
+    (table : Known) (model : List Entry) → AreBytes bytes
     → StandsAt p t streams table bytes model → (IsEndSpot p.spot → ⊥)
     → FirstFault bytes (file_fault (length bytes) CaptureCut)
 cut_here bytes p t streams table model are s not = cut_at bytes p t streams table model are s not
 
 -- short of the end, what was emitted is what the bytes reach
 pub not_ended : (bytes : List ℕ) (p : Position) (t : Taking) (streams : Streams)
-    (table : List NumberedCall) (model : List Entry) → AreBytes bytes
+    (table : Known) (model : List Entry) → AreBytes bytes
     → StandsAt p t streams table bytes model → (IsEndSpot p.spot → ⊥)
     → (IsWellFormed bytes → ⊥) × Reached bytes model
 not_ended bytes p t streams table model are s not =
@@ -257,7 +256,7 @@ not_ended bytes p t streams table model are s not =
     )
 
 pub all_before_end : (bytes : List ℕ) (p : Position) (t : Taking) (streams : Streams)
-    (table : List NumberedCall) (model : List Entry) → AreBytes bytes
+    (table : Known) (model : List Entry) → AreBytes bytes
     → StandsAt p t streams table bytes model → AreAllBeforeEnd bytes model
 all_before_end bytes p t streams table model are s = by_spot p.spot refl
   where
@@ -303,8 +302,8 @@ module _ {R S H : Type 0} {builds : BuildHasher.Ghosts S H} {hashes : Hasher.Gho
       by_stage (Failed error) is h = absurd (cc)
 
   left_is : (e : Entries R S H builds hashes) → e.stage ≡ Reading
-      → entries_left e ≡ room_in e.parser.container + 1
-  left_is e is = ap (λ (stage : Stage). entries_left_in stage e.parser.container) is
+      → entries_left e ≡ room_in e.pairing.container + 1
+  left_is e is = ap (λ (stage : Stage). entries_left_in stage e.pairing.container) is
 
   -- ---- the entry that was handed out last
 
@@ -313,33 +312,40 @@ module _ {R S H : Type 0} {builds : BuildHasher.Ghosts S H} {hashes : Hasher.Gho
   none_last e handed none front entry ends kind is = absurd (cc)
 
   same_last : (old new : Entries R S H builds hashes) (handed : List Entry) → new.last ≡ old.last
-      → new.parser ≡ old.parser → HoldsLast old handed → HoldsLast new handed
+      → new.pairing ≡ old.pairing → HoldsLast old handed → HoldsLast new handed
   same_last old new handed last same h front entry ends kind is =
-      subst (λ (c : EntryParser (List NumberedCall)). IsHeld kind c.container.joiner.taking entry)
+      subst (λ (c : Pairing (CountedCalls S H builds hashes)).
+      IsHeld kind c.container.joiner.taking entry
+      × HasNumber c.number (open_xids [] (front ++ entry ∷ [])) entry)
       (sym same) (h front entry ends kind (sym last ∙ is))
 
   now_last : (e : Entries R S H builds hashes) (handed : List Entry) (came : Kind) (entry : Entry)
-      → e.last ≡ Some came → IsHeld came e.parser.container.joiner.taking entry
+      → e.last ≡ Some came → IsHeld came e.pairing.container.joiner.taking entry
+      → HasNumber e.pairing.number (open_xids [] (handed ++ entry ∷ [])) entry
       → HoldsLast e (handed ++ entry ∷ [])
-  now_last e handed came entry last held front other ends kind is =
-      let one : Some other ≡ Some entry =
-      ap (λ (e : Entry). Some e) (sym (same_from_push handed front entry other ends).1) in
-      let entries : entry ≡ other = cc in
-      let kinds : came ≡ kind = cc in
-      subst (λ (one : Entry). IsHeld kind e.parser.container.joiner.taking one) entries
-      (subst (λ (k : Kind). IsHeld k e.parser.container.joiner.taking entry) kinds held)
+  now_last e handed came entry last held has front other ends kind is =
+      let entries : entry ≡ other = (same_from_push handed front entry other ends).1 in
+      let kinds : came ≡ kind = cc in (
+        subst (λ (one : Entry). IsHeld kind e.pairing.container.joiner.taking one) entries
+            (subst (λ (k : Kind). IsHeld k e.pairing.container.joiner.taking entry) kinds held),
+        subst (λ (one : Entry). HasNumber e.pairing.number (open_xids [] (front ++ other ∷ [])) one)
+            entries
+            (subst (λ (all : List Entry). HasNumber e.pairing.number (open_xids [] all) entry) ends
+            has),
+      )
 
   -- what was handed out are the first entries that the bytes reach
   first_in : (e : Entries R S H builds hashes) (given : List ℕ) (handed : List Entry)
       → AreBytes given → IsReading e given handed → AreFirstReached given handed
   first_in e given handed are r =
-      subst (λ (b : List ℕ). AreFirstReached b handed) (sym r.split) (come_first e.parser.container
-      e.parser.calls r.judged (unjudged e) handed (subst AreBytes r.split are) r.machine)
+      subst (λ (b : List ℕ). AreFirstReached b handed) (sym r.split) (come_first e.pairing.container
+      (known_of e.pairing.calls) r.judged (unjudged e) handed (subst AreBytes r.split are)
+      r.machine)
 
   -- it reads on
   pub stands_reading : (e : Entries R S H builds hashes) (given : List ℕ) (handed : List Entry)
       → e.stage ≡ Reading → AreBytes given
-      → length handed + (room_in e.parser.container + 1) ≤ most_entries
+      → length handed + (room_in e.pairing.container + 1) ≤ most_entries
       → length given ≤ most_bytes Two + vec_len e.block → HoldsLast e handed
       → IsReading e given handed → StandsFor told e given handed
   stands_reading e given handed is are few most holds r = record {
@@ -366,7 +372,7 @@ module _ {R S H : Type 0} {builds : BuildHasher.Ghosts S H} {hashes : Hasher.Gho
         omega (
           arith,
           s.limits.few,
-          ap (λ (stage : Stage). entries_left_in stage new.parser.container) is,
+          ap (λ (stage : Stage). entries_left_in stage new.pairing.container) is,
         );
     limits =
         record {
@@ -382,7 +388,7 @@ module _ {R S H : Type 0} {builds : BuildHasher.Ghosts S H} {hashes : Hasher.Gho
 
   room_before : (e : Entries R S H builds hashes) (given : List ℕ) (handed : List Entry)
       → e.stage ≡ Reading → StandsFor told e given handed
-      → length handed + (room_in e.parser.container + 1) ≤ most_entries
+      → length handed + (room_in e.pairing.container + 1) ≤ most_entries
   room_before e given handed is s = omega (arith, s.few, left_is e is)
 
   pub stands_first : (e : Entries R S H builds hashes) (given : List ℕ) (handed : List Entry)
@@ -405,17 +411,17 @@ module _ {R S H : Type 0} {builds : BuildHasher.Ghosts S H} {hashes : Hasher.Gho
       ∙ append-nil r.judged
 
   machine_at : (e : Entries R S H builds hashes) (given : List ℕ) (handed : List Entry)
-      → e.start ≡ e.end → e.parser.container.cursor ≡ None → IsReading e given handed
-      → StandsAt e.parser.container.position (released e.parser.container.joiner.taking)
-      e.parser.container.streams.kept e.parser.calls given handed
+      → e.start ≡ e.end → e.pairing.container.cursor ≡ None → IsReading e given handed
+      → StandsAt e.pairing.container.position (released e.pairing.container.joiner.taking)
+      e.pairing.container.streams.kept (known_of e.pairing.calls) given handed
   machine_at e given handed empty none r =
-      stands_unopened e.parser.container e.parser.calls given handed none (subst
-      (λ (b : List ℕ). HasCome e.parser.container e.parser.calls b handed)
+      stands_unopened e.pairing.container (known_of e.pairing.calls) given handed none (subst
+      (λ (b : List ℕ). HasCome e.pairing.container (known_of e.pairing.calls) b handed)
       (sym (all_judged e given handed empty r)) r.machine)
 
   pub has_read : (old new : Entries R S H builds hashes) (given more : List ℕ) (handed : List Entry)
       → old.stage ≡ Reading → new.stage ≡ Reading → old.start ≡ old.end
-      → old.parser.container.cursor ≡ None → new.parser ≡ old.parser → new.last ≡ old.last
+      → old.pairing.container.cursor ≡ None → new.pairing ≡ old.pairing → new.last ≡ old.last
       → new.judged ≡ old.judged → unjudged new ≡ more → AreBytes more
       → length more ≤ vec_len new.block
       → Gave (told old.source.now) (told new.source.now) more → StandsFor told old given handed
@@ -436,7 +442,7 @@ module _ {R S H : Type 0} {builds : BuildHasher.Ghosts S H} {hashes : Hasher.Gho
             (omega (
               arith,
               room_before old given handed is s,
-              ap (λ (c : EntryParser (List NumberedCall)). room_in c.container) same,
+              ap (λ (c : Pairing (CountedCalls S H builds hashes)). room_in c.container) same,
             ))
             (omega (arith, length-append given more, bounded, within))
             (same_last old new handed last same s.holds)
@@ -446,15 +452,15 @@ module _ {R S H : Type 0} {builds : BuildHasher.Ghosts S H} {hashes : Hasher.Gho
               counted = count ∙ r.counted;
               machine =
                   subst
-                  (λ (c : EntryParser (List NumberedCall)).
-                  HasCome c.container c.calls r.judged handed) (sym same) r.machine;
+                  (λ (c : Pairing (CountedCalls S H builds hashes)).
+                  HasCome c.container (known_of c.calls) r.judged handed) (sym same) r.machine;
             });
       }
 
   pub has_failed : (old new : Entries R S H builds hashes) (given : List ℕ) (handed : List Entry)
       → old.stage ≡ Reading → new.stage ≡ Failed errors.Read → new.last ≡ None
       → vec_len new.block ≡ vec_len old.block → old.start ≡ old.end
-      → old.parser.container.cursor ≡ None
+      → old.pairing.container.cursor ≡ None
       → Gave (told old.source.now) (told new.source.now) [] → StandsFor told old given handed
       → HasRead told old new given handed
   has_failed old new given handed is fails none block empty unopened kept s =
@@ -474,7 +480,8 @@ module _ {R S H : Type 0} {builds : BuildHasher.Ghosts S H} {hashes : Hasher.Gho
       → unjudged new ≡ slice_range old.block.items (old.start + count) old.end
       → old.start + count ≤ old.end → old.end ≤ length old.block.items
       → (r : IsReading old given handed)
-      → HasCome new.parser.container new.parser.calls (r.judged ++ take count (unjudged old)) all
+      → HasCome new.pairing.container (known_of new.pairing.calls)
+      (r.judged ++ take count (unjudged old)) all
       → IsReading new given all
   moves_on old new count given handed all judged block fits within r machine =
       let piece : List ℕ = take count (unjudged old) in
@@ -512,10 +519,12 @@ module _ {R S H : Type 0} {builds : BuildHasher.Ghosts S H} {hashes : Hasher.Gho
       → new.judged ≡ old.judged + count
       → unjudged new ≡ slice_range old.block.items (old.start + count) old.end
       → old.start + count ≤ old.end → old.end ≤ length old.block.items
-      → room_in new.parser.container + entry_cost came ≤ room_in old.parser.container
+      → room_in new.pairing.container + entry_cost came ≤ room_in old.pairing.container
       → (s : StandsFor told old given handed)
-      → ((judged : List ℕ) → HasCome old.parser.container old.parser.calls judged handed
-      → GoesTo stands was now came new.parser.container new.parser.calls
+      → ((judged : List ℕ)
+      → HasCome old.pairing.container (known_of old.pairing.calls) judged handed
+      → GoesTo stands was now came new.pairing.number new.pairing.container
+      (known_of new.pairing.calls)
       (judged ++ take count (unjudged old)) handed)
       → HandsOutOrGoesOn told stands new was now given handed (Ok came)
   judged_on stands was now old new count given handed None is goes last size judged block fits
@@ -528,14 +537,14 @@ module _ {R S H : Type 0} {builds : BuildHasher.Ghosts S H} {hashes : Hasher.Gho
   judged_on stands was now old new count given handed (Some kind) is goes last size judged block
       fits within room s leads =
       let r = reading_of old given handed is s in
-      let (entry, held, adds, machine) = leads r.judged r.machine in (
+      let (entry, held, has, adds, machine) = leads r.judged r.machine in (
         entry,
-        kind_held kind new.parser.container.joiner.taking entry held,
+        kind_held kind new.pairing.container.joiner.taking entry held,
         adds,
         stands_reading new given (handed ++ entry ∷ []) goes s.bytes
             (omega
             (arith, room_before old given handed is s, room, length-append handed (entry ∷ [])))
-            (omega (arith, s.limits.most, size)) (now_last new handed kind entry last held)
+            (omega (arith, s.limits.most, size)) (now_last new handed kind entry last held has)
             (moves_on old new count given handed (handed ++ entry ∷ []) judged block fits within r
             machine),
       )
@@ -552,7 +561,8 @@ module _ {R S H : Type 0} {builds : BuildHasher.Ghosts S H} {hashes : Hasher.Gho
   pub judged_failed : (old new : Entries R S H builds hashes) (error : Error) (given : List ℕ)
       (handed : List Entry) → old.stage ≡ Reading → new.stage ≡ Failed error → new.last ≡ None
       → vec_len new.block ≡ vec_len old.block → (s : StandsFor told old given handed)
-      → ((judged : List ℕ) → HasCome old.parser.container old.parser.calls judged handed
+      → ((judged : List ℕ)
+      → HasCome old.pairing.container (known_of old.pairing.calls) judged handed
       → FailsAt (judged ++ unjudged old) handed error) → StandsFor told new given handed
   judged_failed old new error given handed is fails none block s shows =
       let r = reading_of old given handed is s in
@@ -565,7 +575,7 @@ module _ {R S H : Type 0} {builds : BuildHasher.Ghosts S H} {hashes : Hasher.Gho
   pub finished : (old new : Entries R S H builds hashes) (given : List ℕ) (handed : List Entry)
       → old.stage ≡ Reading → new.stage ≡ Over → new.last ≡ Some kinds.End
       → vec_len new.block ≡ vec_len old.block → old.start ≡ old.end
-      → old.parser.container.cursor ≡ None → IsEndSpot old.parser.container.position.spot
+      → old.pairing.container.cursor ≡ None → IsEndSpot old.pairing.container.position.spot
       → IsSpent (told new.source.now)
       → StandsFor told old given handed → StandsFor told new given (handed ++ End ∷ [])
   finished old new given handed is over last block empty none ended end s =
@@ -579,14 +589,14 @@ module _ {R S H : Type 0} {builds : BuildHasher.Ghosts S H} {hashes : Hasher.Gho
               arith,
               room_before old given handed is s,
               length-append handed (End ∷ []),
-              ap (λ (stage : Stage). entries_left_in stage new.parser.container) over,
+              ap (λ (stage : Stage). entries_left_in stage new.pairing.container) over,
             );
         limits = record {
           few = omega (arith, room_before old given handed is s, length-append handed (End ∷ []));
           connections = (typed_within given (handed ++ End ∷ []) typed).few;
           most = omega (arith, s.limits.most, block);
         };
-        holds = now_last new handed kinds.End End last refl;
+        holds = now_last new handed kinds.End End last refl tt;
         here =
             subst
             (λ (stage : Stage).
@@ -597,7 +607,7 @@ module _ {R S H : Type 0} {builds : BuildHasher.Ghosts S H} {hashes : Hasher.Gho
   pub cut_short : (old new : Entries R S H builds hashes) (error : Error) (given : List ℕ)
       (handed : List Entry) → old.stage ≡ Reading → new.stage ≡ Failed error → new.last ≡ None
       → vec_len new.block ≡ vec_len old.block → old.start ≡ old.end
-      → old.parser.container.cursor ≡ None → (IsEndSpot old.parser.container.position.spot → ⊥)
+      → old.pairing.container.cursor ≡ None → (IsEndSpot old.pairing.container.position.spot → ⊥)
       → error ≡ errors.Refused (file_fault old.judged CaptureCut) → IsSpent (told new.source.now)
       → StandsFor told old given handed → StandsFor told new given handed
   cut_short old new error given handed is fails none block empty unopened not cut end s =
@@ -694,7 +704,7 @@ module _ {R S H : Type 0} {builds : BuildHasher.Ghosts S H} {hashes : Hasher.Gho
         arith,
         far,
         r.counted,
-        come_length mid.parser.container _ r.judged handed
+        come_length mid.pairing.container _ r.judged handed
             (split_bytes (given ++ read.more) r.judged (unjudged mid) r.split
             read.stands.bytes).0 r.machine,
       ))

@@ -2,7 +2,7 @@
 use Rattle.capture3.proofs.Common.{◌≡◌, subst, ProcId, Runs, Stops, Stopped, Whole, TooLong, Taking, Led, OutOfMemory, IsWhole, body_of, Kind, SpellsCall, SpellsReply, props}
 use Rattle.std.proofs.Math.Logic.{∥∥₁_elim, ∥∥₁_prop}
 use Rattle.capture3.specs.declared.reader.entry.Kind.TheVariants as kinds
-use Rattle.capture3.specs.machinery.EntryParser.{SpellsKind}
+use Rattle.capture3.specs.machinery.Pairing.{SpellsKind}
 
 whole-prop : (t : Taking) → IsProp (IsWhole t)
 whole-prop (Led (Stops (Whole body))) = hlevel props

@@ -1,5 +1,5 @@
 -- A whole file: from where its machine stands to what is to be said of it.
-use Rattle.capture3.proofs.Common.{Result, ◌≡◌, ℕ, zero, suc, ◌+◌, ◌-◌, Option, Some, None, take-append-drop, List, [], ◌∷◌, ◌++◌, length, take, take_all, drop, length-drop, append-nil, arith, refl, sym, ap, ◌∙◌, subst, Ok, Err, Bool, false, is_some, CaptureCut, AreBytes, Item, Joining, Taking, released, NumberedCall, Kind, Error, Client, Server, Spot, Container, Cursor, Version, unpacking_of, Entry, End, FirstFault, begins, concluded, verdict_of, ShowsFirst, Streams, file_fault, Typed, StandsAt, StandsOrRecalls, HasCome, GoesTo, FailsAt, IsHeld, opened_at, version_of, IsEndSpot, Judged, resumed_at, emitted_at, MAGIC}
+use Rattle.capture3.proofs.Common.{Result, ◌≡◌, ℕ, zero, suc, ◌+◌, ◌-◌, Option, Some, None, take-append-drop, List, [], ◌∷◌, ◌++◌, length, map, take, take_all, drop, length-drop, append-nil, arith, refl, sym, ap, ◌∙◌, subst, Ok, Err, Bool, false, is_some, CaptureCut, AreBytes, Item, Joining, Taking, released, Known, Kind, Error, Client, Server, Spot, Container, Cursor, Version, unpacking_of, Entry, End, FirstFault, begins, concluded, verdict_of, ShowsFirst, Streams, file_fault, Typed, StandsAt, StandsOrRecalls, HasCome, GoesTo, FailsAt, IsHeld, opened_at, version_of, IsEndSpot, Judged, resumed_at, emitted_at, MAGIC}
 use Rattle.capture3.specs.declared.reader.entry.Entry as kept
 use Rattle.capture3.specs.declared.reader.entry.Entry.TheVariants as variants
 use Rattle.capture3.specs.declared.fault.Error.TheVariants as errors
@@ -8,6 +8,10 @@ use Rattle.capture3.specs.declared.container.position.Spot.TheVariants as spots
 use Rattle.capture3.specs.declared.container.position.Version as declared
 use Rattle.capture3.specs.Kept.{IsKept, AreKept, begun}
 use Rattle.capture3.specs.Entries.{OnRefused}
+use Rattle.capture3.specs.Numbering.{number_after, number_kept, numbers_after}
+use Rattle.capture3.specs.OpenXids.{open_xids}
+use Rattle.capture3.specs.machinery.Pairing.{HasNumber}
+use Rattle.capture3.proofs.Lemmas.Connections.NumberingLemmas.{numbered_more}
 use Rattle.capture3.specs.machinery.ContainerMachine.{left_of_magic, Opened, Magic, Digit, Mark, Length, Chunk, Mixed, Ended}
 use Rattle.capture3.proofs.Lemmas.Container.ContainerLemmas.{taken_more}
 use Rattle.capture3.proofs.Lemmas.Container.KeptStreamsLemmas.{first_of}
@@ -87,7 +91,7 @@ ended_only version streams (spots.SideChunk side left) at e = absurd (cc)
 -- ---- the verdict
 
 module _ (bytes : List ℕ) (p : Position) (t : Taking) (streams : Streams)
-    (table : List NumberedCall) (model : List Entry) (are : AreBytes bytes)
+    (table : Known) (model : List Entry) (are : AreBytes bytes)
     (s : StandsAt p t streams table bytes model) where
   opened_here : Opened
   opened_here = opened_at streams p.spot p.at
@@ -142,7 +146,7 @@ first_fault (Err errors.Memory) bytes n entries error is are f = tt
 
 -- ---- along the bytes
 
-come_more : (c : Container) (bytes : List ℕ) (n m : ℕ) (table : List NumberedCall)
+come_more : (c : Container) (bytes : List ℕ) (n m : ℕ) (table : Known)
     (model : List Entry)
     → HasCome c table (take n bytes ++ take m (take (length bytes - n) (drop n bytes))) model
     → HasCome c table (take (n + m) bytes) model
@@ -155,7 +159,7 @@ not_recalling None answer is untrue = refl
 not_recalling (Some one) answer is untrue = absurd (cc)
 
 -- all bytes are taken, and no streams are judged
-pub judged_all : (c : Container) (table : List NumberedCall) (bytes all : List ℕ)
+pub judged_all : (c : Container) (table : Known) (bytes all : List ℕ)
     (model : List Entry) → bytes ≡ all → c.cursor ≡ None → HasCome c table bytes model
     → StandsAt c.position (released c.joiner.taking) c.streams.kept table all model
 judged_all c table bytes all model is none h =
@@ -167,36 +171,50 @@ judged_all c table bytes all model is none h =
     StandsOrRecalls cursor c.position (released c.joiner.taking) c.streams.kept table bytes
     model) none h)
 
-abbrev pub Keeps : Container → List NumberedCall → List ℕ → List kept.Entry → Type 0
+abbrev pub Keeps : Container → Known → List ℕ → List kept.Entry → Type 0
 Keeps c table bytes items = (model : List Entry) × HasCome c table bytes model × AreKept items model
+    × (map number_kept items ≡ numbers_after [] model)
 
-module _ {V : Type 0} (stands : V → List Item → Type 0) (was now : V) (c : Container)
-    (bytes : List ℕ) (n m : ℕ) (table : List NumberedCall) (items : List kept.Entry)
+module _ {V : Type 0} (stands : V → List Item → Type 0) (was now : V) (number : ℕ) (c : Container)
+    (bytes : List ℕ) (n m : ℕ) (table : Known) (items : List kept.Entry)
     (model : List Entry) where
   abbrev Goes : Option Kind → Type 0
   Goes came =
-      GoesTo stands was now came c table
+      GoesTo stands was now came number c table
       (take n bytes ++ take m (take (length bytes - n) (drop n bytes))) model
 
   pub keeps_on : (came : Option Kind) → came ≡ None → Goes came → AreKept items model
-      → Keeps c table (take (n + m) bytes) items
-  keeps_on None e goes are = (model, come_more c bytes n m table model goes, are)
-  keeps_on (Some kind) e goes are = absurd (cc)
+      → map number_kept items ≡ numbers_after [] model → Keeps c table (take (n + m) bytes) items
+  keeps_on None e goes are own = (model, come_more c bytes n m table model goes, are, own)
+  keeps_on (Some kind) e goes are own = absurd (cc)
 
   -- with the entry that is whole
   pub keeps_more : (came : Option Kind) (kind : Kind) (one : kept.Entry) → came ≡ Some kind
       → Goes came → ((entry : Entry) → IsHeld kind c.joiner.taking entry → IsKept one entry)
-      → AreKept items model → Keeps c table (take (n + m) bytes) (items ++ one ∷ [])
-  keeps_more None kind one e goes keeps are = absurd (cc)
-  keeps_more (Some new) kind one e (entry, held, adds, come) keeps are =
-      let same : new ≡ kind = cc in (
+      → ((entry : Entry) → IsHeld kind c.joiner.taking entry
+      → HasNumber number (open_xids [] (model ++ entry ∷ [])) entry
+      → number_kept one ≡ number_after model entry)
+      → AreKept items model → map number_kept items ≡ numbers_after [] model
+      → Keeps c table (take (n + m) bytes) (items ++ one ∷ [])
+  keeps_more None kind one e goes keeps counts are own = absurd (cc)
+  keeps_more (Some new) kind one e (entry, held, has, adds, come) keeps counts are own =
+      let same : new ≡ kind = cc in
+      let still : IsHeld kind c.joiner.taking entry =
+      subst (λ (k : Kind). IsHeld k c.joiner.taking entry) same held in (
         model ++ entry ∷ [],
         come_more c bytes n m table (model ++ entry ∷ []) come,
         kept_snoc items model one entry are
-            (keeps entry (subst (λ (k : Kind). IsHeld k c.joiner.taking entry) same held)),
+            (keeps entry still),
+        numbered_more items model one entry (counts entry still has) own,
       )
 
 -- ---- what kept entries begin
+
+pub kept_length : (items : List kept.Entry) (entries : List Entry) → AreKept items entries
+    → length items ≡ length entries
+kept_length [] entries are = sym (ap length are)
+kept_length (one ∷ items) entries are =
+    ap suc (kept_length items are.1 are.4) ∙ sym (ap length are.2)
 
 pub begun_is : (items : List kept.Entry) (entries : List Entry) → AreKept items entries
     → begun items ≡ begins entries

@@ -1,5 +1,5 @@
 use Rattle.canon3.proofs.Common.{◌≡◌, ap, ◌∙◌, sym, min, arith, rules, true, [], common_steps, list_any, position_or_len, distinct, with_key}
-use Rattle.canon3.proofs.Lemmas.Numbers.RankLemmas.{rank-push, distinct-push, any-distinct}
+use Rattle.capture3.proofs.Lemmas.Connections.RankLemmas.{rank-push, distinct-push, any-distinct}
 use Rattle.canon3.proofs.numbers.Numbers.number_of.Goals as goal
 
 pub returns-in_err-index-clause-known : goal.returns-in_err-index-clause-known

@@ -1,4 +1,4 @@
-use Rattle.capture3.proofs.Common.{arith, ◌≡◌, ◌≢◌, length, Some, None, Err, ap, refl, sym, ◌∙◌, true, NoCall, WrongSide, Stop, procedure_of, judge_reply, false≢true}
+use Rattle.capture3.proofs.Common.{arith, ◌≡◌, ◌≢◌, length, Some, None, Err, ap, refl, sym, ◌∙◌, true, NoCall, WrongSide, Stop, procedure_in_call, procedure_of, judge_reply, false≢true}
 use Rattle.capture3.proofs.Lemmas.Messages.BodySteps.{not_false, not_true, refusal_judged, reply_bad_start, reply_trails, reply_unasked, reply_wrong_side}
 use Rattle.capture3.proofs.Lemmas.Messages.MessageScanLemmas.{start_begun, error_stops, reply_head_stops, reply_scans, reply_told, results_stop, stop_stops}
 use Rattle.capture3.proofs.message.scan.scan_reply.Goals as goal
@@ -24,7 +24,8 @@ returns-in_default-clause-err g c before table =
     let start =
     rw (c.new-input.ensures.body, c.new-input.ensures.start) at c.in_ok-start.ensures.read in
     let none : procedure_of before c.in_ok-start.start.xid ≡ None =
-    sym (table c.in_ok-start.start.xid) ∙ sym c.procedure_of.ensures ∙ c.in_default.is in
+    sym (table c.in_ok-start.start.xid (omega arith))
+    ∙ ap procedure_in_call (sym c.call_of.ensures ∙ c.in_default.is) in
     refusal_judged c.stop-in_default.result (judge_reply before c.args.body.now)
     (record { at = 0; reason = NoCall }) c.stop-in_default.ensures
     (reply_unasked before c.args.body.now c.in_ok-start.start c.start.new.input.at start
@@ -37,11 +38,12 @@ returns-in_err-success-clause-err g c before table =
     c.new-input.ensures.body c.new-input.ensures.start c.in_ok-start.ensures.read
     c.in_ok-start.ensures.moves.same_body
     (not_false c.in_ok-start.start.is_reply c.if-not-start.false) in
-    let asked : procedure_of before c.in_ok-start.start.xid ≡ Some c.in-Some.id =
-    sym (table c.in_ok-start.start.xid) ∙ sym c.procedure_of.ensures ∙ c.in-Some.is in
+    let asked : procedure_of before c.in_ok-start.start.xid ≡ Some c.in-Some.call.id =
+    sym (table c.in_ok-start.start.xid (omega arith))
+    ∙ ap procedure_in_call (sym c.call_of.ensures ∙ c.in-Some.is) in
     error_stops c.from_residual-in_err-success.result (judge_reply before c.args.body.now)
     c.in_err-success.field-0.0 c.from_residual-in_err-success.ensures.1
-    (reply_head_stops before c.args.body.now c.in_ok-start.start c.in-Some.id c.start.new.input
+    (reply_head_stops before c.args.body.now c.in_ok-start.start c.in-Some.call.id c.start.new.input
     c.in_err-success.field-0.0 begun asked c.in_err-success.ensures.err)
 
 pub returns-in_err-scan_results_after-clause-err : goal.returns-in_err-scan_results_after-clause-err
@@ -51,12 +53,13 @@ returns-in_err-scan_results_after-clause-err g c before table =
     c.new-input.ensures.body c.new-input.ensures.start c.in_ok-start.ensures.read
     c.in_ok-start.ensures.moves.same_body
     (not_false c.in_ok-start.start.is_reply c.if-not-start.false) in
-    let asked : procedure_of before c.in_ok-start.start.xid ≡ Some c.in-Some.id =
-    sym (table c.in_ok-start.start.xid) ∙ sym c.procedure_of.ensures ∙ c.in-Some.is in
+    let asked : procedure_of before c.in_ok-start.start.xid ≡ Some c.in-Some.call.id =
+    sym (table c.in_ok-start.start.xid (omega arith))
+    ∙ ap procedure_in_call (sym c.call_of.ensures ∙ c.in-Some.is) in
     error_stops c.from_residual-in_err-scan_results_after.result
     (judge_reply before c.args.body.now) c.in_err-scan_results_after.field-0.0
     c.from_residual-in_err-scan_results_after.ensures.1
-    (results_stop g.V.Visit.stands before c.args.body.now c.in_ok-start.start c.in-Some.id
+    (results_stop g.V.Visit.stands before c.args.body.now c.in_ok-start.start c.in-Some.call.id
     c.in_ok-success.success c.start.new.input c.scan_reply_head.new.input
     c.tell_start.new.visitor c.scan_reply_head.new.visitor
     c.in_err-scan_results_after.field-0.0 begun asked c.in_ok-success.ensures.ok
@@ -69,10 +72,11 @@ returns-in_err-end-clause-err g c before table =
     c.new-input.ensures.body c.new-input.ensures.start c.in_ok-start.ensures.read
     c.in_ok-start.ensures.moves.same_body
     (not_false c.in_ok-start.start.is_reply c.if-not-start.false) in
-    let asked : procedure_of before c.in_ok-start.start.xid ≡ Some c.in-Some.id =
-    sym (table c.in_ok-start.start.xid) ∙ sym c.procedure_of.ensures ∙ c.in-Some.is in
+    let asked : procedure_of before c.in_ok-start.start.xid ≡ Some c.in-Some.call.id =
+    sym (table c.in_ok-start.start.xid (omega arith))
+    ∙ ap procedure_in_call (sym c.call_of.ensures ∙ c.in-Some.is) in
     let r =
-    reply_told g.V.Visit.stands c.args.body.now c.in_ok-start.start c.in-Some.id
+    reply_told g.V.Visit.stands c.args.body.now c.in_ok-start.start c.in-Some.call.id
     c.in_ok-success.success c.start.new.input c.scan_reply_head.new.input
     c.scan_results_after.new.input c.args.visitor.now c.tell_start.new.visitor
     c.scan_reply_head.new.visitor c.scan_results_after.new.visitor begun c.in_ok-tell_start.ensures
@@ -81,7 +85,8 @@ returns-in_err-end-clause-err g c before table =
     λ e. false≢true (c.in_err-end.ensures.ok.1 (e ∙ ap length (sym r.same_body))) in
     stop_stops c.from_residual-in_err-end.result (judge_reply before c.args.body.now)
     c.in_err-end.field-0.0 c.from_residual-in_err-end.ensures.1
-    (reply_trails before c.args.body.now c.in_ok-start.start c.in-Some.id c.in_ok-success.success
+    (reply_trails before c.args.body.now c.in_ok-start.start c.in-Some.call.id
+    c.in_ok-success.success
     r.front c.start.new.input.at c.scan_reply_head.new.input.at
     c.scan_results_after.new.input.at r.more
     (r.begins before asked) r.read other
@@ -95,14 +100,14 @@ returns-clause-ok g c =
     c.in_ok-start.ensures.moves.same_body
     (not_false c.in_ok-start.start.is_reply c.if-not-start.false) in
     let r =
-    reply_told g.V.Visit.stands c.args.body.now c.in_ok-start.start c.in-Some.id
+    reply_told g.V.Visit.stands c.args.body.now c.in_ok-start.start c.in-Some.call.id
     c.in_ok-success.success c.start.new.input c.scan_reply_head.new.input
     c.scan_results_after.new.input c.args.visitor.now c.tell_start.new.visitor
     c.scan_reply_head.new.visitor c.scan_results_after.new.visitor begun c.in_ok-tell_start.ensures
     c.in_ok-success.ensures.ok c.in_ok-scan_results_after.ensures.ok in
-    reply_scans g.V.Visit.stands (g.C.KnownCalls.calls c.args.calls.now) c.args.body.now
-    c.in_ok-start.start c.in-Some.id c.in_ok-success.success c.start.new.input.at
+    reply_scans g.V.Visit.stands (g.C.KnownCalls.known c.args.calls.now) c.args.body.now
+    c.in_ok-start.start c.in-Some.call c.in_ok-success.success c.start.new.input.at
     c.scan_reply_head.new.input.at c.scan_results_after.new.input
     c.args.visitor.now c.scan_results_after.new.visitor (λ i. omega (arith, c.type_inv.body i)) r
     (c.in_ok-end.ensures.ok.0 refl ∙ ap length r.same_body)
-    (sym c.procedure_of.ensures ∙ c.in-Some.is)
+    (omega arith) (sym c.call_of.ensures ∙ c.in-Some.is)

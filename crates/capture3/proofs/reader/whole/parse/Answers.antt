@@ -1,8 +1,14 @@
-use Rattle.capture3.proofs.Common.{Err, ℕ, Option, arith, ap, subst, ◌≡◌, ◌∙◌, ◌++◌, ◌-◌, [], ◌∷◌, take, take_all, drop, length, length-take, length-drop, refl, End, Kind}
-use Rattle.capture3.specs.machinery.EntryParser.{entry_cost, SpellsLast}
+use Rattle.capture3.proofs.Common.{Err, ℕ, List, Option, arith, ap, subst, ◌≡◌, ◌∙◌, ◌++◌, ◌-◌, [], ◌∷◌, take, take_all, drop, length, length-take, length-drop, refl, End, Kind}
+use Rattle.capture3.specs.machinery.Pairing.{entry_cost, SpellsLast}
 use Rattle.capture3.proofs.Lemmas.Reached.Limits.{typed_within}
 use Rattle.capture3.proofs.Lemmas.Reader.PassedOn.{error_is}
-use Rattle.capture3.proofs.Lemmas.Reader.WholeFiles.{begun_is, cut_at, first_fault, judged_all, kept_snoc, keeps_more, keeps_on, not_recalling, typed_at}
+use Rattle.capture3.specs.declared.reader.entry.Entry.TheVariants as variants
+use Rattle.capture3.specs.declared.reader.entry.Entry as kept
+use Rattle.std.proofs.Common.{map}
+use Rattle.capture3.specs.Numbering.{number_kept, numbers_after}
+use Rattle.capture3.proofs.Lemmas.Connections.NumberingLemmas.{copy_number, lent_number, numbered_more}
+use Rattle.capture3.proofs.Lemmas.Files.Verdicts.{typed_once}
+use Rattle.capture3.proofs.Lemmas.Reader.WholeFiles.{begun_is, kept_length, cut_at, first_fault, judged_all, kept_snoc, keeps_more, keeps_on, not_recalling, typed_at}
 use Rattle.capture3.proofs.reader.whole.parse.Goals as goal
 
 pub loop-taken-preserved-in-Continue-branch-2 : goal.loop-taken-preserved-in-Continue-branch-2
@@ -22,12 +28,25 @@ loop-taken-preserved-in-Continue-branch-2 c =
           omega (arith, invariant.room, c.in-Ok.ensures.room, cost, c.in_ok-push-in-Ok.ensures.len);
       machine =
           rw c.in_ok-push-in-Ok.ensures.items
-          (keeps_more _ _ _ _ c.args.bytes.now c.loop-taken.taken c.in-Ok.count
+          (keeps_more _ _ _ c.next.new.self.number _ c.args.bytes.now c.loop-taken.taken
+          c.in-Ok.count
           _ c.loop-taken.entries.items invariant.machine.0 _ _ _ c.in-Some.is
           (c.in-Ok.ensures.machine (take c.loop-taken.taken c.args.bytes.now) invariant.machine.0
           invariant.machine.1)
           (λ entry h. c.in_ok-entry-in-Ok.ensures.kept entry (c.lend.ensures.lent entry h))
-          invariant.machine.2);
+          (λ entry h has.
+          copy_number c.lend.result _ c.in_ok-entry-in-Ok.ensures.copy
+          ∙ lent_number c.lend.result invariant.machine.0 entry c.next.new.self.number
+          (omega (
+            arith,
+            invariant.room,
+            c.in-Ok.ensures.room,
+            cost,
+            kept_length _ _ invariant.machine.2,
+            c.loop-taken.entries.ok.0,
+          ))
+          (c.lend.ensures.lent entry h) c.lend.ensures.number has)
+          invariant.machine.2 invariant.machine.3);
     }
 
 pub loop-taken-preserved : goal.loop-taken-preserved
@@ -45,10 +64,10 @@ loop-taken-preserved c =
       ready = c.in-Ok.ensures.ready;
       room = omega (arith, invariant.room, c.in-Ok.ensures.room, cost);
       machine =
-          keeps_on _ _ _ _ c.args.bytes.now c.loop-taken.taken c.in-Ok.count
+          keeps_on _ _ _ c.next.new.self.number _ c.args.bytes.now c.loop-taken.taken c.in-Ok.count
           _ c.loop-taken.entries.items invariant.machine.0 _ c.in_default.is
           (c.in-Ok.ensures.machine (take c.loop-taken.taken c.args.bytes.now) invariant.machine.0
-          invariant.machine.1) invariant.machine.2;
+          invariant.machine.1) invariant.machine.2 invariant.machine.3;
     }
 
 pub returns-in-Err-clause-fault : goal.returns-in-Err-clause-fault
@@ -66,12 +85,22 @@ returns-clause-entries c =
     take_all c.loop-taken.taken c.args.bytes.now (omega (arith, c.if-taken-bytes.false)) in (
       invariant.machine.0 ++ End ∷ [],
       typed_at c.args.bytes.now _ _ _ _ invariant.machine.0 (λ i. omega (arith, c.type_inv.bytes i))
-          (judged_all c.loop-taken.parser.container _ _ _ _ all
+          (judged_all c.loop-taken.pairing.container _ _ _ _ all
           (not_recalling _ _ c.is_recalling.ensures c.if-is_recalling.false)
           invariant.machine.1) c.in_ok-end.ensures.ok,
       rw c.in_ok-push.ensures.items
           (kept_snoc c.loop-taken.entries.items invariant.machine.0 _ End invariant.machine.2 refl),
     )
+
+pub returns-clause-numbered : goal.returns-clause-numbered
+unfolding returns-clause-entries
+returns-clause-numbered c entries typed =
+    let invariant = c.loop-taken.invariant in
+    let of = returns-clause-entries c in
+    ap (λ (items : List kept.Entry). map number_kept items) c.in_ok-push.ensures.items
+    ∙ numbered_more c.loop-taken.entries.items invariant.machine.0 variants.End End refl
+    invariant.machine.3
+    ∙ ap (numbers_after []) (typed_once c.args.bytes.now of.0 entries of.1 typed)
 
 pub returns-clause-connections : goal.returns-clause-connections
 returns-clause-connections c =
@@ -88,7 +117,7 @@ returns-in_err-end-clause-fault c =
     take_all c.loop-taken.taken c.args.bytes.now (omega (arith, c.if-taken-bytes.false)) in
     let met =
     cut_at c.args.bytes.now _ _ _ _ invariant.machine.0 (λ i. omega (arith, c.type_inv.bytes i))
-    (judged_all c.loop-taken.parser.container _ _ _ _ all
+    (judged_all c.loop-taken.pairing.container _ _ _ _ all
     (not_recalling _ _ c.is_recalling.ensures c.if-is_recalling.false) invariant.machine.1)
     c.in_err-end.ensures.err.0 in
     rw (error_is _ _ c.from_residual-in_err-end.ensures ∙ ap Err c.in_err-end.ensures.err.1) met

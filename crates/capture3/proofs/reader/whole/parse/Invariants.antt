@@ -1,4 +1,4 @@
-use Rattle.capture3.proofs.Common.{◌≤◌, ◌+◌, ◌-◌, length, take, vec_len, released, IsReady, IsStored, room_in}
+use Rattle.capture3.proofs.Common.{◌≤◌, ◌+◌, ◌-◌, length, take, vec_len, released, IsReady, IsStored, known_in_list, room_in}
 use Rattle.capture3.specs.machinery.Position.{IsSoundPosition, most_things}
 use Rattle.capture3.proofs.Lemmas.Reader.WholeFiles.{Keeps}
 use Rattle.capture3.proofs.reader.whole.parse.Given as goal
@@ -6,12 +6,13 @@ use Rattle.capture3.proofs.reader.whole.parse.Given as goal
 abbrev pub invariant-loop-taken : goal.invariant-loop-taken
 invariant-loop-taken l = record {
   within : l.taken ≤ length l.bytes;
-  sound : IsSoundPosition l.parser.container.position;
-  stored : IsStored l.parser.container;
-  ready : IsReady l.parser.container.cursor (released l.parser.container.joiner.taking);
-  room : vec_len l.entries + room_in l.parser.container ≤ most_things;
-  machine : Keeps l.parser.container l.parser.calls (take l.taken l.bytes) l.entries.items;
+  sound : IsSoundPosition l.pairing.container.position;
+  stored : IsStored l.pairing.container;
+  ready : IsReady l.pairing.container.cursor (released l.pairing.container.joiner.taking);
+  room : vec_len l.entries + room_in l.pairing.container ≤ most_things;
+  machine : Keeps l.pairing.container (known_in_list l.pairing.calls.calls.items)
+      (take l.taken l.bytes) l.entries.items;
 }
 
 abbrev pub decreases-loop-taken : goal.decreases-loop-taken
-decreases-loop-taken l = (room_in l.parser.container) + (length l.bytes - l.taken)
+decreases-loop-taken l = (room_in l.pairing.container) + (length l.bytes - l.taken)

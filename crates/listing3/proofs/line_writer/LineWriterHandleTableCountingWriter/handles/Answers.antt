@@ -1,6 +1,6 @@
 use Rattle.listing3.proofs.Common.{List, ℕ, [], ap, append-nil, ◌∙◌, length, min, subst, bytes_eq, all_items}
 use Rattle.canon3.specs.HandleTable.{Gathers}
-use Rattle.canon3.specs.Rank.{distinct, number_limit}
+use Rattle.capture3.specs.Rank.{distinct, number_limit}
 use Rattle.canon3.proofs.Lemmas.Numbers.HandleTableLemmas.{handles_of_all}
 use Rattle.listing3.proofs.Lines.LineLemmas.{is_after}
 use Rattle.listing3.proofs.line_writer.LineWriterHandleTableCountingWriter.handles.Goals as goal

@@ -1,5 +1,6 @@
-use Rattle.capture3.proofs.Common.{◌≡◌, drop, found}
+use Rattle.capture3.proofs.Common.{◌≡◌, drop, in_list}
 use Rattle.capture3.proofs.message.calls.CallList.find.Given as goal
 
-abbrev pub invariant-loop-call : goal.invariant-loop-call
-invariant-loop-call l = found l.self l.xid ≡ found (drop l.call-index l.self) l.xid
+abbrev pub invariant-loop-pair : goal.invariant-loop-pair
+invariant-loop-pair l =
+    in_list l.self.calls.items l.xid ≡ in_list (drop l.pair-index l.self.calls.items) l.xid

@@ -1,21 +1,20 @@
-use Rattle.capture3.proofs.Common.{◌++◌, ◌∷◌, [], ap, sym, ◌∙◌, List, NumberedCall, found, home_of}
-use Rattle.capture3.specs.declared.message.counting.Counting.{Counting}
-use Rattle.capture3.proofs.Lemmas.Connections.LineLemmas.{lined_either, lined_push, puts_along}
+use Rattle.capture3.proofs.Common.{ap, sym, subst, ◌∙◌, refl, List, arith, NumberedCall, Puts, lined}
+use Rattle.capture3.proofs.Lemmas.Connections.LineLemmas.{filled, home_at, puts_last, puts_set}
 use Rattle.capture3.proofs.message.counted_calls.CountedCalls.place.Goals as goal
 
-pub invariant_of-self-clause-lined : goal.invariant_of-self-clause-lined
-invariant_of-self-clause-lined g c =
-    let line = c.widen.new.self.line.items in
-    let one : NumberedCall = record { xid = c.args.xid; id = c.args.id } in
-    let home = home_of c.widen.new.self.counting in
-    lined_either home _ c.push.new.self.items (line ++ one ∷ []) line c.push.ensures.items
-    (lined_push home line one c.widen.new.self.lined
-    (ap (λ (counting : Counting). home_of counting c.args.xid) c.in_ok-widen.ensures.counting
-    ∙ sym c.home-home.ensures ∙ sym (c.in_ok-widen.ensures.len c.if-branch.true)))
-    c.widen.new.self.lined
+pub returns-then-home-len-clause-puts : goal.returns-then-home-len-clause-puts
+returns-then-home-len-clause-puts g c true_is =
+    puts_set c.args.self.now.counting c.args.self.now.line.items c.home-home.result c.args.xid
+    c.args.call (omega arith) c.requires.numbered c.home-home.ensures (omega arith)
 
-pub returns-in_ok-push-clause-puts : goal.returns-in_ok-push-clause-puts
-returns-in_ok-push-clause-puts g c is q =
-    ap (λ (l : List NumberedCall). found l q) c.in_ok-push.ensures.items
-    ∙ puts_along c.args.self.now.line.items c.widen.new.self.line.items c.args.xid c.args.id
-    c.in_ok-widen.ensures.same c.requires.new q
+pub returns-clause-puts : goal.returns-clause-puts
+returns-clause-puts g c true_is =
+    let counting = c.args.self.now.counting in
+    let line = c.args.self.now.line.items in
+    subst (λ (l : List NumberedCall). Puts (lined counting line) c.args.xid c.args.call
+    (lined counting l)) (sym c.in_ok-push.ensures.items)
+    (puts_last counting line c.resize.new.self.items c.args.xid c.args.call (omega arith)
+    c.requires.numbered
+    (λ i. ap (λ (l : List NumberedCall). home_at l i) c.in_ok-resize.ensures.items
+    ∙ filled line c.home-home.result _ _ (omega arith) refl i)
+    (omega (arith, c.resize.new.self.ok.0, c.in_ok-resize.ensures.len, c.home-home.ensures)))

@@ -1,5 +1,6 @@
 use Rattle.capture3.proofs.Common.{ap, arith, refl, subst, List, ℕ, ◌-◌, ◌+◌, ◌++◌, ◌≤◌, take, drop, slice_range, length, length-take, FailsAt, GoesTo}
 use Rattle.capture3.proofs.Lemmas.Reader.EntriesLemmas.{failed_not_read, failed_not_write, judged_failed, judged_on, ready_joiner, sound_position, stored_container}
+use Rattle.capture3.specs.machinery.CountedCalls.{known_of}
 use Rattle.capture3.proofs.reader.entries.Entries.judge.Goals as goal
 
 pub next-requires-clause-sound : goal.next-requires-clause-sound
@@ -7,11 +8,11 @@ next-requires-clause-sound g c = sound_position _ (c.args.self.now.sound c.requi
 
 pub next-requires-clause-stored : goal.next-requires-clause-stored
 next-requires-clause-stored g c =
-    stored_container c.args.self.now.parser.container (c.args.self.now.stored c.requires.reading)
+    stored_container c.args.self.now.pairing.container (c.args.self.now.stored c.requires.reading)
 
 pub next-requires-clause-ready : goal.next-requires-clause-ready
 next-requires-clause-ready g c =
-    ready_joiner c.args.self.now.parser.container.cursor
+    ready_joiner c.args.self.now.pairing.container.cursor
     _ (c.args.self.now.ready c.requires.reading)
 
 pub invariant_of-self-in-Err-clause-never_writes : goal.invariant_of-self-in-Err-clause-never_writes
@@ -33,7 +34,7 @@ returns-in-Ok-clause-goes_on g c given handed s =
     (λ judged at. subst
     (λ (items : List ℕ).
     GoesTo g.V.Visit.stands c.args.visitor.now c.next.new.visitor c.in-Ok.kind
-    c.next.new.self.container c.next.new.self.calls
+    c.next.new.self.number c.next.new.self.container (known_of c.next.new.self.calls)
     (judged
     ++ take c.in-Ok.count (slice_range items c.args.self.now.start c.args.self.now.end))
     handed)

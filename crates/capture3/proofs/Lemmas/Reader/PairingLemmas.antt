@@ -1,0 +1,799 @@
+-- A capture whose records are judged as they come: step after step.
+use Rattle.capture3.proofs.Common.{open_xids, ap₂, ◌≡◌, inl, inr, suc, ◌+◌, length, arith, append-nil, ℕ, Option, Some, None, List, [], ◌∷◌, ◌++◌, take, drop, refl, sym, ap, ◌∙◌, subst, append_assoc, take-append-drop, Item, RecordCut, RecordTooLong, Joining, Between, Header, Bytes, Whole, TooLong, join_next, Ends, Runs, Stops, Stopped, after, landed, ProcId, Known, Container, Error, Fault, Side, Client, Server, Event, Spot, ReplyItems, refusal, Entry, fault_at, Streams, Cursor, after-append, judge_call, judge_reply, Parsing, file_next, file_start, parsed, emitted, IsBeforeMark, opened_at, unpacking_at, StoredWith, Two, Adds, KnowsNone, Recalls, ShowsFirst, IsTableOf, xids_in, Judged, parsing_at, resumed, call_judged, reply_judged, emitted_at, connection_begun, turned, connection_closed, unpacking_with, fault_in_record, xid_in}
+use Rattle.record_mark.specs.Taking.{Taking, Led, OutOfMemory, IsRunning, IsWhole, body_of, joined_body, released, unbegun}
+use Rattle.capture3.specs.declared.reader.entry.Kind.TheVariants as kinds
+use Rattle.capture3.specs.declared.fault.Error.TheVariants as errors
+use Rattle.capture3.specs.declared.container.position.Event.TheVariants.{Begin, Record, Turn, Close}
+use Rattle.capture3.specs.declared.container.position.Position.{Position}
+use Rattle.capture3.specs.machinery.Container.{AreStored, Comes, ComesToFault, FirstKept, FromFile, InFile, InFirstKept, InNextKept, IsStored, Leaves, NextKept, Recalled, first_cursor, RecallFails, stream_of, unpacking_of, arrived, Arrives, ShowsError}
+use Rattle.capture3.specs.Entry as entries
+use Rattle.capture3.specs.machinery.Pairing.{StandsAt, StandsOrRecalls, HasCome, after_side_word, HasMet, MeetsEvent, met, met_in, GoesTo, FailsAt, JudgesCall, JudgesReply, RefusesBody}
+use Rattle.capture3.specs.StreamMachine as reading
+use Rattle.capture3.specs.declared.container.position.Event.TheVariants as events
+use Rattle.capture3.proofs.Lemmas.Container.KeptStreamsLemmas.{call_cut, call_recalled, call_refused, close_recalled, reply_cut, reply_recalled, reply_refused, shows_at_last, turn_recalled}
+use Rattle.capture3.proofs.Lemmas.Container.ContainerLemmas.{mark_is}
+use Rattle.capture3.specs.machinery.FileStanding as resuming
+use Rattle.capture3.specs.machinery.ContainerMachine.{Mark, Unpacking, Refuses, unpack_next, unpacking_start}
+use Rattle.capture3.proofs.Lemmas.Reader.FileStandingLemmas.{whole_connections, runs_follow, stops_follow}
+use Rattle.capture3.proofs.Lemmas.Reader.WholeEntries.{runs_emit, stops_emit}
+use Rattle.capture3.proofs.Lemmas.Reached.Growing.{stops_at_last}
+use Rattle.capture3.proofs.Lemmas.Connections.KnownLemmas.{table_empty}
+use Rattle.capture3.proofs.Lemmas.Connections.NumberingLemmas.{numbered_in, open-append, opened_more, opened_still}
+
+-- ---- the first byte
+
+abbrev pub nothing_judged : Judged
+nothing_judged = whole_connections []
+
+stands_at_start : (position : Position) (taking : Taking) (streams : Streams)
+    (table : Known) → unpacking_of position taking streams ≡ unpacking_start
+    → KnowsNone table → StandsAt position taking streams table [] []
+stands_at_start position taking streams table at none = record {
+  so_far = nothing_judged;
+  agrees = subst (λ (u : Unpacking). resuming.Agrees u nothing_judged) (sym at) refl;
+  calls = table_empty table none;
+  opened = refl;
+  stands = sym (ap (λ (u : Unpacking). Runs (parsing_at u nothing_judged)) at);
+  emitted = sym (ap (λ (u : Unpacking). emitted_at u.opened nothing_judged) at);
+}
+
+-- ---- bytes of the container
+
+-- after bytes that lead to a state
+led_on : (bytes piece : List ℕ) (s : Parsing) → parsed bytes ≡ Runs s
+    → parsed (bytes ++ piece) ≡ after file_next (Runs s) piece
+led_on bytes piece s e =
+    after-append file_next (Runs file_start) bytes piece ∙ ap (λ r. after file_next r piece) e
+
+pub stands_on : (p q : Position) (t u : Taking) (old new : Streams) (table : Known)
+    (bytes : List ℕ) (all : List Entry) (piece : List ℕ) (event : Option Event)
+    → StandsAt p t old table bytes all → event ≡ None
+    → Arrives (unpacking_of p t old) piece event q u new
+    → StandsAt q u new table (bytes ++ piece) all
+stands_on p q t u old new table bytes all piece event s is came =
+    let arrives =
+    subst (λ (e : Option Event). Arrives (unpacking_of p t old) piece e q u new) is came in
+    let next =
+    runs_follow piece (unpacking_of p t old) (unpacking_of q u new) s.so_far s.agrees arrives in
+    record {
+      so_far = s.so_far;
+      agrees = next.1;
+      calls = s.calls;
+      opened = s.opened;
+      stands = led_on bytes piece (parsing_at (unpacking_of p t old) s.so_far) s.stands ∙ next.0;
+      emitted =
+          s.emitted
+          ∙ sym
+          (runs_emit piece (unpacking_of p t old) (unpacking_of q u new) s.so_far arrives);
+    }
+
+met_is : (event : Event) (q : Position) (u : Taking) (streams : Streams)
+    → arrived (Some event) q u streams ≡ Stops (met event q u streams)
+met_is Begin q u streams = refl
+met_is (Record side) q u streams = refl
+met_is Turn q u streams = refl
+met_is Close q u streams = refl
+met_is events.Streams q u streams = refl
+
+pub stands_met : (p : Position) (t : Taking) (old : Streams) (new : Container)
+    (table : Known) (bytes : List ℕ) (all : List Entry) (piece : List ℕ) (event : Event)
+    (came : Option Event)
+    → StandsAt p t old table bytes all → came ≡ Some event
+    → Arrives (unpacking_of p t old) piece came new.position new.joiner.taking new.streams.kept
+    → HasMet new table event (bytes ++ piece) all
+stands_met p t old new table bytes all piece event came s is arrives_at =
+    let arrives =
+    subst
+    (λ (e : Option Event).
+    Arrives (unpacking_of p t old) piece e new.position new.joiner.taking new.streams.kept)
+    is arrives_at in
+    let stops : after unpack_next (Runs (unpacking_of p t old)) piece ≡ Stops (met_in event new) =
+    arrives ∙ met_is event new.position new.joiner.taking new.streams.kept in
+    let next =
+    stops_follow piece (unpacking_of p t old) (met_in event new) s.so_far s.agrees stops in
+    let m = stops_at_last piece (unpacking_of p t old) (met_in event new) s.so_far s.agrees stops in
+    record {
+      so_far = s.so_far;
+      front = bytes ++ m.front;
+      byte = m.byte;
+      state = m.state;
+      agrees = next.1;
+      calls = s.calls;
+      opened = s.opened;
+      split =
+          ap (λ (b : List ℕ). bytes ++ b) m.split ∙ sym (append_assoc bytes m.front (m.byte ∷ []));
+      runs = led_on bytes m.front (parsing_at (unpacking_of p t old) s.so_far) s.stands ∙ m.runs;
+      before = m.emits ∙ sym s.emitted;
+      ends = m.ends;
+      emits =
+          subst (λ (base : List Entry). resuming.EmitsOn s.so_far base (Ends (met_in event new)))
+          (sym s.emitted)
+          (stops_emit piece (unpacking_of p t old) (met_in event new) s.so_far stops);
+    }
+
+-- where the bytes with the last lead
+met_leads : (c : Container) (table : Known) (event : Event) (bytes : List ℕ)
+    (all : List Entry) → (m : HasMet c table event bytes all)
+    → parsed bytes ≡ landed (resumed m.so_far (Ends (met_in event c)))
+met_leads c table event bytes all m =
+    ap parsed m.split ∙ led_on m.front (m.byte ∷ []) m.state m.runs ∙ ap landed m.ends
+
+-- a fault of the container
+pub stands_fails : (p : Position) (t : Taking) (streams : Streams) (table : Known)
+    (bytes : List ℕ) (all : List Entry) (piece : List ℕ) (error : Error)
+    → StandsAt p t streams table bytes all → ShowsError (unpacking_of p t streams) piece error
+    → FailsAt (bytes ++ piece) all error
+stands_fails p t streams table bytes all piece (errors.Refused fault) s (n, within, stops) =
+    let m =
+    stops_at_last (take n piece) (unpacking_of p t streams) (Refuses fault) s.so_far s.agrees stops
+    in
+    record {
+      front = bytes ++ m.front;
+      byte = m.byte;
+      back = drop n piece;
+      state = m.state;
+      shown = refusal fault;
+      split =
+          ap (λ (b : List ℕ). bytes ++ b) (sym (take-append-drop n piece)
+          ∙ ap (λ (b : List ℕ). b ++ drop n piece) m.split
+          ∙ append_assoc m.front (m.byte ∷ []) (drop n piece))
+          ∙ sym (append_assoc bytes m.front (m.byte ∷ drop n piece));
+      runs =
+          led_on bytes m.front (parsing_at (unpacking_of p t streams) s.so_far) s.stands ∙ m.runs;
+      ends = m.ends;
+      is = refl;
+      emits = s.emitted ∙ sym m.emits ∙ sym (append-nil (emitted m.state));
+    }
+stands_fails p t streams table bytes all piece errors.Read s fails = fails
+stands_fails p t streams table bytes all piece errors.Write s fails = fails
+stands_fails p t streams table bytes all piece errors.Memory s fails = tt
+
+-- what the first bytes fail at, all fail at
+pub fails_longer : (bytes piece : List ℕ) (n : ℕ) (all : List Entry) (error : Error)
+    → FailsAt (bytes ++ take n piece) all error → FailsAt (bytes ++ piece) all error
+fails_longer bytes piece n all (errors.Refused fault) s =
+    let whole : bytes ++ piece ≡ (bytes ++ take n piece) ++ drop n piece =
+    ap (λ (b : List ℕ). bytes ++ b) (sym (take-append-drop n piece))
+    ∙ sym (append_assoc bytes (take n piece) (drop n piece)) in
+    record {
+      front = s.front;
+      byte = s.byte;
+      back = s.back ++ drop n piece;
+      state = s.state;
+      shown = s.shown;
+      split =
+          whole ∙ ap (λ (b : List ℕ). b ++ drop n piece) s.split
+          ∙ append_assoc s.front (s.byte ∷ s.back) (drop n piece);
+      runs = s.runs;
+      ends = s.ends;
+      is = s.is;
+      emits = s.emits;
+    }
+fails_longer bytes piece n all errors.Read f = f
+fails_longer bytes piece n all errors.Write f = f
+fails_longer bytes piece n all errors.Memory f = tt
+
+-- a whole record was let go
+pub let_released : (old new : Container) (table : Known) (bytes : List ℕ)
+    (all : List Entry) → new.position ≡ old.position
+    → new.joiner.taking ≡ released old.joiner.taking → new.streams.kept ≡ old.streams.kept
+    → new.cursor ≡ old.cursor
+    → HasCome old table bytes all
+    → StandsOrRecalls new.cursor new.position new.joiner.taking new.streams.kept table bytes all
+let_released old new table bytes all same is kept here s = rw (same, is, kept, here) s
+
+pub stored_still : (old new : Container) → new.position ≡ old.position
+    → new.streams.kept ≡ old.streams.kept → new.cursor ≡ old.cursor → IsStored old → IsStored new
+stored_still old new same kept here stored = rw (same, kept, here) stored
+
+-- ---- what is whole
+
+-- a visitor that was not called
+pub untold : {V : Type 0} (stands : V → List Item → Type 0) (v : V) → Adds stands v v []
+unfolding Adds
+untold stands v = λ before s. subst (stands v) (sym (append-nil before)) s
+
+pub at_rest : (t : Taking) → IsRunning t → released t ≡ t
+at_rest (Led (Runs s)) h = refl
+at_rest (Led (Stops end)) h = absurd h
+at_rest (Led (Stopped end)) h = absurd h
+at_rest OutOfMemory h = absurd h
+
+at_rest_runs : (t : Taking) → IsRunning t → IsRunning (released t)
+at_rest_runs t h = subst IsRunning (sym (at_rest t h)) h
+
+pub let_go : (t : Taking) → IsWhole t → released t ≡ unbegun
+let_go (Led (Stops (Whole body))) h = refl
+let_go (Led (Stops (TooLong at))) h = absurd h
+let_go (Led (Runs s)) h = absurd h
+let_go (Led (Stopped end)) h = absurd h
+let_go OutOfMemory h = absurd h
+
+let_go_runs : (t : Taking) → IsWhole t → IsRunning (released t)
+let_go_runs t h = subst IsRunning (sym (let_go t h)) tt
+
+pub leaves_running : (event : Option Event) (t : Taking) → Leaves event t → IsRunning (released t)
+leaves_running (Some (Record side)) t h = let_go_runs t h
+leaves_running (Some Begin) t h = at_rest_runs t h
+leaves_running (Some Turn) t h = at_rest_runs t h
+leaves_running (Some Close) t h = at_rest_runs t h
+leaves_running (Some events.Streams) t h = at_rest_runs t h
+leaves_running None t h = at_rest_runs t h
+
+come_at_rest : (c : Container) (table : Known) (bytes : List ℕ) (all : List Entry)
+    → c.cursor ≡ None → IsRunning c.joiner.taking
+    → StandsAt c.position c.joiner.taking c.streams.kept table bytes all → HasCome c table bytes all
+come_at_rest c table bytes all none runs s =
+    subst
+    (λ (n : Option Cursor).
+    StandsOrRecalls n c.position (released c.joiner.taking) c.streams.kept table bytes all)
+    (sym none)
+    (subst (λ (u : Taking). StandsAt c.position u c.streams.kept table bytes all)
+    (sym (at_rest c.joiner.taking runs)) s)
+
+pub come_at_start : (c : Container) (table : Known) → c.cursor ≡ None
+    → IsRunning c.joiner.taking
+    → unpacking_of c.position c.joiner.taking c.streams.kept ≡ unpacking_start → KnowsNone table
+    → HasCome c table [] []
+come_at_start c table none runs at empty =
+    come_at_rest c table [] [] none runs
+    (stands_at_start c.position c.joiner.taking c.streams.kept table at empty)
+
+module _ {V : Type 0} (stands : V → List Item → Type 0) where
+  pub begin_goes : (v : V) (number : ℕ) (c : Container) (table none : Known) (bytes : List ℕ)
+      (all : List Entry) → KnowsNone none → IsRunning c.joiner.taking
+      → MeetsEvent c table Begin bytes all
+      → GoesTo stands v v (Some kinds.Begin) number c none bytes all
+  begin_goes v number c table none bytes all empty runs (inl (unopened, m)) = (
+    entries.Begin,
+    refl,
+    tt,
+    untold stands v,
+    come_at_rest c none bytes (all ++ entries.Begin ∷ []) unopened runs (record {
+      so_far = connection_begun (unpacking_of c.position c.joiner.taking c.streams.kept) m.so_far;
+      agrees = m.agrees;
+      calls = table_empty none empty;
+      opened = open-append all (entries.Begin ∷ []) [];
+      stands = met_leads c table Begin bytes all m;
+      emitted = sym m.emits;
+    }),
+  )
+  begin_goes v number c table none bytes all empty runs (inr m) = absurd m
+
+  pub turn_goes : (v : V) (number : ℕ) (c : Container) (table : Known) (bytes : List ℕ)
+      (all : List Entry) → IsRunning c.joiner.taking → MeetsEvent c table Turn bytes all
+      → GoesTo stands v v (Some kinds.Turn) number c table bytes all
+  turn_goes v number c table bytes all runs (inl (unopened, m)) = (
+    entries.Turn,
+    refl,
+    tt,
+    untold stands v,
+    come_at_rest c table bytes (all ++ entries.Turn ∷ []) unopened runs (record {
+      so_far =
+          turned m.so_far;
+      agrees = m.agrees;
+      calls = m.calls;
+      opened = opened_still all entries.Turn (xids_in m.so_far.calls) (λ xs. refl) m.opened;
+      stands = met_leads c table Turn bytes all m;
+      emitted = sym m.emits;
+    }),
+  )
+  turn_goes v number c table bytes all runs (inr come) =
+      (entries.Turn, refl, tt, untold stands v, come)
+
+  pub close_goes : (v : V) (number : ℕ) (c : Container) (table : Known) (bytes : List ℕ)
+      (all : List Entry) → IsRunning c.joiner.taking → MeetsEvent c table Close bytes all
+      → GoesTo stands v v (Some kinds.Close) number c table bytes all
+  close_goes v number c table bytes all runs (inl (unopened, m)) = (
+    entries.Close,
+    refl,
+    tt,
+    untold stands v,
+    come_at_rest c table bytes (all ++ entries.Close ∷ []) unopened runs (record {
+      so_far =
+          connection_closed m.so_far;
+      agrees = m.agrees;
+      calls = m.calls;
+      opened = opened_still all entries.Close (xids_in m.so_far.calls) (λ xs. refl) m.opened;
+      stands = met_leads c table Close bytes all m;
+      emitted = sym m.emits;
+    }),
+  )
+  close_goes v number c table bytes all runs (inr come) =
+      (entries.Close, refl, tt, untold stands v, come)
+
+  -- ---- a call, from the file or from streams
+
+  call_goes : (was now : V) (c : Container) (table new : Known) (bytes : List ℕ)
+      (all : List Entry) (number : ℕ) (id : ProcId) → IsWhole c.joiner.taking
+      → MeetsEvent c table (Record Client) bytes all
+      → ((calls : List (List Item)) → IsTableOf table calls
+      → JudgesCall stands was now calls (body_of c.joiner.taking) new number id)
+      → GoesTo stands was now (Some (kinds.Call id)) number c new bytes all
+  call_goes was now c table new bytes all number id whole (inl (none, m)) tells =
+      let k = tells m.so_far.calls m.calls in
+      let v : Unpacking = unpacking_at c.position c.streams.kept Between in
+      let at : unpacking_of c.position (released c.joiner.taking) c.streams.kept ≡ v =
+      ap (λ (t : Taking). unpacking_of c.position t c.streams.kept) (let_go c.joiner.taking whole)
+      in
+      let j : Judged = resuming.with_call m.so_far k.items in
+      let opened = opened_more all m.so_far.calls k.items k.begins m.opened in (
+        entries.Call k.items,
+        (k.items, whole, k.is_call, k.id_is, refl),
+        numbered_in number (xid_in k.items) _ _ opened k.numbered,
+        k.adds,
+        subst
+            (λ (n : Option Cursor).
+            StandsOrRecalls n c.position (released c.joiner.taking) c.streams.kept new bytes
+            (all ++ entries.Call k.items ∷ [])) (sym none)
+            (record {
+              so_far = j;
+              agrees = subst (λ (w : Unpacking). resuming.Agrees w j) (sym at) (m.agrees.0 k.items);
+              calls = k.added;
+              opened = opened;
+              stands =
+                  met_leads c table (Record Client) bytes all m
+                  ∙ ap (λ r. landed (call_judged v m.so_far r)) k.judged
+                  ∙ ap (λ (w : Unpacking). Runs (parsing_at w j)) (sym at);
+              emitted =
+                  sym (m.emits k.items) ∙ ap (λ (w : Unpacking). emitted_at w.opened j) (sym at);
+            }),
+      )
+  call_goes was now c table new bytes all number id whole (inr m) tells =
+      let k = tells m.stood.so_far.calls m.stood.calls in
+      let u : Unpacking = after_side_word c.position in (
+        entries.Call k.items,
+        (k.items, whole, k.is_call, k.id_is, refl),
+        numbered_in number (xid_in k.items) _ _
+            (opened_more all m.stood.so_far.calls k.items k.begins m.stood.opened) k.numbered,
+        k.adds,
+        subst
+            (λ (n : Option Cursor).
+            StandsOrRecalls n c.position (released c.joiner.taking) c.streams.kept new bytes
+            (all ++ entries.Call k.items ∷ [])) (sym m.next_is)
+            (subst
+            (λ (n : ℕ).
+            Recalls u c.streams.kept Client (m.taken + m.count) n new bytes
+            (all ++ entries.Call k.items ∷ [])) (sym m.records_are)
+            (call_recalled u c.streams.kept m.taken m.records table bytes all m.stood m.count
+            (body_of c.joiner.taking) k.items new m.joins k.judged k.added k.begins)),
+      )
+
+  -- ---- a reply
+
+  reply_goes : (was now : V) (c : Container) (table : Known) (bytes : List ℕ)
+      (all : List Entry) (number : ℕ) (id : ProcId) → IsWhole c.joiner.taking
+      → MeetsEvent c table (Record Server) bytes all
+      → ((calls : List (List Item)) → IsTableOf table calls
+      → JudgesReply stands was now calls (body_of c.joiner.taking) number id)
+      → GoesTo stands was now (Some (kinds.Reply id)) number c table bytes all
+  reply_goes was now c table bytes all number id whole (inl (none, m)) tells =
+      let k = tells m.so_far.calls m.calls in
+      let v : Unpacking = unpacking_at c.position c.streams.kept Between in
+      let at : unpacking_of c.position (released c.joiner.taking) c.streams.kept ≡ v =
+      ap (λ (t : Taking). unpacking_of c.position t c.streams.kept) (let_go c.joiner.taking whole)
+      in
+      let answer : ReplyItems = record { id = id; items = k.items } in
+      let j : Judged = resuming.with_reply m.so_far answer in
+      let opened : open_xids [] (all ++ entries.Reply id k.items ∷ []) ≡ xids_in m.so_far.calls =
+      opened_still all (entries.Reply id k.items) (xids_in m.so_far.calls) (λ xs. refl) m.opened
+      in (
+        entries.Reply id k.items,
+        (k.items, whole, k.is_reply, refl),
+        numbered_in number (xid_in k.items) _ _ opened k.numbered,
+        k.adds,
+        subst
+            (λ (n : Option Cursor).
+            StandsOrRecalls n c.position (released c.joiner.taking) c.streams.kept table bytes
+            (all ++ entries.Reply id k.items ∷ [])) (sym none)
+            (record {
+              so_far = j;
+              agrees = subst (λ (w : Unpacking). resuming.Agrees w j) (sym at) (m.agrees.0 answer);
+              calls = m.calls;
+              opened = opened;
+              stands =
+                  met_leads c table (Record Server) bytes all m
+                  ∙ ap (λ r. landed (reply_judged v m.so_far r)) k.judged
+                  ∙ ap (λ (w : Unpacking). Runs (parsing_at w j)) (sym at);
+              emitted =
+                  sym (m.emits answer) ∙ ap (λ (w : Unpacking). emitted_at w.opened j) (sym at);
+            }),
+      )
+  reply_goes was now c table bytes all number id whole (inr m) tells =
+      let k = tells m.stood.so_far.calls m.stood.calls in
+      let answer : ReplyItems = record { id = id; items = k.items } in
+      let u : Unpacking = after_side_word c.position in (
+        entries.Reply id k.items,
+        (k.items, whole, k.is_reply, refl),
+        numbered_in number (xid_in k.items) _ _
+            (opened_still all (entries.Reply id k.items) (xids_in m.stood.so_far.calls) (λ xs. refl)
+            m.stood.opened) k.numbered,
+        k.adds,
+        subst
+            (λ (n : Option Cursor).
+            StandsOrRecalls n c.position (released c.joiner.taking) c.streams.kept table bytes
+            (all ++ entries.Reply id k.items ∷ [])) (sym m.next_is)
+            (subst
+            (λ (n : ℕ).
+            Recalls u c.streams.kept Server (m.taken + m.count) n table bytes
+            (all ++ entries.Reply id k.items ∷ [])) (sym m.records_are)
+            (reply_recalled u c.streams.kept m.taken m.records table bytes all m.stood m.count
+            (body_of c.joiner.taking) answer m.joins k.judged)),
+      )
+
+-- the same with the event and the container as the code has them
+module _ {V : Type 0} (stands : V → List Item → Type 0) (was now : V) (old new : Container)
+    (table after_it : Known) (bytes : List ℕ) (all : List Entry) (number : ℕ) (id : ProcId) where
+  pub call_goes_at : {event : Event} → event ≡ Record Client → new ≡ old
+      → Leaves (Some event) old.joiner.taking → MeetsEvent old table event bytes all
+      → ((calls : List (List Item)) → IsTableOf table calls
+      → JudgesCall stands was now calls (body_of old.joiner.taking) after_it number id)
+      → GoesTo stands was now (Some (kinds.Call id)) number new after_it bytes all
+  call_goes_at {event} is same leaves m tells =
+      subst (λ (c : Container).
+      GoesTo stands was now (Some (kinds.Call id)) number c after_it bytes all)
+      (sym same)
+      (call_goes stands was now old table after_it bytes all number id
+      (subst (λ (e : Event). Leaves (Some e) old.joiner.taking) is leaves)
+      (subst (λ (e : Event). MeetsEvent old table e bytes all) is m) tells)
+
+  pub reply_goes_at : {event : Event} → event ≡ Record Server → new ≡ old → after_it ≡ table
+      → Leaves (Some event) old.joiner.taking → MeetsEvent old table event bytes all
+      → ((calls : List (List Item)) → IsTableOf table calls
+      → JudgesReply stands was now calls (body_of old.joiner.taking) number id)
+      → GoesTo stands was now (Some (kinds.Reply id)) number new after_it bytes all
+  reply_goes_at {event} is same kept leaves m tells =
+      subst (λ (c : Container).
+      GoesTo stands was now (Some (kinds.Reply id)) number c after_it bytes all)
+      (sym same)
+      (subst
+      (λ (l : Known). GoesTo stands was now (Some (kinds.Reply id)) number old l bytes all)
+      (sym kept)
+      (reply_goes stands was now old table bytes all number id
+      (subst (λ (e : Event). Leaves (Some e) old.joiner.taking) is leaves)
+      (subst (λ (e : Event). MeetsEvent old table e bytes all) is m) tells))
+
+-- ---- a message that is refused
+
+module _ (c : Container) (table : Known) (bytes : List ℕ) (all : List Entry) where
+  call_fails : (error : Error) → MeetsEvent c table (Record Client) bytes all
+      → ((calls : List (List Item)) → IsTableOf table calls
+      → RefusesBody c.position Client (judge_call calls (body_of c.joiner.taking)) error)
+      → FailsAt bytes all error
+  call_fails (errors.Refused fault) (inl (none, m)) refuses =
+      let (stop, judged, is) = refuses m.so_far.calls m.calls in
+      shows_at_last m.front m.byte m.state (refusal fault) m.split m.runs
+      (m.ends ∙ ap (call_judged (unpacking_at c.position c.streams.kept Between) m.so_far) judged
+      ∙ ap (λ (f : Fault). Ends (refusal f))
+      (ap (λ (n : ℕ). fault_in_record c.position.connections Client n stop.at stop.reason)
+      (sym m.agrees.1) ∙ sym is))
+      (sym m.before ∙ sym (append-nil (emitted m.state)))
+  call_fails (errors.Refused fault) (inr m) refuses =
+      let (stop, judged, is) = refuses m.stood.so_far.calls m.stood.calls in
+      let same : suc (length m.stood.so_far.calls) ≡ c.position.records =
+      omega (arith, m.records_are, m.stood.here.1) in
+      subst (ShowsFirst bytes all) (ap
+      (λ (n : ℕ). fault_in_record c.position.connections Client n stop.at stop.reason)
+      same ∙ sym is)
+      (call_refused (after_side_word c.position) c.streams.kept m.taken m.records table bytes all
+      m.stood m.count (Whole (body_of c.joiner.taking))
+      (fault_at m.stood.so_far.calls stop.at stop.reason) m.joins
+      (ap (reading.judged m.stood.so_far.calls) judged))
+  call_fails errors.Read (inl (none, m)) h = h m.so_far.calls m.calls
+  call_fails errors.Read (inr m) h = h m.stood.so_far.calls m.stood.calls
+  call_fails errors.Write (inl (none, m)) h = h m.so_far.calls m.calls
+  call_fails errors.Write (inr m) h = h m.stood.so_far.calls m.stood.calls
+  call_fails errors.Memory m h = tt
+
+  reply_fails : (error : Error) → MeetsEvent c table (Record Server) bytes all
+      → ((calls : List (List Item)) → IsTableOf table calls
+      → RefusesBody c.position Server (judge_reply calls (body_of c.joiner.taking)) error)
+      → FailsAt bytes all error
+  reply_fails (errors.Refused fault) (inl (none, m)) refuses =
+      let (stop, judged, is) = refuses m.so_far.calls m.calls in
+      shows_at_last m.front m.byte m.state (refusal fault) m.split m.runs
+      (m.ends ∙ ap (reply_judged (unpacking_at c.position c.streams.kept Between) m.so_far) judged
+      ∙ ap (λ (f : Fault). Ends (refusal f))
+      (ap (λ (n : ℕ). fault_in_record c.position.connections Server n stop.at stop.reason)
+      (sym m.agrees.1) ∙ sym is))
+      (sym m.before ∙ sym (append-nil (emitted m.state)))
+  reply_fails (errors.Refused fault) (inr m) refuses =
+      let (stop, judged, is) = refuses m.stood.so_far.calls m.stood.calls in
+      let same : suc (length m.stood.so_far.replies) ≡ c.position.records =
+      omega (arith, m.records_are, m.stood.here.2) in
+      subst (ShowsFirst bytes all) (ap
+      (λ (n : ℕ). fault_in_record c.position.connections Server n stop.at stop.reason)
+      same ∙ sym is)
+      (reply_refused (after_side_word c.position) c.streams.kept m.taken m.records table bytes all
+      m.stood m.count (Whole (body_of c.joiner.taking))
+      (fault_at m.stood.so_far.replies stop.at stop.reason) m.joins
+      (ap (reading.judged m.stood.so_far.replies) judged))
+  reply_fails errors.Read (inl (none, m)) h = h m.so_far.calls m.calls
+  reply_fails errors.Read (inr m) h = h m.stood.so_far.calls m.stood.calls
+  reply_fails errors.Write (inl (none, m)) h = h m.so_far.calls m.calls
+  reply_fails errors.Write (inr m) h = h m.stood.so_far.calls m.stood.calls
+  reply_fails errors.Memory m h = tt
+
+  pub call_fails_at : (error : Error) {event : Event} → event ≡ Record Client
+      → MeetsEvent c table event bytes all
+      → ((calls : List (List Item)) → IsTableOf table calls
+      → RefusesBody c.position Client (judge_call calls (body_of c.joiner.taking)) error)
+      → FailsAt bytes all error
+  call_fails_at error is m refuses =
+      call_fails error (subst (λ (e : Event). MeetsEvent c table e bytes all) is m) refuses
+
+  pub reply_fails_at : (error : Error) {event : Event} → event ≡ Record Server
+      → MeetsEvent c table event bytes all
+      → ((calls : List (List Item)) → IsTableOf table calls
+      → RefusesBody c.position Server (judge_reply calls (body_of c.joiner.taking)) error)
+      → FailsAt bytes all error
+  reply_fails_at error is m refuses =
+      reply_fails error (subst (λ (e : Event). MeetsEvent c table e bytes all) is m) refuses
+
+-- ---- streams that were kept
+
+-- the streams are whole: their judging begins
+streams_open : (c : Container) (table : Known) (bytes : List ℕ) (all : List Entry)
+    → HasMet c table events.Streams bytes all
+    → StandsOrRecalls (Some first_cursor) c.position c.joiner.taking c.streams.kept table bytes all
+streams_open c table bytes all m =
+    let j : Judged = record m.so_far { calls = []; replies = [] } in
+    record {
+      front = m.front;
+      byte = m.byte;
+      state = m.state;
+      so_far = j;
+      split = m.split;
+      runs = m.runs;
+      ends = m.ends;
+      emits = m.before ∙ m.emits;
+      calls = subst (IsTableOf table) m.agrees.2 m.calls;
+      opened = m.opened ∙ ap xids_in m.agrees.2;
+      here = (refl, m.agrees.1, m.emits);
+    }
+
+stored_first : (p : Position) (streams : Streams) → StoredWith (Some events.Streams) p streams
+    → AreStored p (Some first_cursor) streams
+stored_first p streams stored = (omega arith, omega (arith, stored.1), stored.0, stored.2)
+
+before_mark : (streams : Streams) (spot : Spot) (at : ℕ) → IsBeforeMark Two spot
+    → opened_at streams spot at ≡ Mark Two []
+before_mark streams spot at before =
+    let is = mark_is Two spot before in
+    ap (λ (s : Spot). opened_at streams s at) is.2 ∙ ap₂ Mark is.3 is.4
+
+-- what is whole next in them
+module _ (cursor : Cursor) (old new : Container) (table : Known) (bytes : List ℕ)
+    (all : List Entry) (s : StandsOrRecalls (Some cursor) old.position old.joiner.taking
+    old.streams.kept table bytes all) where
+  recalled_record : (side : Side)
+      → Recalled cursor old.position new.position old.streams.kept new.streams.kept
+      new.joiner.taking new.cursor (Record side) → MeetsEvent new table (Record side) bytes all
+  recalled_record side (side_is, streams_are, position_is, (count, next_is, joins)) =
+      inr (record {
+        taken = cursor.taken;
+        records = old.position.records;
+        count = count;
+        stood = rw (side_is, streams_are, position_is) s;
+        joins = rw (side_is, streams_are) joins;
+        next_is = rw side_is next_is;
+        records_are = ap (λ (p : Position). p.records) position_is;
+      })
+
+  recalled_turn : Recalled cursor old.position new.position old.streams.kept new.streams.kept
+      new.joiner.taking new.cursor Turn → HasCome new table bytes (all ++ entries.Turn ∷ [])
+  recalled_turn (side_is, streams_are, position_is, next_is, between, runs) =
+      let u : Unpacking = after_side_word old.position in
+      let at : Recalls u old.streams.kept Client cursor.taken old.position.records table bytes all =
+      subst
+      (λ (side : Side).
+      Recalls u old.streams.kept side cursor.taken old.position.records table bytes all)
+      side_is s in
+      let rest : after join_next (Runs Between) (drop cursor.taken old.streams.kept.client)
+      ≡ Runs Between =
+      subst
+      (λ (side : Side).
+      after join_next (Runs Between) (drop cursor.taken (stream_of side old.streams.kept))
+      ≡ Runs Between) side_is runs in
+      rw (streams_are, position_is, next_is) (turn_recalled u old.streams.kept cursor.taken
+      old.position.records table bytes all at rest)
+
+  recalled_close : IsRunning new.joiner.taking
+      → AreStored old.position (Some cursor) old.streams.kept
+      → Recalled cursor old.position new.position old.streams.kept new.streams.kept
+      new.joiner.taking new.cursor Close → HasCome new table bytes (all ++ entries.Close ∷ [])
+  recalled_close running stored (side_is, empty, position_is, next_is, between, runs) =
+      let p : Position = old.position in
+      let u : Unpacking = after_side_word p in
+      let at : Recalls u old.streams.kept Server cursor.taken p.records table bytes all =
+      subst
+      (λ (side : Side). Recalls u old.streams.kept side cursor.taken p.records table bytes all)
+      side_is s in
+      let rest : after join_next (Runs Between) (drop cursor.taken old.streams.kept.server)
+      ≡ Runs Between =
+      subst
+      (λ (side : Side).
+      after join_next (Runs Between) (drop cursor.taken (stream_of side old.streams.kept))
+      ≡ Runs Between) side_is runs in
+      let closes =
+      close_recalled u old.streams.kept cursor.taken p.records table bytes all at rest in
+      let opened_is : opened_at new.streams.kept p.spot p.at ≡ Mark Two [] =
+      before_mark new.streams.kept p.spot p.at stored.3 in
+      let w : Unpacking =
+      unpacking_with p.at p.total p.connections p.records (Mark Two []) Between in
+      let here : unpacking_of p new.joiner.taking new.streams.kept ≡ w =
+      ap₂ (λ o j. unpacking_with p.at p.total p.connections p.records o j) opened_is between in
+      come_at_rest new table bytes (all ++ entries.Close ∷ []) next_is running
+      (rw position_is (record {
+        so_far = connection_closed at.so_far;
+        agrees =
+            subst (λ (x : Unpacking). resuming.Agrees x (connection_closed at.so_far)) (sym here)
+            refl;
+        calls = at.calls;
+        opened =
+            opened_still all entries.Close (xids_in at.so_far.calls) (λ xs. refl) at.opened;
+        stands =
+            closes.0
+            ∙ ap (λ (x : Unpacking). Runs (parsing_at x (connection_closed at.so_far)))
+            (sym here);
+        emitted =
+            closes.1
+            ∙ sym (ap (λ (x : Unpacking). emitted_at x.opened (connection_closed at.so_far))
+            here);
+      }))
+
+  recalled_meets : (event : Event) → Leaves (Some event) new.joiner.taking
+      → AreStored old.position (Some cursor) old.streams.kept
+      → Recalled cursor old.position new.position old.streams.kept new.streams.kept
+      new.joiner.taking new.cursor event → MeetsEvent new table event bytes all
+  recalled_meets (Record side) leaves stored r = recalled_record side r
+  recalled_meets Turn leaves stored r = inr (recalled_turn r)
+  recalled_meets Close leaves stored r = inr (recalled_close leaves stored r)
+  recalled_meets Begin leaves stored r = absurd r
+  recalled_meets events.Streams leaves stored r = absurd r
+
+left_open : {M : Type 0} (messages : List M) (j : Joining) → (j ≡ Between → ⊥)
+    → reading.left_in messages j
+    ≡ reading.Faulty messages (fault_at messages (length (joined_body j)) RecordCut)
+left_open messages Between h = absurd (h refl)
+left_open messages (Header body part) h = refl
+left_open messages (Bytes body last left) h = refl
+
+recall_fails_at : (side : Side) (taken : ℕ) (p : Position) (streams : Streams)
+    (table : Known) (bytes : List ℕ) (all : List Entry) (fault : Fault)
+    → Recalls (after_side_word p) streams side taken p.records table bytes all
+    → RecallFails (record { side = side; taken = taken }) p streams (errors.Refused fault)
+    → ShowsFirst bytes all fault
+recall_fails_at Client taken p streams table bytes all fault r (inl (at, n, stops, is)) =
+    let same : suc (length r.so_far.calls) ≡ p.records + 1 = omega (arith, r.here.1) in
+    subst (ShowsFirst bytes all) (ap
+    (λ (k : ℕ). fault_in_record p.connections Client k at RecordTooLong) same ∙ sym is)
+    (call_refused (after_side_word p) streams taken p.records table bytes all r n (TooLong at)
+    (fault_at r.so_far.calls at RecordTooLong) stops refl)
+recall_fails_at Client taken p streams table bytes all fault r (inr (j, open_is, runs, is)) =
+    let same : suc (length r.so_far.calls) ≡ p.records + 1 = omega (arith, r.here.1) in
+    subst (ShowsFirst bytes all) (ap
+    (λ (k : ℕ). fault_in_record p.connections Client k (length (joined_body j)) RecordCut)
+    same ∙ sym is)
+    (call_cut (after_side_word p) streams taken p.records table bytes all r j
+    (fault_at r.so_far.calls (length (joined_body j)) RecordCut) runs
+    (left_open r.so_far.calls j open_is))
+recall_fails_at Server taken p streams table bytes all fault r (inl (at, n, stops, is)) =
+    let same : suc (length r.so_far.replies) ≡ p.records + 1 = omega (arith, r.here.2) in
+    subst (ShowsFirst bytes all) (ap
+    (λ (k : ℕ). fault_in_record p.connections Server k at RecordTooLong) same ∙ sym is)
+    (reply_refused (after_side_word p) streams taken p.records table bytes all r n (TooLong at)
+    (fault_at r.so_far.replies at RecordTooLong) stops refl)
+recall_fails_at Server taken p streams table bytes all fault r (inr (j, open_is, runs, is)) =
+    let same : suc (length r.so_far.replies) ≡ p.records + 1 = omega (arith, r.here.2) in
+    subst (ShowsFirst bytes all) (ap
+    (λ (k : ℕ). fault_in_record p.connections Server k (length (joined_body j)) RecordCut)
+    same ∙ sym is)
+    (reply_cut (after_side_word p) streams taken p.records table bytes all r j
+    (fault_at r.so_far.replies (length (joined_body j)) RecordCut) runs
+    (left_open r.so_far.replies j open_is))
+
+recall_fails : (cursor : Cursor) (p : Position) (t : Taking) (streams : Streams)
+    (table : Known) (bytes : List ℕ) (all : List Entry) (error : Error)
+    → StandsOrRecalls (Some cursor) p t streams table bytes all
+    → RecallFails cursor p streams error → FailsAt bytes all error
+recall_fails cursor p t streams table bytes all (errors.Refused fault) s f =
+    recall_fails_at cursor.side cursor.taken p streams table bytes all fault s f
+recall_fails cursor p t streams table bytes all errors.Read s f = f
+recall_fails cursor p t streams table bytes all errors.Write s f = f
+recall_fails cursor p t streams table bytes all errors.Memory s f = tt
+
+-- ---- what comes next, from the file or from streams that were kept
+
+unopened_at : (c : Container) (table : Known) (bytes : List ℕ) (all : List Entry)
+    → c.cursor ≡ None
+    → StandsOrRecalls c.cursor c.position c.joiner.taking c.streams.kept table bytes all
+    → StandsAt c.position c.joiner.taking c.streams.kept table bytes all
+unopened_at c table bytes all none s =
+    subst
+    (λ (n : Option Cursor).
+    StandsOrRecalls n c.position c.joiner.taking c.streams.kept table bytes all) none s
+
+opened_with : (c : Container) (cursor : Cursor) (table : Known) (bytes : List ℕ)
+    (all : List Entry) → c.cursor ≡ Some cursor
+    → StandsOrRecalls c.cursor c.position c.joiner.taking c.streams.kept table bytes all
+    → StandsOrRecalls (Some cursor) c.position c.joiner.taking c.streams.kept table bytes all
+opened_with c cursor table bytes all some s =
+    subst
+    (λ (n : Option Cursor).
+    StandsOrRecalls n c.position c.joiner.taking c.streams.kept table bytes all) some s
+
+-- the streams of a connection are whole with these bytes
+first_kept : (old mid : Container) (table : Known) (bytes : List ℕ) (all : List Entry)
+    (piece : List ℕ) → old.cursor ≡ None
+    → StandsOrRecalls old.cursor old.position old.joiner.taking old.streams.kept table bytes all
+    → Arrives (unpacking_of old.position old.joiner.taking old.streams.kept) piece
+    (Some events.Streams) mid.position mid.joiner.taking mid.streams.kept
+    → StandsOrRecalls (Some first_cursor) mid.position mid.joiner.taking mid.streams.kept table
+    (bytes ++ piece) all
+first_kept old mid table bytes all piece none s arrives =
+    streams_open mid table (bytes ++ piece) all (stands_met old.position old.joiner.taking
+    old.streams.kept mid table bytes all piece events.Streams (Some events.Streams)
+    (unopened_at old table bytes all none s) refl arrives)
+
+one_event : (came : Option Event) (event one : Event) → came ≡ Some event → came ≡ Some one
+    → one ≡ event
+one_event came event one is also = cc
+
+module _ (old new : Container) (table : Known) (bytes : List ℕ) (all : List Entry)
+    (piece : List ℕ) (came : Option Event) (s : StandsOrRecalls old.cursor old.position
+    old.joiner.taking old.streams.kept table bytes all) where
+  pub comes_on : came ≡ None → Leaves came new.joiner.taking → Comes old new piece came
+      → HasCome new table (bytes ++ piece) all
+  comes_on is leaves (FromFile none unopened arrives) =
+      come_at_rest new table (bytes ++ piece) all unopened
+      (subst (λ (e : Option Event). Leaves e new.joiner.taking) is leaves)
+      (stands_on old.position new.position old.joiner.taking new.joiner.taking old.streams.kept
+      new.streams.kept table bytes all piece came (unopened_at old table bytes all none s) is
+      arrives)
+  comes_on is leaves (FirstKept mid one none arrives stored also recalled) = absurd (cc)
+  comes_on is leaves (NextKept cursor one some nothing also recalled) = absurd (cc)
+
+  pub comes_meets : (event : Event) → came ≡ Some event → Leaves came new.joiner.taking
+      → IsStored old → Comes old new piece came → MeetsEvent new table event (bytes ++ piece) all
+  comes_meets event is leaves stored (FromFile none unopened arrives) =
+      inl (
+        unopened,
+        stands_met old.position old.joiner.taking old.streams.kept new table bytes all piece
+            event came (unopened_at old table bytes all none s) is arrives,
+      )
+  comes_meets event is leaves stored (FirstKept mid one none arrives whole also recalled) =
+      subst (λ (e : Event). MeetsEvent new table e (bytes ++ piece) all)
+      (one_event came event one is also)
+      (recalled_meets first_cursor mid new table (bytes ++ piece) all
+      (first_kept old mid table bytes all piece none s arrives) one
+      (subst (λ (e : Option Event). Leaves e new.joiner.taking) also leaves)
+      (stored_first mid.position mid.streams.kept whole) recalled)
+  comes_meets event is leaves stored (NextKept cursor one some nothing also recalled) =
+      let same : bytes ++ piece ≡ bytes =
+      ap (λ (b : List ℕ). bytes ++ b) nothing ∙ append-nil bytes in
+      subst (λ (e : Event). MeetsEvent new table e (bytes ++ piece) all)
+      (one_event came event one is also)
+      (subst (λ (b : List ℕ). MeetsEvent new table one b all) (sym same)
+      (recalled_meets cursor old new table bytes all (opened_with old cursor table bytes all some s)
+      one (subst (λ (e : Option Event). Leaves e new.joiner.taking) also leaves)
+      (subst (λ (n : Option Cursor). AreStored old.position n old.streams.kept) some stored)
+      recalled))
+
+pub comes_to_fault : (old : Container) (table : Known) (bytes : List ℕ)
+    (all : List Entry) (piece : List ℕ) (error : Error)
+    → StandsOrRecalls old.cursor old.position old.joiner.taking old.streams.kept table bytes all
+    → ComesToFault old piece error → FailsAt (bytes ++ piece) all error
+comes_to_fault old table bytes all piece error s (InFile none fails) =
+    stands_fails old.position old.joiner.taking old.streams.kept table bytes all piece error
+    (unopened_at old table bytes all none s) fails
+comes_to_fault old table bytes all piece error s (InFirstKept mid n none arrives fails) =
+    fails_longer bytes piece n all error
+    (recall_fails first_cursor mid.position mid.joiner.taking mid.streams.kept table
+    (bytes ++ take n piece) all error
+    (first_kept old mid table bytes all (take n piece) none s arrives) fails)
+comes_to_fault old table bytes all piece error s (InNextKept cursor some fails) =
+    fails_longer bytes piece 0 all error (subst (λ (b : List ℕ). FailsAt b all error)
+    (sym (append-nil bytes)) (recall_fails cursor old.position old.joiner.taking
+    old.streams.kept table bytes all error
+    (opened_with old cursor table bytes all some s) fails))

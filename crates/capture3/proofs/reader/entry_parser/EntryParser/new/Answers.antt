@@ -1,7 +1,0 @@
-use Rattle.capture3.proofs.Lemmas.Reader.EntryParserLemmas.{come_at_start}
-use Rattle.capture3.proofs.reader.entry_parser.EntryParser.new.Goals as goal
-
-pub returns-clause-machine : goal.returns-clause-machine
-returns-clause-machine g c =
-    come_at_start c.new.result _ c.new.ensures.unopened c.new.ensures.running c.new.ensures.machine
-    c.requires.none
