@@ -5,19 +5,20 @@ use Rattle.record_mark.specs.declared.join.Step.{Step}
 use Rattle.record_mark.specs.declared.join.Step.TheVariants.{Record, More}
 use Rattle.record_mark.specs.declared.join.JoinError.{JoinError}
 use Rattle.record_mark.specs.declared.join.JoinError.TheVariants as error
-use Rattle.record_mark.proofs.Common.{Run, Runs, Stops, after, Joining, Between, Joined, Whole, TooLong, join_next, led_on}
+use Rattle.record_mark.proofs.Common.{Run, Runs, Stops, Stopped, after, Joining, Between, Joined, Whole, TooLong, join_next, led_on}
 use Rattle.record_mark.specs.Taking.{Taking, Led, OutOfMemory, HasTaken, IsWhole, IsRunning, joining_of, joined_body, body_of, EndsWithin, GoesOn, PassesWithin}
+use Rattle.record_mark.specs.Pushing.{PushesHistory, PushesMachine, StaysPut}
 use Rattle.record_mark.proofs.Machines.{after-append, not_runs}
 use Rattle.record_mark.proofs.Joins.{record_stops, too_long_stops, joining_runs}
 use Rattle.record_mark.proofs.Endings.{stops_once}
-use Rattle.record_mark.proofs.Takings.{led_by, whole_is, whole_known, running_is, running_known, runs_on, stops_whole, taken_further, unfinished, standing}
+use Rattle.record_mark.proofs.Takings.{led_by, whole_is, whole_known, running_is, running_known, taken_further, unfinished, standing}
 
-abbrev pub ComesTo : Taking → List ℕ → ℕ → Step → Type 0
+abbrev ComesTo : Taking → List ℕ → ℕ → Step → Type 0
 ComesTo old piece n Record =
     (n ≤ length piece) × ((body : List ℕ) × (led_on old (take n piece) ≡ Led (Stops (Whole body))))
 ComesTo old piece n More = (n ≡ length piece) × ((s : Joining) × (led_on old piece ≡ Led (Runs s)))
 
-abbrev pub Comes : Taking → List ℕ → Result (ℕ × Step) JoinError → Type 0
+abbrev Comes : Taking → List ℕ → Result (ℕ × Step) JoinError → Type 0
 Comes old piece (Ok r) = ComesTo old piece r.0 r.1
 Comes old piece (Err (error.TooLong at)) =
     (n : ℕ) × (n ≤ length piece) × (led_on old (take n piece) ≡ Led (Stops (TooLong at)))
@@ -62,7 +63,7 @@ not_both old piece n m Record at h within e =
     let same = (stops_at_once old piece n m (Whole h.1.0) (TooLong at) h.0 within h.1.1 e).1 in cc
 not_both old piece n m More at h within e = no_more old piece m (TooLong at) h.1.0 e h.1.1
 
-pub comes_once : (old : Run Joining Joined) (piece : List ℕ) (r q : Result (ℕ × Step) JoinError)
+comes_once : (old : Run Joining Joined) (piece : List ℕ) (r q : Result (ℕ × Step) JoinError)
     → Comes (Led old) piece r → Comes (Led old) piece q → r ≢ Err error.Memory
     → q ≢ Err error.Memory → r ≡ q
 comes_once old piece (Ok r) (Ok q) h k some other =
@@ -85,7 +86,7 @@ led_on_is old bytes more h =
     ap Led (sym (after-append join_next (Runs Between) bytes more
     ∙ ap (λ r. after join_next r more) (led_by old bytes h)))
 
-pub ends_within : (old : Run Joining Joined) (bytes piece : List ℕ) (n : ℕ)
+ends_within : (old : Run Joining Joined) (bytes piece : List ℕ) (n : ℕ)
     → HasTaken (Led old) bytes → ComesTo (Led old) piece n Record ↔ EndsWithin bytes piece n
 ends_within old bytes piece n taken = (
   (λ h. (
@@ -106,7 +107,7 @@ ends_within old bytes piece n taken = (
   )),
 )
 
-pub goes_on : (old : Run Joining Joined) (bytes piece : List ℕ) (n : ℕ) → HasTaken (Led old) bytes
+goes_on : (old : Run Joining Joined) (bytes piece : List ℕ) (n : ℕ) → HasTaken (Led old) bytes
     → ComesTo (Led old) piece n More ↔ GoesOn bytes piece n
 goes_on old bytes piece n taken = (
   (λ h. (
@@ -127,7 +128,7 @@ goes_on old bytes piece n taken = (
   )),
 )
 
-pub passes_within : (old : Run Joining Joined) (bytes piece : List ℕ) (at : ℕ)
+passes_within : (old : Run Joining Joined) (bytes piece : List ℕ) (at : ℕ)
     → HasTaken (Led old) bytes
     → Comes (Led old) piece (Err (error.TooLong at)) ↔ PassesWithin bytes piece at
 passes_within old bytes piece at taken = (
@@ -145,7 +146,50 @@ passes_within old bytes piece at taken = (
   )),
 )
 
--- what the clauses from where the machine stands make of it
+-- what a push says of the machine, from where bytes that were taken led it
+record LeadsOn (old new : Taking) (piece : List ℕ) (result : Result (ℕ × Step) JoinError) : Type
+    0 where
+  pub led : IfOk result (λ r. new ≡ led_on old (take r.0 piece))
+  pub too_long : (at : ℕ) → result ≡ Err (error.TooLong at)
+      → (n : ℕ) × (n ≤ length piece) × (led_on old (take n piece) ≡ Led (Stops (TooLong at)))
+
+leads : (s : Joining) (new : Taking) (bytes : List ℕ) (step : Step)
+    → (step ≡ More → after join_next (Runs s) bytes ≡ Runs (joining_of new))
+    → (step ≡ Record → after join_next (Runs s) bytes ≡ Stops (Whole (body_of new)))
+    → (step ≡ Record → IsWhole new) → (step ≡ More → IsRunning new)
+    → new ≡ led_on (Led (Runs s)) bytes
+leads s new bytes Record runs stops whole running =
+    let is = whole_is new (whole refl) in
+    is.1 ∙ ap (λ t. Led (Stops (Whole (body_of t)))) (sym is.1) ∙ ap Led (sym (stops refl))
+leads s new bytes More runs stops whole running =
+    let is = running_is new (running refl) in
+    is.1 ∙ ap (λ t. Led (Runs (joining_of t))) (sym is.1) ∙ ap Led (sym (runs refl))
+
+leads_on : (old new : Taking) (piece : List ℕ) (result : Result (ℕ × Step) JoinError)
+    (bytes : List ℕ) → HasTaken old bytes → PushesMachine old new piece result
+    → StaysPut old new piece result → LeadsOn old new piece result
+leads_on (Led (Runs s)) new piece (Ok r) bytes taken m stays = record {
+  led =
+      leads s new (take r.0 piece) r.1 (m.runs tt) (m.stops tt) m.whole.0 m.running.0;
+  too_long = λ at e. absurd (cc);
+}
+leads_on (Led (Runs s)) new piece (Err e) bytes taken m stays = record {
+  led = tt;
+  too_long =
+      λ at is. let r = m.refuses at tt is in (r.0, r.1, ap Led r.2);
+}
+leads_on (Led (Stops (Whole body))) new piece result bytes taken m stays =
+    let same = stays.whole tt in
+    rw (same.0, same.1) (record { led = refl; too_long = λ at e. absurd (cc) })
+leads_on (Led (Stops (TooLong before))) new piece result bytes taken m stays =
+    let same = stays.refused before refl in
+    rw (same.0, same.1) (record {
+      led = tt;
+      too_long = λ at e. (0, omega arith, (cc));
+    })
+leads_on (Led (Stopped end)) new piece result bytes taken m stays = absurd taken
+leads_on OutOfMemory new piece result bytes taken m stays = absurd taken
+
 comes_to : (old new : Taking) (piece : List ℕ) (n : ℕ) (s : Step) → n ≤ length piece
     → new ≡ led_on old (take n piece) → (s ≡ Record → IsWhole new) → (s ≡ More → IsRunning new)
     → (s ≡ More → n ≡ length piece) → ComesTo old piece n s
@@ -156,22 +200,16 @@ comes_to old new piece n More within led whole running used_up =
     let all : take n piece ≡ piece = take_all n piece (omega (arith, used_up refl)) in
     (used_up refl, (is.0, ap (led_on old) (sym all) ∙ sym led ∙ is.1))
 
-pub comes : (old new : Taking) (piece : List ℕ) (result : Result (ℕ × Step) JoinError)
-    → IfOk result (λ r. r.0 ≤ length piece) → IfOk result (λ r. new ≡ led_on old (take r.0 piece))
-    → IfOk result (λ r. r.1 ≡ Record ↔ IsWhole new) → IfOk result (λ r. r.1 ≡ More ↔ IsRunning new)
-    → IfOk result (λ r. r.1 ≡ More → r.0 ≡ length piece)
-    → ((at : ℕ) → result ≡ Err (error.TooLong at)
-    → (new ≡ Led (Stops (TooLong at)))
-    × ((n : ℕ) × (n ≤ length piece) × (led_on old (take n piece) ≡ Led (Stops (TooLong at)))))
-    → Comes old piece result
-comes old new piece (Ok r) within led whole running used_up refused =
-    comes_to old new piece r.0 r.1 within led whole.0 running.0 used_up
-comes old new piece (Err (error.TooLong at)) within led whole running used_up refused =
-    (refused at refl).1
-comes old new piece (Err error.Memory) within led whole running used_up refused = tt
+comes : (old new : Taking) (piece : List ℕ) (result : Result (ℕ × Step) JoinError)
+    → IfOk result (λ r. r.0 ≤ length piece) → LeadsOn old new piece result
+    → PushesMachine old new piece result → Comes old piece result
+comes old new piece (Ok r) within leads m =
+    comes_to old new piece r.0 r.1 within leads.led m.whole.0 m.running.0 m.used_up
+comes old new piece (Err (error.TooLong at)) within leads m = leads.too_long at refl
+comes old new piece (Err error.Memory) within leads m = tt
 
 -- the clauses for all bytes taken before
-pub record_exactly : (old : Taking) (piece : List ℕ) (result : Result (ℕ × Step) JoinError)
+record_exactly : (old : Taking) (piece : List ℕ) (result : Result (ℕ × Step) JoinError)
     → Comes old piece result → (bytes : List ℕ) (n : ℕ) → HasTaken old bytes
     → result ≢ Err error.Memory → (result ≡ Ok (n, Record)) ↔ EndsWithin bytes piece n
 record_exactly (Led old) piece result h bytes n taken some =
@@ -181,7 +219,7 @@ record_exactly (Led old) piece result h bytes n taken some =
     )
 record_exactly OutOfMemory piece result h bytes n taken some = absurd taken
 
-pub more_exactly : (old : Taking) (piece : List ℕ) (result : Result (ℕ × Step) JoinError)
+more_exactly : (old : Taking) (piece : List ℕ) (result : Result (ℕ × Step) JoinError)
     → Comes old piece result → (bytes : List ℕ) (n : ℕ) → HasTaken old bytes
     → result ≢ Err error.Memory → (result ≡ Ok (n, More)) ↔ GoesOn bytes piece n
 more_exactly (Led old) piece result h bytes n taken some =
@@ -191,7 +229,7 @@ more_exactly (Led old) piece result h bytes n taken some =
     )
 more_exactly OutOfMemory piece result h bytes n taken some = absurd taken
 
-pub too_long_exactly : (old : Taking) (piece : List ℕ) (result : Result (ℕ × Step) JoinError)
+too_long_exactly : (old : Taking) (piece : List ℕ) (result : Result (ℕ × Step) JoinError)
     → Comes old piece result → (bytes : List ℕ) (at : ℕ) → HasTaken old bytes
     → result ≢ Err error.Memory → (result ≡ Err (error.TooLong at)) ↔ PassesWithin bytes piece at
 too_long_exactly (Led old) piece result h bytes at taken some =
@@ -211,31 +249,29 @@ stands_for (Led old) (Led new) bytes more Record taken led whole running =
 stands_for (Led old) (Led new) bytes more More taken led whole running =
     taken_further old new bytes more taken (running_known new (running refl)) (cc)
 
-pub history : (old new : Taking) (piece : List ℕ) (result : Result (ℕ × Step) JoinError)
-    → IfOk result (λ r. new ≡ led_on old (take r.0 piece))
-    → IfOk result (λ r. r.1 ≡ Record ↔ IsWhole new) → IfOk result (λ r. r.1 ≡ More ↔ IsRunning new)
-    → (bytes : List ℕ) → HasTaken old bytes
+takes : (old new : Taking) (piece : List ℕ) (result : Result (ℕ × Step) JoinError) (bytes : List ℕ)
+    → HasTaken old bytes → LeadsOn old new piece result → PushesMachine old new piece result
     → IfOk result (λ r. HasTaken new (bytes ++ take r.0 piece))
-history old new piece (Ok r) led whole running bytes taken =
-    stands_for old new bytes (take r.0 piece) r.1 taken led whole.0 running.0
-history old new piece (Err e) led whole running bytes taken = tt
+takes old new piece (Ok r) bytes taken leads m =
+    stands_for old new bytes (take r.0 piece) r.1 taken leads.led m.whole.0 m.running.0
+takes old new piece (Err e) bytes taken leads m = tt
 
--- the clauses by the machine
-pub runs : (old new : Taking) (piece : List ℕ) (result : Result (ℕ × Step) JoinError)
-    → IfOk result (λ r. new ≡ led_on old (take r.0 piece))
-    → IfOk result (λ r. r.1 ≡ More ↔ IsRunning new) → IsRunning old
-    → IfOk result (λ r.
-    r.1 ≡ More
-    → after join_next (Runs (joining_of old)) (take r.0 piece) ≡ Runs (joining_of new))
-runs old new piece (Ok r) led running h = λ e. runs_on old new (take r.0 piece) h led (running.0 e)
-runs old new piece (Err e) led running h = tt
-
-pub stops : (old new : Taking) (piece : List ℕ) (result : Result (ℕ × Step) JoinError)
-    → IfOk result (λ r. new ≡ led_on old (take r.0 piece))
-    → IfOk result (λ r. r.1 ≡ Record ↔ IsWhole new) → IsRunning old
-    → IfOk result (λ r.
-    r.1 ≡ Record
-    → after join_next (Runs (joining_of old)) (take r.0 piece)
-    ≡ Stops (Whole (body_of new)))
-stops old new piece (Ok r) led whole h = λ e. stops_whole old new (take r.0 piece) h led (whole.0 e)
-stops old new piece (Err e) led whole h = tt
+-- what the machine says is so of all bytes taken before
+pub pushes_history : (old new : Taking) (piece : List ℕ) (result : Result (ℕ × Step) JoinError)
+    → IfOk result (λ r. r.0 ≤ length piece) → PushesMachine old new piece result
+    → StaysPut old new piece result → PushesHistory old new piece result
+pushes_history old new piece result within m stays =
+    let leads = λ (bytes : List ℕ) (taken : HasTaken old bytes).
+    leads_on old new piece result bytes taken m stays in
+    let comes_after = λ (bytes : List ℕ) (taken : HasTaken old bytes).
+    comes old new piece result within (leads bytes taken) m in
+    record {
+      taken = λ bytes taken. takes old new piece result bytes taken (leads bytes taken) m;
+      whole =
+          λ bytes n taken. record_exactly old piece result (comes_after bytes taken) bytes n taken;
+      more =
+          λ bytes n taken. more_exactly old piece result (comes_after bytes taken) bytes n taken;
+      too_long =
+          λ bytes at taken.
+          too_long_exactly old piece result (comes_after bytes taken) bytes at taken;
+    }

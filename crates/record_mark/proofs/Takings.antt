@@ -118,32 +118,6 @@ pub ran_before : (old now : Taking) (piece : List ℕ) (taken : ℕ)
 ran_before old now piece zero is moved runs = subst IsRunning (is ∙ led_on-nil old) runs
 ran_before old now piece (suc n) is moved runs = moved (omega arith)
 
--- the machine by itself, for a joiner whose record is not whole
-pub runs_on : (old new : Taking) (bytes : List ℕ) → IsRunning old → new ≡ led_on old bytes
-    → IsRunning new → after join_next (Runs (joining_of old)) bytes ≡ Runs (joining_of new)
-runs_on old new bytes h led k =
-    let before = running_is old h in
-    let later = running_is new k in
-    let same : Led (after join_next (Runs before.0) bytes) ≡ Led (Runs later.0) =
-    ap (λ t. led_on t bytes) (sym before.1) ∙ sym led ∙ later.1 in
-    ap (λ t. after join_next (Runs (joining_of t)) bytes) before.1 ∙ (cc)
-    ∙ ap (λ t. Runs (joining_of t)) (sym later.1)
-
-pub stops_at : (old : Taking) (end : Joined) (bytes : List ℕ) → IsRunning old
-    → led_on old bytes ≡ Led (Stops end) → after join_next (Runs (joining_of old)) bytes ≡ Stops end
-stops_at old end bytes h led =
-    let before = running_is old h in
-    let same : Led (after join_next (Runs before.0) bytes) ≡ Led (Stops end) =
-    ap (λ t. led_on t bytes) (sym before.1) ∙ led in
-    ap (λ t. after join_next (Runs (joining_of t)) bytes) before.1 ∙ (cc)
-
-pub stops_whole : (old new : Taking) (bytes : List ℕ) → IsRunning old → new ≡ led_on old bytes
-    → IsWhole new → after join_next (Runs (joining_of old)) bytes ≡ Stops (Whole (body_of new))
-stops_whole old new bytes h led k =
-    let later = whole_is new k in
-    stops_at old (Whole (body_of new)) bytes h
-    (sym led ∙ later.1 ∙ ap (λ t. Led (Stops (Whole (body_of t)))) (sym later.1))
-
 -- what runs, and stands between records, has taken nothing
 pub is_between : (taking : Taking) → IsRunning taking → joining_of taking ≡ Between
     → taking ≡ unbegun

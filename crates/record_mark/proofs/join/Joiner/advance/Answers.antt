@@ -11,11 +11,11 @@ loop-self-preserved c =
     grind (arith, common_steps) in
     record {
       within = grind (arith, common_steps);
-      sound = c.in-Ok.ensures.sound;
+      sound = c.in-Ok.ensures.taken.sound;
       led =
           led_on-take (taking_of c.self.inside) (taking_of c.loop-self.self-inside)
           _ c.args.piece.now c.loop-self.taken c.in-Ok.count c.loop-self.invariant.led
-          (cc c.in-Ok.ensures.state);
+          (cc c.in-Ok.ensures.taken.state);
       moved =
           λ some.
           ran_before (taking_of c.self.inside) (taking_of c.loop-self.self-inside)
