@@ -10,7 +10,7 @@ returns-in-Ok-default-Record-clause-machine c =
     c.args.self.now.streams.kept c.args.side c.args.left c.in-Ok-default-Record.count
     c.min.result c.args.self.now.joiner.taking c.push.new.self.taking c.args.rest.now
     c.requires.here c.in-Ok-default-Record.ensures.within most
-    (c.in-Ok-default-Record.ensures.stops c.requires.running
+    (c.in-Ok-default-Record.ensures.machine.stops c.requires.running
     c.in-Ok-default-Record.field-0-1-is)
     (c.take_chunk.ensures.machine c.args.self.now.streams.kept))
 
@@ -25,7 +25,7 @@ returns-in-Ok-default-More-clause-machine c =
     c.args.self.now.streams.kept c.args.side c.args.left c.in-Ok-default-More.count c.min.result
     c.args.self.now.joiner.taking c.push.new.self.taking c.args.rest.now
     c.requires.here c.in-Ok-default-More.ensures.within most
-    (c.in-Ok-default-More.ensures.runs c.requires.running c.in-Ok-default-More.field-0-1-is)
+    (c.in-Ok-default-More.ensures.machine.runs c.requires.running c.in-Ok-default-More.field-0-1-is)
     (c.take_chunk-in-Ok-default-More.ensures.machine c.args.self.now.streams.kept))
 
 pub returns-in-Err-TooLong-clause-fault : goal.returns-in-Err-TooLong-clause-fault
@@ -35,5 +35,5 @@ returns-in-Err-TooLong-clause-fault c =
     (join_too_long c.args.self.now.position c.args.self.now.streams.kept c.args.side c.args.left
     c.min.result c.in-Err-TooLong.at c.args.self.now.joiner.taking c.args.rest.now
     c.requires.here most
-    (c.in-Err-TooLong.ensures.refuses c.in-Err-TooLong.at c.requires.running
+    (c.in-Err-TooLong.ensures.machine.refuses c.in-Err-TooLong.at c.requires.running
     (ap Err c.in-Err-TooLong.field-0-is)))

@@ -10,7 +10,7 @@ returns-in-Ok-default-Record-clause-stored c =
     subst IsRunning (sym c.requires.unbegun) tt in
     let some : 0 < c.in-Ok-default-Record.count =
     record_takes
-    _ _ _ _ (c.in-Ok-default-Record.ensures.stops running c.in-Ok-default-Record.field-0-1-is)
+    _ _ _ _ (c.in-Ok-default-Record.ensures.machine.stops running c.in-Ok-default-Record.field-0-1-is)
     in
     rw c.with_records-self.ensures (
       grind (
