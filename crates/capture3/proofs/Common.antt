@@ -79,7 +79,7 @@ pub use Rattle.capture3.specs.declared.fault.Side.TheVariants.{Client, Server}
 pub use Rattle.capture3.specs.declared.message.calls.NumberedCall.{NumberedCall}
 pub use Rattle.capture3.specs.declared.reader.entry.Kind.{Kind}
 pub use Rattle.capture3.specs.machinery.Calls.{FindsSame, Puts, found, numbered_calls, with_numbered_call}
-pub use Rattle.capture3.specs.machinery.Container.{AreStored, Arrives, FirstKept, InFirstKept, InNextKept, IsReady, IsStored, Leaves, NextKept, ShowsError, room_in, unpacking_in, unpacking_of}
+pub use Rattle.capture3.specs.machinery.Container.{AreStored, Arrives, CanGoOn, FirstKept, InFirstKept, InNextKept, IsReady, IsStored, Leaves, NextKept, Reaches, ShowsError, room_in, unpacking_in, unpacking_of}
 pub use Rattle.capture3.specs.machinery.ContainerMachine.{Length, Mark, Mixed, Unpacking, chunk_counted, connection_marked, fault_in_record, in_side_chunk, mixed_at, mixed_ended, sides_counted, sides_marked, unpack_next, unpacking_with}
 unfoldable pub use Rattle.capture3.specs.machinery.Counting.{home_of}
 pub use Rattle.capture3.specs.machinery.EntriesHistory.{HasRead, StandsFor, Turns, entries_left}
