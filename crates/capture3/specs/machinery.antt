@@ -6,6 +6,8 @@ pub mod EntriesHistory
 pub mod EntryParser
 pub mod ScannedMessages
 pub mod Messages
+pub mod PositionState
+pub mod PositionInside
 pub mod Position
 pub mod KeptStreams
 pub mod StreamsInMemory

@@ -6,10 +6,9 @@ pub(crate) mod position;
 pub(crate) mod side_words;
 
 ghost use Rattle.std.specs.Prelude.{◌≡◌, ◌≢◌, ◌≤◌, ◌<◌, ◌+◌, length, take, Err, IfOk, IfErr, IfSome, OnErr, OnOk, None, Some};
-ghost use Rattle.capture3.specs.machinery.Container.{CanGoOn, Comes, ComesToFault, ShowsError, first_cursor, IsCutInRecord, Leaves, Reaches, RecallFails, Recalled, room_in, stream_of, TakesPiece, unpacking_in};
-ghost use Rattle.capture3.specs.machinery.StreamsInMemory.{capacity_of};
+ghost use Rattle.capture3.specs.machinery.Container.{CanGoOn, Comes, ComesToFault, ShowsError, first_cursor, IsCutInRecord, Leaves, Reaches, RecallFails, Recalled, room_in, TakesPiece, unpacking_in};
 ghost use Rattle.record_mark.specs.Joining.{Between};
-ghost use Rattle.capture3.specs.machinery.Position.{AreEmpty, cost_of, IsEndSpot, IsOpenBody, IsSoundPosition, most_things, room_of, StoredWith, TakesSome};
+ghost use Rattle.capture3.specs.machinery.Position.{AreEmpty, cost_of, IsEndSpot, IsOpenBody, most_things, room_of, StoredWith, TakesSome};
 ghost use Rattle.capture3.specs.machinery.ContainerMachine.{unpacking_start};
 ghost use Rattle.record_mark.specs.RecordMark.{max_body};
 ghost use Rattle.record_mark.specs.Taking.{IsRunning, IsWhole, body_of, joining_of, released, unbegun};
@@ -41,7 +40,6 @@ pub(crate) struct Container {
 
 impl Container {
     pub(crate) fn new(alloc: Global) -> Container
-        ensures sound { IsSoundPosition result.position }
         ensures running { IsRunning result.joiner.taking }
         ensures empty { AreEmpty result.streams.kept }
         ensures unopened { result.cursor ≡ None }
@@ -191,12 +189,13 @@ impl Container {
         // What stays.
         ensures cursor { self.new.cursor ≡ self.old.cursor }
     {
-        let Spot::Chunk(side, left) = self.position.spot else {
+        let position = self.position;
+        let Spot::Chunk(side, left) = position.spot else {
             return None;
         };
         let front = &piece[..piece.len().min(left as usize)];
         let count = self.joiner.take_whole(front)?;
-        let taken = self.position.take_chunk(side, left, count as u32, true);
+        let taken = position.counts.take_chunk(side, left, count as u32, true);
         self.position = taken.position;
         Some((count, side))
     }
@@ -204,7 +203,6 @@ impl Container {
     /// Returns what is whole first in the streams, which are whole.
     #[inline(never)]
     fn first_recalled(&mut self) -> Result<Event, Error>
-        requires sound { IsSoundPosition self.old.position }
         requires stored { StoredWith (Some Event.Streams) self.old.position self.old.streams.kept }
 
         // What is whole.
@@ -260,7 +258,8 @@ impl Container {
             × (error ≡ Error.Refused (record
             { place = Place.File size; reason = Reason.CaptureCut }))) }
     {
-        match self.position.spot {
+        let position = self.position;
+        match position.spot {
             Spot::Ended(_) => Ok(()),
             _ => Err(file_fault(size, Reason::CaptureCut)),
         }
@@ -273,7 +272,7 @@ impl Container {
         requires ready { CanGoOn None self.old.joiner.taking self.old }
 
         // The bytes taken, and what is whole with them.
-        ensures taken { IfOk result (TakesSome self.old.position rest.now) }
+        ensures taken { IfOk result (TakesSome rest.now) }
         ensures reaches { IfOk result
             (λ t. Reaches self.old (take t.count rest.now) t.event t.position self.new) }
         ensures fault { IfErr result (ShowsError (unpacking_in self.old) rest.now) }
@@ -282,44 +281,21 @@ impl Container {
         ensures cursor { self.new.cursor ≡ self.old.cursor }
         ensures position { self.new.position ≡ self.old.position }
     {
-        match self.position.spot {
-            Spot::Magic => self.position.take_magic(rest),
-            Spot::Digit => self.position.take_digit(rest),
-            Spot::Mark(version, part) => self.position.take_mark(version, part, rest),
-            Spot::Length(side, part) => {
-                self.position
-                    .take_length(side, part, self.open_body(), rest)
+        let position = self.position;
+        match position.spot {
+            Spot::Magic => position.counts.take_magic(rest),
+            Spot::Digit => position.counts.take_digit(rest),
+            Spot::Word(word, part) => {
+                position
+                    .counts
+                    .take_word(word, part, self.open_body(), rest)
             }
-            Spot::Chunk(side, left) => self.join(side, left, rest),
-            Spot::Side(part) => self.position.take_side(part, rest),
-            Spot::SideLength(side, part) => self.position.take_side_length(side, part, rest),
-            Spot::SideChunk(side, left) => self.gather(side, left, rest),
-            Spot::Ended(_) => Err(file_fault(self.position.at, Reason::AfterEnd)),
+            Spot::Chunk(side, left) => { position.counts.join(&mut self.joiner, side, left, rest) }
+            Spot::SideChunk(side, left) => {
+                position.counts.gather(&mut self.streams, side, left, rest)
+            }
+            Spot::Ended(_) => Err(file_fault(position.counts.at, Reason::AfterEnd)),
         }
-    }
-
-    /// Version 2: keeps bytes of a chunk. The position stays.
-    #[inline(never)]
-    fn gather(&mut self, side: Side, left: u32, rest: &[u8]) -> Result<Transition, Error>
-        requires some { 0 < length rest.now }
-        requires ready { CanGoOn None self.old.joiner.taking self.old }
-        requires here { self.old.position.spot ≡ Spot.SideChunk side left }
-
-        // The bytes kept, with which nothing is whole.
-        ensures taken { IfOk result (TakesSome self.old.position rest.now) }
-        ensures reaches { IfOk result
-            (λ t. Reaches self.old (take t.count rest.now) t.event t.position self.new) }
-        ensures error { IfErr result (λ error. error ≡ Error.Memory) }
-        ensures short { OnErr result (capacity_of side self.old.streams
-            < length (stream_of side self.old.streams.kept) + length rest.now) }
-
-        // What stays.
-        ensures position { self.new.position ≡ self.old.position }
-        ensures cursor { self.new.cursor ≡ self.old.cursor }
-    {
-        let count = rest.len().min(left as usize);
-        self.streams.add(side, &rest[..count])?;
-        Ok(self.position.take_side_chunk(side, left, count as u32))
     }
 
     /// Starts to check the streams, which are whole, from the client's first byte.
@@ -365,7 +341,7 @@ impl Container {
         let rest = &self.streams.of_side(side)[cursor.taken..];
         match self.joiner.push(rest) {
             Ok((count, Step::Record)) => {
-                self.position = self.position.with_records(self.position.records + 1);
+                self.position = self.position.with_next_record();
                 self.cursor = Some(Cursor {
                     side,
                     taken: cursor.taken + count,
@@ -385,7 +361,6 @@ impl Container {
 
     /// Ends this side's stream, which is cut if a record is open.
     fn recall_end(&mut self, side: Side) -> Result<Event, Error>
-        requires sound { IsSoundPosition self.old.position }
         requires running { IsRunning self.old.joiner.taking }
         ensures between { OnOk result (joining_of self.old.joiner.taking ≡ Between) }
         ensures joiner { self.new.joiner.taking ≡ self.old.joiner.taking }
@@ -408,7 +383,7 @@ impl Container {
         }
         match side {
             Side::Client => {
-                self.position = self.position.with_records(0);
+                self.position = self.position.with_no_records();
                 self.cursor = Some(Cursor {
                     side: Side::Server,
                     taken: 0,
@@ -432,36 +407,6 @@ impl Container {
             None
         } else {
             Some(self.joiner.body().len() as u32)
-        }
-    }
-
-    /// Takes bytes of a chunk. The position stays.
-    fn join(&mut self, side: Side, left: u32, rest: &[u8]) -> Result<Transition, Error>
-        requires some { 0 < length rest.now }
-        requires ready { CanGoOn None self.old.joiner.taking self.old }
-        requires here { self.old.position.spot ≡ Spot.Chunk side left }
-
-        // The bytes taken, and the record that is whole with them.
-        ensures taken { IfOk result (TakesSome self.old.position rest.now) }
-        ensures reaches { IfOk result
-            (λ t. Reaches self.old (take t.count rest.now) t.event t.position self.new) }
-        ensures fault { IfErr result (ShowsError (unpacking_in self.old) rest.now) }
-        ensures short { result ≡ Err Error.Memory → self.old.joiner.capacity
-            < length (body_of self.old.joiner.taking) + length rest.now }
-
-        // What stays.
-        ensures cursor { self.new.cursor ≡ self.old.cursor }
-        ensures position { self.new.position ≡ self.old.position }
-    {
-        let position = self.position;
-        let piece = &rest[..rest.len().min(left as usize)];
-        match self.joiner.push(piece) {
-            Ok((count, Step::Record)) => Ok(position.take_chunk(side, left, count as u32, true)),
-            Ok((count, Step::More)) => Ok(position.take_chunk(side, left, count as u32, false)),
-            Err(JoinError::TooLong { at }) => {
-                Err(position.next_record_fault(side, at, Reason::RecordTooLong))
-            }
-            Err(JoinError::Memory) => Err(Error::Memory),
         }
     }
 }

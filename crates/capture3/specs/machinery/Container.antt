@@ -16,7 +16,7 @@ use Rattle.capture3.specs.Capture.{Two}
 use Rattle.capture3.specs.SidedChunks as sided
 use Rattle.capture3.specs.SidedChunks.{size}
 use Rattle.capture3.specs.declared.container.position.Position.{Position}
-use Rattle.capture3.specs.machinery.Position.{AreEmpty, cost_of, IsBeforeMark, IsSoundPosition, room_of, ShowsFault, StoredAt, StoredWith, unpacking_at}
+use Rattle.capture3.specs.machinery.Position.{AreEmpty, cost_of, IsBeforeMark, room_of, ShowsFault, StoredAt, StoredWith, unpacking_at}
 use Rattle.capture3.specs.machinery.ContainerMachine.{Unpacking, Unpacked, Has, HasStreams, fault_in_record, unpack_next}
 
 -- with a record its body, and else no whole record
@@ -79,24 +79,29 @@ abbrev pub IsReady : Option Cursor → Taking → Type 0
 IsReady None taking = IsRunning taking
 IsReady (Some cursor) taking = taking ≡ unbegun
 
--- Ready for the next bytes: the position is sound, the streams are those that it tells, and the
--- joiner is this far.
+-- Ready for the next bytes: the streams are those that the position tells, and the joiner is this
+-- far.
 pub record CanGoOn (cursor : Option Cursor) (taking : Taking) (c : Container) : Type 0 where
-  pub sound : IsSoundPosition c.position
   pub stored : AreStored c.position cursor c.streams.kept
   pub ready : IsReady cursor taking
 
--- These bytes of the file lead from the container to this position, with this joiner and these
--- streams, and with the last of them this is whole, or nothing.
-pub record Reaches (old : Container) (bytes : List ℕ) (event : Option Event) (position : Position)
-    (new : Container) : Type 0 where
-  pub machine : Arrives (unpacking_in old) bytes event position new.joiner.taking new.streams.kept
-  pub joiner : Leaves event new.joiner.taking
-  pub sound : IsSoundPosition position
-  pub stored : StoredWith event position new.streams.kept
+-- These bytes of the file lead from one position, joiner and streams to others, and with the last
+-- of
+-- them this is whole, or nothing.
+pub record Leads (before : Position) (was : Taking) (old : sided.Streams) (bytes : List ℕ)
+    (event : Option Event) (after_it : Position) (now : Taking) (new : sided.Streams) : Type
+    0 where
+  pub machine : Arrives (unpacking_of before was old) bytes event after_it now new
+  pub joiner : Leaves event now
+  pub stored : StoredWith event after_it new
   -- what became whole took its room
-  pub room : room_of position new.streams.kept + cost_of event new.streams.kept
-      ≤ room_of old.position old.streams.kept
+  pub room : room_of after_it new + cost_of event new ≤ room_of before old
+
+-- the same from a container on
+abbrev pub Reaches : Container → List ℕ → Option Event → Position → Container → Type 0
+Reaches old bytes event position new =
+    Leads old.position old.joiner.taking old.streams.kept bytes event position new.joiner.taking
+    new.streams.kept
 
 -- how many bytes of a piece were taken: all of them if nothing is whole, and then some
 pub record TakesPiece (piece : List ℕ) (taken : ℕ × Option Event) : Type 0 where

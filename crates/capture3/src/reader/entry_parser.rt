@@ -10,7 +10,7 @@ ghost use Rattle.capture3.specs.Kept.{IsLent, kind_of};
 ghost use Rattle.capture3.specs.machinery.Spelled.{SpellsCall, SpellsReply};
 ghost use Rattle.capture3.specs.BodyProgram.{judge_call, judge_reply};
 ghost use Rattle.capture3.specs.machinery.Messages.{IsTableOf};
-ghost use Rattle.capture3.specs.machinery.Position.{IsEndSpot, IsSoundPosition, most_things};
+ghost use Rattle.capture3.specs.machinery.Position.{IsEndSpot, most_things};
 
 use crate::container::Container;
 use crate::container::position::Event;
@@ -35,7 +35,6 @@ pub(crate) struct EntryParser<C: Drop> {
 impl<C: CallTable + Drop> EntryParser<C> {
     pub(crate) fn new(alloc: Global, calls: C) -> EntryParser<C>
         requires none { C.calls calls ≡ [] }
-        ensures sound { IsSoundPosition result.container.position }
         ensures stored { IsStored result.container }
         ensures ready { IsReady result.container.cursor (released result.container.joiner.taking) }
         ensures room { room_in result.container ≤ most_things }
@@ -57,7 +56,6 @@ impl<C: CallTable + Drop> EntryParser<C> {
         piece: &[u8],
         visitor: &mut V,
     ) -> Result<(usize, Option<Kind>), Noted>
-        requires sound { IsSoundPosition self.old.container.position }
         requires stored { IsStored self.old.container }
         requires ready { IsReady self.old.container.cursor
             (released self.old.container.joiner.taking) }
@@ -84,7 +82,6 @@ impl<C: CallTable + Drop> EntryParser<C> {
         ensures device { OnErr result (IsOfBytes self.new.error) }
 
         // The container stays ready for the next bytes.
-        ensures sound { OnOk result (IsSoundPosition self.new.container.position) }
         ensures stored { OnOk result (IsStored self.new.container) }
         ensures ready { OnOk result
             (IsReady self.new.container.cursor (released self.new.container.joiner.taking)) }

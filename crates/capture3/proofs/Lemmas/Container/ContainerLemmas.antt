@@ -3,6 +3,9 @@ use Rattle.std.proofs.Common.{◌≡◌, subst, [], false, is_some, take_all, �
 use Rattle.std.proofs.Math.Seq.{take-add, take-take}
 use Rattle.capture3.proofs.Common.{RecordTooLong, Joining, Between, Whole, TooLong, join_next, Next, Runs, Stops, Stopped, after, Run, Taking, Led, OutOfMemory, IsRunning, IsWhole, joining_of, body_of, released, Error, Side, Event, Streams, size, with_more, Cursor, Spot, Version, Two, after-append, counted_runs, counted_stops, Transition, AreStored, CanGoOn, Container, Reaches, unpacking_in, unpacking_of, Arrives, ShowsError, Leaves, WordPart, bytes_so_far, fault_in_record}
 use Rattle.record_mark.specs.Taking.{unbegun}
+use Rattle.capture3.specs.machinery.PositionState.{standing_at}
+use Rattle.capture3.specs.declared.container.position.Position.TheInside.{Inside}
+use Rattle.capture3.specs.machinery.PositionInside.{position_shown}
 use Rattle.capture3.specs.machinery.Container.{stream_of}
 use Rattle.record_mark.proofs.Takings.{is_between}
 use Rattle.capture3.specs.declared.fault.Error.TheVariants as errors
@@ -12,9 +15,10 @@ use Rattle.capture3.proofs.Lemmas.Container.ContainerMachineLemmas.{side_chunk_k
 use Rattle.capture3.specs.declared.container.position.Position.{Position}
 use Rattle.capture3.specs.declared.container.position.Spot.TheVariants.{Chunk, SideChunk}
 use Rattle.capture3.specs.machinery.ContainerMachine.{Unpacking, Has, in_chunk, in_side_chunk, in_record, record_joined, unpack_next}
-use Rattle.capture3.specs.machinery.Position.{AreEmpty, IsBeforeMark, IsSoundPosition, IsSoundSpot, unpacking_at, cost_of, IsOfContainer, StepsFrom, Moves, MovesFrom, ShowsFault, StoredAt, StoredWith, version_of}
+use Rattle.capture3.specs.machinery.Position.{AreEmpty, IsBeforeMark, unpacking_at, cost_of, IsOfContainer, StepsFrom, Moves, MovesFrom, ShowsFault, StoredAt, StoredWith, version_of}
 use Rattle.capture3.specs.declared.fault.Side.TheVariants as sides
 use Rattle.capture3.specs.declared.container.position.Spot.TheVariants as spots
+use Rattle.capture3.specs.declared.container.position.WordOf.TheVariants as words
 use Rattle.capture3.specs.declared.container.position.Version as declared
 use Rattle.capture3.proofs.Lemmas.Container.PositionLemmas.{at_spot}
 
@@ -41,29 +45,61 @@ still_leaves (Some Turn) taking h running = running
 still_leaves (Some Close) taking h running = running
 still_leaves (Some Gathered) taking h running = running
 
-pub step_reaches : (c : Container) (bytes : List ℕ) (r : Result Transition Error)
+step_leads : (c : Container) (bytes : List ℕ) (r : Result Transition Error)
     → CanGoOn None c.joiner.taking c → IfOk r (StepsFrom c.position)
     → MovesFrom c.position (joining_of c.joiner.taking) bytes r
     → IfOk r (λ t. Reaches c (take t.count bytes) t.event t.position c)
-step_reaches c bytes (Ok t) ready steps moves = record {
+step_leads c bytes (Ok t) ready steps moves = record {
   machine =
       moved_to (unpacking_in c) bytes c.joiner.taking c.streams.kept t.count t.position t.event
       steps.event (moves c.streams.kept ready.stored);
   joiner = still_leaves t.event c.joiner.taking steps.event ready.ready;
-  sound = steps.sound;
   stored = steps.stored c.streams.kept ready.stored;
   room = steps.room c.streams.kept ready.stored;
 }
-step_reaches c bytes (Err e) ready steps moves = tt
+step_leads c bytes (Err e) ready steps moves = tt
 
-pub step_fails : (c : Container) (bytes : List ℕ) (r : Result Transition Error)
+step_shows : (c : Container) (bytes : List ℕ) (r : Result Transition Error)
     → CanGoOn None c.joiner.taking c → MovesFrom c.position (joining_of c.joiner.taking) bytes r
     → IfErr r (ShowsError (unpacking_in c) bytes)
-step_fails c bytes (Ok t) ready moves = tt
-step_fails c bytes (Err (errors.Refused fault)) ready moves = moves c.streams.kept ready.stored
-step_fails c bytes (Err errors.Read) ready moves = moves c.streams.kept ready.stored
-step_fails c bytes (Err errors.Write) ready moves = moves c.streams.kept ready.stored
-step_fails c bytes (Err errors.Memory) ready moves = tt
+step_shows c bytes (Ok t) ready moves = tt
+step_shows c bytes (Err (errors.Refused fault)) ready moves = moves c.streams.kept ready.stored
+step_shows c bytes (Err errors.Read) ready moves = moves c.streams.kept ready.stored
+step_shows c bytes (Err errors.Write) ready moves = moves c.streams.kept ready.stored
+step_shows c bytes (Err errors.Memory) ready moves = tt
+
+-- the position, with the part that is open there
+pub shown_at : (inside : Inside) (p : Position) (spot : Spot) → position_shown inside ≡ p
+    → inside.spot ≡ spot → standing_at inside.counts spot ≡ p
+shown_at inside p spot shown is =
+    ap (λ (s : Spot). standing_at inside.counts s) (sym is) ∙ shown
+
+-- the streams belong to the part that is open
+pub stored_here : (inside : Inside) (p : Position) (spot : Spot) (streams : Streams)
+    → position_shown inside ≡ p → inside.spot ≡ spot → StoredAt p.spot p.total streams
+    → StoredAt spot inside.counts.total streams
+stored_here inside p spot streams shown is =
+    subst (λ (q : Position). StoredAt q.spot q.total streams)
+    (sym (shown_at inside p spot shown is))
+
+-- a step from the part that is open
+module _ (c : Container) (inside : Inside) (spot : Spot) (bytes : List ℕ)
+    (r : Result Transition Error) (shown : position_shown inside ≡ c.position)
+    (is : inside.spot ≡ spot) (ready : CanGoOn None c.joiner.taking c) where
+  pub step_reaches : IfOk r (StepsFrom (standing_at inside.counts spot))
+      → MovesFrom (standing_at inside.counts spot) (joining_of c.joiner.taking) bytes r
+      → IfOk r (λ t. Reaches c (take t.count bytes) t.event t.position c)
+  step_reaches steps moves =
+      let here = shown_at inside c.position spot shown is in
+      step_leads c bytes r ready (subst (λ (p : Position). IfOk r (StepsFrom p)) here steps)
+      (subst (λ (p : Position). MovesFrom p (joining_of c.joiner.taking) bytes r) here moves)
+
+  pub step_fails : MovesFrom (standing_at inside.counts spot) (joining_of c.joiner.taking) bytes r
+      → IfErr r (ShowsError (unpacking_in c) bytes)
+  step_fails moves =
+      step_shows c bytes r ready
+      (subst (λ (p : Position). MovesFrom p (joining_of c.joiner.taking) bytes r)
+      (shown_at inside c.position spot shown is) moves)
 
 -- ---- bytes of a chunk
 
@@ -292,15 +328,15 @@ record_takes from piece (suc n) body e = omega arith
 
 -- where a connection word is open, before its first byte
 pub mark_is : (version : Version) (spot : Spot) → IsBeforeMark version spot
-    → (told : declared.Version) × (part : WordPart) × (spot ≡ spots.Mark told part)
+    → (told : declared.Version) × (part : WordPart) × (spot ≡ spots.Word (words.Mark told) part)
     × (version_of told ≡ version) × (bytes_so_far part ≡ [])
-mark_is version (spots.Mark told part) before = (told, part, refl, before.0, before.1)
+mark_is version (spots.Word (words.Mark told) part) before = (told, part, refl, before.0, before.1)
 mark_is version spots.Magic before = absurd before
 mark_is version spots.Digit before = absurd before
-mark_is version (spots.Length side part) before = absurd before
+mark_is version (spots.Word (words.Length side) part) before = absurd before
 mark_is version (spots.Chunk side left) before = absurd before
-mark_is version (spots.Side part) before = absurd before
-mark_is version (spots.SideLength side part) before = absurd before
+mark_is version (spots.Word words.Side part) before = absurd before
+mark_is version (spots.Word (words.SideLength side) part) before = absurd before
 mark_is version (spots.SideChunk side left) before = absurd before
 mark_is version (spots.Ended told) before = absurd before
 
@@ -310,21 +346,6 @@ stored_before_mark : (version : Version) (spot : Spot) (total : ℕ) (streams : 
 stored_before_mark version spot total streams before empty =
     let is = mark_is version spot before in
     subst (λ (s : Spot). StoredAt s total streams) (sym is.2) empty
-
--- there the count of records may be any that the stream bytes allow
-pub sound_before_mark : (p : Position) (records : ℕ) → IsSoundPosition p → IsBeforeMark Two p.spot
-    → records ≤ p.total → IsSoundPosition (record p { records = records })
-sound_before_mark p records sound before few =
-    let is = mark_is Two p.spot before in
-    record {
-      small = sound.small;
-      few = sound.few;
-      counted = few;
-      here =
-          subst (λ (s : Spot). IsSoundSpot s p.at p.total p.connections records) (sym is.2)
-          (subst (λ (s : Spot). IsSoundSpot s p.at p.total p.connections p.records) is.2
-          sound.here);
-    }
 
 -- a stream is no longer than both together
 pub stream_within : (side : Side) (streams : Streams)
@@ -367,9 +388,6 @@ stream_ended_goes_on cursor old new (Ok event) ready running between client serv
         rw (position_is, streams_are)
         (omega arith, omega arith, ready.stored.2, ready.stored.3) in
         rw next_is (record {
-          sound =
-              rw position_is
-              (sound_before_mark old.position 0 ready.sound ready.stored.3 (omega arith));
           stored = stored;
           ready = between_streams new.joiner.taking running between;
         })
@@ -380,7 +398,6 @@ stream_ended_goes_on cursor old new (Ok event) ready running between client serv
         (stored_before_mark Two old.position.spot old.position.total new.streams.kept
         ready.stored.3 empty) in
         rw next_is (record {
-          sound = rw position_is ready.sound;
           stored = stored;
           ready = subst IsRunning (sym (between_streams new.joiner.taking running between)) tt;
         })

@@ -14,7 +14,6 @@ returns-then-is_some-clause-reaches c =
           c.loop-taken.self.streams.kept c.step.new.self.streams.kept c.in_ok-step.step.event
           c.loop-taken.invariant.machine reached.machine;
       joiner = reached.joiner;
-      sound = reached.sound;
       stored = reached.stored;
       room = omega (arith, reached.room, c.loop-taken.invariant.room);
     }
@@ -25,7 +24,6 @@ loop-taken-preserved c =
     let none = sym c.is_some.ensures ∙ c.if-is_some.false in
     record {
       within = grind (arith, common_steps, c.in_ok-step.ensures);
-      sound = reached.sound;
       running =
           still_running c.in_ok-step.step.event c.step.new.self.joiner.taking none reached.joiner;
       machine =

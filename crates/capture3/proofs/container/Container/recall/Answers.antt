@@ -1,7 +1,28 @@
 use Rattle.capture3.proofs.Common.{◌<◌, ◌≤◌, ◌+◌, length, sym, subst, arith, common_steps, IsRunning}
 use Rattle.capture3.specs.machinery.Container.{stream_of}
-use Rattle.capture3.proofs.Lemmas.Container.ContainerLemmas.{record_takes, released_whole, sound_before_mark, stream_ended_goes_on, stream_within}
+use Rattle.capture3.proofs.Lemmas.Container.ContainerLemmas.{record_takes, released_whole, stream_ended_goes_on, stream_within}
 use Rattle.capture3.proofs.container.Container.recall.Goals as goal
+
+pub with_next_record-self-requires-clause-here : goal.with_next_record-self-requires-clause-here
+with_next_record-self-requires-clause-here c = c.requires.ready.stored.3
+
+pub with_next_record-self-requires-clause-fits : goal.with_next_record-self-requires-clause-fits
+with_next_record-self-requires-clause-fits c =
+    let ready = c.requires.ready in
+    let pushed = c.in-Ok-default-Record.ensures in
+    let running : IsRunning c.args.self.now.joiner.taking = subst IsRunning (sym ready.ready) tt in
+    let some : 0 < c.in-Ok-default-Record.count =
+    record_takes _ _ _ _ (pushed.machine.stops running c.in-Ok-default-Record.field-0-1-is) in
+    let taken : c.args.cursor.taken + c.in-Ok-default-Record.count
+    ≤ length (stream_of c.args.cursor.side c.args.self.now.streams.kept) =
+    grind (arith, common_steps, pushed.within, ready.stored.0, c.of_side.ensures) in
+    omega (
+      arith,
+      ready.stored.1,
+      ready.stored.2,
+      taken,
+      stream_within c.args.cursor.side c.args.self.now.streams.kept,
+    )
 
 pub returns-in-Ok-default-Record-clause-ready : goal.returns-in-Ok-default-Record-clause-ready
 returns-in-Ok-default-Record-clause-ready c =
@@ -13,18 +34,7 @@ returns-in-Ok-default-Record-clause-ready c =
     let taken : c.args.cursor.taken + c.in-Ok-default-Record.count
     ≤ length (stream_of c.args.cursor.side c.args.self.now.streams.kept) =
     grind (arith, common_steps, pushed.within, ready.stored.0, c.of_side.ensures) in
-    let within : c.args.self.now.position.records + 1 ≤ c.args.self.now.position.total =
-    omega (
-      arith,
-      ready.stored.1,
-      ready.stored.2,
-      taken,
-      stream_within c.args.cursor.side c.args.self.now.streams.kept,
-    ) in
-    rw c.with_records-self.ensures (record {
-      sound =
-          sound_before_mark c.args.self.now.position (c.args.self.now.position.records + 1)
-          ready.sound ready.stored.3 within;
+    rw c.with_next_record-self.ensures (record {
       stored = (taken, omega (arith, ready.stored.1), ready.stored.2, ready.stored.3);
       ready =
           released_whole c.push.new.self.taking
