@@ -20,6 +20,7 @@ use xdr3::Reason;
 
 impl Counts {
     /// Returns the position after a side word, which is a chunk's or the one after the streams.
+    #[inline(never)]
     pub(crate) fn after_side(self, n: u32, count: usize) -> Result<Transition, Error>
         requires sound { IsSoundBefore self WordOf.Side }
         ensures count { IfOk result (λ taken. taken.count ≡ count) }
@@ -62,6 +63,7 @@ impl Counts {
     }
 
     /// Returns the position after the length word that follows a side word.
+    #[inline(never)]
     pub(crate) fn after_side_length(
         self,
         side: Side,
