@@ -14,7 +14,7 @@ ghost use Rattle.record_mark.specs.RecordMark.{max_body};
 ghost use Rattle.record_mark.specs.Taking.{IsRunning, IsWhole, body_of, joining_of, released, unbegun};
 
 use crate::container::kept_streams::Streams;
-use crate::container::position::{Event, Position, Spot, Transition, file_fault};
+use crate::container::position::{Event, Position, Spot, Transition, WordOf, file_fault};
 use crate::fault::{Error, Noted, Place, Side};
 use record_mark::{JoinError, Joiner, Step};
 use std::alloc::Global;
@@ -268,6 +268,37 @@ impl Container {
     /// Takes the bytes of `rest` that belong to the part of the capture that is open. The position
     /// stays.
     fn step(&mut self, rest: &[u8]) -> Result<Transition, Error>
+        requires some { 0 < length rest.now }
+        requires ready { CanGoOn None self.old.joiner.taking self.old }
+
+        // The bytes taken, and what is whole with them.
+        ensures taken { IfOk result (TakesSome rest.now) }
+        ensures reaches { IfOk result
+            (λ t. Reaches self.old (take t.count rest.now) t.event t.position self.new) }
+        ensures fault { IfErr result (ShowsError (unpacking_in self.old) rest.now) }
+
+        // What stays.
+        ensures cursor { self.new.cursor ≡ self.old.cursor }
+        ensures position { self.new.position ≡ self.old.position }
+    {
+        let position = self.position;
+        match position.spot {
+            Spot::Word(word, part) => match word {
+                WordOf::Length(side) => {
+                    position
+                        .counts
+                        .take_word(WordOf::Length(side), part, self.open_body(), rest)
+                }
+                _ => self.step_aside(rest),
+            },
+            Spot::Chunk(side, left) => position.counts.join(&mut self.joiner, side, left, rest),
+            _ => self.step_aside(rest),
+        }
+    }
+
+    /// Does the same at any part, out of the way of version 1's chunks.
+    #[inline(never)]
+    fn step_aside(&mut self, rest: &[u8]) -> Result<Transition, Error>
         requires some { 0 < length rest.now }
         requires ready { CanGoOn None self.old.joiner.taking self.old }
 

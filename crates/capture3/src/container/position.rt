@@ -255,6 +255,7 @@ impl Counts {
     }
 
     /// Takes bytes of a word. `so_far` is how many bytes of the body have come if a record is open.
+    #[inline(always)]
     pub(crate) fn take_word(
         self,
         word: WordOf,
@@ -277,6 +278,7 @@ impl Counts {
     }
 
     /// Returns the position after a word.
+    #[inline(always)]
     fn after_word(
         self,
         word: WordOf,
