@@ -81,7 +81,7 @@ pub use Rattle.capture3.specs.declared.message.counting.Counting.{Counting}
 pub use Rattle.capture3.specs.declared.message.scan.CallHead.{CallHead}
 pub use Rattle.capture3.specs.declared.reader.entry.Kind.{Kind}
 pub use Rattle.capture3.specs.machinery.Calls.{Admits, AreAbove, AreSame, Gains, Known, KnowsNone, Puts, at_home, known_by, known_in, known_in_list, lined, in_list, next_number, number_for, number_in, over, procedure_in_call}
-pub use Rattle.capture3.specs.machinery.Container.{AreStored, Arrives, FirstKept, InFirstKept, InNextKept, IsReady, IsStored, Leaves, NextKept, ShowsError, room_in, unpacking_in, unpacking_of}
+pub use Rattle.capture3.specs.machinery.Container.{AreStored, Arrives, CanGoOn, FirstKept, InFirstKept, InNextKept, IsReady, IsStored, Leaves, NextKept, Reaches, ShowsError, room_in, unpacking_in, unpacking_of}
 pub use Rattle.capture3.specs.machinery.ContainerMachine.{Length, Mark, Mixed, Unpacking, chunk_counted, connection_marked, fault_in_record, in_side_chunk, mixed_at, mixed_ended, sides_counted, sides_marked, unpack_next, unpacking_with}
 unfoldable pub use Rattle.capture3.specs.machinery.Counting.{home_of}
 pub use Rattle.capture3.specs.machinery.CountedCalls.{known_of}

@@ -7,6 +7,8 @@ pub mod EntriesHistory
 pub mod Pairing
 pub mod ScannedMessages
 pub mod Messages
+pub mod PositionState
+pub mod PositionInside
 pub mod Position
 pub mod KeptStreams
 pub mod StreamsInMemory

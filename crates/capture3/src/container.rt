@@ -6,16 +6,15 @@ pub(crate) mod position;
 pub(crate) mod side_words;
 
 ghost use Rattle.std.specs.Prelude.{◌≡◌, ◌≢◌, ◌≤◌, ◌<◌, ◌+◌, length, take, Err, IfOk, IfErr, IfSome, OnErr, OnOk, None, Some};
-ghost use Rattle.capture3.specs.machinery.Container.{AreStored, Arrives, Comes, ComesToFault, ShowsError, first_cursor, IsCutInRecord, IsReady, IsStored, Leaves, RecallFails, Recalled, room_in, stream_of, unpacking_in};
-ghost use Rattle.capture3.specs.machinery.StreamsInMemory.{capacity_of};
+ghost use Rattle.capture3.specs.machinery.Container.{CanGoOn, Comes, ComesToFault, ShowsError, first_cursor, IsCutInRecord, Leaves, Reaches, RecallFails, Recalled, room_in, TakesPiece, unpacking_in};
 ghost use Rattle.record_mark.specs.Joining.{Between};
-ghost use Rattle.capture3.specs.machinery.Position.{AreEmpty, cost_of, IsEndSpot, IsOpenBody, IsSoundPosition, KeepsStreams, most_things, room_of, StoredWith, TakesRoom, TakesSome};
+ghost use Rattle.capture3.specs.machinery.Position.{AreEmpty, cost_of, IsEndSpot, IsOpenBody, most_things, room_of, StoredWith, TakesSome};
 ghost use Rattle.capture3.specs.machinery.ContainerMachine.{unpacking_start};
 ghost use Rattle.record_mark.specs.RecordMark.{max_body};
 ghost use Rattle.record_mark.specs.Taking.{IsRunning, IsWhole, body_of, joining_of, released, unbegun};
 
 use crate::container::kept_streams::Streams;
-use crate::container::position::{Event, Position, Spot, Transition, file_fault};
+use crate::container::position::{Event, Position, Spot, Transition, WordOf, file_fault};
 use crate::fault::{Error, Noted, Place, Side};
 use record_mark::{JoinError, Joiner, Step};
 use std::alloc::Global;
@@ -41,7 +40,6 @@ pub(crate) struct Container {
 
 impl Container {
     pub(crate) fn new(alloc: Global) -> Container
-        ensures sound { IsSoundPosition result.position }
         ensures running { IsRunning result.joiner.taking }
         ensures empty { AreEmpty result.streams.kept }
         ensures unopened { result.cursor ≡ None }
@@ -95,14 +93,10 @@ impl Container {
         piece: &[u8],
         error: &mut Error,
     ) -> Result<(usize, Option<Event>), Noted>
-        requires sound { IsSoundPosition self.old.position }
-        requires stored { IsStored self.old }
-        requires ready { IsReady self.old.cursor self.old.joiner.taking }
+        requires ready { CanGoOn self.old.cursor self.old.joiner.taking self.old }
 
         // How many bytes were taken.
-        ensures within { IfOk result (λ r. r.0 ≤ length piece.now) }
-        ensures some { IfOk result (λ r. 0 < length piece.now → r.1 ≡ None → 0 < r.0) }
-        ensures more { IfOk result (λ r. r.1 ≡ None → r.0 ≡ length piece.now) }
+        ensures taken { IfOk result (TakesPiece piece.now) }
         ensures recalling { self.old.cursor ≢ None → IfOk result
             (λ r. (r.0 ≡ 0) × (r.1 ≢ None)) }
 
@@ -113,9 +107,8 @@ impl Container {
         ensures fault { OnErr result (ComesToFault self.old piece.now error.new) }
 
         // The container stays ready for the next bytes.
-        ensures sound { OnOk result (IsSoundPosition self.new.position) }
-        ensures stored { OnOk result (IsStored self.new) }
-        ensures ready { OnOk result (IsReady self.new.cursor (released self.new.joiner.taking)) }
+        ensures ready { OnOk result
+            (CanGoOn self.new.cursor (released self.new.joiner.taking) self.new) }
         ensures room { IfOk result
             (λ r. room_in self.new + cost_of r.1 self.new.streams.kept ≤ room_in self.old) }
     {
@@ -135,14 +128,10 @@ impl Container {
         piece: &[u8],
         error: &mut Error,
     ) -> Result<(usize, Option<Event>), Noted>
-        requires sound { IsSoundPosition self.old.position }
-        requires stored { IsStored self.old }
-        requires ready { IsReady self.old.cursor self.old.joiner.taking }
+        requires ready { CanGoOn self.old.cursor self.old.joiner.taking self.old }
 
         // How many bytes were taken.
-        ensures within { IfOk result (λ r. r.0 ≤ length piece.now) }
-        ensures some { IfOk result (λ r. 0 < length piece.now → r.1 ≡ None → 0 < r.0) }
-        ensures more { IfOk result (λ r. r.1 ≡ None → r.0 ≡ length piece.now) }
+        ensures taken { IfOk result (TakesPiece piece.now) }
         ensures recalling { self.old.cursor ≢ None → IfOk result
             (λ r. (r.0 ≡ 0) × (r.1 ≢ None)) }
 
@@ -153,9 +142,8 @@ impl Container {
         ensures fault { OnErr result (ComesToFault self.old piece.now error.new) }
 
         // The container stays ready for the next bytes.
-        ensures sound { OnOk result (IsSoundPosition self.new.position) }
-        ensures stored { OnOk result (IsStored self.new) }
-        ensures ready { OnOk result (IsReady self.new.cursor (released self.new.joiner.taking)) }
+        ensures ready { OnOk result
+            (CanGoOn self.new.cursor (released self.new.joiner.taking) self.new) }
         ensures room { IfOk result
             (λ r. room_in self.new + cost_of r.1 self.new.streams.kept ≤ room_in self.old) }
     {
@@ -189,34 +177,25 @@ impl Container {
     /// is there, or if the joiner does not take it: `advance` takes any other bytes.
     #[inline(always)]
     fn take_whole(&mut self, piece: &[u8]) -> Option<(usize, Side)>
-        requires sound { IsSoundPosition self.old.position }
-        requires stored { AreStored self.old.position None self.old.streams.kept }
-        requires running { IsRunning self.old.joiner.taking }
+        requires ready { CanGoOn None self.old.joiner.taking self.old }
 
         // The record.
         ensures within { IfSome result (λ r. (0 < r.0) × (r.0 ≤ length piece.now)) }
-        ensures joiner { IfSome result (λ r. IsWhole self.new.joiner.taking) }
-        ensures machine { IfSome result
-            (λ r. Arrives (unpacking_in self.old) (take r.0 piece.now)
-            (Some (Event.Record r.1)) self.new.position self.new.joiner.taking
-            self.new.streams.kept) }
+        ensures reaches { IfSome result
+            (λ r. Reaches self.old (take r.0 piece.now) (Some (Event.Record r.1)) self.new.position
+            self.new) }
         ensures none { result ≡ None → self.new ≡ self.old }
 
-        // The container stays ready for the next bytes.
-        ensures sound { IfSome result (λ r. IsSoundPosition self.new.position) }
-        ensures stored { IfSome result
-            (λ r. AreStored self.new.position None self.new.streams.kept) }
-        ensures room { IfSome result
-            (λ r. room_of self.new.position self.new.streams.kept + 1
-            ≤ room_of self.old.position self.old.streams.kept) }
+        // What stays.
         ensures cursor { self.new.cursor ≡ self.old.cursor }
     {
-        let Spot::Chunk(side, left) = self.position.spot else {
+        let position = self.position;
+        let Spot::Chunk(side, left) = position.spot else {
             return None;
         };
         let front = &piece[..piece.len().min(left as usize)];
         let count = self.joiner.take_whole(front)?;
-        let taken = self.position.take_chunk(side, left, count as u32, true);
+        let taken = position.counts.take_chunk(side, left, count as u32, true);
         self.position = taken.position;
         Some((count, side))
     }
@@ -224,7 +203,6 @@ impl Container {
     /// Returns what is whole first in the streams, which are whole.
     #[inline(never)]
     fn first_recalled(&mut self) -> Result<Event, Error>
-        requires sound { IsSoundPosition self.old.position }
         requires stored { StoredWith (Some Event.Streams) self.old.position self.old.streams.kept }
 
         // What is whole.
@@ -236,9 +214,8 @@ impl Container {
             (RecallFails first_cursor self.old.position self.old.streams.kept) }
 
         // The container stays ready for the next bytes.
-        ensures sound { OnOk result (IsSoundPosition self.new.position) }
-        ensures stored { OnOk result (IsStored self.new) }
-        ensures ready { OnOk result (IsReady self.new.cursor (released self.new.joiner.taking)) }
+        ensures ready { OnOk result
+            (CanGoOn self.new.cursor (released self.new.joiner.taking) self.new) }
         ensures room { OnOk result (room_in self.new + 1
             ≤ room_of self.old.position self.old.streams.kept
             + cost_of (Some Event.Streams) self.old.streams.kept) }
@@ -251,29 +228,15 @@ impl Container {
     /// many.
     #[inline(never)]
     fn advance(&mut self, piece: &[u8]) -> Result<(usize, Option<Event>), Error>
-        requires sound { IsSoundPosition self.old.position }
-        requires stored { AreStored self.old.position None self.old.streams.kept }
-        requires running { IsRunning self.old.joiner.taking }
+        requires ready { CanGoOn None self.old.joiner.taking self.old }
 
-        // How many bytes were taken.
-        ensures within { IfOk result (λ r. r.0 ≤ length piece.now) }
-        ensures some { IfOk result (λ r. 0 < length piece.now → 0 < r.0) }
-        ensures more { IfOk result (λ r. r.1 ≡ None → r.0 ≡ length piece.now) }
-
-        // What is whole with them.
-        ensures joiner { IfOk result (λ r. Leaves r.1 self.new.joiner.taking) }
-        ensures machine { IfOk result
-            (λ r. Arrives (unpacking_in self.old) (take r.0 piece.now) r.1 self.new.position
-            self.new.joiner.taking self.new.streams.kept) }
+        // The bytes taken, and what is whole with them.
+        ensures taken { IfOk result (TakesPiece piece.now) }
+        ensures reaches { IfOk result
+            (λ r. Reaches self.old (take r.0 piece.now) r.1 self.new.position self.new) }
         ensures fault { IfErr result (ShowsError (unpacking_in self.old) piece.now) }
 
-        // The container stays ready for the next bytes.
-        ensures sound { OnOk result (IsSoundPosition self.new.position) }
-        ensures stored { IfOk result (λ r. StoredWith r.1 self.new.position self.new.streams.kept) }
-        ensures room { IfOk result
-            (λ r. room_of self.new.position self.new.streams.kept
-            + cost_of r.1 self.new.streams.kept
-            ≤ room_of self.old.position self.old.streams.kept) }
+        // What stays.
         ensures cursor { self.new.cursor ≡ self.old.cursor }
     {
         let mut taken = 0;
@@ -295,7 +258,8 @@ impl Container {
             × (error ≡ Error.Refused (record
             { place = Place.File size; reason = Reason.CaptureCut }))) }
     {
-        match self.position.spot {
+        let position = self.position;
+        match position.spot {
             Spot::Ended(_) => Ok(()),
             _ => Err(file_fault(size, Reason::CaptureCut)),
         }
@@ -305,76 +269,64 @@ impl Container {
     /// stays.
     fn step(&mut self, rest: &[u8]) -> Result<Transition, Error>
         requires some { 0 < length rest.now }
-        requires sound { IsSoundPosition self.old.position }
-        requires stored { AreStored self.old.position None self.old.streams.kept }
-        requires running { IsRunning self.old.joiner.taking }
+        requires ready { CanGoOn None self.old.joiner.taking self.old }
 
-        // What is whole with the bytes taken.
-        ensures taken { IfOk result (TakesSome self.old.position rest.now) }
-        ensures joiner { IfOk result (λ taken. Leaves taken.event self.new.joiner.taking) }
-        ensures machine { IfOk result
-            (λ taken. Arrives (unpacking_in self.old) (take taken.count rest.now) taken.event
-            taken.position self.new.joiner.taking self.new.streams.kept) }
+        // The bytes taken, and what is whole with them.
+        ensures taken { IfOk result (TakesSome rest.now) }
+        ensures reaches { IfOk result
+            (λ t. Reaches self.old (take t.count rest.now) t.event t.position self.new) }
         ensures fault { IfErr result (ShowsError (unpacking_in self.old) rest.now) }
 
-        // The container stays ready for the next bytes.
-        ensures stored { IfOk result
-            (λ taken. StoredWith taken.event taken.position self.new.streams.kept) }
-        ensures room { IfOk result
-            (λ taken. room_of taken.position self.new.streams.kept
-            + cost_of taken.event self.new.streams.kept
-            ≤ room_of self.old.position self.old.streams.kept) }
+        // What stays.
         ensures cursor { self.new.cursor ≡ self.old.cursor }
         ensures position { self.new.position ≡ self.old.position }
     {
-        match self.position.spot {
-            Spot::Magic => self.position.take_magic(rest),
-            Spot::Digit => self.position.take_digit(rest),
-            Spot::Mark(version, part) => self.position.take_mark(version, part, rest),
-            Spot::Length(side, part) => {
-                self.position
-                    .take_length(side, part, self.open_body(), rest)
-            }
-            Spot::Chunk(side, left) => self.join(side, left, rest),
-            Spot::Side(part) => self.position.take_side(part, rest),
-            Spot::SideLength(side, part) => self.position.take_side_length(side, part, rest),
-            Spot::SideChunk(side, left) => self.gather(side, left, rest),
-            Spot::Ended(_) => Err(file_fault(self.position.at, Reason::AfterEnd)),
+        let position = self.position;
+        match position.spot {
+            Spot::Word(word, part) => match word {
+                WordOf::Length(side) => {
+                    position
+                        .counts
+                        .take_word(WordOf::Length(side), part, self.open_body(), rest)
+                }
+                _ => self.step_aside(rest),
+            },
+            Spot::Chunk(side, left) => position.counts.join(&mut self.joiner, side, left, rest),
+            _ => self.step_aside(rest),
         }
     }
 
-    /// Version 2: keeps bytes of a chunk. The position stays.
+    /// Does the same at any part, out of the way of version 1's chunks.
     #[inline(never)]
-    fn gather(&mut self, side: Side, left: u32, rest: &[u8]) -> Result<Transition, Error>
+    fn step_aside(&mut self, rest: &[u8]) -> Result<Transition, Error>
         requires some { 0 < length rest.now }
-        requires sound { IsSoundPosition self.old.position }
-        requires stored { AreStored self.old.position None self.old.streams.kept }
-        requires running { IsRunning self.old.joiner.taking }
-        requires here { self.old.position.spot ≡ Spot.SideChunk side left }
+        requires ready { CanGoOn None self.old.joiner.taking self.old }
 
-        // What was kept.
-        ensures taken { IfOk result (TakesSome self.old.position rest.now) }
-        ensures event { IfOk result (λ taken. taken.event ≡ None) }
-        ensures machine { IfOk result
-            (λ taken. Arrives (unpacking_in self.old) (take taken.count rest.now) None
-            taken.position self.new.joiner.taking self.new.streams.kept) }
-        ensures error { IfErr result (λ error. error ≡ Error.Memory) }
-        ensures short { OnErr result (capacity_of side self.old.streams
-            < length (stream_of side self.old.streams.kept) + length rest.now) }
+        // The bytes taken, and what is whole with them.
+        ensures taken { IfOk result (TakesSome rest.now) }
+        ensures reaches { IfOk result
+            (λ t. Reaches self.old (take t.count rest.now) t.event t.position self.new) }
+        ensures fault { IfErr result (ShowsError (unpacking_in self.old) rest.now) }
 
-        // The container stays ready for the next bytes.
-        ensures stored { IfOk result
-            (λ taken. AreStored taken.position None self.new.streams.kept) }
-        ensures room { IfOk result
-            (λ taken. room_of taken.position self.new.streams.kept
-            ≤ room_of self.old.position self.old.streams.kept) }
-        ensures joiner { self.new.joiner.taking ≡ self.old.joiner.taking }
-        ensures position { self.new.position ≡ self.old.position }
+        // What stays.
         ensures cursor { self.new.cursor ≡ self.old.cursor }
+        ensures position { self.new.position ≡ self.old.position }
     {
-        let count = rest.len().min(left as usize);
-        self.streams.add(side, &rest[..count])?;
-        Ok(self.position.take_side_chunk(side, left, count as u32))
+        let position = self.position;
+        match position.spot {
+            Spot::Magic => position.counts.take_magic(rest),
+            Spot::Digit => position.counts.take_digit(rest),
+            Spot::Word(word, part) => {
+                position
+                    .counts
+                    .take_word(word, part, self.open_body(), rest)
+            }
+            Spot::Chunk(side, left) => { position.counts.join(&mut self.joiner, side, left, rest) }
+            Spot::SideChunk(side, left) => {
+                position.counts.gather(&mut self.streams, side, left, rest)
+            }
+            Spot::Ended(_) => Err(file_fault(position.counts.at, Reason::AfterEnd)),
+        }
     }
 
     /// Starts to check the streams, which are whole, from the client's first byte.
@@ -400,10 +352,8 @@ impl Container {
     /// With the server's end the streams are let go.
     #[inline(never)]
     fn recall(&mut self, cursor: Cursor) -> Result<Event, Error>
-        requires sound { IsSoundPosition self.old.position }
         requires here { self.old.cursor ≡ Some cursor }
-        requires stored { IsStored self.old }
-        requires unbegun { self.old.joiner.taking ≡ unbegun }
+        requires ready { CanGoOn (Some cursor) self.old.joiner.taking self.old }
 
         // What is whole.
         ensures recalled { IfOk result
@@ -414,16 +364,15 @@ impl Container {
         ensures fault { IfErr result (RecallFails cursor self.old.position self.old.streams.kept) }
 
         // The container stays ready for the next bytes.
-        ensures sound { OnOk result (IsSoundPosition self.new.position) }
-        ensures stored { OnOk result (IsStored self.new) }
-        ensures ready { OnOk result (IsReady self.new.cursor (released self.new.joiner.taking)) }
+        ensures ready { OnOk result
+            (CanGoOn self.new.cursor (released self.new.joiner.taking) self.new) }
         ensures room { OnOk result (room_in self.new + 1 ≤ room_in self.old) }
     {
         let side = cursor.side;
         let rest = &self.streams.of_side(side)[cursor.taken..];
         match self.joiner.push(rest) {
             Ok((count, Step::Record)) => {
-                self.position = self.position.with_records(self.position.records + 1);
+                self.position = self.position.with_next_record();
                 self.cursor = Some(Cursor {
                     side,
                     taken: cursor.taken + count,
@@ -443,7 +392,6 @@ impl Container {
 
     /// Ends this side's stream, which is cut if a record is open.
     fn recall_end(&mut self, side: Side) -> Result<Event, Error>
-        requires sound { IsSoundPosition self.old.position }
         requires running { IsRunning self.old.joiner.taking }
         ensures between { OnOk result (joining_of self.old.joiner.taking ≡ Between) }
         ensures joiner { self.new.joiner.taking ≡ self.old.joiner.taking }
@@ -466,7 +414,7 @@ impl Container {
         }
         match side {
             Side::Client => {
-                self.position = self.position.with_records(0);
+                self.position = self.position.with_no_records();
                 self.cursor = Some(Cursor {
                     side: Side::Server,
                     taken: 0,
@@ -490,42 +438,6 @@ impl Container {
             None
         } else {
             Some(self.joiner.body().len() as u32)
-        }
-    }
-
-    /// Takes bytes of a chunk. The position stays.
-    fn join(&mut self, side: Side, left: u32, rest: &[u8]) -> Result<Transition, Error>
-        requires some { 0 < length rest.now }
-        requires sound { IsSoundPosition self.old.position }
-        requires running { IsRunning self.old.joiner.taking }
-        requires here { self.old.position.spot ≡ Spot.Chunk side left }
-
-        // What is whole with the bytes taken.
-        ensures taken { IfOk result (TakesSome self.old.position rest.now) }
-        ensures joiner { IfOk result (λ taken. Leaves taken.event self.new.joiner.taking) }
-        ensures machine { IfOk result
-            (λ taken. Arrives (unpacking_in self.old) (take taken.count rest.now) taken.event
-            taken.position self.new.joiner.taking self.new.streams.kept) }
-        ensures fault { IfErr result (ShowsError (unpacking_in self.old) rest.now) }
-        ensures short { result ≡ Err Error.Memory → self.old.joiner.capacity
-            < length (body_of self.old.joiner.taking) + length rest.now }
-
-        // The container stays ready for the next bytes.
-        ensures room { IfOk result (TakesRoom self.old.position) }
-        ensures stored { IfOk result (KeepsStreams self.old.position) }
-        ensures streams { self.new.streams.kept ≡ self.old.streams.kept }
-        ensures cursor { self.new.cursor ≡ self.old.cursor }
-        ensures position { self.new.position ≡ self.old.position }
-    {
-        let position = self.position;
-        let piece = &rest[..rest.len().min(left as usize)];
-        match self.joiner.push(piece) {
-            Ok((count, Step::Record)) => Ok(position.take_chunk(side, left, count as u32, true)),
-            Ok((count, Step::More)) => Ok(position.take_chunk(side, left, count as u32, false)),
-            Err(JoinError::TooLong { at }) => {
-                Err(position.next_record_fault(side, at, Reason::RecordTooLong))
-            }
-            Err(JoinError::Memory) => Err(Error::Memory),
         }
     }
 }

@@ -1,5 +1,5 @@
 -- What a container holds, as the machine has it.
-use Rattle.std.specs.Prelude.{◌≡◌, ◌≢◌, ◌⊎◌, ◌+◌, ◌-◌, ◌≤◌, ℕ, Option, Some, None, List, [], length, take, drop}
+use Rattle.std.specs.Prelude.{◌≡◌, ◌≢◌, ◌⊎◌, ◌+◌, ◌-◌, ◌≤◌, ◌<◌, ℕ, Option, Some, None, List, [], length, take, drop}
 use Rattle.record_mark.specs.Joining.{Joining, Between, Whole, TooLong, join_next}
 use Rattle.xdr3.specs.declared.reason.Reason.TheVariants.{RecordCut, RecordTooLong}
 use Rattle.record_mark.specs.Machine.{Run, Runs, Stops, after}
@@ -16,7 +16,7 @@ use Rattle.capture3.specs.Capture.{Two}
 use Rattle.capture3.specs.SidedChunks as sided
 use Rattle.capture3.specs.SidedChunks.{size}
 use Rattle.capture3.specs.declared.container.position.Position.{Position}
-use Rattle.capture3.specs.machinery.Position.{room_of, AreEmpty, IsBeforeMark, ShowsFault, StoredAt, StoredWith, unpacking_at}
+use Rattle.capture3.specs.machinery.Position.{AreEmpty, cost_of, IsBeforeMark, room_of, ShowsFault, StoredAt, StoredWith, unpacking_at}
 use Rattle.capture3.specs.machinery.ContainerMachine.{Unpacking, Unpacked, Has, HasStreams, fault_in_record, unpack_next}
 
 -- with a record its body, and else no whole record
@@ -78,6 +78,36 @@ IsStored c = AreStored c.position c.cursor c.streams.kept
 abbrev pub IsReady : Option Cursor → Taking → Type 0
 IsReady None taking = IsRunning taking
 IsReady (Some cursor) taking = taking ≡ unbegun
+
+-- Ready for the next bytes: the streams are those that the position tells, and the joiner is this
+-- far.
+pub record CanGoOn (cursor : Option Cursor) (taking : Taking) (c : Container) : Type 0 where
+  pub stored : AreStored c.position cursor c.streams.kept
+  pub ready : IsReady cursor taking
+
+-- These bytes of the file lead from one position, joiner and streams to others, and with the last
+-- of
+-- them this is whole, or nothing.
+pub record Leads (before : Position) (was : Taking) (old : sided.Streams) (bytes : List ℕ)
+    (event : Option Event) (after_it : Position) (now : Taking) (new : sided.Streams) : Type
+    0 where
+  pub machine : Arrives (unpacking_of before was old) bytes event after_it now new
+  pub joiner : Leaves event now
+  pub stored : StoredWith event after_it new
+  -- what became whole took its room
+  pub room : room_of after_it new + cost_of event new ≤ room_of before old
+
+-- the same from a container on
+abbrev pub Reaches : Container → List ℕ → Option Event → Position → Container → Type 0
+Reaches old bytes event position new =
+    Leads old.position old.joiner.taking old.streams.kept bytes event position new.joiner.taking
+    new.streams.kept
+
+-- how many bytes of a piece were taken: all of them if nothing is whole, and then some
+pub record TakesPiece (piece : List ℕ) (taken : ℕ × Option Event) : Type 0 where
+  pub within : taken.0 ≤ length piece
+  pub some : 0 < length piece → taken.1 ≡ None → 0 < taken.0
+  pub more : taken.1 ≡ None → taken.0 ≡ length piece
 
 -- How many things of whole streams can become whole after so many bytes of this side's: a record
 -- for each byte that is left, and the ends of the streams.

@@ -3,12 +3,11 @@ use Rattle.std.specs.Prelude.{◌≡◌, ◌≢◌, ◌≤◌, ◌<◌, ℕ, ◌
 use Rattle.record_mark.specs.Machine.{Next, Ends, Run, Runs, Stops, after, landed}
 use Rattle.record_mark.specs.Joining.{Joining, Between}
 use Rattle.record_mark.specs.Taking.{joined_body}
-use Rattle.capture3.specs.machinery.ContainerMachine.{Unpacking, Unpacked, Opened, Has, HasStreams, Refuses, left_of_magic, awaiting_chunk, unpack_next, unpacking_with}
+use Rattle.capture3.specs.machinery.ContainerMachine.{Unpacking, Unpacked, Opened, Has, HasStreams, Refuses, left_of_magic, awaiting_chunk, chunk_counted, connection_marked, sides_counted, sides_marked, unpack_next, unpacking_with}
 use Rattle.capture3.specs.machinery.ContainerMachine as unpacking
 use Rattle.capture3.specs.declared.container.position.TheConstants.{MAGIC}
 use Rattle.capture3.specs.declared.fault.Error.{Error}
 use Rattle.capture3.specs.declared.fault.Error.TheVariants.{Refused}
-use Rattle.capture3.specs.declared.fault.Side.{Side}
 use Rattle.capture3.specs.declared.fault.Side.TheVariants as sides
 use Rattle.capture3.specs.declared.container.position.Event.{Event}
 use Rattle.capture3.specs.declared.container.position.Event.TheVariants.{Record, Streams}
@@ -20,62 +19,48 @@ use Rattle.capture3.specs.SidedChunksMachine as mixing
 use Rattle.capture3.specs.SidedChunks as sided
 use Rattle.capture3.specs.SidedChunks.{size}
 use Rattle.capture3.specs.declared.container.position.Position.{Position}
+use Rattle.capture3.specs.declared.container.position.Counts.{Counts}
+use Rattle.capture3.specs.machinery.PositionState.{span, standing_at, words_before}
+use Rattle.record_mark.specs.declared.word_part.WordPart.{WordPart}
 use Rattle.capture3.specs.declared.container.position.Transition.{Transition}
 use Rattle.capture3.specs.declared.container.position.Spot.{Spot}
-use Rattle.record_mark.specs.declared.word_part.WordPart.{WordPart}
 use Rattle.record_mark.specs.WordPart.{bytes_so_far}
-use Rattle.capture3.specs.declared.container.position.Spot.TheVariants.{Magic, Digit, Mark, Length, Chunk, Ended}
-use Rattle.capture3.specs.declared.container.position.Spot.TheVariants as spots
-
--- the word 1 of a connection, and after the client stream its word 0
-abbrev pub words_before : Side → ℕ
-words_before sides.Client = 0
-words_before sides.Server = 4
-
--- How many bytes there are at most: twelve for each connection's words, and nine for each stream
--- byte, in chunks of one byte.
-abbrev pub span : ℕ → ℕ → ℕ
-span connections total = 12 * connections + 9 * total
-
--- how far a position can stand, by the part that is open, its byte, and its counts
-abbrev pub IsSoundSpot : Spot → ℕ → ℕ → ℕ → ℕ → Type 0
-IsSoundSpot Magic at total connections records = at < 7
-IsSoundSpot Digit at total connections records = at ≡ 7
-IsSoundSpot (Mark version part) at total connections records = at ≤ 8 + span connections total
-IsSoundSpot (Length side part) at total connections records =
-    at ≤ words_before side + span connections total
-IsSoundSpot (Chunk side left) at total connections records = (0 < left) × (left ≤ at)
-    × (at ≤ words_before side + span connections total) × (records + left ≤ total)
-IsSoundSpot (spots.Side part) at total connections records = at ≤ span connections total
-IsSoundSpot (spots.SideLength side part) at total connections records =
-    at ≤ 4 + span connections total
-IsSoundSpot (spots.SideChunk side left) at total connections records = (0 < left)
-    × (at ≤ span connections total)
-IsSoundSpot (Ended version) at total connections records = at ≤ 12 + span connections total
-
--- the counts are within the limits, and the position stands no further than they allow
-pub record IsSoundPosition (p : Position) : Type 0 where
-  pub small : p.total ≤ 1073741824
-  pub few : p.connections ≤ 65535
-  pub counted : p.records ≤ p.total
-  pub here : IsSoundSpot p.spot p.at p.total p.connections p.records
+use Rattle.capture3.specs.declared.container.position.Spot.TheVariants.{Magic, Digit, Word, Chunk, SideChunk, Ended}
+use Rattle.capture3.specs.declared.container.position.WordOf.{WordOf}
+use Rattle.capture3.specs.declared.container.position.WordOf.TheVariants as words
 
 -- the version, as the definitions of a capture have it
 abbrev pub version_of : declared.Version → Version
 version_of versions.One = One
 version_of versions.Two = Two
 
+-- the word that is open, with its bytes so far, as the machine has it
+abbrev pub opened_word : sided.Streams → WordOf → List ℕ → Opened
+opened_word streams (words.Mark version) part = unpacking.Mark (version_of version) part
+opened_word streams (words.Length side) part = unpacking.Length side part
+opened_word streams words.Side part = unpacking.Mixed streams (SideWord part)
+opened_word streams (words.SideLength side) part =
+    unpacking.Mixed streams (mixing.SideLength side part)
+
+-- what this word leads the machine to, once it is whole
+abbrev pub word_read : WordOf → (at total connections records : ℕ) → sided.Streams → Joining → ℕ
+    → Next Unpacking Unpacked
+word_read (words.Mark version) at total connections records streams joining n =
+    connection_marked (version_of version) at total connections records joining n
+word_read (words.Length side) at total connections records streams joining n =
+    chunk_counted at total connections records side joining n
+word_read words.Side at total connections records streams joining n =
+    sides_marked at total connections records streams joining n
+word_read (words.SideLength side) at total connections records streams joining n =
+    sides_counted at total connections records streams side joining n
+
 -- the part that is open, as the machine has it
 abbrev pub opened_at : sided.Streams → Spot → ℕ → Opened
 opened_at streams Magic at = left_of_magic (drop at MAGIC)
 opened_at streams Digit at = unpacking.Digit
-opened_at streams (Mark version part) at = unpacking.Mark (version_of version) (bytes_so_far part)
-opened_at streams (Length side part) at = unpacking.Length side (bytes_so_far part)
+opened_at streams (Word word part) at = opened_word streams word (bytes_so_far part)
 opened_at streams (Chunk side left) at = awaiting_chunk side left
-opened_at streams (spots.Side part) at = unpacking.Mixed streams (SideWord (bytes_so_far part))
-opened_at streams (spots.SideLength side part) at =
-    unpacking.Mixed streams (mixing.SideLength side (bytes_so_far part))
-opened_at streams (spots.SideChunk side left) at = unpacking.Mixed streams (awaiting_side side left)
+opened_at streams (SideChunk side left) at = unpacking.Mixed streams (awaiting_side side left)
 opened_at streams (Ended version) at = unpacking.Ended (version_of version)
 
 -- the position, the streams and the open record, as the machine has them
@@ -123,7 +108,8 @@ AreEmpty streams = streams ≡ sided.gathered []
 
 -- a connection word of this version, at its first byte
 abbrev pub IsBeforeMark : Version → Spot → Type 0
-IsBeforeMark version (Mark told part) = (version_of told ≡ version) × (bytes_so_far part ≡ [])
+IsBeforeMark version (Word (words.Mark told) part) =
+    (version_of told ≡ version) × (bytes_so_far part ≡ [])
 IsBeforeMark version spot = ⊥
 
 -- the last word 0 has come
@@ -131,38 +117,23 @@ abbrev pub IsEndSpot : Spot → Type 0
 IsEndSpot (Ended version) = Unit {0}
 IsEndSpot spot = ⊥
 
--- a side word, at its first byte
-abbrev pub IsBeforeSides : Spot → Type 0
-IsBeforeSides (spots.Side part) = bytes_so_far part ≡ []
-IsBeforeSides spot = ⊥
+-- How many things can become whole within the limits, from this word on. Kept streams are not
+-- counted as judged.
+abbrev pub room_before : WordOf → sided.Streams → ℕ
+room_before (words.Mark version) streams = 0
+room_before (words.Length sides.Client) streams = 2
+room_before (words.Length sides.Server) streams = 1
+room_before words.Side streams = 2 + size streams
+room_before (words.SideLength side) streams = 2 + size streams
 
--- a length word of this stream, at its first byte
-abbrev pub IsBeforeStream : Side → Spot → Type 0
-IsBeforeStream side spot = (part : WordPart) × (bytes_so_far part ≡ []) × (spot ≡ Length side part)
-
--- the length word after a side word, at its first byte
-abbrev pub IsBeforeSideLength : Side → Spot → Type 0
-IsBeforeSideLength side spot = (part : WordPart) × (bytes_so_far part ≡ [])
-    × (spot ≡ spots.SideLength side part)
-
--- these counts
-abbrev pub HasCounts : (total connections records : ℕ) → Position → Type 0
-HasCounts total connections records p = (p.total ≡ total) × (p.connections ≡ connections)
-    × (p.records ≡ records)
-
--- How many things can become whole within the limits, from here on. Kept streams are not counted as
--- judged.
+-- the same from any part on
 abbrev pub room_here : Spot → sided.Streams → ℕ
 room_here Magic streams = 0
 room_here Digit streams = 0
-room_here (Mark version part) streams = 0
-room_here (Length sides.Client part) streams = 2
-room_here (Length sides.Server part) streams = 1
+room_here (Word word part) streams = room_before word streams
 room_here (Chunk sides.Client left) streams = 2 + left
 room_here (Chunk sides.Server left) streams = 1 + left
-room_here (spots.Side part) streams = 2 + size streams
-room_here (spots.SideLength side part) streams = 2 + size streams
-room_here (spots.SideChunk side left) streams = 2 + (size streams + left)
+room_here (SideChunk side left) streams = 2 + (size streams + left)
 room_here (Ended version) streams = 0
 
 -- the same with what the counts allow
@@ -181,21 +152,25 @@ cost_of (Some Streams) streams = 2 + size streams
 cost_of (Some event) streams = 1
 
 -- some bytes of these were taken
-pub record TakesSome (before : Position) (bytes : List ℕ) (taken : Transition) : Type 0 where
+pub record TakesSome (bytes : List ℕ) (taken : Transition) : Type 0 where
   pub some : 0 < taken.count
   pub within : taken.count ≤ length bytes
-  pub sound : IsSoundPosition taken.position
 
 -- it is no record
 abbrev pub IsOfContainer : Option Event → Type 0
 IsOfContainer (Some (Record side)) = ⊥
 IsOfContainer _ = Unit {0}
 
--- what the streams hold, where no record of them is judged
+-- what the streams hold before a word, where no record of them is judged
+abbrev pub StoredBefore : WordOf → ℕ → sided.Streams → Type 0
+StoredBefore words.Side total streams = size streams ≤ total
+StoredBefore (words.SideLength side) total streams = size streams ≤ total
+StoredBefore _ total streams = AreEmpty streams
+
+-- the same at any part
 abbrev pub StoredAt : Spot → ℕ → sided.Streams → Type 0
-StoredAt (spots.Side part) total streams = size streams ≤ total
-StoredAt (spots.SideLength side part) total streams = size streams ≤ total
-StoredAt (spots.SideChunk side left) total streams = size streams + left ≤ total
+StoredAt (Word word part) total streams = StoredBefore word total streams
+StoredAt (SideChunk side left) total streams = size streams + left ≤ total
 StoredAt _ total streams = AreEmpty streams
 
 -- the same after what was taken; with the side word 0 the streams are whole, and no record of them
@@ -219,7 +194,6 @@ KeepsStreams before taken = (streams : sided.Streams) → StoredAt before.spot b
 
 -- a step of the container, with which no record becomes whole
 pub record StepsFrom (before : Position) (taken : Transition) : Type 0 where
-  pub sound : IsSoundPosition taken.position
   pub event : IsOfContainer taken.event
   pub room : TakesRoom before taken
   pub stored : KeepsStreams before taken
@@ -229,3 +203,25 @@ abbrev pub MovesFrom : Position → Joining → List ℕ → Result Transition E
 MovesFrom before joining bytes result = (streams : sided.Streams)
     → StoredAt before.spot before.total streams
     → Moves (unpacking_at before streams joining) bytes streams joining result
+
+-- ---- the same for counts at which a word is open, whatever of its bytes have come
+
+-- the position there is sound
+pub record IsSoundBefore (counts : Counts) (word : WordOf) : Type 0 where
+  pub small : counts.total ≤ 1073741824
+  pub few : counts.connections ≤ 65535
+  pub counted : counts.records ≤ counts.total
+  pub here : counts.at ≤ words_before word + span counts.connections counts.total
+
+-- a step of the container from there
+abbrev pub StepsOver : Counts → WordOf → Transition → Type 0
+StepsOver counts word taken =
+    (part : WordPart) → StepsFrom (standing_at counts (Word word part)) taken
+
+-- the word's first byte comes next
+abbrev pub IsBeforeWord : WordOf → Spot → Type 0
+IsBeforeWord word spot = (part : WordPart) × (bytes_so_far part ≡ []) × (spot ≡ Word word part)
+
+-- after the length word of a chunk
+abbrev pub with_chunk : Counts → ℕ → Counts
+with_chunk counts len = record counts { at = counts.at + 4 + len; total = counts.total + len }

@@ -1,17 +1,21 @@
 //! How far the bytes of a capture were taken, and what the next ones lead to.
 
-ghost use Rattle.std.specs.Prelude.{◌≡◌, ◌≤◌, ◌<◌, ◌+◌, ◌-◌, ◌^◌, [], length, IfErr, IfOk, None, Some, if◌then◌else◌};
+ghost use Rattle.std.specs.Prelude.{◌≡◌, ◌≤◌, ◌<◌, ◌+◌, ◌-◌, ◌^◌, [], length, take, Err, IfErr, IfOk, None, Some, if◌then◌else◌};
 ghost use Rattle.capture3.specs.Capture.{Two};
-ghost use Rattle.capture3.specs.machinery.Position.{AreEmpty, HasCounts, IsBeforeMark, IsBeforeStream, IsOpenBody, IsSoundPosition, KeepsStreams, landed_at, Lands, most_things, MovesFrom, room_of, StepsFrom, StoredAt, TakesRoom, TakesSome, unpacking_at, version_of};
+ghost use Rattle.capture3.specs.machinery.Position.{AreEmpty, IsBeforeMark, IsBeforeWord, IsOpenBody, IsSoundBefore, KeepsStreams, landed_at, Lands, most_things, MovesFrom, room_of, StepsFrom, StepsOver, StoredAt, StoredBefore, TakesRoom, TakesSome, unpacking_at, version_of, with_chunk, word_read};
+ghost use Rattle.capture3.specs.machinery.PositionState.{IsSoundPosition, standing_at};
+ghost use Rattle.capture3.specs.machinery.Container.{Leads, ShowsError, unpacking_of};
+ghost use Rattle.record_mark.specs.Taking.{IsRunning, body_of};
 ghost use Rattle.capture3.specs.SidedChunks as kept;
 ghost use Rattle.capture3.specs.SidedChunks.{gathered};
-ghost use Rattle.capture3.specs.machinery.ContainerMachine.{begun_at, stream_ended, chunk_counted, in_chunk, connection_marked};
+ghost use Rattle.capture3.specs.machinery.ContainerMachine.{begun_at, chunk_counted, connection_marked, in_chunk, stream_ended};
 ghost use Rattle.capture3.specs.machinery.ContainerMachine as spec;
 ghost use Rattle.record_mark.specs.Joining.{Between, Joining};
-ghost use Rattle.record_mark.specs.Machine.{Ends, Stops};
+ghost use Rattle.record_mark.specs.Machine.{Stops};
 
 use crate::fault::{Error, Fault, Place, Side};
-use record_mark::{Word, WordPart};
+use record_mark::{JoinError, Joiner, Step, Word, WordPart};
+use std::marker::Model;
 use xdr3::Reason;
 
 /// The first seven bytes of a capture. The eighth is the version: `1` or `2`.
@@ -49,6 +53,20 @@ pub(crate) enum Version {
     Two,
 }
 
+/// Which word of a capture is open.
+#[derive(Clone, Copy)]
+pub(crate) enum WordOf {
+    /// A connection word: 1 before a connection, 0 after the last. The version decides what comes
+    /// after a word 1.
+    Mark(Version),
+    /// Version 1: the length word of a chunk, or the word 0 after a stream.
+    Length(Side),
+    /// Version 2: a side word: 1 or 2 before a chunk, 0 after the connection's streams.
+    Side,
+    /// Version 2: the length word of a chunk, after its side word.
+    SideLength(Side),
+}
+
 /// Which part of a capture is open: the one to which the next byte belongs.
 #[derive(Clone, Copy)]
 pub(crate) enum Spot {
@@ -56,25 +74,20 @@ pub(crate) enum Spot {
     Magic,
     /// The magic's last byte, which is the version.
     Digit,
-    /// A connection word: 1 before a connection, 0 after the last. The version decides what comes
-    /// after a word 1.
-    Mark(Version, WordPart),
-    /// Version 1: the length word of a chunk, or the word 0 after a stream.
-    Length(Side, WordPart),
+    /// A word, and its bytes so far.
+    Word(WordOf, WordPart),
     /// Version 1: a chunk of which this many bytes are to come, at least one.
     Chunk(Side, u32),
-    /// Version 2: a side word: 1 or 2 before a chunk, 0 after the connection's streams.
-    Side(WordPart),
-    /// Version 2: the length word of a chunk, after its side word.
-    SideLength(Side, WordPart),
     /// Version 2: a chunk of which this many bytes are to come, at least one.
     SideChunk(Side, u32),
     /// Nothing: the last word 0 has come.
     Ended(Version),
 }
 
+/// How much of a capture was taken. The steps from one part to the next are methods of this type,
+/// and each is given the part that is open.
 #[derive(Clone, Copy)]
-pub(crate) struct Position {
+pub(crate) struct Counts {
     /// The file's byte at which the open word begins, or the byte after the open chunk. In the
     /// magic and at the end it is the number of bytes taken.
     pub(crate) at: u64,
@@ -83,7 +96,27 @@ pub(crate) struct Position {
     pub(crate) connections: u32,
     /// The whole records so far of the stream that is checked.
     pub(crate) records: u32,
+}
+
+/// How much of a capture was taken, and which part of it is open.
+#[derive(Clone, Copy)]
+pub(crate) struct Position {
+    pub(crate) counts: Counts,
     pub(crate) spot: Spot,
+}
+
+impl Model for Position {
+    ghost use Rattle.capture3.specs.machinery.PositionState.{PositionState};
+
+    ghost Value = { PositionState };
+
+    ghost use Rattle.capture3.specs.machinery.PositionInside.{fields_shown, IsSoundInside, position_shown};
+
+    ghost view = { position_shown };
+
+    ghost inverse = { fields_shown };
+
+    ghost invariant = { IsSoundInside };
 }
 
 /// How many bytes were taken, the position after them, and what is whole with the last of them.
@@ -97,28 +130,84 @@ pub(crate) struct Transition {
 impl Position {
     /// Returns the position before the first byte.
     pub(crate) fn start() -> Position
-        ensures sound { IsSoundPosition result }
         ensures room { room_of result (gathered []) ≡ most_things }
         ensures machine { unpacking_at result (gathered []) Between ≡ spec.unpacking_start }
     {
         Position {
-            at: 0,
-            total: 0,
-            connections: 0,
-            records: 0,
+            counts: Counts {
+                at: 0,
+                total: 0,
+                connections: 0,
+                records: 0,
+            },
             spot: Spot::Magic,
         }
     }
 
+    /// Version 2: returns the same position with one more whole record of the stream that is
+    /// checked.
+    pub(crate) fn with_next_record(self) -> Position
+        requires here { IsBeforeMark Two self.spot }
+        requires fits { self.records < self.total }
+        ensures { result ≡ record self { records = self.records + 1 } }
+    {
+        Position {
+            counts: Counts {
+                records: self.counts.records + 1,
+                ..self.counts
+            },
+            spot: self.spot,
+        }
+    }
+
+    /// Returns the same position at the start of a stream, of which no record was checked.
+    pub(crate) fn with_no_records(self) -> Position
+        ensures { result ≡ record self { records = 0 } }
+    {
+        Position {
+            counts: Counts {
+                records: 0,
+                ..self.counts
+            },
+            spot: self.spot,
+        }
+    }
+
+    /// Returns a fault of the record that became whole last.
+    pub(crate) fn record_fault(self, side: Side, byte: u32, reason: Reason) -> Error
+        ensures { result ≡ Error.Refused
+            (record {
+              place = Place.Record self.connections side self.records byte;
+              reason = reason;
+            }) }
+    {
+        self.counts
+            .fault_in(side, self.counts.records, byte, reason)
+    }
+
+    /// Returns a fault of the record that is open.
+    pub(crate) fn next_record_fault(self, side: Side, byte: u32, reason: Reason) -> Error
+        ensures { result ≡ Error.Refused
+            (record {
+              place = Place.Record self.connections side
+                  (self.records + 1) byte;
+              reason = reason;
+            }) }
+    {
+        self.counts.next_record_fault(side, byte, reason)
+    }
+}
+
+impl Counts {
     /// Takes bytes of the magic.
     #[inline(never)]
     pub(crate) fn take_magic(self, rest: &[u8]) -> Result<Transition, Error>
-        requires sound { IsSoundPosition self }
-        requires here { self.spot ≡ Spot.Magic }
+        requires sound { IsSoundPosition (standing_at self Spot.Magic) }
         requires some { 0 < length rest.now }
-        ensures taken { IfOk result (TakesSome self rest.now) }
-        ensures steps { IfOk result (StepsFrom self) }
-        ensures machine { (joining : Joining) → MovesFrom self joining rest.now result }
+        ensures taken { IfOk result (TakesSome rest.now) }
+        ensures steps { IfOk result (StepsFrom (standing_at self Spot.Magic)) }
+        ensures machine { (joining : Joining)
+            → MovesFrom (standing_at self Spot.Magic) joining rest.now result }
     {
         let from = self.at as usize;
         let count = (MAGIC.len() - from).min(rest.len());
@@ -139,12 +228,12 @@ impl Position {
     /// Takes the magic's last byte.
     #[inline(never)]
     pub(crate) fn take_digit(self, rest: &[u8]) -> Result<Transition, Error>
-        requires sound { IsSoundPosition self }
-        requires here { self.spot ≡ Spot.Digit }
+        requires sound { IsSoundPosition (standing_at self Spot.Digit) }
         requires some { 0 < length rest.now }
-        ensures taken { IfOk result (TakesSome self rest.now) }
-        ensures steps { IfOk result (StepsFrom self) }
-        ensures machine { (joining : Joining) → MovesFrom self joining rest.now result }
+        ensures taken { IfOk result (TakesSome rest.now) }
+        ensures steps { IfOk result (StepsFrom (standing_at self Spot.Digit)) }
+        ensures machine { (joining : Joining)
+            → MovesFrom (standing_at self Spot.Digit) joining rest.now result }
     {
         match rest[0] {
             b'1' => Ok(self.of_version(Version::One)),
@@ -153,142 +242,217 @@ impl Position {
         }
     }
 
+    /// Returns the position after the magic's last byte.
     fn of_version(self, version: Version) -> Transition
-        requires { self.at < 2 ^ 60 }
+        requires { IsSoundPosition (standing_at self Spot.Digit) }
         ensures some { (result.count ≡ 1) × (result.event ≡ None) }
-        ensures at { result.position.at ≡ self.at + 1 }
-        ensures counts { HasCounts self.total self.connections self.records result.position }
-        ensures spot { IsBeforeMark (version_of version) result.position.spot }
+        ensures steps { StepsFrom (standing_at self Spot.Digit) result }
         ensures machine { (streams : kept.Streams) (joining : Joining)
             → unpacking_at result.position streams joining ≡ spec.before_mark
             (version_of version) (self.at + 1) self.total self.connections self.records joining }
     {
-        Transition {
-            count: 1,
-            position: self.before_mark(self.at + 1, version),
-            event: None,
+        self.advanced(1, self.at + 1, Spot::before(WordOf::Mark(version)))
+    }
+
+    /// Takes bytes of a word. `so_far` is how many bytes of the body have come if a record is open.
+    #[inline(always)]
+    pub(crate) fn take_word(
+        self,
+        word: WordOf,
+        part: WordPart,
+        so_far: Option<u32>,
+        rest: &[u8],
+    ) -> Result<Transition, Error>
+        requires sound { IsSoundPosition (standing_at self (Spot.Word word part)) }
+        requires some { 0 < length rest.now }
+        ensures taken { IfOk result (TakesSome rest.now) }
+        ensures steps { IfOk result (StepsFrom (standing_at self (Spot.Word word part))) }
+        ensures machine { (joining : Joining) → IsOpenBody so_far joining
+            → MovesFrom (standing_at self (Spot.Word word part)) joining rest.now result }
+    {
+        let (count, taken) = part.taken(rest);
+        match taken {
+            Word::Part(part) => Ok(self.advanced(count, self.at, Spot::Word(word, part))),
+            Word::Whole(n) => self.after_word(word, n, so_far, count),
         }
     }
 
-    /// Takes bytes of a connection word.
-    pub(crate) fn take_mark(
+    /// Returns the position after a word.
+    #[inline(always)]
+    fn after_word(
         self,
-        version: Version,
-        part: WordPart,
-        rest: &[u8],
+        word: WordOf,
+        n: u32,
+        so_far: Option<u32>,
+        count: usize,
     ) -> Result<Transition, Error>
-        requires sound { IsSoundPosition self }
-        requires here { self.spot ≡ Spot.Mark version part }
-        requires some { 0 < length rest.now }
-        ensures taken { IfOk result (TakesSome self rest.now) }
-        ensures steps { IfOk result (StepsFrom self) }
-        ensures machine { (joining : Joining) → MovesFrom self joining rest.now result }
+        requires sound { IsSoundBefore self word }
+        ensures count { IfOk result (λ taken. taken.count ≡ count) }
+        ensures steps { IfOk result (StepsOver self word) }
+        ensures machine { (streams : kept.Streams) (joining : Joining)
+            → StoredBefore word self.total streams → IsOpenBody so_far joining
+            → Lands (word_read word self.at self.total self.connections self.records streams joining
+            n) streams joining result }
     {
-        let (count, word) = part.taken(rest);
         match word {
-            Word::Part(part) => Ok(self.advanced(count, self.at, Spot::Mark(version, part))),
-            Word::Whole(n) => self.after_mark(version, part, n, count),
+            WordOf::Mark(version) => self.after_mark(version, n, count),
+            WordOf::Length(side) => self.after_length(side, n, so_far, count),
+            WordOf::Side => self.after_side(n, count),
+            WordOf::SideLength(side) => self.after_side_length(side, n, count),
         }
     }
 
     /// Returns the position after a connection word.
-    fn after_mark(
-        self,
-        version: Version,
-        part: WordPart,
-        n: u32,
-        count: usize,
-    ) -> Result<Transition, Error>
-        requires sound { IsSoundPosition self }
-        requires here { self.spot ≡ Spot.Mark version part }
+    fn after_mark(self, version: Version, n: u32, count: usize) -> Result<Transition, Error>
+        requires sound { IsSoundBefore self (WordOf.Mark version) }
         ensures count { IfOk result (λ taken. taken.count ≡ count) }
-        ensures steps { IfOk result (StepsFrom self) }
-        ensures machine { (streams : kept.Streams) (joining : Joining)
-            → StoredAt self.spot self.total streams
+        ensures steps { IfOk result (StepsOver self (WordOf.Mark version)) }
+        ensures machine { (streams : kept.Streams) (joining : Joining) → AreEmpty streams
             → Lands (connection_marked (version_of version) self.at self.total self.connections
             self.records joining n) streams joining result }
     {
         match n {
             0 => Ok(self.advanced(count, self.at + 4, Spot::Ended(version))),
-            1 if self.connections < MAX_CONNECTIONS => Ok(self.after_begin(version, part, count)),
+            1 if self.connections < MAX_CONNECTIONS => Ok(self.after_begin(version, count)),
             1 => Err(file_fault(self.at, Reason::TooManyConnections)),
             _ => Err(file_fault(self.at, Reason::BadMark)),
         }
     }
 
-    /// Takes bytes of a chunk's length word. `so_far` is how many bytes of the body have come if a
-    /// record is open.
-    pub(crate) fn take_length(
-        self,
-        side: Side,
-        part: WordPart,
-        so_far: Option<u32>,
-        rest: &[u8],
-    ) -> Result<Transition, Error>
-        requires sound { IsSoundPosition self }
-        requires here { self.spot ≡ Spot.Length side part }
-        requires some { 0 < length rest.now }
-        ensures taken { IfOk result (TakesSome self rest.now) }
-        ensures steps { IfOk result (StepsFrom self) }
-        ensures machine { (joining : Joining) → IsOpenBody so_far joining
-            → MovesFrom self joining rest.now result }
+    /// Returns the position after a connection's word 1.
+    fn after_begin(self, version: Version, count: usize) -> Transition
+        requires sound { IsSoundBefore self (WordOf.Mark version) }
+        requires few { self.connections < MAX_CONNECTIONS }
+        ensures count { result.count ≡ count }
+        ensures steps { StepsOver self (WordOf.Mark version) result }
+        ensures event { result.event ≡ Some Event.Begin }
+        ensures machine { (streams : kept.Streams) (joining : Joining) → AreEmpty streams
+            → unpacking_at result.position streams joining ≡ begun_at
+            (version_of version) self.at self.total (self.connections + 1) joining }
     {
-        let (count, word) = part.taken(rest);
-        match word {
-            Word::Part(part) => Ok(self.advanced(count, self.at, Spot::Length(side, part))),
-            Word::Whole(0) => self.after_stream(side, part, so_far, count),
-            Word::Whole(len) => self.after_length(side, part, len, count),
+        let word = match version {
+            Version::One => WordOf::Length(Side::Client),
+            Version::Two => WordOf::Side,
+        };
+        let counts = Counts {
+            at: self.at + 4,
+            connections: self.connections + 1,
+            records: 0,
+            ..self
+        };
+        Transition {
+            count,
+            position: Position {
+                counts,
+                spot: Spot::before(word),
+            },
+            event: Some(Event::Begin),
         }
     }
 
-    /// Returns the position after a stream's word 0.
-    fn after_stream(
-        self,
-        side: Side,
-        part: WordPart,
-        so_far: Option<u32>,
-        count: usize,
-    ) -> Result<Transition, Error>
-        requires sound { IsSoundPosition self }
-        requires here { self.spot ≡ Spot.Length side part }
-        ensures count { IfOk result (λ taken. taken.count ≡ count) }
-        ensures steps { IfOk result (StepsFrom self) }
-        ensures machine { (streams : kept.Streams) (joining : Joining) → IsOpenBody so_far joining
-            → Lands
-            (Ends (stream_ended self.at self.total self.connections self.records side joining))
-            streams joining result }
-    {
-        match so_far {
-            None => Ok(self.stream_closed(side, part, count)),
-            Some(byte) => Err(self.next_record_fault(side, byte, Reason::RecordCut)),
-        }
-    }
-
-    /// Returns the position after the length word of a chunk, which is not 0.
+    /// Returns the position after a chunk's length word, or after a stream's word 0.
     fn after_length(
         self,
         side: Side,
-        part: WordPart,
-        len: u32,
+        n: u32,
+        so_far: Option<u32>,
         count: usize,
     ) -> Result<Transition, Error>
-        requires sound { IsSoundPosition self }
-        requires here { self.spot ≡ Spot.Length side part }
-        requires some { 0 < len }
+        requires sound { IsSoundBefore self (WordOf.Length side) }
         ensures count { IfOk result (λ taken. taken.count ≡ count) }
-        ensures steps { IfOk result (StepsFrom self) }
-        ensures machine { (streams : kept.Streams) (joining : Joining)
-            → Lands
-            (chunk_counted self.at self.total self.connections self.records side joining len)
+        ensures steps { IfOk result (StepsOver self (WordOf.Length side)) }
+        ensures machine { (streams : kept.Streams) (joining : Joining) → IsOpenBody so_far joining
+            → Lands (chunk_counted self.at self.total self.connections self.records side joining n)
             streams joining result }
     {
-        self.chunk_opened(count, len, Spot::Chunk(side, len))
+        match (n, so_far) {
+            (0, None) => Ok(self.stream_closed(side, count)),
+            (0, Some(byte)) => Err(self.next_record_fault(side, byte, Reason::RecordCut)),
+            _ => self.chunk_opened(count, n, Spot::Chunk(side, n)),
+        }
+    }
+
+    /// Returns the position after a stream's word 0, if no record is open.
+    fn stream_closed(self, side: Side, count: usize) -> Transition
+        requires sound { IsSoundBefore self (WordOf.Length side) }
+        ensures count { result.count ≡ count }
+        ensures steps { StepsOver self (WordOf.Length side) result }
+        ensures machine { (streams : kept.Streams)
+            → landed_at result.event streams (unpacking_at result.position streams Between) ≡ Stops
+            (stream_ended self.at self.total self.connections self.records side Between) }
+    {
+        let after = Counts {
+            at: self.at + 4,
+            ..self
+        };
+        match side {
+            Side::Client => Transition {
+                count,
+                position: Position {
+                    counts: Counts {
+                        records: 0,
+                        ..after
+                    },
+                    spot: Spot::before(WordOf::Length(Side::Server)),
+                },
+                event: Some(Event::Turn),
+            },
+            // Only in version 1 a stream has a word 0.
+            Side::Server => Transition {
+                count,
+                position: Position {
+                    counts: after,
+                    spot: Spot::before(WordOf::Mark(Version::One)),
+                },
+                event: Some(Event::Close),
+            },
+        }
+    }
+
+    /// Returns the position after the length word of a chunk, which is open if the limit leaves
+    /// room for it.
+    #[inline(always)]
+    pub(crate) fn chunk_opened(
+        self,
+        count: usize,
+        len: u32,
+        chunk: Spot,
+    ) -> Result<Transition, Error>
+        requires at { self.at < 2 ^ 60 }
+        requires small { self.total ≤ MAX_BYTES }
+        requires sound { self.total + len ≤ MAX_BYTES
+            → IsSoundPosition (standing_at (with_chunk self len) chunk) }
+        ensures opened { IfOk result (λ taken. taken ≡ record {
+          count = count;
+          position = standing_at (with_chunk self len) chunk;
+          event = None;
+        }) }
+        ensures fits { IfOk result (λ taken. self.total + len ≤ MAX_BYTES) }
+        ensures over { IfErr result (λ error. (MAX_BYTES < self.total + len)
+            × (error ≡ Error.Refused
+            (record { place = Place.File self.at; reason = Reason.TooManyBytes }))) }
+    {
+        if len > MAX_BYTES - self.total {
+            return Err(file_fault(self.at, Reason::TooManyBytes));
+        }
+        let counts = Counts {
+            at: self.at + 4 + u64::from(len),
+            total: self.total + len,
+            ..self
+        };
+        Ok(Transition {
+            count,
+            position: Position {
+                counts,
+                spot: chunk,
+            },
+            event: None,
+        })
     }
 
     /// Takes this many bytes of a chunk. With the last of them a record may be whole.
     pub(crate) fn take_chunk(self, side: Side, left: u32, count: u32, is_record: bool) -> Transition
-        requires sound { IsSoundPosition self }
-        requires here { self.spot ≡ Spot.Chunk side left }
+        requires sound { IsSoundPosition (standing_at self (Spot.Chunk side left)) }
         requires some { 0 < count }
         requires within { count ≤ left }
 
@@ -300,52 +464,72 @@ impl Position {
             self.connections (if is_record then self.records + 1 else self.records) side
             (left - count) joining }
 
-        // The position stays sound.
-        ensures sound { IsSoundPosition result.position }
-        ensures room { TakesRoom self result }
-        ensures stored { KeepsStreams self result }
+        // What is kept fits the position.
+        ensures room { TakesRoom (standing_at self (Spot.Chunk side left)) result }
+        ensures stored { KeepsStreams (standing_at self (Spot.Chunk side left)) result }
     {
         let left = left - count;
         let spot = if left == 0 {
-            Spot::Length(side, WordPart::new())
+            Spot::before(WordOf::Length(side))
         } else {
             Spot::Chunk(side, left)
         };
-        let advanced = self.advanced(count as usize, self.at, spot);
         if !is_record {
-            return advanced;
+            return self.advanced(count as usize, self.at, spot);
         }
         Transition {
+            count: count as usize,
             position: Position {
-                records: self.records + 1,
-                ..advanced.position
+                counts: Counts {
+                    records: self.records + 1,
+                    ..self
+                },
+                spot,
             },
             event: Some(Event::Record(side)),
-            ..advanced
         }
     }
 
-    /// Returns the same position with this many whole records of the stream that is checked.
-    pub(crate) fn with_records(self, records: u32) -> Position
-        ensures { result ≡ record self { records = records } }
-    {
-        Position { records, ..self }
-    }
+    /// Takes bytes of a chunk, and passes them to the joiner.
+    pub(crate) fn join(
+        self,
+        joiner: &mut Joiner,
+        side: Side,
+        left: u32,
+        rest: &[u8],
+    ) -> Result<Transition, Error>
+        requires sound { IsSoundPosition (standing_at self (Spot.Chunk side left)) }
+        requires some { 0 < length rest.now }
+        requires running { IsRunning joiner.old.taking }
 
-    /// Returns a fault of the record that became whole last.
-    pub(crate) fn record_fault(self, side: Side, byte: u32, reason: Reason) -> Error
-        ensures { result ≡ Error.Refused
-            (record {
-              place = Place.Record self.connections side self.records byte;
-              reason = reason;
-            }) }
+        // The bytes taken, and the record that is whole with them.
+        ensures taken { IfOk result (TakesSome rest.now) }
+        ensures leads { (streams : kept.Streams)
+            → StoredAt (Spot.Chunk side left) self.total streams
+            → IfOk result (λ t. Leads (standing_at self (Spot.Chunk side left)) joiner.old.taking
+            streams (take t.count rest.now) t.event t.position joiner.new.taking streams) }
+
+        // Errors.
+        ensures fault { (streams : kept.Streams)
+            → IfErr result (ShowsError (unpacking_of (standing_at self (Spot.Chunk side left))
+            joiner.old.taking streams) rest.now) }
+        ensures short { result ≡ Err Error.Memory → joiner.old.capacity
+            < length (body_of joiner.old.taking) + length rest.now }
     {
-        self.fault_in(side, self.records, byte, reason)
+        let piece = &rest[..rest.len().min(left as usize)];
+        match joiner.push(piece) {
+            Ok((count, Step::Record)) => Ok(self.take_chunk(side, left, count as u32, true)),
+            Ok((count, Step::More)) => Ok(self.take_chunk(side, left, count as u32, false)),
+            Err(JoinError::TooLong { at }) => {
+                Err(self.next_record_fault(side, at, Reason::RecordTooLong))
+            }
+            Err(JoinError::Memory) => Err(Error::Memory),
+        }
     }
 
     /// Returns a fault of the record that is open.
     pub(crate) fn next_record_fault(self, side: Side, byte: u32, reason: Reason) -> Error
-        requires { IsSoundPosition self }
+        requires { self.records ≤ MAX_BYTES }
         ensures { result ≡ Error.Refused
             (record {
               place = Place.Record self.connections side
@@ -377,138 +561,30 @@ impl Position {
 
     /// Returns the position after this many bytes, with this part open. Nothing is whole.
     pub(crate) fn advanced(self, count: usize, at: u64, spot: Spot) -> Transition
+        requires { IsSoundPosition (standing_at (record self { at = at }) spot) }
         ensures { result ≡ record {
           count = count;
-          position = record self { at = at; spot = spot };
+          position = standing_at (record self { at = at }) spot;
           event = None;
         } }
     {
         Transition {
             count,
-            position: Position { at, spot, ..self },
+            position: Position {
+                counts: Counts { at, ..self },
+                spot,
+            },
             event: None,
         }
     }
+}
 
-    /// Returns the position after a connection's word 1.
-    fn after_begin(self, version: Version, part: WordPart, count: usize) -> Transition
-        requires sound { IsSoundPosition self }
-        requires here { self.spot ≡ Spot.Mark version part }
-        requires few { self.connections < MAX_CONNECTIONS }
-        ensures count { result.count ≡ count }
-        ensures steps { StepsFrom self result }
-        ensures event { result.event ≡ Some Event.Begin }
-        ensures machine { (streams : kept.Streams) (joining : Joining) → AreEmpty streams
-            → unpacking_at result.position streams joining ≡ begun_at
-            (version_of version) self.at self.total (self.connections + 1) joining }
+impl Spot {
+    /// Returns the part that a word is, before its first byte.
+    pub(crate) fn before(word: WordOf) -> Spot
+        ensures { IsBeforeWord word result }
     {
-        let opened = match version {
-            Version::One => self.before_stream(Side::Client),
-            Version::Two => self.before_sides(),
-        };
-        Transition {
-            count,
-            position: Position {
-                connections: self.connections + 1,
-                ..opened
-            },
-            event: Some(Event::Begin),
-        }
-    }
-
-    /// Returns the position after a stream's word 0, if no record is open.
-    fn stream_closed(self, side: Side, part: WordPart, count: usize) -> Transition
-        requires sound { IsSoundPosition self }
-        requires here { self.spot ≡ Spot.Length side part }
-        ensures count { result.count ≡ count }
-        ensures steps { StepsFrom self result }
-        ensures machine { (streams : kept.Streams)
-            → landed_at result.event streams (unpacking_at result.position streams Between) ≡ Stops
-            (stream_ended self.at self.total self.connections self.records side Between) }
-    {
-        match side {
-            Side::Client => Transition {
-                count,
-                position: self.before_stream(Side::Server),
-                event: Some(Event::Turn),
-            },
-            // Only in version 1 a stream has a word 0.
-            Side::Server => Transition {
-                count,
-                position: self.before_mark(self.at + 4, Version::One),
-                event: Some(Event::Close),
-            },
-        }
-    }
-
-    /// Returns the position before a connection word at this byte.
-    pub(crate) fn before_mark(self, at: u64, version: Version) -> Position
-        ensures at { result.at ≡ at }
-        ensures counts { HasCounts self.total self.connections self.records result }
-        ensures spot { IsBeforeMark (version_of version) result.spot }
-        ensures machine { (streams : kept.Streams) (joining : Joining)
-            → unpacking_at result streams joining ≡ spec.before_mark (version_of version) at
-            self.total self.connections self.records joining }
-    {
-        Position {
-            at,
-            spot: Spot::Mark(version, WordPart::new()),
-            ..self
-        }
-    }
-
-    /// Version 1: returns the position before the first length word of a stream.
-    fn before_stream(self, side: Side) -> Position
-        requires { self.at < 2 ^ 60 }
-        ensures at { result.at ≡ self.at + 4 }
-        ensures counts { HasCounts self.total self.connections 0 result }
-        ensures spot { IsBeforeStream side result.spot }
-        ensures machine { (streams : kept.Streams) (joining : Joining)
-            → unpacking_at result streams joining ≡ spec.before_stream self.at self.total
-            self.connections joining side }
-    {
-        Position {
-            at: self.at + 4,
-            records: 0,
-            spot: Spot::Length(side, WordPart::new()),
-            ..self
-        }
-    }
-
-    /// Returns the position after the length word of a chunk, which is open if the limit leaves
-    /// room for it.
-    #[inline(always)]
-    pub(crate) fn chunk_opened(
-        self,
-        count: usize,
-        len: u32,
-        chunk: Spot,
-    ) -> Result<Transition, Error>
-        requires at { self.at < 2 ^ 60 }
-        requires small { self.total ≤ MAX_BYTES }
-        ensures fits { IfOk result (λ taken. self.total + len ≤ MAX_BYTES) }
-        ensures opened { IfOk result (λ taken. taken ≡ record {
-          count = count;
-          position = record self { at = self.at + 4 + len; total = self.total + len; spot = chunk };
-          event = None;
-        }) }
-        ensures over { IfErr result (λ error. (MAX_BYTES < self.total + len)
-            × (error ≡ Error.Refused
-            (record { place = Place.File self.at; reason = Reason.TooManyBytes }))) }
-    {
-        if len > MAX_BYTES - self.total {
-            return Err(file_fault(self.at, Reason::TooManyBytes));
-        }
-        Ok(Transition {
-            count,
-            position: Position {
-                at: self.at + 4 + u64::from(len),
-                total: self.total + len,
-                spot: chunk,
-                ..self
-            },
-            event: None,
-        })
+        Spot::Word(word, WordPart::new())
     }
 }
 

@@ -13,7 +13,6 @@ ghost use Rattle.capture3.specs.Capture.{Two};
 ghost use Rattle.capture3.specs.machinery.Container.{IsReady, IsStored};
 ghost use Rattle.capture3.specs.machinery.Pairing.{SpellsLast};
 ghost use Rattle.capture3.specs.Laws.{most_bytes};
-ghost use Rattle.capture3.specs.machinery.Position.{IsSoundPosition};
 
 use crate::container::position::file_fault;
 use crate::device::DeviceFailed;
@@ -65,7 +64,6 @@ pub struct Entries<'r, R, S: BuildHasher + Drop> {
     ghost ordered: { start ≤ end },
     ghost within: { end ≤ vec_len block },
     ghost roomy: { 0 < vec_len block },
-    ghost sound: { stage ≡ stages.Reading → ∥ IsSoundPosition pairing.container.position ∥₁ },
     ghost stored: { stage ≡ stages.Reading → ∥ IsStored pairing.container ∥₁ },
     ghost ready: { stage ≡ stages.Reading
         → ∥ IsReady pairing.container.cursor (released pairing.container.joiner.taking) ∥₁ },

@@ -12,7 +12,7 @@ ghost use Rattle.capture3.specs.machinery.Spelled.{SpellsCall, SpellsReply};
 ghost use Rattle.capture3.specs.BodyProgram.{judge_call, judge_reply};
 ghost use Rattle.capture3.specs.machinery.Calls.{KnowsNone};
 ghost use Rattle.capture3.specs.machinery.Messages.{IsTableOf};
-ghost use Rattle.capture3.specs.machinery.Position.{IsEndSpot, IsSoundPosition, most_things};
+ghost use Rattle.capture3.specs.machinery.Position.{IsEndSpot, most_things};
 
 use crate::container::Container;
 use crate::container::position::Event;
@@ -39,7 +39,6 @@ pub(crate) struct Pairing<C: Drop> {
 impl<C: CallTable + Drop> Pairing<C> {
     pub(crate) fn new(alloc: Global, calls: C) -> Pairing<C>
         requires none { KnowsNone (C.known calls) }
-        ensures sound { IsSoundPosition result.container.position }
         ensures stored { IsStored result.container }
         ensures ready { IsReady result.container.cursor (released result.container.joiner.taking) }
         ensures room { room_in result.container ≤ most_things }
@@ -62,7 +61,6 @@ impl<C: CallTable + Drop> Pairing<C> {
         piece: &[u8],
         visitor: &mut V,
     ) -> Result<(usize, Option<Kind>), Noted>
-        requires sound { IsSoundPosition self.old.container.position }
         requires stored { IsStored self.old.container }
         requires ready { IsReady self.old.container.cursor
             (released self.old.container.joiner.taking) }
@@ -89,7 +87,6 @@ impl<C: CallTable + Drop> Pairing<C> {
         ensures device { OnErr result (IsOfBytes self.new.error) }
 
         // The container stays ready for the next bytes.
-        ensures sound { OnOk result (IsSoundPosition self.new.container.position) }
         ensures stored { OnOk result (IsStored self.new.container) }
         ensures ready { OnOk result
             (IsReady self.new.container.cursor (released self.new.container.joiner.taking)) }

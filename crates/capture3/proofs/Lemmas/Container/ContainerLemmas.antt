@@ -1,7 +1,13 @@
 -- Containers, as the machine has them: chunks' bytes at once, and step after step.
 use Rattle.std.proofs.Common.{◌≡◌, subst, [], false, is_some, take_all, ℕ, zero, suc, ◌<◌, ◌+◌, ◌-◌, ◌≤◌, Option, Some, None, Result, Ok, Err, IfOk, IfErr, List, length, take, drop, refl, sym, ap, ◌∙◌, arith, length-take, length-drop, OnOk, ◌++◌}
 use Rattle.std.proofs.Math.Seq.{take-add, take-take}
-use Rattle.capture3.proofs.Common.{RecordTooLong, Joining, Between, Whole, TooLong, join_next, Next, Runs, Stops, after, Run, Taking, IsRunning, joining_of, body_of, Error, Side, Event, Streams, size, with_more, Cursor, Spot, Version, Two, after-append, counted_runs, counted_stops, Transition, AreStored, unpacking_of, Arrives, ShowsError, Leaves, WordPart, bytes_so_far, fault_in_record}
+use Rattle.capture3.proofs.Common.{RecordTooLong, Joining, Between, Whole, TooLong, join_next, Next, Runs, Stops, Stopped, after, Run, Taking, Led, OutOfMemory, IsRunning, IsWhole, joining_of, body_of, released, Error, Side, Event, Streams, size, with_more, Cursor, Spot, Version, Two, after-append, counted_runs, counted_stops, Transition, AreStored, CanGoOn, Container, Reaches, unpacking_in, unpacking_of, Arrives, ShowsError, Leaves, WordPart, bytes_so_far, fault_in_record}
+use Rattle.record_mark.specs.Taking.{unbegun}
+use Rattle.capture3.specs.machinery.PositionState.{standing_at}
+use Rattle.capture3.specs.declared.container.position.Position.TheInside.{Inside}
+use Rattle.capture3.specs.machinery.PositionInside.{position_shown}
+use Rattle.capture3.specs.machinery.Container.{stream_of}
+use Rattle.record_mark.proofs.Takings.{is_between}
 use Rattle.capture3.specs.declared.fault.Error.TheVariants as errors
 use Rattle.capture3.specs.declared.container.position.Event.TheVariants.{Begin, Record, Turn, Close}
 use Rattle.capture3.specs.declared.container.position.Event.TheVariants.{Streams as Gathered}
@@ -9,9 +15,10 @@ use Rattle.capture3.proofs.Lemmas.Container.ContainerMachineLemmas.{side_chunk_k
 use Rattle.capture3.specs.declared.container.position.Position.{Position}
 use Rattle.capture3.specs.declared.container.position.Spot.TheVariants.{Chunk, SideChunk}
 use Rattle.capture3.specs.machinery.ContainerMachine.{Unpacking, Has, in_chunk, in_side_chunk, in_record, record_joined, unpack_next}
-use Rattle.capture3.specs.machinery.Position.{AreEmpty, IsBeforeMark, unpacking_at, cost_of, IsOfContainer, StepsFrom, Moves, ShowsFault, StoredAt, StoredWith, version_of}
+use Rattle.capture3.specs.machinery.Position.{AreEmpty, IsBeforeMark, unpacking_at, cost_of, IsOfContainer, StepsFrom, Moves, MovesFrom, ShowsFault, StoredAt, StoredWith, version_of}
 use Rattle.capture3.specs.declared.fault.Side.TheVariants as sides
 use Rattle.capture3.specs.declared.container.position.Spot.TheVariants as spots
+use Rattle.capture3.specs.declared.container.position.WordOf.TheVariants as words
 use Rattle.capture3.specs.declared.container.position.Version as declared
 use Rattle.capture3.proofs.Lemmas.Container.PositionLemmas.{at_spot}
 
@@ -29,22 +36,70 @@ moved_to from bytes taking streams count position (Some Turn) h moves = moves
 moved_to from bytes taking streams count position (Some Close) h moves = moves
 moved_to from bytes taking streams count position (Some Gathered) h moves = moves
 
-pub moved_arrives : (from : Unpacking) (bytes : List ℕ) (before : Position) (taking : Taking)
-    (streams : Streams) (r : Result Transition Error) → IfOk r (StepsFrom before)
-    → Moves from bytes streams (joining_of taking) r
-    → IfOk r (λ t. Arrives from (take t.count bytes) t.event t.position taking streams)
-moved_arrives from bytes before taking streams (Ok t) h moves =
-    moved_to from bytes taking streams t.count t.position t.event h.event moves
-moved_arrives from bytes before taking streams (Err e) h moves = tt
+still_leaves : (event : Option Event) (taking : Taking) → IsOfContainer event → IsRunning taking
+    → Leaves event taking
+still_leaves None taking h running = running
+still_leaves (Some Begin) taking h running = running
+still_leaves (Some (Record side)) taking h running = absurd h
+still_leaves (Some Turn) taking h running = running
+still_leaves (Some Close) taking h running = running
+still_leaves (Some Gathered) taking h running = running
 
-pub moved_fails : (from : Unpacking) (bytes : List ℕ) (streams : Streams) (joining : Joining)
-    (r : Result Transition Error) → Moves from bytes streams joining r
-    → IfErr r (ShowsError from bytes)
-moved_fails from bytes streams joining (Ok t) moves = tt
-moved_fails from bytes streams joining (Err (errors.Refused fault)) moves = moves
-moved_fails from bytes streams joining (Err errors.Read) moves = moves
-moved_fails from bytes streams joining (Err errors.Write) moves = moves
-moved_fails from bytes streams joining (Err errors.Memory) moves = tt
+step_leads : (c : Container) (bytes : List ℕ) (r : Result Transition Error)
+    → CanGoOn None c.joiner.taking c → IfOk r (StepsFrom c.position)
+    → MovesFrom c.position (joining_of c.joiner.taking) bytes r
+    → IfOk r (λ t. Reaches c (take t.count bytes) t.event t.position c)
+step_leads c bytes (Ok t) ready steps moves = record {
+  machine =
+      moved_to (unpacking_in c) bytes c.joiner.taking c.streams.kept t.count t.position t.event
+      steps.event (moves c.streams.kept ready.stored);
+  joiner = still_leaves t.event c.joiner.taking steps.event ready.ready;
+  stored = steps.stored c.streams.kept ready.stored;
+  room = steps.room c.streams.kept ready.stored;
+}
+step_leads c bytes (Err e) ready steps moves = tt
+
+step_shows : (c : Container) (bytes : List ℕ) (r : Result Transition Error)
+    → CanGoOn None c.joiner.taking c → MovesFrom c.position (joining_of c.joiner.taking) bytes r
+    → IfErr r (ShowsError (unpacking_in c) bytes)
+step_shows c bytes (Ok t) ready moves = tt
+step_shows c bytes (Err (errors.Refused fault)) ready moves = moves c.streams.kept ready.stored
+step_shows c bytes (Err errors.Read) ready moves = moves c.streams.kept ready.stored
+step_shows c bytes (Err errors.Write) ready moves = moves c.streams.kept ready.stored
+step_shows c bytes (Err errors.Memory) ready moves = tt
+
+-- the position, with the part that is open there
+pub shown_at : (inside : Inside) (p : Position) (spot : Spot) → position_shown inside ≡ p
+    → inside.spot ≡ spot → standing_at inside.counts spot ≡ p
+shown_at inside p spot shown is =
+    ap (λ (s : Spot). standing_at inside.counts s) (sym is) ∙ shown
+
+-- the streams belong to the part that is open
+pub stored_here : (inside : Inside) (p : Position) (spot : Spot) (streams : Streams)
+    → position_shown inside ≡ p → inside.spot ≡ spot → StoredAt p.spot p.total streams
+    → StoredAt spot inside.counts.total streams
+stored_here inside p spot streams shown is =
+    subst (λ (q : Position). StoredAt q.spot q.total streams)
+    (sym (shown_at inside p spot shown is))
+
+-- a step from the part that is open
+module _ (c : Container) (inside : Inside) (spot : Spot) (bytes : List ℕ)
+    (r : Result Transition Error) (shown : position_shown inside ≡ c.position)
+    (is : inside.spot ≡ spot) (ready : CanGoOn None c.joiner.taking c) where
+  pub step_reaches : IfOk r (StepsFrom (standing_at inside.counts spot))
+      → MovesFrom (standing_at inside.counts spot) (joining_of c.joiner.taking) bytes r
+      → IfOk r (λ t. Reaches c (take t.count bytes) t.event t.position c)
+  step_reaches steps moves =
+      let here = shown_at inside c.position spot shown is in
+      step_leads c bytes r ready (subst (λ (p : Position). IfOk r (StepsFrom p)) here steps)
+      (subst (λ (p : Position). MovesFrom p (joining_of c.joiner.taking) bytes r) here moves)
+
+  pub step_fails : MovesFrom (standing_at inside.counts spot) (joining_of c.joiner.taking) bytes r
+      → IfErr r (ShowsError (unpacking_in c) bytes)
+  step_fails moves =
+      step_shows c bytes r ready
+      (subst (λ (p : Position). MovesFrom p (joining_of c.joiner.taking) bytes r)
+      (shown_at inside c.position spot shown is) moves)
 
 -- ---- bytes of a chunk
 
@@ -273,15 +328,15 @@ record_takes from piece (suc n) body e = omega arith
 
 -- where a connection word is open, before its first byte
 pub mark_is : (version : Version) (spot : Spot) → IsBeforeMark version spot
-    → (told : declared.Version) × (part : WordPart) × (spot ≡ spots.Mark told part)
+    → (told : declared.Version) × (part : WordPart) × (spot ≡ spots.Word (words.Mark told) part)
     × (version_of told ≡ version) × (bytes_so_far part ≡ [])
-mark_is version (spots.Mark told part) before = (told, part, refl, before.0, before.1)
+mark_is version (spots.Word (words.Mark told) part) before = (told, part, refl, before.0, before.1)
 mark_is version spots.Magic before = absurd before
 mark_is version spots.Digit before = absurd before
-mark_is version (spots.Length side part) before = absurd before
+mark_is version (spots.Word (words.Length side) part) before = absurd before
 mark_is version (spots.Chunk side left) before = absurd before
-mark_is version (spots.Side part) before = absurd before
-mark_is version (spots.SideLength side part) before = absurd before
+mark_is version (spots.Word words.Side part) before = absurd before
+mark_is version (spots.Word (words.SideLength side) part) before = absurd before
 mark_is version (spots.SideChunk side left) before = absurd before
 mark_is version (spots.Ended told) before = absurd before
 
@@ -292,23 +347,58 @@ stored_before_mark version spot total streams before empty =
     let is = mark_is version spot before in
     subst (λ (s : Spot). StoredAt s total streams) (sym is.2) empty
 
+-- a stream is no longer than both together
+pub stream_within : (side : Side) (streams : Streams)
+    → length (stream_of side streams) ≤ size streams
+stream_within sides.Client streams = omega arith
+stream_within sides.Server streams = omega arith
+
+-- a joiner that is let go begins the next record
+pub released_whole : (t : Taking) → IsWhole t → released t ≡ unbegun
+released_whole (Led (Stops (Whole body))) h = refl
+released_whole (Led (Stops (TooLong at))) h = absurd h
+released_whole (Led (Runs s)) h = absurd h
+released_whole (Led (Stopped end)) h = absurd h
+released_whole OutOfMemory h = absurd h
+
+between_streams : (t : Taking) → IsRunning t → joining_of t ≡ Between → released t ≡ unbegun
+between_streams t running between = ap released (is_between t running between)
+
 -- after the end of a stream
-pub stored_end : (cursor : Cursor) (old new : Position) (streams left : Streams)
-    (next : Option Cursor) (r : Result Event Error) → AreStored old (Some cursor) streams
+pub stream_ended_goes_on : (cursor : Cursor) (old new : Container) (r : Result Event Error)
+    → CanGoOn (Some cursor) old.joiner.taking old → IsRunning new.joiner.taking
+    → OnOk r (joining_of new.joiner.taking ≡ Between)
     → (cursor.side ≡ sides.Client
-    → IfOk r (λ event. (event ≡ Turn) × (new ≡ record old { records = 0 })
-    × (next ≡ Some (record { side = sides.Server; taken = 0 })) × (left ≡ streams)))
+    → IfOk r (λ event. (event ≡ Turn) × (new.position ≡ record old.position { records = 0 })
+    × (new.cursor ≡ Some (record { side = sides.Server; taken = 0 }))
+    × (new.streams.kept ≡ old.streams.kept)))
     → (cursor.side ≡ sides.Server
-    → IfOk r (λ event. (event ≡ Close) × (new ≡ old) × (next ≡ None) × AreEmpty left))
-    → OnOk r (AreStored new next left)
-stored_end cursor old new streams left next (Ok event) stored client server =
+    → IfOk r (λ event. (event ≡ Close) × (new.position ≡ old.position) × (new.cursor ≡ None)
+    × AreEmpty new.streams.kept))
+    → OnOk r (CanGoOn new.cursor (released new.joiner.taking) new)
+stream_ended_goes_on cursor old new (Ok event) ready running between client server =
     by_side cursor.side refl
   where
-    by_side : (side : Side) → cursor.side ≡ side → AreStored new next left
+    by_side : (side : Side) → cursor.side ≡ side
+        → CanGoOn new.cursor (released new.joiner.taking) new
     by_side sides.Client is =
-        let (turn, new_is, next_is, left_is) = client is in
-        rw (new_is, next_is, left_is) (omega arith, omega arith, stored.2, stored.3)
+        let (turn, position_is, next_is, streams_are) = client is in
+        let next : Cursor = record { side = sides.Server; taken = 0 } in
+        let stored : AreStored new.position (Some next) new.streams.kept =
+        rw (position_is, streams_are)
+        (omega arith, omega arith, ready.stored.2, ready.stored.3) in
+        rw next_is (record {
+          stored = stored;
+          ready = between_streams new.joiner.taking running between;
+        })
     by_side sides.Server is =
-        let (close, new_is, next_is, empty) = server is in
-        rw (new_is, next_is) (stored_before_mark Two old.spot old.total left stored.3 empty)
-stored_end cursor old new streams left next (Err error) stored client server = tt
+        let (close, position_is, next_is, empty) = server is in
+        let stored : AreStored new.position None new.streams.kept =
+        rw position_is
+        (stored_before_mark Two old.position.spot old.position.total new.streams.kept
+        ready.stored.3 empty) in
+        rw next_is (record {
+          stored = stored;
+          ready = subst IsRunning (sym (between_streams new.joiner.taking running between)) tt;
+        })
+stream_ended_goes_on cursor old new (Err error) ready running between client server = tt

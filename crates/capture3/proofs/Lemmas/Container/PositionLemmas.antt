@@ -1,17 +1,20 @@
 -- Positions, as the machine has them: a word's bytes at once.
 use Rattle.std.proofs.Math.Seq.{drop-cons, take-suc}
 use Rattle.std.proofs.lemmas.Bool.{ne_eqb}
-use Rattle.capture3.proofs.Common.{after-append, BadMagic, BadMark, TooManyBytes, TooManyConnections, Next, Goes, Ends, Runs, after, landed, Joining, Error, Side, Begin, Spot, Version, One, Two, Streams, ◌≢◌, drop, get_or, add-one, eq-eqb, Result, Ok, Err, IfOk, ◌≡◌, ℕ, zero, suc, ◌+◌, ◌<◌, ◌≤◌, List, [], ◌∷◌, length, take, refl, ap, ◌∙◌, arith, cond, lt-ltb, le-ltb, Transition, MAGIC, WordPart, unpacking_with, file_fault}
+use Rattle.capture3.proofs.Common.{◌++◌, IsWord, after-append, BadMagic, BadMark, TooManyBytes, TooManyConnections, Next, Goes, Ends, Runs, after, landed, Joining, Error, Side, Begin, Spot, Version, One, Two, Streams, ◌≢◌, drop, get_or, add-one, eq-eqb, Result, Ok, Err, IfOk, ◌≡◌, ℕ, zero, suc, ◌+◌, ◌<◌, ◌≤◌, List, [], ◌∷◌, length, take, refl, ap, ◌∙◌, arith, cond, lt-ltb, le-ltb, Transition, MAGIC, WordPart, unpacking_with, file_fault}
 use Rattle.capture3.specs.declared.fault.Error.TheVariants.{Refused}
 use Rattle.capture3.specs.declared.fault.Error.TheVariants as errors
 use Rattle.capture3.specs.declared.container.position.Position.{Position}
-use Rattle.capture3.specs.declared.container.position.Spot.TheVariants.{Magic, Digit, Mark, Length, Side as SideSpot, SideLength}
+use Rattle.capture3.specs.declared.container.position.Counts.{Counts}
+use Rattle.capture3.specs.declared.container.position.WordOf.{WordOf}
+use Rattle.capture3.specs.declared.container.position.WordOf.TheVariants as words
+use Rattle.capture3.specs.declared.container.position.Spot.TheVariants.{Magic, Digit, Word}
+use Rattle.capture3.specs.machinery.PositionState.{standing_at}
 use Rattle.record_mark.specs.declared.word_part.Word.TheVariants.{Part, Whole}
 use Rattle.record_mark.specs.WordPart.{bytes_so_far, TakesWord}
 use Rattle.record_mark.proofs.WordParts.{short_part}
-use Rattle.capture3.specs.declared.container.position.Version as declared
-use Rattle.capture3.specs.machinery.ContainerMachine.{Unpacking, Unpacked, Has, at_byte, before_mark, begun_at, chunk_counted, in_chunk, left_of_magic, connection_marked, sides_counted, sides_marked, unpack_next}
-use Rattle.capture3.specs.machinery.Position.{unpacking_at, version_of, Lands, Moves, ShowsFault}
+use Rattle.capture3.specs.machinery.ContainerMachine.{Unpacking, Unpacked, Has, at_byte, before_mark, begun_at, chunk_counted, in_chunk, left_of_magic, connection_marked, unpack_next}
+use Rattle.capture3.specs.machinery.Position.{opened_word, unpacking_at, version_of, word_read, Lands, Moves, ShowsFault}
 use Rattle.capture3.proofs.Lemmas.Container.ContainerMachineLemmas.{mark_goes_on, mark_ends, length_goes_on, length_ends, side_goes_on, side_ends, side_length_goes_on, side_length_ends}
 
 -- the position with another spot
@@ -23,96 +26,58 @@ pub at_spot : (p : Position) (streams : Streams) (joining : Joining) (spot : Spo
 at_spot p streams joining spot is =
     ap (λ (s : Spot). unpacking_at (with_spot p s) streams joining) is
 
-pub mark_part : (p : Position) (streams : Streams) (joining : Joining) (version : declared.Version)
-    (part longer : WordPart) (bytes : List ℕ) (count : ℕ) → p.spot ≡ Mark version part
-    → TakesWord part bytes count (Part longer)
-    → after unpack_next (Runs (unpacking_at p streams joining)) (take count bytes)
-    ≡ Runs (unpacking_at (with_spot p (Mark version longer)) streams joining)
-mark_part p streams joining version part longer bytes count is word =
-    ap (λ (u : Unpacking). after unpack_next (Runs u) (take count bytes))
-    (at_spot p streams joining (Mark version part) is)
-    ∙ mark_goes_on (version_of version) p.at p.total p.connections p.records joining
-    (bytes_so_far part) (take count bytes) (bytes_so_far longer) word.0 (short_part part)
+-- a part of a word
+word_goes_on : (word : WordOf) (at total connections records : ℕ) (streams : Streams)
+    (joining : Joining) (part bytes longer : List ℕ) → longer ≡ part ++ bytes → length part < 4
+    → length longer < 4
+    → after unpack_next
+    (Runs (unpacking_with at total connections records (opened_word streams word part) joining))
+    bytes
+    ≡ Runs
+    (unpacking_with at total connections records (opened_word streams word longer) joining)
+word_goes_on (words.Mark version) at total connections records streams joining =
+    mark_goes_on (version_of version) at total connections records joining
+word_goes_on (words.Length side) at total connections records streams joining =
+    length_goes_on at total connections records side joining
+word_goes_on words.Side at total connections records streams joining =
+    side_goes_on at total connections records streams joining
+word_goes_on (words.SideLength side) at total connections records streams joining =
+    side_length_goes_on at total connections records streams side joining
+
+word_ends : (word : WordOf) (at total connections records : ℕ) (streams : Streams)
+    (joining : Joining) (part bytes : List ℕ) (n : ℕ) → length part < 4 → IsWord (part ++ bytes) n
+    → after unpack_next
+    (Runs (unpacking_with at total connections records (opened_word streams word part) joining))
+    bytes
+    ≡ landed (word_read word at total connections records streams joining n)
+word_ends (words.Mark version) at total connections records streams joining =
+    mark_ends (version_of version) at total connections records joining
+word_ends (words.Length side) at total connections records streams joining =
+    length_ends at total connections records side joining
+word_ends words.Side at total connections records streams joining =
+    side_ends at total connections records streams joining
+word_ends (words.SideLength side) at total connections records streams joining =
+    side_length_ends at total connections records streams side joining
+
+pub word_part : (counts : Counts) (streams : Streams) (joining : Joining) (word : WordOf)
+    (part longer : WordPart) (bytes : List ℕ) (count : ℕ) → TakesWord part bytes count (Part longer)
+    → after unpack_next (Runs (unpacking_at (standing_at counts (Word word part)) streams joining))
+    (take count bytes)
+    ≡ Runs (unpacking_at (standing_at counts (Word word longer)) streams joining)
+word_part counts streams joining word part longer bytes count taken =
+    word_goes_on word counts.at counts.total counts.connections counts.records streams joining
+    (bytes_so_far part) (take count bytes) (bytes_so_far longer) taken.0 (short_part part)
     (short_part longer)
 
-pub mark_whole : (p : Position) (streams : Streams) (joining : Joining) (version : declared.Version)
-    (part : WordPart) (bytes : List ℕ) (count n : ℕ) → p.spot ≡ Mark version part
-    → TakesWord part bytes count (Whole n)
-    → after unpack_next (Runs (unpacking_at p streams joining)) (take count bytes)
+pub word_whole : (counts : Counts) (streams : Streams) (joining : Joining) (word : WordOf)
+    (part : WordPart) (bytes : List ℕ) (count n : ℕ) → TakesWord part bytes count (Whole n)
+    → after unpack_next (Runs (unpacking_at (standing_at counts (Word word part)) streams joining))
+    (take count bytes)
     ≡ landed
-    (connection_marked (version_of version) p.at p.total p.connections p.records joining n)
-mark_whole p streams joining version part bytes count n is word =
-    ap (λ (u : Unpacking). after unpack_next (Runs u) (take count bytes))
-    (at_spot p streams joining (Mark version part) is)
-    ∙ mark_ends (version_of version) p.at p.total p.connections p.records joining
-    (bytes_so_far part) (take count bytes) n (short_part part) word
-
-pub length_part : (p : Position) (streams : Streams) (joining : Joining) (side : Side)
-    (part longer : WordPart) (bytes : List ℕ) (count : ℕ) → p.spot ≡ Length side part
-    → TakesWord part bytes count (Part longer)
-    → after unpack_next (Runs (unpacking_at p streams joining)) (take count bytes)
-    ≡ Runs (unpacking_at (with_spot p (Length side longer)) streams joining)
-length_part p streams joining side part longer bytes count is word =
-    ap (λ (u : Unpacking). after unpack_next (Runs u) (take count bytes))
-    (at_spot p streams joining (Length side part) is)
-    ∙ length_goes_on p.at p.total p.connections p.records side joining (bytes_so_far part)
-    (take count bytes) (bytes_so_far longer) word.0 (short_part part) (short_part longer)
-
-pub length_whole : (p : Position) (streams : Streams) (joining : Joining) (side : Side)
-    (part : WordPart) (bytes : List ℕ) (count n : ℕ) → p.spot ≡ Length side part
-    → TakesWord part bytes count (Whole n)
-    → after unpack_next (Runs (unpacking_at p streams joining)) (take count bytes)
-    ≡ landed (chunk_counted p.at p.total p.connections p.records side joining n)
-length_whole p streams joining side part bytes count n is word =
-    ap (λ (u : Unpacking). after unpack_next (Runs u) (take count bytes))
-    (at_spot p streams joining (Length side part) is)
-    ∙ length_ends p.at p.total p.connections p.records side joining (bytes_so_far part)
-    (take count bytes) n (short_part part) word
-
-pub side_part : (p : Position) (streams : Streams) (joining : Joining) (part longer : WordPart)
-    (bytes : List ℕ) (count : ℕ) → p.spot ≡ SideSpot part
-    → TakesWord part bytes count (Part longer)
-    → after unpack_next (Runs (unpacking_at p streams joining)) (take count bytes)
-    ≡ Runs (unpacking_at (with_spot p (SideSpot longer)) streams joining)
-side_part p streams joining part longer bytes count is word =
-    ap (λ (u : Unpacking). after unpack_next (Runs u) (take count bytes))
-    (at_spot p streams joining (SideSpot part) is)
-    ∙ side_goes_on p.at p.total p.connections p.records streams joining (bytes_so_far part)
-    (take count bytes) (bytes_so_far longer) word.0 (short_part part) (short_part longer)
-
-pub side_whole : (p : Position) (streams : Streams) (joining : Joining) (part : WordPart)
-    (bytes : List ℕ) (count n : ℕ) → p.spot ≡ SideSpot part
-    → TakesWord part bytes count (Whole n)
-    → after unpack_next (Runs (unpacking_at p streams joining)) (take count bytes)
-    ≡ landed (sides_marked p.at p.total p.connections p.records streams joining n)
-side_whole p streams joining part bytes count n is word =
-    ap (λ (u : Unpacking). after unpack_next (Runs u) (take count bytes))
-    (at_spot p streams joining (SideSpot part) is)
-    ∙ side_ends p.at p.total p.connections p.records streams joining (bytes_so_far part)
-    (take count bytes) n (short_part part) word
-
-pub side_length_part : (p : Position) (streams : Streams) (joining : Joining) (side : Side)
-    (part longer : WordPart) (bytes : List ℕ) (count : ℕ) → p.spot ≡ SideLength side part
-    → TakesWord part bytes count (Part longer)
-    → after unpack_next (Runs (unpacking_at p streams joining)) (take count bytes)
-    ≡ Runs (unpacking_at (with_spot p (SideLength side longer)) streams joining)
-side_length_part p streams joining side part longer bytes count is word =
-    ap (λ (u : Unpacking). after unpack_next (Runs u) (take count bytes))
-    (at_spot p streams joining (SideLength side part) is)
-    ∙ side_length_goes_on p.at p.total p.connections p.records streams side joining
-    (bytes_so_far part) (take count bytes) (bytes_so_far longer) word.0 (short_part part)
-    (short_part longer)
-
-pub side_length_whole : (p : Position) (streams : Streams) (joining : Joining) (side : Side)
-    (part : WordPart) (bytes : List ℕ) (count n : ℕ) → p.spot ≡ SideLength side part
-    → TakesWord part bytes count (Whole n)
-    → after unpack_next (Runs (unpacking_at p streams joining)) (take count bytes)
-    ≡ landed (sides_counted p.at p.total p.connections p.records streams side joining n)
-side_length_whole p streams joining side part bytes count n is word =
-    ap (λ (u : Unpacking). after unpack_next (Runs u) (take count bytes))
-    (at_spot p streams joining (SideLength side part) is)
-    ∙ side_length_ends p.at p.total p.connections p.records streams side joining (bytes_so_far part)
-    (take count bytes) n (short_part part) word
+    (word_read word counts.at counts.total counts.connections counts.records streams joining n)
+word_whole counts streams joining word part bytes count n taken =
+    word_ends word counts.at counts.total counts.connections counts.records streams joining
+    (bytes_so_far part) (take count bytes) n (short_part part) taken
 
 -- what a whole word leads to, the bytes taken lead to
 pub lands_moves : (from : Unpacking) (bytes : List ℕ) (streams : Streams) (joining : Joining)
@@ -185,11 +150,11 @@ pub ruleset words_lead = (marked_bad, marked_one, marked_many, counted_over, cou
 -- ---- the magic
 
 -- after so many bytes of the magic
-abbrev pub in_magic : Position → Joining → ℕ → Unpacking
+abbrev pub in_magic : Counts → Joining → ℕ → Unpacking
 in_magic p joining n =
     unpacking_with n p.total p.connections p.records (left_of_magic (drop n MAGIC)) joining
 
-magic_due : (p : Position) (joining : Joining) (n : ℕ) → n < 7
+magic_due : (p : Counts) (joining : Joining) (n : ℕ) → n < 7
     → in_magic p joining n
     ≡ unpacking_with n p.total p.connections p.records
     (left_of_magic (get_or MAGIC n 0 ∷ drop (suc n) MAGIC)) joining
@@ -198,11 +163,11 @@ magic_due p joining n within =
     (drop-cons MAGIC n 0 within)
 
 -- the next place, with so many bytes of the magic taken
-abbrev pub moved_on : Position → Joining → (at n : ℕ) → Unpacking
+abbrev pub moved_on : Counts → Joining → (at n : ℕ) → Unpacking
 moved_on p joining at n =
     unpacking_with at p.total p.connections p.records (left_of_magic (drop n MAGIC)) joining
 
-magic_byte : (p : Position) (joining : Joining) (n byte : ℕ) → n < 7 → byte ≡ get_or MAGIC n 0
+magic_byte : (p : Counts) (joining : Joining) (n byte : ℕ) → n < 7 → byte ≡ get_or MAGIC n 0
     → unpack_next (in_magic p joining n) byte ≡ Goes (in_magic p joining (suc n))
 magic_byte p joining n byte within is =
     ap (λ u. unpack_next u byte) (magic_due p joining n within)
@@ -210,7 +175,7 @@ magic_byte p joining n byte within is =
     (eq-eqb byte (get_or MAGIC n 0) is)
     ∙ ap (λ at. Goes (moved_on p joining at (suc n))) (add-one n)
 
-wrong_byte : (p : Position) (joining : Joining) (n byte : ℕ) → n < 7 → byte ≢ get_or MAGIC n 0
+wrong_byte : (p : Counts) (joining : Joining) (n byte : ℕ) → n < 7 → byte ≢ get_or MAGIC n 0
     → unpack_next (in_magic p joining n) byte ≡ Ends (at_byte n BadMagic)
 wrong_byte p joining n byte within other =
     ap (λ u. unpack_next u byte) (magic_due p joining n within)
@@ -230,12 +195,12 @@ taken_one_more from bytes i u n within so_far next =
     ∙ ap landed next
 
 -- so far the bytes are those of the magic
-abbrev pub AgreeWithMagic : Position → List ℕ → ℕ → Type 0
+abbrev pub AgreeWithMagic : Counts → List ℕ → ℕ → Type 0
 AgreeWithMagic p bytes i = (joining : Joining)
     → after unpack_next (Runs (in_magic p joining p.at)) (take i bytes)
     ≡ Runs (in_magic p joining (p.at + i))
 
-pub agree_more : (p : Position) (bytes : List ℕ) (i : ℕ) → p.at + i < 7 → i < length bytes
+pub agree_more : (p : Counts) (bytes : List ℕ) (i : ℕ) → p.at + i < 7 → i < length bytes
     → get_or bytes i 0 ≡ get_or MAGIC (p.at + i) 0 → AgreeWithMagic p bytes i
     → AgreeWithMagic p bytes (i + 1)
 agree_more p bytes i due within is so_far joining =
@@ -245,42 +210,38 @@ agree_more p bytes i due within is so_far joining =
     (magic_byte p joining (p.at + i) (get_or bytes i 0) due is)
     ∙ ap (λ (k : ℕ). Runs (in_magic p joining k)) next
 
-pub magic_fault : (p : Position) (streams : Streams) (joining : Joining) (bytes : List ℕ) (i : ℕ)
-    → p.spot ≡ Magic → p.at + i < 7 → i < length bytes
-    → get_or bytes i 0 ≢ get_or MAGIC (p.at + i) 0 → AgreeWithMagic p bytes i
-    → ShowsFault (unpacking_at p streams joining) bytes (Refused (file_fault (p.at + i) BadMagic))
-magic_fault p streams joining bytes i here due within other so_far =
+pub magic_fault : (p : Counts) (streams : Streams) (joining : Joining) (bytes : List ℕ) (i : ℕ)
+    → p.at + i < 7 → i < length bytes → get_or bytes i 0 ≢ get_or MAGIC (p.at + i) 0
+    → AgreeWithMagic p bytes i
+    → ShowsFault (unpacking_at (standing_at p Magic) streams joining) bytes
+    (Refused (file_fault (p.at + i) BadMagic))
+magic_fault p streams joining bytes i due within other so_far =
     let one_more : i + 1 ≤ length bytes = omega arith in (
       i + 1,
       one_more,
-      ap (λ (u : Unpacking). after unpack_next (Runs u) (take (i + 1) bytes))
-          (at_spot p streams joining Magic here)
-          ∙ taken_one_more (in_magic p joining p.at) bytes i (in_magic p joining (p.at + i))
+      taken_one_more (in_magic p joining p.at) bytes i (in_magic p joining (p.at + i))
           (Ends (at_byte (p.at + i) BadMagic)) within (so_far joining)
           (wrong_byte p joining (p.at + i) (get_or bytes i 0) due other),
     )
 
 -- ---- the version
 
-in_digit : (p : Position) (streams : Streams) (joining : Joining) (bytes : List ℕ) (n : ℕ)
-    → p.spot ≡ Digit → 0 < length bytes → get_or bytes 0 0 ≡ n
-    → after unpack_next (Runs (unpacking_at p streams joining)) (take 1 bytes)
-    ≡ landed (unpack_next (unpacking_at (with_spot p Digit) streams joining) n)
-in_digit p streams joining [] n here some is = absurd (omega arith)
-in_digit p streams joining (byte ∷ bytes) n here some is =
-    ap (λ (u : Unpacking). after unpack_next (Runs u) (byte ∷ []))
-    (at_spot p streams joining Digit here)
-    ∙ ap (λ (b : ℕ). landed (unpack_next (unpacking_at (with_spot p Digit) streams joining) b))
-    is
+in_digit : (p : Counts) (streams : Streams) (joining : Joining) (bytes : List ℕ) (n : ℕ)
+    → 0 < length bytes → get_or bytes 0 0 ≡ n
+    → after unpack_next (Runs (unpacking_at (standing_at p Digit) streams joining)) (take 1 bytes)
+    ≡ landed (unpack_next (unpacking_at (standing_at p Digit) streams joining) n)
+in_digit p streams joining [] n some is = absurd (omega arith)
+in_digit p streams joining (byte ∷ bytes) n some is =
+    ap (λ (b : ℕ). landed (unpack_next (unpacking_at (standing_at p Digit) streams joining) b)) is
 
-pub digit_one : (p : Position) (streams : Streams) (joining : Joining) (bytes : List ℕ)
-    → p.spot ≡ Digit → 0 < length bytes → get_or bytes 0 0 ≡ 49
-    → after unpack_next (Runs (unpacking_at p streams joining)) (take 1 bytes)
+pub digit_one : (p : Counts) (streams : Streams) (joining : Joining) (bytes : List ℕ)
+    → 0 < length bytes → get_or bytes 0 0 ≡ 49
+    → after unpack_next (Runs (unpacking_at (standing_at p Digit) streams joining)) (take 1 bytes)
     ≡ Runs (before_mark One (p.at + 1) p.total p.connections p.records joining)
-digit_one p streams joining bytes here some is = in_digit p streams joining bytes 49 here some is
+digit_one p streams joining bytes some is = in_digit p streams joining bytes 49 some is
 
-pub digit_two : (p : Position) (streams : Streams) (joining : Joining) (bytes : List ℕ)
-    → p.spot ≡ Digit → 0 < length bytes → get_or bytes 0 0 ≡ 50
-    → after unpack_next (Runs (unpacking_at p streams joining)) (take 1 bytes)
+pub digit_two : (p : Counts) (streams : Streams) (joining : Joining) (bytes : List ℕ)
+    → 0 < length bytes → get_or bytes 0 0 ≡ 50
+    → after unpack_next (Runs (unpacking_at (standing_at p Digit) streams joining)) (take 1 bytes)
     ≡ Runs (before_mark Two (p.at + 1) p.total p.connections p.records joining)
-digit_two p streams joining bytes here some is = in_digit p streams joining bytes 50 here some is
+digit_two p streams joining bytes some is = in_digit p streams joining bytes 50 some is

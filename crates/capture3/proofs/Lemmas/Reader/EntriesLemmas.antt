@@ -14,12 +14,13 @@ use Rattle.capture3.specs.declared.fault.Error.TheVariants as errors
 use Rattle.capture3.specs.declared.fault.Noted.{Noted}
 use Rattle.capture3.specs.declared.container.position.Position.{Position}
 use Rattle.capture3.specs.declared.container.position.Spot.TheVariants as spots
+use Rattle.capture3.specs.declared.container.position.WordOf.TheVariants as words
 use Rattle.capture3.specs.Entries.{AreAllBeforeEnd, IsMetBy, failure_in, failure_of}
 use Rattle.capture3.specs.machinery.EntriesHistory.{entries_left_in, entries_left, unjudged, IsReading, StandsIn, StandsFor, HoldsLast, HasRead, HandsOutOrGoesOn, Turns}
 use Rattle.capture3.specs.Handing.{HandsOut, HandsOutGiven}
 use Rattle.capture3.specs.machinery.Pairing.{StandsAt, StandsOrRecalls, HasCome, HasNumber, after_side_word, GoesTo, FailsAt, IsHeld, IsOfBytes, entry_cost}
 use Rattle.capture3.specs.Kept.{IsOfKind}
-use Rattle.capture3.specs.machinery.Position.{AreEmpty, IsBeforeMark, IsEndSpot, IsSoundPosition, IsSoundSpot, StoredAt, opened_at}
+use Rattle.capture3.specs.machinery.Position.{AreEmpty, IsBeforeMark, IsEndSpot, StoredAt, opened_at}
 use Rattle.capture3.specs.Laws.{most_entries}
 use Rattle.capture3.proofs.Lemmas.Reached.ReachedMore.{reached_within}
 use Rattle.capture3.proofs.Lemmas.Container.BytesOf.{AreBytes-append, split_bytes}
@@ -35,32 +36,14 @@ use Rattle.capture3.proofs.Lemmas.Files.Verdicts.{clean_from_runs, told, verdict
 
 -- ---- what is kept truncated
 
-sound_at-prop : (spot : Spot) (at total connections records : ℕ)
-    → IsProp (IsSoundSpot spot at total connections records)
-sound_at-prop spots.Magic at total connections records = hlevel props
-sound_at-prop (spots.Mark version part) at total connections records = hlevel props
-sound_at-prop (spots.Length side part) at total connections records = hlevel props
-sound_at-prop (spots.Chunk side left) at total connections records = hlevel props
-sound_at-prop spots.Digit at total connections records = hlevel props
-sound_at-prop (spots.Side part) at total connections records = hlevel props
-sound_at-prop (spots.SideLength side part) at total connections records = hlevel props
-sound_at-prop (spots.SideChunk side left) at total connections records = hlevel props
-sound_at-prop (spots.Ended version) at total connections records = hlevel props
-
-sound-prop : (p : Position) → IsProp (IsSoundPosition p)
-sound-prop p = hlevel (props, sound_at-prop)
-
-pub sound_position : (p : Position) → ∥ IsSoundPosition p ∥₁ → IsSoundPosition p
-sound_position p h = ∥∥₁_elim h (sound-prop p) (λ s. s)
-
 before_mark-prop : (spot : Spot) → IsProp (IsBeforeMark Two spot)
-before_mark-prop (spots.Mark version part) = hlevel props
+before_mark-prop (spots.Word (words.Mark version) part) = hlevel props
+before_mark-prop (spots.Word (words.Length side) part) = hlevel props
+before_mark-prop (spots.Word words.Side part) = hlevel props
+before_mark-prop (spots.Word (words.SideLength side) part) = hlevel props
 before_mark-prop spots.Magic = hlevel props
 before_mark-prop spots.Digit = hlevel props
-before_mark-prop (spots.Length side part) = hlevel props
 before_mark-prop (spots.Chunk side left) = hlevel props
-before_mark-prop (spots.Side part) = hlevel props
-before_mark-prop (spots.SideLength side part) = hlevel props
 before_mark-prop (spots.SideChunk side left) = hlevel props
 before_mark-prop (spots.Ended version) = hlevel props
 
@@ -69,13 +52,13 @@ empty-prop streams = hlevel props
 
 stored_at-prop : (spot : Spot) (total : ℕ) (streams : Streams)
     → IsProp (StoredAt spot total streams)
-stored_at-prop (spots.Side part) total streams = hlevel props
-stored_at-prop (spots.SideLength side part) total streams = hlevel props
+stored_at-prop (spots.Word words.Side part) total streams = hlevel props
+stored_at-prop (spots.Word (words.SideLength side) part) total streams = hlevel props
+stored_at-prop (spots.Word (words.Mark version) part) total streams = empty-prop streams
+stored_at-prop (spots.Word (words.Length side) part) total streams = empty-prop streams
 stored_at-prop (spots.SideChunk side left) total streams = hlevel props
 stored_at-prop spots.Magic total streams = empty-prop streams
 stored_at-prop spots.Digit total streams = empty-prop streams
-stored_at-prop (spots.Mark version part) total streams = empty-prop streams
-stored_at-prop (spots.Length side part) total streams = empty-prop streams
 stored_at-prop (spots.Chunk side left) total streams = empty-prop streams
 stored_at-prop (spots.Ended version) total streams = empty-prop streams
 
@@ -265,15 +248,9 @@ all_before_end bytes p t streams table model are s = by_spot p.spot refl
         inr (not_ended bytes p t streams table model are s (λ e. subst IsEndSpot is e))
     by_spot spots.Digit is =
         inr (not_ended bytes p t streams table model are s (λ e. subst IsEndSpot is e))
-    by_spot (spots.Mark version part) is =
-        inr (not_ended bytes p t streams table model are s (λ e. subst IsEndSpot is e))
-    by_spot (spots.Length side part) is =
+    by_spot (spots.Word word part) is =
         inr (not_ended bytes p t streams table model are s (λ e. subst IsEndSpot is e))
     by_spot (spots.Chunk side left) is =
-        inr (not_ended bytes p t streams table model are s (λ e. subst IsEndSpot is e))
-    by_spot (spots.Side part) is =
-        inr (not_ended bytes p t streams table model are s (λ e. subst IsEndSpot is e))
-    by_spot (spots.SideLength side part) is =
         inr (not_ended bytes p t streams table model are s (λ e. subst IsEndSpot is e))
     by_spot (spots.SideChunk side left) is =
         inr (not_ended bytes p t streams table model are s (λ e. subst IsEndSpot is e))

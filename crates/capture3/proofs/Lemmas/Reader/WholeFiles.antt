@@ -5,6 +5,7 @@ use Rattle.capture3.specs.declared.reader.entry.Entry.TheVariants as variants
 use Rattle.capture3.specs.declared.fault.Error.TheVariants as errors
 use Rattle.capture3.specs.declared.container.position.Position.{Position}
 use Rattle.capture3.specs.declared.container.position.Spot.TheVariants as spots
+use Rattle.capture3.specs.declared.container.position.WordOf.TheVariants as words
 use Rattle.capture3.specs.declared.container.position.Version as declared
 use Rattle.capture3.specs.Kept.{IsKept, AreKept, begun}
 use Rattle.capture3.specs.Entries.{OnRefused}
@@ -63,11 +64,8 @@ ended_is : (spot : Spot) → IsEndSpot spot
 ended_is (spots.Ended version) ended = (version, refl)
 ended_is spots.Magic ended = absurd ended
 ended_is spots.Digit ended = absurd ended
-ended_is (spots.Mark version part) ended = absurd ended
-ended_is (spots.Length side part) ended = absurd ended
+ended_is (spots.Word word part) ended = absurd ended
 ended_is (spots.Chunk side left) ended = absurd ended
-ended_is (spots.Side part) ended = absurd ended
-ended_is (spots.SideLength side part) ended = absurd ended
 ended_is (spots.SideChunk side left) ended = absurd ended
 
 -- the open part is the end only at the end
@@ -80,12 +78,12 @@ ended_only version streams spots.Magic at e = by_left (drop at MAGIC) e
     by_left [] same = cc
     by_left (byte ∷ due) same = cc
 ended_only version streams spots.Digit at e = absurd (cc)
-ended_only version streams (spots.Mark told part) at e = absurd (cc)
-ended_only version streams (spots.Length side part) at e = absurd (cc)
+ended_only version streams (spots.Word (words.Mark told) part) at e = absurd (cc)
+ended_only version streams (spots.Word (words.Length side) part) at e = absurd (cc)
+ended_only version streams (spots.Word words.Side part) at e = absurd (cc)
+ended_only version streams (spots.Word (words.SideLength side) part) at e = absurd (cc)
 ended_only version streams (spots.Chunk side zero) at e = absurd (cc)
 ended_only version streams (spots.Chunk side (suc left)) at e = absurd (cc)
-ended_only version streams (spots.Side part) at e = absurd (cc)
-ended_only version streams (spots.SideLength side part) at e = absurd (cc)
 ended_only version streams (spots.SideChunk side left) at e = absurd (cc)
 
 -- ---- the verdict

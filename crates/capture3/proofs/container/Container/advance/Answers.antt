@@ -3,37 +3,43 @@ use Rattle.capture3.proofs.Lemmas.Container.ContainerLemmas.{arrives_more, fails
 use Rattle.capture3.proofs.Lemmas.Reader.PassedOn.{error_is}
 use Rattle.capture3.proofs.container.Container.advance.Goals as goal
 
-pub returns-then-is_some-clause-machine : goal.returns-then-is_some-clause-machine
-returns-then-is_some-clause-machine c =
-    arrives_more (unpacking_in c.args.self.now) c.args.piece.now c.loop-taken.taken
-    c.in_ok-step.step.count c.loop-taken.self.position c.in_ok-step.step.position
-    c.loop-taken.self.joiner.taking c.step.new.self.joiner.taking c.loop-taken.self.streams.kept
-    c.step.new.self.streams.kept c.in_ok-step.step.event c.loop-taken.invariant.machine
-    c.in_ok-step.ensures.machine
+pub returns-then-is_some-clause-reaches : goal.returns-then-is_some-clause-reaches
+returns-then-is_some-clause-reaches c =
+    let reached = c.in_ok-step.ensures.reaches in
+    record {
+      machine =
+          arrives_more (unpacking_in c.args.self.now) c.args.piece.now c.loop-taken.taken
+          c.in_ok-step.step.count c.loop-taken.self.position c.in_ok-step.step.position
+          c.loop-taken.self.joiner.taking c.step.new.self.joiner.taking
+          c.loop-taken.self.streams.kept c.step.new.self.streams.kept c.in_ok-step.step.event
+          c.loop-taken.invariant.machine reached.machine;
+      joiner = reached.joiner;
+      stored = reached.stored;
+      room = omega (arith, reached.room, c.loop-taken.invariant.room);
+    }
 
 pub loop-taken-preserved : goal.loop-taken-preserved
-loop-taken-preserved c = record {
-  within = grind (arith, common_steps, c.in_ok-step.ensures);
-  sound = c.in_ok-step.ensures.taken.sound;
-  running =
-      still_running c.in_ok-step.step.event c.step.new.self.joiner.taking
-      (sym c.is_some.ensures ∙ c.if-is_some.false) c.in_ok-step.ensures.joiner;
-  machine =
-      goes_on_more (unpacking_in c.args.self.now) c.args.piece.now c.loop-taken.taken
-      c.in_ok-step.step.count c.loop-taken.self.position c.in_ok-step.step.position
-      c.loop-taken.self.joiner.taking c.step.new.self.joiner.taking c.loop-taken.self.streams.kept
-      c.step.new.self.streams.kept c.in_ok-step.step.event
-      (sym c.is_some.ensures ∙ c.if-is_some.false) c.loop-taken.invariant.machine
-      c.in_ok-step.ensures.machine;
-  room =
-      room_on c.in_ok-step.step.event _ _ c.step.new.self.streams.kept
-      (sym c.is_some.ensures ∙ c.if-is_some.false) c.in_ok-step.ensures.room
-      c.loop-taken.invariant.room;
-  cursor = c.in_ok-step.ensures.cursor ∙ c.loop-taken.invariant.cursor;
-  stored =
-      stored_on c.in_ok-step.step.event c.in_ok-step.step.position c.step.new.self.streams.kept
-      (sym c.is_some.ensures ∙ c.if-is_some.false) c.in_ok-step.ensures.stored;
-}
+loop-taken-preserved c =
+    let reached = c.in_ok-step.ensures.reaches in
+    let none = sym c.is_some.ensures ∙ c.if-is_some.false in
+    record {
+      within = grind (arith, common_steps, c.in_ok-step.ensures);
+      running =
+          still_running c.in_ok-step.step.event c.step.new.self.joiner.taking none reached.joiner;
+      machine =
+          goes_on_more (unpacking_in c.args.self.now) c.args.piece.now c.loop-taken.taken
+          c.in_ok-step.step.count c.loop-taken.self.position c.in_ok-step.step.position
+          c.loop-taken.self.joiner.taking c.step.new.self.joiner.taking
+          c.loop-taken.self.streams.kept c.step.new.self.streams.kept c.in_ok-step.step.event none
+          c.loop-taken.invariant.machine reached.machine;
+      room =
+          room_on c.in_ok-step.step.event _ _ c.step.new.self.streams.kept none reached.room
+          c.loop-taken.invariant.room;
+      cursor = c.in_ok-step.ensures.cursor ∙ c.loop-taken.invariant.cursor;
+      stored =
+          stored_on c.in_ok-step.step.event c.in_ok-step.step.position
+          c.step.new.self.streams.kept none reached.stored;
+    }
 
 pub returns-in_err-step-clause-fault : goal.returns-in_err-step-clause-fault
 returns-in_err-step-clause-fault c =

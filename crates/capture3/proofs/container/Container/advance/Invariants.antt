@@ -1,11 +1,10 @@
 use Rattle.capture3.proofs.Common.{◌≡◌, ◌≤◌, ◌-◌, length, take, None, IsRunning, Arrives, unpacking_in}
-use Rattle.capture3.specs.machinery.Position.{IsSoundPosition, StoredAt, room_of}
+use Rattle.capture3.specs.machinery.Position.{StoredAt, room_of}
 use Rattle.capture3.proofs.container.Container.advance.Given as goal
 
 abbrev pub invariant-loop-taken : goal.invariant-loop-taken
 invariant-loop-taken l = record {
   within : l.taken ≤ length l.piece;
-  sound : IsSoundPosition l.self.position;
   running : IsRunning l.self.joiner.taking;
   machine : Arrives (unpacking_in l.initial.self) (take l.taken l.piece) None l.self.position
       l.self.joiner.taking l.self.streams.kept;

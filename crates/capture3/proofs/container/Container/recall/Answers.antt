@@ -1,33 +1,50 @@
-use Rattle.capture3.proofs.Common.{◌<◌, Some, sym, subst, arith, common_steps, IsRunning, AreStored}
-use Rattle.capture3.proofs.Lemmas.Container.ContainerLemmas.{record_takes, stored_end}
+use Rattle.capture3.proofs.Common.{◌<◌, ◌≤◌, ◌+◌, length, sym, subst, arith, common_steps, IsRunning}
+use Rattle.capture3.specs.machinery.Container.{stream_of}
+use Rattle.capture3.proofs.Lemmas.Container.ContainerLemmas.{record_takes, released_whole, stream_ended_goes_on, stream_within}
 use Rattle.capture3.proofs.container.Container.recall.Goals as goal
 
-pub returns-in-Ok-default-Record-clause-stored : goal.returns-in-Ok-default-Record-clause-stored
-returns-in-Ok-default-Record-clause-stored c =
-    let stored : AreStored c.args.self.now.position (Some c.args.cursor)
-    c.args.self.now.streams.kept = rw c.requires.here at c.requires.stored in
-    let running : IsRunning c.args.self.now.joiner.taking =
-    subst IsRunning (sym c.requires.unbegun) tt in
+pub with_next_record-self-requires-clause-here : goal.with_next_record-self-requires-clause-here
+with_next_record-self-requires-clause-here c = c.requires.ready.stored.3
+
+pub with_next_record-self-requires-clause-fits : goal.with_next_record-self-requires-clause-fits
+with_next_record-self-requires-clause-fits c =
+    let ready = c.requires.ready in
+    let pushed = c.in-Ok-default-Record.ensures in
+    let running : IsRunning c.args.self.now.joiner.taking = subst IsRunning (sym ready.ready) tt in
     let some : 0 < c.in-Ok-default-Record.count =
-    record_takes
-    _ _ _ _ (c.in-Ok-default-Record.ensures.machine.stops running c.in-Ok-default-Record.field-0-1-is)
-    in
-    rw c.with_records-self.ensures (
-      grind (
-        arith,
-        common_steps,
-        c.in-Ok-default-Record.ensures.within,
-        stored.0,
-        c.of_side.ensures,
-      ),
-      omega (arith, stored.1),
-      stored.2,
-      stored.3,
+    record_takes _ _ _ _ (pushed.machine.stops running c.in-Ok-default-Record.field-0-1-is) in
+    let taken : c.args.cursor.taken + c.in-Ok-default-Record.count
+    ≤ length (stream_of c.args.cursor.side c.args.self.now.streams.kept) =
+    grind (arith, common_steps, pushed.within, ready.stored.0, c.of_side.ensures) in
+    omega (
+      arith,
+      ready.stored.1,
+      ready.stored.2,
+      taken,
+      stream_within c.args.cursor.side c.args.self.now.streams.kept,
     )
 
-pub returns-in-Ok-default-More-clause-stored : goal.returns-in-Ok-default-More-clause-stored
-returns-in-Ok-default-More-clause-stored c =
-    let stored : AreStored c.args.self.now.position (Some c.args.cursor)
-    c.args.self.now.streams.kept = rw c.requires.here at c.requires.stored in
-    stored_end c.args.cursor c.args.self.now.position _ c.args.self.now.streams.kept
-    _ _ c.recall_end.result stored c.recall_end.ensures.client c.recall_end.ensures.server
+pub returns-in-Ok-default-Record-clause-ready : goal.returns-in-Ok-default-Record-clause-ready
+returns-in-Ok-default-Record-clause-ready c =
+    let ready = c.requires.ready in
+    let pushed = c.in-Ok-default-Record.ensures in
+    let running : IsRunning c.args.self.now.joiner.taking = subst IsRunning (sym ready.ready) tt in
+    let some : 0 < c.in-Ok-default-Record.count =
+    record_takes _ _ _ _ (pushed.machine.stops running c.in-Ok-default-Record.field-0-1-is) in
+    let taken : c.args.cursor.taken + c.in-Ok-default-Record.count
+    ≤ length (stream_of c.args.cursor.side c.args.self.now.streams.kept) =
+    grind (arith, common_steps, pushed.within, ready.stored.0, c.of_side.ensures) in
+    rw c.with_next_record-self.ensures (record {
+      stored = (taken, omega (arith, ready.stored.1), ready.stored.2, ready.stored.3);
+      ready =
+          released_whole c.push.new.self.taking
+          (pushed.machine.whole.0 c.in-Ok-default-Record.field-0-1-is);
+    })
+
+pub returns-in-Ok-default-More-clause-ready : goal.returns-in-Ok-default-More-clause-ready
+returns-in-Ok-default-More-clause-ready c =
+    stream_ended_goes_on c.args.cursor c.args.self.now _ c.recall_end.result c.requires.ready
+    (subst IsRunning (sym c.recall_end.ensures.joiner)
+    (c.in-Ok-default-More.ensures.machine.running.0 c.in-Ok-default-More.field-0-1-is))
+    (rw c.recall_end.ensures.joiner c.recall_end.ensures.between) c.recall_end.ensures.client
+    c.recall_end.ensures.server

@@ -1,88 +1,44 @@
-use Rattle.capture3.proofs.Common.{unpacking_in, joining_of}
-use Rattle.capture3.proofs.Lemmas.Container.ContainerLemmas.{moved_arrives, moved_fails}
+use Rattle.std.proofs.Common.{IfErr, ap, ◌∙◌}
+use Rattle.capture3.proofs.Common.{IfOk, ShowsError, joining_of, subst, take, unpacking_of}
+use Rattle.capture3.specs.declared.container.position.Position.{Position}
+use Rattle.capture3.specs.declared.container.position.WordOf.{WordOf}
+use Rattle.capture3.specs.declared.container.position.Spot.TheVariants.{Word}
+use Rattle.capture3.specs.machinery.Container.{Leads}
+use Rattle.capture3.proofs.Lemmas.Container.ContainerLemmas.{shown_at, step_fails, step_reaches, stored_here}
 use Rattle.capture3.proofs.container.Container.step.Goals as goal
 
-pub returns-in-Magic-clause-machine : goal.returns-in-Magic-clause-machine
-returns-in-Magic-clause-machine c =
-    moved_arrives (unpacking_in c.args.self.now) c.args.rest.now c.args.self.now.position
-    c.args.self.now.joiner.taking c.args.self.now.streams.kept _ c.take_magic.ensures.steps
-    (c.take_magic.ensures.machine (joining_of c.args.self.now.joiner.taking)
-    c.args.self.now.streams.kept c.requires.stored)
-
-pub returns-in-Magic-clause-fault : goal.returns-in-Magic-clause-fault
-returns-in-Magic-clause-fault c =
-    moved_fails (unpacking_in c.args.self.now) c.args.rest.now c.args.self.now.streams.kept
-    (joining_of c.args.self.now.joiner.taking)
-    _ (c.take_magic.ensures.machine (joining_of c.args.self.now.joiner.taking)
-    c.args.self.now.streams.kept c.requires.stored)
-
-pub returns-in-Digit-clause-machine : goal.returns-in-Digit-clause-machine
-returns-in-Digit-clause-machine c =
-    moved_arrives (unpacking_in c.args.self.now) c.args.rest.now c.args.self.now.position
-    c.args.self.now.joiner.taking c.args.self.now.streams.kept _ c.take_digit.ensures.steps
-    (c.take_digit.ensures.machine (joining_of c.args.self.now.joiner.taking)
-    c.args.self.now.streams.kept c.requires.stored)
-
-pub returns-in-Digit-clause-fault : goal.returns-in-Digit-clause-fault
-returns-in-Digit-clause-fault c =
-    moved_fails (unpacking_in c.args.self.now) c.args.rest.now c.args.self.now.streams.kept
-    (joining_of c.args.self.now.joiner.taking)
-    _ (c.take_digit.ensures.machine (joining_of c.args.self.now.joiner.taking)
-    c.args.self.now.streams.kept c.requires.stored)
-
-pub returns-in-Mark-clause-machine : goal.returns-in-Mark-clause-machine
-returns-in-Mark-clause-machine c =
-    moved_arrives (unpacking_in c.args.self.now) c.args.rest.now c.args.self.now.position
-    c.args.self.now.joiner.taking c.args.self.now.streams.kept _ c.take_mark.ensures.steps
-    (c.take_mark.ensures.machine (joining_of c.args.self.now.joiner.taking)
-    c.args.self.now.streams.kept c.requires.stored)
-
-pub returns-in-Mark-clause-fault : goal.returns-in-Mark-clause-fault
-returns-in-Mark-clause-fault c =
-    moved_fails (unpacking_in c.args.self.now) c.args.rest.now c.args.self.now.streams.kept
-    (joining_of c.args.self.now.joiner.taking)
-    _ (c.take_mark.ensures.machine (joining_of c.args.self.now.joiner.taking)
-    c.args.self.now.streams.kept c.requires.stored)
-
-pub returns-in-Side-clause-machine : goal.returns-in-Side-clause-machine
-returns-in-Side-clause-machine c =
-    moved_arrives (unpacking_in c.args.self.now) c.args.rest.now c.args.self.now.position
-    c.args.self.now.joiner.taking c.args.self.now.streams.kept _ c.take_side.ensures.steps
-    (c.take_side.ensures.machine (joining_of c.args.self.now.joiner.taking)
-    c.args.self.now.streams.kept c.requires.stored)
-
-pub returns-in-Side-clause-fault : goal.returns-in-Side-clause-fault
-returns-in-Side-clause-fault c =
-    moved_fails (unpacking_in c.args.self.now) c.args.rest.now c.args.self.now.streams.kept
-    (joining_of c.args.self.now.joiner.taking)
-    _ (c.take_side.ensures.machine (joining_of c.args.self.now.joiner.taking)
-    c.args.self.now.streams.kept c.requires.stored)
-
-pub returns-in-SideLength-clause-machine : goal.returns-in-SideLength-clause-machine
-returns-in-SideLength-clause-machine c =
-    moved_arrives (unpacking_in c.args.self.now) c.args.rest.now c.args.self.now.position
-    c.args.self.now.joiner.taking c.args.self.now.streams.kept
-    _ c.take_side_length.ensures.steps (c.take_side_length.ensures.machine
-    (joining_of c.args.self.now.joiner.taking) c.args.self.now.streams.kept
-    c.requires.stored)
-
-pub returns-in-SideLength-clause-fault : goal.returns-in-SideLength-clause-fault
-returns-in-SideLength-clause-fault c =
-    moved_fails (unpacking_in c.args.self.now) c.args.rest.now c.args.self.now.streams.kept
-    (joining_of c.args.self.now.joiner.taking)
-    _ (c.take_side_length.ensures.machine (joining_of c.args.self.now.joiner.taking)
-    c.args.self.now.streams.kept c.requires.stored)
-
-pub returns-in-Length-clause-machine : goal.returns-in-Length-clause-machine
-returns-in-Length-clause-machine c =
-    moved_arrives (unpacking_in c.args.self.now) c.args.rest.now c.args.self.now.position
-    c.args.self.now.joiner.taking c.args.self.now.streams.kept _ c.take_length.ensures.steps
-    (c.take_length.ensures.machine (joining_of c.args.self.now.joiner.taking) c.open_body.ensures
-    c.args.self.now.streams.kept c.requires.stored)
+pub returns-in-Length-clause-reaches : goal.returns-in-Length-clause-reaches
+returns-in-Length-clause-reaches c =
+    step_reaches c.args.self.now c.position.inside _ c.args.rest.now _ c.position.view_is
+    (c.in-Word.is ∙ ap (λ (w : WordOf). Word w c.in-Word.part) c.in-Length.is) c.requires.ready
+        c.take_word.ensures.steps
+    (c.take_word.ensures.machine (joining_of c.args.self.now.joiner.taking) c.open_body.ensures)
 
 pub returns-in-Length-clause-fault : goal.returns-in-Length-clause-fault
 returns-in-Length-clause-fault c =
-    moved_fails (unpacking_in c.args.self.now) c.args.rest.now c.args.self.now.streams.kept
-    (joining_of c.args.self.now.joiner.taking) _
-    (c.take_length.ensures.machine (joining_of c.args.self.now.joiner.taking) c.open_body.ensures
-    c.args.self.now.streams.kept c.requires.stored)
+    step_fails c.args.self.now c.position.inside _ c.args.rest.now _ c.position.view_is
+    (c.in-Word.is ∙ ap (λ (w : WordOf). Word w c.in-Word.part) c.in-Length.is) c.requires.ready
+    (c.take_word.ensures.machine (joining_of c.args.self.now.joiner.taking) c.open_body.ensures)
+
+pub returns-in-Chunk-clause-reaches : goal.returns-in-Chunk-clause-reaches
+returns-in-Chunk-clause-reaches c =
+    let self = c.args.self.now in
+    subst
+    (λ (p : Position).
+    IfOk c.join.result (λ t.
+    Leads p self.joiner.taking self.streams.kept (take t.count c.args.rest.now) t.event t.position
+    c.join.new.joiner.taking self.streams.kept))
+    (shown_at c.position.inside self.position _ c.position.view_is c.in-Chunk.is)
+    (c.join.ensures.leads self.streams.kept
+    (stored_here c.position.inside self.position _ self.streams.kept c.position.view_is
+    c.in-Chunk.is c.requires.ready.stored))
+
+pub returns-in-Chunk-clause-fault : goal.returns-in-Chunk-clause-fault
+returns-in-Chunk-clause-fault c =
+    let self = c.args.self.now in
+    subst
+    (λ (p : Position).
+    IfErr c.join.result
+    (ShowsError (unpacking_of p self.joiner.taking self.streams.kept) c.args.rest.now))
+    (shown_at c.position.inside self.position _ c.position.view_is c.in-Chunk.is)
+    (c.join.ensures.fault self.streams.kept)

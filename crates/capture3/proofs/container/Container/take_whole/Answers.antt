@@ -1,13 +1,37 @@
-use Rattle.std.proofs.Common.{◌≤◌, arith}
-use Rattle.capture3.proofs.Lemmas.Container.ContainerLemmas.{join_has_record}
+use Rattle.std.proofs.Common.{◌≤◌, Some, refl, subst, take, arith}
+use Rattle.capture3.specs.declared.container.position.Event.TheVariants.{Record}
+use Rattle.capture3.specs.declared.container.position.Position.{Position}
+use Rattle.capture3.specs.declared.container.position.Spot.TheVariants.{Chunk}
+use Rattle.capture3.specs.machinery.Container.{Leads}
+use Rattle.capture3.specs.machinery.PositionState.{standing_at}
+use Rattle.capture3.proofs.Lemmas.Container.ContainerLemmas.{join_has_record, shown_at, stored_here}
 use Rattle.capture3.proofs.container.Container.take_whole.Goals as goal
 
-pub returns-clause-machine : goal.returns-clause-machine
-returns-clause-machine c =
+pub returns-clause-reaches : goal.returns-clause-reaches
+returns-clause-reaches c =
     let most : c.min.result ≤ c.in-Chunk.left = omega arith in
-    join_has_record c.args.self.now.position c.take_chunk-taken.result.position
-    c.args.self.now.streams.kept c.in-Chunk.side c.in-Chunk.left c.in_ok-count.count
-    c.min.result c.args.self.now.joiner.taking c.take_whole.new.self.taking c.args.piece.now
-    c.in-Chunk.is c.in_ok-count.ensures.within.1 most
-    (c.in_ok-count.ensures.stops c.requires.running)
-    (c.take_chunk-taken.ensures.machine c.args.self.now.streams.kept)
+    let self = c.args.self.now in
+    let chunk = c.take_chunk-taken.ensures in
+    let pushed = c.in_ok-count.ensures in
+    let streams = self.streams.kept in
+    let position = c.position.inside in
+    let stored =
+    stored_here position self.position _ streams c.position.view_is c.in-Chunk.is
+    c.requires.ready.stored in
+    subst
+    (λ (p : Position).
+    Leads p self.joiner.taking streams (take c.in_ok-count.count c.args.piece.now)
+    (Some (Record c.in-Chunk.side)) c.take_chunk-taken.result.position
+    c.take_whole.new.self.taking streams)
+    (shown_at position self.position _ c.position.view_is c.in-Chunk.is)
+    (record {
+      machine =
+          join_has_record (standing_at position.counts (Chunk c.in-Chunk.side c.in-Chunk.left))
+          c.take_chunk-taken.result.position streams c.in-Chunk.side c.in-Chunk.left
+          c.in_ok-count.count c.min.result self.joiner.taking c.take_whole.new.self.taking
+          c.args.piece.now refl pushed.within.1 most (pushed.stops c.requires.ready.ready)
+          (chunk.machine streams);
+      joiner = pushed.whole;
+      stored = rw chunk.event at (chunk.stored streams stored);
+      room = rw chunk.event at (chunk.room streams stored);
+    })

@@ -21,7 +21,6 @@ loop-taken-preserved-in-Continue-branch-2 c =
     (drop c.loop-taken.taken c.args.bytes.now) in
     record {
       within = omega (arith, c.in-Ok.ensures.within, piece, left, invariant.within);
-      sound = c.in-Ok.ensures.sound;
       stored = c.in-Ok.ensures.stored;
       ready = c.in-Ok.ensures.ready;
       room =
@@ -59,7 +58,6 @@ loop-taken-preserved c =
     (drop c.loop-taken.taken c.args.bytes.now) in
     record {
       within = omega (arith, c.in-Ok.ensures.within, piece, left, invariant.within);
-      sound = c.in-Ok.ensures.sound;
       stored = c.in-Ok.ensures.stored;
       ready = c.in-Ok.ensures.ready;
       room = omega (arith, invariant.room, c.in-Ok.ensures.room, cost);

@@ -1,12 +1,11 @@
 use Rattle.capture3.proofs.Common.{◌≤◌, ◌+◌, ◌-◌, length, take, vec_len, released, IsReady, IsStored, known_in_list, room_in}
-use Rattle.capture3.specs.machinery.Position.{IsSoundPosition, most_things}
+use Rattle.capture3.specs.machinery.Position.{most_things}
 use Rattle.capture3.proofs.Lemmas.Reader.WholeFiles.{Keeps}
 use Rattle.capture3.proofs.reader.whole.parse.Given as goal
 
 abbrev pub invariant-loop-taken : goal.invariant-loop-taken
 invariant-loop-taken l = record {
   within : l.taken ≤ length l.bytes;
-  sound : IsSoundPosition l.pairing.container.position;
   stored : IsStored l.pairing.container;
   ready : IsReady l.pairing.container.cursor (released l.pairing.container.joiner.taking);
   room : vec_len l.entries + room_in l.pairing.container ≤ most_things;

@@ -1,10 +1,7 @@
 use Rattle.capture3.proofs.Common.{ap, arith, refl, subst, List, ℕ, ◌-◌, ◌+◌, ◌++◌, ◌≤◌, take, drop, slice_range, length, length-take, FailsAt, GoesTo}
-use Rattle.capture3.proofs.Lemmas.Reader.EntriesLemmas.{failed_not_read, failed_not_write, judged_failed, judged_on, ready_joiner, sound_position, stored_container}
+use Rattle.capture3.proofs.Lemmas.Reader.EntriesLemmas.{failed_not_read, failed_not_write, judged_failed, judged_on, ready_joiner, stored_container}
 use Rattle.capture3.specs.machinery.CountedCalls.{known_of}
 use Rattle.capture3.proofs.reader.entries.Entries.judge.Goals as goal
-
-pub next-requires-clause-sound : goal.next-requires-clause-sound
-next-requires-clause-sound g c = sound_position _ (c.args.self.now.sound c.requires.reading)
 
 pub next-requires-clause-stored : goal.next-requires-clause-stored
 next-requires-clause-stored g c =

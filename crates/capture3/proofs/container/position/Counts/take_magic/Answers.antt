@@ -1,6 +1,6 @@
 use Rattle.std.proofs.Common.{◌<◌, ◌+◌, length, arith}
 use Rattle.capture3.proofs.Lemmas.Container.PositionLemmas.{agree_more, magic_fault}
-use Rattle.capture3.proofs.container.position.Position.take_magic.Goals as goal
+use Rattle.capture3.proofs.container.position.Counts.take_magic.Goals as goal
 
 pub loop-i-preserved : goal.loop-i-preserved
 loop-i-preserved c =
@@ -13,5 +13,5 @@ pub returns-then-rest-i-clause-machine : goal.returns-then-rest-i-clause-machine
 returns-then-rest-i-clause-machine c joining streams stored =
     let due : c.args.self.at + c.loop-i.i < 7 = omega arith in
     let within : c.loop-i.i < length c.args.rest.now = omega arith in
-    rw c.file_fault.ensures (magic_fault c.args.self streams joining c.args.rest.now c.loop-i.i
-    c.requires.here due within c.if-rest-i.true c.loop-i.invariant)
+    rw c.file_fault.ensures (magic_fault c.args.self streams joining c.args.rest.now c.loop-i.i due
+    within c.if-rest-i.true c.loop-i.invariant)

@@ -1,5 +1,5 @@
 use Rattle.capture3.proofs.Lemmas.Container.PositionLemmas.{digit_one, digit_two}
-use Rattle.capture3.proofs.container.position.Position.take_digit.Goals as goal
+use Rattle.capture3.proofs.container.position.Counts.take_digit.Goals as goal
 
 pub returns-in-49-clause-machine : goal.returns-in-49-clause-machine
 returns-in-49-clause-machine c joining streams stored =
@@ -8,7 +8,7 @@ returns-in-49-clause-machine c joining streams stored =
       c.of_version.ensures.some.1,
       c.of_version.ensures.machine streams joining,
     ) (digit_one c.args.self streams joining
-    c.args.rest.now c.requires.here c.requires.some c.in-49.is)
+    c.args.rest.now c.requires.some c.in-49.is)
 
 pub returns-in-50-clause-machine : goal.returns-in-50-clause-machine
 returns-in-50-clause-machine c joining streams stored =
@@ -17,4 +17,4 @@ returns-in-50-clause-machine c joining streams stored =
       c.of_version-in-50.ensures.some.1,
       c.of_version-in-50.ensures.machine streams joining,
     ) (digit_two c.args.self streams
-    joining c.args.rest.now c.requires.here c.requires.some c.in-50.is)
+    joining c.args.rest.now c.requires.some c.in-50.is)
