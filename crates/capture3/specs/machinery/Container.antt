@@ -104,7 +104,7 @@ Reaches old bytes event position new =
     new.streams.kept
 
 -- how many bytes of a piece were taken: all of them if nothing is whole, and then some
-pub record TakesPiece (piece : List ℕ) (taken : ℕ × Option Event) : Type 0 where
+pub record TakesPiece {X : Type 0} (piece : List ℕ) (taken : ℕ × Option X) : Type 0 where
   pub within : taken.0 ≤ length piece
   pub some : 0 < length piece → taken.1 ≡ None → 0 < taken.0
   pub more : taken.1 ≡ None → taken.0 ≡ length piece

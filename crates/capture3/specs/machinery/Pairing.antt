@@ -1,5 +1,5 @@
 -- A capture whose records are judged as they come: where the machine for its file stands.
-use Rattle.std.specs.Prelude.{◌≡◌, ◌⊎◌, ℕ, ◌+◌, min, nat_eq, Option, Some, None, Result, Ok, Err, List, [], ◌∷◌, ◌++◌, take, drop}
+use Rattle.std.specs.Prelude.{◌≡◌, ◌≢◌, ◌⊎◌, ℕ, ◌+◌, min, nat_eq, Option, Some, None, Result, Ok, Err, List, [], ◌∷◌, ◌++◌, take, drop}
 use Rattle.xdr3.specs.declared.reason.GetError.{GetError}
 use Rattle.xdr3.specs.declared.reason.GetError.TheVariants as gets
 use Rattle.xdr3.specs.declared.reason.Stop.{Stop}
@@ -229,3 +229,17 @@ IsOfBytes errors.Memory = Unit {0}
 abbrev pub entry_cost : Option Kind → ℕ
 entry_cost None = 0
 entry_cost (Some kind) = 1
+
+-- ---- what a call says of its result
+
+-- the fault, whatever bytes and entries came before the piece; no device failed
+pub record FailsFrom (container : Container) (calls : Known) (piece : List ℕ) (error : Error) : Type
+    0 where
+  pub device : IsOfBytes error
+  pub fault : (bytes : List ℕ) (entries : List Entry) → HasCome container calls bytes entries
+      → FailsAt (bytes ++ piece) entries error
+
+-- the record of what became whole stands, if it was one; the end of the capture is not among these
+pub record StandsLast (came : Option Kind) (taking : Taking) : Type 0 where
+  pub not_end : came ≢ Some kinds.End
+  pub spells : ∥ SpellsLast came taking ∥₁

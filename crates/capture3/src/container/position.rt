@@ -351,6 +351,7 @@ impl Counts {
     }
 
     /// Returns the position after a chunk's length word, or after a stream's word 0.
+    #[inline(always)]
     fn after_length(
         self,
         side: Side,
@@ -451,6 +452,7 @@ impl Counts {
     }
 
     /// Takes this many bytes of a chunk. With the last of them a record may be whole.
+    #[inline(always)]
     pub(crate) fn take_chunk(self, side: Side, left: u32, count: u32, is_record: bool) -> Transition
         requires sound { IsSoundPosition (standing_at self (Spot.Chunk side left)) }
         requires some { 0 < count }
@@ -491,6 +493,7 @@ impl Counts {
     }
 
     /// Takes bytes of a chunk, and passes them to the joiner.
+    #[inline(always)]
     pub(crate) fn join(
         self,
         joiner: &mut Joiner,
@@ -560,6 +563,7 @@ impl Counts {
     }
 
     /// Returns the position after this many bytes, with this part open. Nothing is whole.
+    #[inline(always)]
     pub(crate) fn advanced(self, count: usize, at: u64, spot: Spot) -> Transition
         requires { IsSoundPosition (standing_at (record self { at = at }) spot) }
         ensures { result ≡ record {
@@ -581,6 +585,7 @@ impl Counts {
 
 impl Spot {
     /// Returns the part that a word is, before its first byte.
+    #[inline(always)]
     pub(crate) fn before(word: WordOf) -> Spot
         ensures { IsBeforeWord word result }
     {

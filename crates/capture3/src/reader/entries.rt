@@ -10,7 +10,7 @@ ghost use Rattle.xdr3.specs.Item.{AreBytes};
 ghost use Rattle.capture3.specs.Device.{Counts};
 ghost use Rattle.capture3.specs.Entry as spec;
 ghost use Rattle.capture3.specs.Capture.{Two};
-ghost use Rattle.capture3.specs.machinery.Container.{IsReady, IsStored};
+ghost use Rattle.capture3.specs.machinery.Container.{CanGoOn};
 ghost use Rattle.capture3.specs.machinery.Pairing.{SpellsLast};
 ghost use Rattle.capture3.specs.Laws.{most_bytes};
 
@@ -64,9 +64,9 @@ pub struct Entries<'r, R, S: BuildHasher + Drop> {
     ghost ordered: { start ≤ end },
     ghost within: { end ≤ vec_len block },
     ghost roomy: { 0 < vec_len block },
-    ghost stored: { stage ≡ stages.Reading → ∥ IsStored pairing.container ∥₁ },
     ghost ready: { stage ≡ stages.Reading
-        → ∥ IsReady pairing.container.cursor (released pairing.container.joiner.taking) ∥₁ },
+        → ∥ CanGoOn pairing.container.cursor (released pairing.container.joiner.taking)
+        pairing.container ∥₁ },
     ghost spells: { ∥ SpellsLast last pairing.container.joiner.taking ∥₁ },
     ghost never_writes: { stage ≢ stages.Failed errors.Write },
     ghost unlent: { (error : Error) → stage ≡ stages.Failed error → last ≡ None },

@@ -3,9 +3,9 @@
 ghost use Rattle.std.specs.Prelude.{is_some, ◌≡◌, ◌≢◌, ◌≤◌, ◌<◌, ◌+◌, ◌++◌, ℕ, List, [], length, take, IfErr, IfOk, IfSome, OnErr, OnOk, None, Some};
 ghost use Rattle.record_mark.specs.Taking.{IsRunning, IsWhole, body_of, released, unbegun};
 ghost use Rattle.xdr3.specs.Item.{Item};
-ghost use Rattle.capture3.specs.machinery.Container.{IsReady, IsStored, Leaves, room_in};
+ghost use Rattle.capture3.specs.machinery.Container.{CanGoOn, Leaves, room_in, TakesPiece};
 ghost use Rattle.capture3.specs.Entry as spec;
-ghost use Rattle.capture3.specs.machinery.Pairing.{entry_cost, error_at, FailsAt, GoesTo, HasCome, IsHeld, IsOfBytes, MeetsEvent, RefusesBody, SpellsKind, SpellsLast, JudgesCall, JudgesReply};
+ghost use Rattle.capture3.specs.machinery.Pairing.{entry_cost, error_at, FailsAt, FailsFrom, GoesTo, HasCome, IsHeld, IsOfBytes, MeetsEvent, RefusesBody, SpellsKind, StandsLast, JudgesCall, JudgesReply};
 ghost use Rattle.capture3.specs.Kept.{IsLent, kind_of};
 ghost use Rattle.capture3.specs.Numbering.{number_lent};
 ghost use Rattle.capture3.specs.machinery.Spelled.{SpellsCall, SpellsReply};
@@ -39,8 +39,8 @@ pub(crate) struct Pairing<C: Drop> {
 impl<C: CallTable + Drop> Pairing<C> {
     pub(crate) fn new(alloc: Global, calls: C) -> Pairing<C>
         requires none { KnowsNone (C.known calls) }
-        ensures stored { IsStored result.container }
-        ensures ready { IsReady result.container.cursor (released result.container.joiner.taking) }
+        ensures ready { CanGoOn result.container.cursor (released result.container.joiner.taking)
+            result.container }
         ensures room { room_in result.container ≤ most_things }
         ensures machine { HasCome result.container (C.known result.calls) [] [] }
     {
@@ -61,14 +61,11 @@ impl<C: CallTable + Drop> Pairing<C> {
         piece: &[u8],
         visitor: &mut V,
     ) -> Result<(usize, Option<Kind>), Noted>
-        requires stored { IsStored self.old.container }
-        requires ready { IsReady self.old.container.cursor
-            (released self.old.container.joiner.taking) }
+        requires ready { CanGoOn self.old.container.cursor
+            (released self.old.container.joiner.taking) self.old.container }
 
         // How many bytes were taken.
-        ensures within { IfOk result (λ r. r.0 ≤ length piece.now) }
-        ensures some { IfOk result (λ r. 0 < length piece.now → r.1 ≡ None → 0 < r.0) }
-        ensures more { IfOk result (λ r. r.1 ≡ None → r.0 ≡ length piece.now) }
+        ensures taken { IfOk result (TakesPiece piece.now) }
         ensures recalling { self.old.container.cursor ≢ None → IfOk result
             (λ r. (r.0 ≡ 0) × (r.1 ≢ None)) }
 
@@ -78,18 +75,16 @@ impl<C: CallTable + Drop> Pairing<C> {
             → IfOk result
             (λ r. GoesTo V.stands visitor.old visitor.new r.1 self.new.number self.new.container
             (C.known self.new.calls) (bytes ++ take r.0 piece.now) entries) }
-        ensures fault { (bytes : List ℕ) (entries : List spec.Entry)
-            → HasCome self.old.container (C.known self.old.calls) bytes entries
-            → OnErr result (FailsAt (bytes ++ piece.now) entries self.new.error) }
-        ensures not_end { IfOk result (λ r. r.1 ≢ Some Kind.End) }
-        ensures spells { IfOk result (λ r. ∥ SpellsLast r.1 self.new.container.joiner.taking ∥₁) }
+        ensures stands { IfOk result (λ r. StandsLast r.1 self.new.container.joiner.taking) }
         ensures untold { IfOk result (λ r. r.1 ≡ None → visitor.new ≡ visitor.old) }
-        ensures device { OnErr result (IsOfBytes self.new.error) }
+
+        // Errors.
+        ensures fault { OnErr result (FailsFrom self.old.container (C.known self.old.calls) piece.now
+            self.new.error) }
 
         // The container stays ready for the next bytes.
-        ensures stored { OnOk result (IsStored self.new.container) }
-        ensures ready { OnOk result
-            (IsReady self.new.container.cursor (released self.new.container.joiner.taking)) }
+        ensures ready { OnOk result (CanGoOn self.new.container.cursor
+            (released self.new.container.joiner.taking) self.new.container) }
         ensures room { IfOk result
             (λ r. room_in self.new.container + entry_cost r.1 ≤ room_in self.old.container) }
     {

@@ -1,6 +1,6 @@
 -- What a reader of entries makes of its histories, step by step.
 use Rattle.std.proofs.Common.{◌≡◌, ◌≢◌, inl, inr, ℕ, ◌+◌, ◌-◌, ◌≤◌, ◌<◌, Option, Some, None, Result, Ok, Err, IsSome, List, [], ◌∷◌, ◌++◌, length, take, drop, slice_range, refl, sym, ap, subst, ◌∙◌, append_assoc, append-nil, length-append, arith, take-append-drop, length-take, length-drop, vec_len}
-use Rattle.capture3.proofs.Common.{common_steps, Pairing, CountedCalls, known_of, open_xids, ∥∥₁_elim, CaptureCut, AreBytes, Item, Runs, Stops, Stopped, Taking, Led, OutOfMemory, IsRunning, released, Known, Kind, Error, Spot, Container, Cursor, Two, max_connections, Entry, End, FirstFault, IsClean, begins, most_bytes, Parsing, parsed, emitted, AreFirstReached, AreWhole, Reached, parsing_at, Streams, file_fault, IsWellFormed, Typed, props, Told, Gave, IsSpent, AreStored, IsReady, IsStored, room_in, unpacking_of}
+use Rattle.capture3.proofs.Common.{CanGoOn, common_steps, Pairing, CountedCalls, known_of, open_xids, ∥∥₁_elim, CaptureCut, AreBytes, Item, Runs, Stops, Stopped, Taking, Led, OutOfMemory, IsRunning, released, Known, Kind, Error, Spot, Container, Cursor, Two, max_connections, Entry, End, FirstFault, IsClean, begins, most_bytes, Parsing, parsed, emitted, AreFirstReached, AreWhole, Reached, parsing_at, Streams, file_fault, IsWellFormed, Typed, props, Told, Gave, IsSpent, AreStored, IsReady, room_in, unpacking_of}
 use Rattle.std.proofs.lemmas.List.{drop-take}
 use Rattle.capture3.proofs.Lemmas.Reader.ToldLemmas.{gave_both, gave_none, gave_none_as}
 use Rattle.std.specs.declared.hash.BuildHasher as BuildHasher
@@ -67,9 +67,6 @@ stored-prop : (p : Position) (cursor : Option Cursor) (streams : Streams)
 stored-prop p None streams = stored_at-prop p.spot p.total streams
 stored-prop p (Some cursor) streams = hlevel (props, before_mark-prop)
 
-pub stored_container : (c : Container) → ∥ IsStored c ∥₁ → IsStored c
-stored_container c h = ∥∥₁_elim h (stored-prop c.position c.cursor c.streams.kept) (λ s. s)
-
 running-prop : (t : Taking) → IsProp (IsRunning t)
 running-prop (Led (Runs s)) = hlevel props
 running-prop (Led (Stops end)) = hlevel props
@@ -80,8 +77,12 @@ ready-prop : (cursor : Option Cursor) (t : Taking) → IsProp (IsReady cursor t)
 ready-prop None t = running-prop t
 ready-prop (Some cursor) t = hlevel props
 
-pub ready_joiner : (cursor : Option Cursor) (t : Taking) → ∥ IsReady cursor t ∥₁ → IsReady cursor t
-ready_joiner cursor t h = ∥∥₁_elim h (ready-prop cursor t) (λ s. s)
+going_on-prop : (cursor : Option Cursor) (t : Taking) (c : Container) → IsProp (CanGoOn cursor t c)
+going_on-prop cursor t c = hlevel (props, stored-prop, ready-prop)
+
+pub can_go_on : (cursor : Option Cursor) (t : Taking) (c : Container) → ∥ CanGoOn cursor t c ∥₁
+    → CanGoOn cursor t c
+can_go_on cursor t c h = ∥∥₁_elim h (going_on-prop cursor t c) (λ s. s)
 
 kind_held : (kind : Kind) (t : Taking) (entry : Entry) → IsHeld kind t entry → IsOfKind kind entry
 kind_held kinds.Begin t entry is = is

@@ -7,7 +7,7 @@ use Rattle.capture3.specs.declared.container.position.Event.TheVariants.{Begin, 
 use Rattle.capture3.specs.declared.container.position.Position.{Position}
 use Rattle.capture3.specs.machinery.Container.{AreStored, Comes, ComesToFault, FirstKept, FromFile, InFile, InFirstKept, InNextKept, IsStored, Leaves, NextKept, Recalled, first_cursor, RecallFails, stream_of, unpacking_of, arrived, Arrives, ShowsError}
 use Rattle.capture3.specs.Entry as entries
-use Rattle.capture3.specs.machinery.Pairing.{StandsAt, StandsOrRecalls, HasCome, after_side_word, HasMet, MeetsEvent, met, met_in, GoesTo, FailsAt, JudgesCall, JudgesReply, RefusesBody}
+use Rattle.capture3.specs.machinery.Pairing.{StandsAt, StandsOrRecalls, HasCome, after_side_word, HasMet, MeetsEvent, met, met_in, GoesTo, FailsAt, IsOfBytes, JudgesCall, JudgesReply, RefusesBody}
 use Rattle.capture3.specs.StreamMachine as reading
 use Rattle.capture3.specs.declared.container.position.Event.TheVariants as events
 use Rattle.capture3.proofs.Lemmas.Container.KeptStreamsLemmas.{call_cut, call_recalled, call_refused, close_recalled, reply_cut, reply_recalled, reply_refused, shows_at_last, turn_recalled}
@@ -797,3 +797,15 @@ comes_to_fault old table bytes all piece error s (InNextKept cursor some fails) 
     (sym (append-nil bytes)) (recall_fails cursor old.position old.joiner.taking
     old.streams.kept table bytes all error
     (opened_with old cursor table bytes all some s) fails))
+
+-- no device failed
+pub comes_of_bytes : (old : Container) (bytes : List ℕ) (error : Error)
+    → ComesToFault old bytes error → IsOfBytes error
+comes_of_bytes old bytes (errors.Refused fault) h = tt
+comes_of_bytes old bytes errors.Memory h = tt
+comes_of_bytes old bytes errors.Read (InFile none shows) = shows
+comes_of_bytes old bytes errors.Read (InFirstKept mid n none arrives fails) = fails
+comes_of_bytes old bytes errors.Read (InNextKept cursor some fails) = fails
+comes_of_bytes old bytes errors.Write (InFile none shows) = shows
+comes_of_bytes old bytes errors.Write (InFirstKept mid n none arrives fails) = fails
+comes_of_bytes old bytes errors.Write (InNextKept cursor some fails) = fails

@@ -11,7 +11,7 @@ pub returns-in-Length-clause-reaches : goal.returns-in-Length-clause-reaches
 returns-in-Length-clause-reaches c =
     step_reaches c.args.self.now c.position.inside _ c.args.rest.now _ c.position.view_is
     (c.in-Word.is ∙ ap (λ (w : WordOf). Word w c.in-Word.part) c.in-Length.is) c.requires.ready
-        c.take_word.ensures.steps
+    c.take_word.ensures.steps
     (c.take_word.ensures.machine (joining_of c.args.self.now.joiner.taking) c.open_body.ensures)
 
 pub returns-in-Length-clause-fault : goal.returns-in-Length-clause-fault

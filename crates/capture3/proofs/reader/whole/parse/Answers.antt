@@ -20,8 +20,7 @@ loop-taken-preserved-in-Continue-branch-2 c =
     length-take (length c.args.bytes.now - c.loop-taken.taken)
     (drop c.loop-taken.taken c.args.bytes.now) in
     record {
-      within = omega (arith, c.in-Ok.ensures.within, piece, left, invariant.within);
-      stored = c.in-Ok.ensures.stored;
+      within = omega (arith, c.in-Ok.ensures.taken.within, piece, left, invariant.within);
       ready = c.in-Ok.ensures.ready;
       room =
           omega (arith, invariant.room, c.in-Ok.ensures.room, cost, c.in_ok-push-in-Ok.ensures.len);
@@ -57,8 +56,7 @@ loop-taken-preserved c =
     length-take (length c.args.bytes.now - c.loop-taken.taken)
     (drop c.loop-taken.taken c.args.bytes.now) in
     record {
-      within = omega (arith, c.in-Ok.ensures.within, piece, left, invariant.within);
-      stored = c.in-Ok.ensures.stored;
+      within = omega (arith, c.in-Ok.ensures.taken.within, piece, left, invariant.within);
       ready = c.in-Ok.ensures.ready;
       room = omega (arith, invariant.room, c.in-Ok.ensures.room, cost);
       machine =
@@ -73,7 +71,7 @@ returns-in-Err-clause-fault c =
     first_fault {X = ℕ} (Err c.next.new.self.error) c.args.bytes.now c.loop-taken.taken
     c.loop-taken.invariant.machine.0 c.next.new.self.error refl
     (λ i. omega (arith, c.type_inv.bytes i))
-    (c.in-Err.ensures.fault (take c.loop-taken.taken c.args.bytes.now)
+    (c.in-Err.ensures.fault.fault (take c.loop-taken.taken c.args.bytes.now)
     c.loop-taken.invariant.machine.0 c.loop-taken.invariant.machine.1)
 
 pub returns-clause-entries : goal.returns-clause-entries
@@ -126,5 +124,5 @@ lend-requires c =
       spells =
           subst
           (λ (came : Option Kind). ∥ SpellsLast came c.next.new.self.container.joiner.taking ∥₁)
-          c.in-Some.is c.in-Ok.ensures.spells;
+          c.in-Some.is c.in-Ok.ensures.stands.spells;
     }

@@ -1,20 +1,19 @@
 use Rattle.capture3.proofs.Common.{ap, arith, refl, subst, List, ℕ, ◌-◌, ◌+◌, ◌++◌, ◌≤◌, take, drop, slice_range, length, length-take, FailsAt, GoesTo}
-use Rattle.capture3.proofs.Lemmas.Reader.EntriesLemmas.{failed_not_read, failed_not_write, judged_failed, judged_on, ready_joiner, stored_container}
+use Rattle.capture3.proofs.Lemmas.Reader.EntriesLemmas.{failed_not_read, failed_not_write, judged_failed, judged_on, can_go_on}
 use Rattle.capture3.specs.machinery.CountedCalls.{known_of}
 use Rattle.capture3.proofs.reader.entries.Entries.judge.Goals as goal
 
-pub next-requires-clause-stored : goal.next-requires-clause-stored
-next-requires-clause-stored g c =
-    stored_container c.args.self.now.pairing.container (c.args.self.now.stored c.requires.reading)
-
-pub next-requires-clause-ready : goal.next-requires-clause-ready
-next-requires-clause-ready g c =
-    ready_joiner c.args.self.now.pairing.container.cursor
-    _ (c.args.self.now.ready c.requires.reading)
+pub next-requires : goal.next-requires
+next-requires g c =
+    record {
+      ready =
+          can_go_on c.args.self.now.pairing.container.cursor
+          _ c.args.self.now.pairing.container (c.args.self.now.ready c.requires.reading);
+    }
 
 pub invariant_of-self-in-Err-clause-never_writes : goal.invariant_of-self-in-Err-clause-never_writes
 invariant_of-self-in-Err-clause-never_writes g c =
-    failed_not_write c.next.new.self.error c.in-Err.ensures.device
+    failed_not_write c.next.new.self.error c.in-Err.ensures.fault.device
 
 pub returns-in-Ok-clause-goes_on : goal.returns-in-Ok-clause-goes_on
 returns-in-Ok-clause-goes_on g c given handed s =
@@ -22,7 +21,7 @@ returns-in-Ok-clause-goes_on g c given handed s =
     length-take (c.args.self.now.end - c.args.self.now.start)
     (drop c.args.self.now.start c.deref.result.now) in
     let fits : c.args.self.now.start + c.in-Ok.count ≤ c.args.self.now.end =
-    omega (arith, c.in-Ok.ensures.within, inner, c.args.self.now.ordered) in
+    omega (arith, c.in-Ok.ensures.taken.within, inner, c.args.self.now.ordered) in
     let within : c.args.self.now.end ≤ length c.args.self.now.block.items =
     omega (arith, c.args.self.now.within, c.deref.ensures.len, ap length c.deref.ensures.value) in
     judged_on g.R.Source.told g.V.Visit.stands c.args.visitor.now c.next.new.visitor c.args.self.now
@@ -46,8 +45,8 @@ returns-in-Err-clause-goes_on g c given handed s =
     (λ (items : List ℕ).
     FailsAt (judged ++ slice_range items c.args.self.now.start c.args.self.now.end)
     handed c.next.new.self.error) c.deref.ensures.value
-    (c.in-Err.ensures.fault judged handed at))
+    (c.in-Err.ensures.fault.fault judged handed at))
 
 pub returns-in-Err-clause-never_reads : goal.returns-in-Err-clause-never_reads
 returns-in-Err-clause-never_reads g c =
-    failed_not_read c.next.new.self.error c.in-Err.ensures.device
+    failed_not_read c.next.new.self.error c.in-Err.ensures.fault.device
