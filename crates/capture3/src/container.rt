@@ -189,12 +189,14 @@ impl Container {
         // What stays.
         ensures cursor { self.new.cursor ≡ self.old.cursor }
     {
-        let position = self.position;
-        let Spot::Chunk(side, left) = position.spot else {
+        let open = self.position;
+        let Spot::Chunk(side, left) = open.spot else {
             return None;
         };
         let front = &piece[..piece.len().min(left as usize)];
         let count = self.joiner.take_whole(front)?;
+        // Read again after the joiner's writes, so that the counts that stay are not written back.
+        let position = self.position;
         let taken = position.counts.take_chunk(side, left, count as u32, true);
         self.position = taken.position;
         Some((count, side))

@@ -79,8 +79,8 @@ impl<C: CallTable + Drop> Pairing<C> {
         ensures untold { IfOk result (λ r. r.1 ≡ None → visitor.new ≡ visitor.old) }
 
         // Errors.
-        ensures fault { OnErr result (FailsFrom self.old.container (C.known self.old.calls) piece.now
-            self.new.error) }
+        ensures fault { OnErr result
+            (FailsFrom self.old.container (C.known self.old.calls) piece.now self.new.error) }
 
         // The container stays ready for the next bytes.
         ensures ready { OnOk result (CanGoOn self.new.container.cursor

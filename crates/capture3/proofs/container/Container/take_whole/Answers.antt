@@ -1,4 +1,4 @@
-use Rattle.std.proofs.Common.{◌≤◌, Some, refl, subst, take, arith}
+use Rattle.std.proofs.Common.{◌≤◌, ◌∙◌, Some, ap, refl, subst, sym, take, arith}
 use Rattle.capture3.specs.declared.container.position.Event.TheVariants.{Record}
 use Rattle.capture3.specs.declared.container.position.Position.{Position}
 use Rattle.capture3.specs.declared.container.position.Spot.TheVariants.{Chunk}
@@ -15,15 +15,16 @@ returns-clause-reaches c =
     let pushed = c.in_ok-count.ensures in
     let streams = self.streams.kept in
     let position = c.position.inside in
+    let here =
+    ap (λ (p : Position). p.spot) (c.position.view_is ∙ sym c.open.view_is) ∙ c.in-Chunk.is in
     let stored =
-    stored_here position self.position _ streams c.position.view_is c.in-Chunk.is
-    c.requires.ready.stored in
+    stored_here position self.position _ streams c.position.view_is here c.requires.ready.stored in
     subst
     (λ (p : Position).
     Leads p self.joiner.taking streams (take c.in_ok-count.count c.args.piece.now)
     (Some (Record c.in-Chunk.side)) c.take_chunk-taken.result.position
     c.take_whole.new.self.taking streams)
-    (shown_at position self.position _ c.position.view_is c.in-Chunk.is)
+    (shown_at position self.position _ c.position.view_is here)
     (record {
       machine =
           join_has_record (standing_at position.counts (Chunk c.in-Chunk.side c.in-Chunk.left))
