@@ -1,6 +1,6 @@
 -- A reader of entries: what it answers for good, and what an error says of what it read and handed
 -- out.
-use Rattle.std.specs.Prelude.{◌≡◌, ◌⊎◌, ℕ, ◌+◌, ◌-◌, ◌≤◌, ◌^◌, min, Option, Some, None, Result, Err, List, [], ◌∷◌, ◌++◌, length, vec_len}
+use Rattle.std.specs.Prelude.{◌≡◌, ◌⊎◌, ℕ, ◌+◌, ◌-◌, ◌≤◌, ◌^◌, min, Option, Some, None, Result, Err, List, [], ◌∷◌, ◌++◌, length, vec_len, ◌≢◌, IfErr, OnErr, OnOk}
 use Rattle.std.specs.Borrow.{GName}
 use Rattle.capture3.specs.Told.{Told, IsSpent}
 use Rattle.std.specs.declared.hash.BuildHasher as BuildHasher
@@ -80,6 +80,15 @@ module _ {R S H : Type 0} {builds : BuildHasher.Ghosts S H} {hashes : Hasher.Gho
   abbrev pub block_size : Entries R S H builds hashes → ℕ
   block_size entries = vec_len entries.block
 
+  -- A call uses the source: at most one read of it fails, if no call failed before. It never writes.
+  -- The block and the reference to the source stay.
+  pub record UsesSource {X : Type 0} (failures : R → ℕ) (old new : Entries R S H builds hashes)
+      (result : Result X Error) : Type 0 where
+    pub read : failure_of old ≡ None → CountsReads failures old new result
+    pub write : IfErr result (λ error. error ≢ errors.Write)
+    pub same_block : block_size new ≡ block_size old
+    pub same_reference : loan_of new ≡ loan_of old
+
   -- The entries that were handed out and the connections that they begin are at most as many as a
   -- capture has. The bytes given are at most one block more than the longest capture has, also if
   -- the source never ends.
@@ -92,6 +101,16 @@ module _ {R S H : Type 0} {builds : BuildHasher.Ghosts S H} {hashes : Hasher.Gho
   -- what the entry is that was handed out last
   abbrev pub last_of : Entries R S H builds hashes → Option Kind
   last_of entries = entries.last
+
+  -- A call succeeds, or it fails for good: then no entry is lent. After an error the same is
+  -- returned, and nothing is read.
+  pub record KeepsErrors {X : Type 0} (old new : Entries R S H builds hashes)
+      (result : Result X Error) : Type 0 where
+    pub going : OnOk result (failure_of new ≡ None)
+    pub failed : IfErr result (λ error. failure_of new ≡ Some error)
+    pub unlent : OnErr result (last_of new ≡ None)
+    pub again : (error : Error) → failure_of old ≡ Some error → result ≡ Err error
+    pub unread : (error : Error) → failure_of old ≡ Some error → source_of new ≡ source_of old
 
   -- the end was handed out
   abbrev pub IsOver : Entries R S H builds hashes → Type 0

@@ -1,6 +1,6 @@
 -- The histories for which a reader of entries stands: what its source gave it, and what it handed
 -- out.
-use Rattle.std.specs.Prelude.{◌≡◌, ℕ, ◌+◌, ◌≤◌, Option, Some, None, Result, Ok, Err, List, [], ◌∷◌, ◌++◌, length, slice_range}
+use Rattle.std.specs.Prelude.{◌≡◌, ℕ, ◌+◌, ◌≤◌, Option, Some, None, Result, Ok, Err, List, [], ◌∷◌, ◌++◌, length, slice_range, ◌≢◌, ◌<◌, Bool, IsTrue, IsFalse, IsSome, IfOk, OnErr, OnOk}
 use Rattle.capture3.specs.Told.{Told, Gave, IsSpent}
 use Rattle.xdr3.specs.Item.{AreBytes, Item}
 use Rattle.xdr3.specs.Visit.{Adds}
@@ -22,7 +22,7 @@ use Rattle.capture3.specs.OpenXids.{open_xids}
 use Rattle.capture3.specs.Kept.{IsOfKind}
 use Rattle.capture3.specs.Laws.{most_entries}
 use Rattle.capture3.specs.Typed.{Typed}
-use Rattle.capture3.specs.Entries.{IsMetBy, KeepsLimits}
+use Rattle.capture3.specs.Entries.{block_size, CountsReads, failure_of, IsMetBy, KeepsLimits, last_of, loan_of, source_of}
 
 -- what is answered, where an error is the one that is noted
 abbrev pub answer_in : {X : Type 0} → Option Error → Result X Noted → Result X Error
@@ -102,3 +102,54 @@ module _ {R S H : Type 0} {builds : BuildHasher.Ghosts S H} {hashes : Hasher.Gho
     pub more : List ℕ
     pub consumed : Gave (told old.source.now) (told new.source.now) more
     pub goes_on : HandsOutOrGoesOn told stands new was now (given ++ more) handed result
+
+  -- ---- what a call inside the reader leaves
+
+  -- all bytes at hand are judged, and no kept streams are left
+  abbrev pub IsUsedUp : Entries R S H builds hashes → Type 0
+  IsUsedUp entries = (entries.start ≡ entries.end) × (entries.pairing.container.cursor ≡ None)
+
+  -- whether bytes are at hand; if not, the source has none left
+  pub record FillsOrEnds (told : R → Told) (new : Entries R S H builds hashes) (more : Bool) : Type
+      0 where
+    pub some : IsTrue more → new.start < new.end
+    pub none : IsFalse more → new.start ≡ new.end
+    pub end : IsFalse more → IsSpent (told (source_of new))
+
+  -- if no entry is whole yet: bytes were judged, no visitor was called, and it reads on
+  pub record JudgesOn {V : Type 0} (old new : Entries R S H builds hashes) (was now : V)
+      (next : Option Kind) : Type 0 where
+    pub on : next ≡ None → old.judged < new.judged
+    pub untold : next ≡ None → now ≡ was
+    pub no_more : next ≡ None → entries_left new ≤ entries_left old
+    pub reading : next ≡ None → new.stage ≡ Reading
+
+  -- a failure is noted for good, and no entry is lent
+  pub record NotesFailure {X : Type 0} (new : Entries R S H builds hashes)
+      (result : Result X Noted) : Type 0 where
+    pub failed : OnErr result (IsSome (failure_of new))
+    pub unlent : OnErr result (last_of new ≡ None)
+
+  -- the same, or the entry that is returned is lent, of which there are fewer to come
+  pub record LendsOrFails (old new : Entries R S H builds hashes)
+      (result : Result (Option Kind) Noted) : Type 0 where
+    pub last : IfOk result (λ next. IsSome next → last_of new ≡ next)
+    pub fewer : IfOk result (λ next. IsSome next → entries_left new < entries_left old)
+    pub going : OnOk result (failure_of new ≡ None)
+    pub failed : OnErr result (IsSome (failure_of new))
+    pub unlent : OnErr result (last_of new ≡ None)
+
+  -- The source is read once at most. The block and the reference to the source stay.
+  pub record ReadsOnce {X : Type 0} (failures : R → ℕ) (old new : Entries R S H builds hashes)
+      (result : Result X Noted) : Type 0 where
+    pub read : CountsReads failures old new (answer_in (failure_of new) result)
+    pub same_block : block_size new ≡ block_size old
+    pub same_reference : loan_of new ≡ loan_of old
+
+  -- The source is not read, and so no read failed.
+  pub record ReadsNothing {X : Type 0} (old new : Entries R S H builds hashes)
+      (result : Result X Noted) : Type 0 where
+    pub never_reads : OnErr result (failure_of new ≢ Some errors.Read)
+    pub unread : source_of new ≡ source_of old
+    pub same_block : block_size new ≡ block_size old
+    pub same_reference : loan_of new ≡ loan_of old

@@ -74,10 +74,10 @@ pub struct Entries<'r, R, S: BuildHasher + Drop> {
 
 impl<'r, R: Source, S: BuildHasher + Drop> Entries<'r, R, S> {
     ghost use Rattle.capture3.specs.Kept.{IsLent, kind_lent};
-    ghost use Rattle.capture3.specs.Entries.{block_size, CountsReads, failure_of, IsOver, last_of, loan_of, source_of};
+    ghost use Rattle.capture3.specs.Entries.{block_size, failure_of, IsOver, KeepsErrors, last_of, loan_of, source_of, UsesSource};
     ghost use Rattle.capture3.specs.Handing.{HandsOutGiven};
     ghost use Rattle.capture3.specs.Numbering.{number_after, number_lent};
-    ghost use Rattle.capture3.specs.machinery.EntriesHistory.{answer_in, entries_left, HandsOutOrGoesOn, HasRead, StandsFor, Turns};
+    ghost use Rattle.capture3.specs.machinery.EntriesHistory.{entries_left, HandsOutOrGoesOn, FillsOrEnds, HasRead, IsUsedUp, LendsOrFails, NotesFailure, ReadsNothing, JudgesOn, ReadsOnce, StandsFor, Turns};
 
     /// Returns a reader through a block that is not empty. It reads nothing yet. The hasher is for
     /// the calls of a connection by their xids, and affects no result.
@@ -139,19 +139,10 @@ impl<'r, R: Source, S: BuildHasher + Drop> Entries<'r, R, S> {
         ensures untold { IfOk result (λ next. next ≡ None → visitor.new ≡ visitor.old) }
 
         // Errors stay.
-        ensures going { OnOk result (failure_of self.new ≡ None) }
-        ensures failed { IfErr result (λ error. failure_of self.new ≡ Some error) }
-        ensures unlent { OnErr result (last_of self.new ≡ None) }
-        ensures again { (error : Error) → failure_of self.old ≡ Some error → result ≡ Err error }
-        ensures unread { (error : Error) → failure_of self.old ≡ Some error
-            → source_of self.new ≡ source_of self.old }
+        ensures errors { KeepsErrors self.old self.new result }
 
         // The device.
-        ensures read { failure_of self.old ≡ None
-            → CountsReads R.failures self.old self.new result }
-        ensures write { IfErr result (λ error. error ≢ Error.Write) }
-        ensures same_block { block_size self.new ≡ block_size self.old }
-        ensures same_reference { loan_of self.new ≡ loan_of self.old }
+        ensures device { UsesSource R.failures self.old self.new result }
     {
         match self.stage {
             Stage::Reading => match self.next_entry(visitor) {
@@ -202,20 +193,11 @@ impl<'r, R: Source, S: BuildHasher + Drop> Entries<'r, R, S> {
             → StandsFor R.told self.old given handed
             → Turns R.told V.stands self.old self.new visitor.old visitor.new given handed result }
         ensures end { result ≡ Ok (Some Kind.End) → IsOver self.new }
-        ensures last { IfOk result (λ next. IsSome next → last_of self.new ≡ next) }
-        ensures fewer { OnOk result (entries_left self.new < entries_left self.old) }
         ensures some { IfOk result (λ next. IsSome next) }
-
-        // Errors stay.
-        ensures going { OnOk result (failure_of self.new ≡ None) }
-        ensures failed { OnErr result (IsSome (failure_of self.new)) }
-        ensures unlent { OnErr result (last_of self.new ≡ None) }
+        ensures lends { LendsOrFails self.old self.new result }
 
         // The device.
-        ensures read { CountsReads R.failures self.old self.new
-            (answer_in (failure_of self.new) result) }
-        ensures same_block { block_size self.new ≡ block_size self.old }
-        ensures same_reference { loan_of self.new ≡ loan_of self.old }
+        ensures device { ReadsOnce R.failures self.old self.new result }
     {
         while self.judged <= MOST_JUDGED {
             // Written out, since `?` takes more instructions for each message.
@@ -241,27 +223,11 @@ impl<'r, R: Source, S: BuildHasher + Drop> Entries<'r, R, S> {
             → StandsFor R.told self.old given handed
             → Turns R.told V.stands self.old self.new visitor.old visitor.new given handed result }
         ensures end { result ≡ Ok (Some Kind.End) → IsOver self.new }
-        ensures last { IfOk result (λ next. IsSome next → last_of self.new ≡ next) }
-        ensures fewer { IfOk result (λ next. IsSome next
-            → entries_left self.new < entries_left self.old) }
-
-        // If no entry is whole yet.
-        ensures on { IfOk result (λ next. next ≡ None → self.old.judged < self.new.judged) }
-        ensures untold { IfOk result (λ next. next ≡ None → visitor.new ≡ visitor.old) }
-        ensures no_more { IfOk result
-            (λ next. next ≡ None → entries_left self.new ≤ entries_left self.old) }
-        ensures reading { IfOk result (λ next. next ≡ None → self.new.stage ≡ Stage.Reading) }
-
-        // Errors stay.
-        ensures going { OnOk result (failure_of self.new ≡ None) }
-        ensures failed { OnErr result (IsSome (failure_of self.new)) }
-        ensures unlent { OnErr result (last_of self.new ≡ None) }
+        ensures on { IfOk result (JudgesOn self.old self.new visitor.old visitor.new) }
+        ensures lends { LendsOrFails self.old self.new result }
 
         // The device.
-        ensures read { CountsReads R.failures self.old self.new
-            (answer_in (failure_of self.new) result) }
-        ensures same_block { block_size self.new ≡ block_size self.old }
-        ensures same_reference { loan_of self.new ≡ loan_of self.old }
+        ensures device { ReadsOnce R.failures self.old self.new result }
     {
         // Written out, since `?` takes more instructions for each message.
         if self.is_used_up() {
@@ -281,8 +247,7 @@ impl<'r, R: Source, S: BuildHasher + Drop> Entries<'r, R, S> {
 
     /// Returns whether all bytes at hand are checked, and no kept streams are left.
     fn is_used_up(&self) -> bool
-        ensures judged { IsTrue result → self.now.start ≡ self.now.end }
-        ensures unopened { IsTrue result → self.now.pairing.container.cursor ≡ None }
+        ensures used_up { IsTrue result → IsUsedUp self.now }
         ensures left { IsFalse result → self.now.pairing.container.cursor ≡ None
             → self.now.start < self.now.end }
     {
@@ -293,32 +258,24 @@ impl<'r, R: Source, S: BuildHasher + Drop> Entries<'r, R, S> {
     fn refill(&mut self) -> Result<bool, Noted>
         requires reading { self.old.stage ≡ Stage.Reading }
         requires bounded { self.old.judged ≤ most_bytes Two + 1 }
-        requires judged { self.old.start ≡ self.old.end }
-        requires unopened { self.old.pairing.container.cursor ≡ None }
+        requires used_up { IsUsedUp self.old }
 
         // What was read.
         ensures has_read { (given : List ℕ) (handed : List spec.Entry)
             → StandsFor R.told self.old given handed
             → HasRead R.told self.old self.new given handed }
-        ensures some { IfOk result (λ more. IsTrue more → self.new.start < self.new.end) }
-        ensures none { IfOk result (λ more. IsFalse more → self.new.start ≡ self.new.end) }
-        ensures end { IfOk result
-            (λ more. IsFalse more → IsSpent (R.told (source_of self.new))) }
+        ensures more { IfOk result (FillsOrEnds R.told self.new) }
 
         // What stays.
-        ensures same_parser { self.new.pairing ≡ self.old.pairing }
-        ensures same_count { self.new.judged ≡ self.old.judged }
+        ensures judged { (self.new.pairing ≡ self.old.pairing)
+            × (self.new.judged ≡ self.old.judged) }
         ensures reading { OnOk result (self.new.stage ≡ Stage.Reading) }
 
-        // Errors stay.
-        ensures failed { OnErr result (IsSome (failure_of self.new)) }
-        ensures unlent { OnErr result (last_of self.new ≡ None) }
+        // Errors.
+        ensures failure { NotesFailure self.new result }
 
         // The device.
-        ensures read { CountsReads R.failures self.old self.new
-            (answer_in (failure_of self.new) result) }
-        ensures same_block { block_size self.new ≡ block_size self.old }
-        ensures same_reference { loan_of self.new ≡ loan_of self.old }
+        ensures device { ReadsOnce R.failures self.old self.new result }
     {
         self.start = 0;
         self.end = 0;
@@ -347,26 +304,11 @@ impl<'r, R: Source, S: BuildHasher + Drop> Entries<'r, R, S> {
             → HandsOutOrGoesOn R.told V.stands self.new visitor.old visitor.new given handed
             result }
         ensures not_end { result ≢ Ok (Some Kind.End) }
-        ensures last { IfOk result (λ next. IsSome next → last_of self.new ≡ next) }
-        ensures fewer { IfOk result (λ next. IsSome next
-            → entries_left self.new < entries_left self.old) }
-
-        // If no entry is whole yet.
-        ensures untold { IfOk result (λ next. next ≡ None → visitor.new ≡ visitor.old) }
-        ensures no_more { IfOk result
-            (λ next. next ≡ None → entries_left self.new ≤ entries_left self.old) }
-        ensures on { IfOk result (λ next. next ≡ None → self.old.judged < self.new.judged) }
-
-        // Errors stay.
-        ensures reading { OnOk result (self.new.stage ≡ Stage.Reading) }
-        ensures failed { OnErr result (IsSome (failure_of self.new)) }
-        ensures unlent { OnErr result (last_of self.new ≡ None) }
+        ensures on { IfOk result (JudgesOn self.old self.new visitor.old visitor.new) }
+        ensures lends { LendsOrFails self.old self.new result }
 
         // The device is not read.
-        ensures never_reads { OnErr result (failure_of self.new ≢ Some Error.Read) }
-        ensures unread { source_of self.new ≡ source_of self.old }
-        ensures same_block { block_size self.new ≡ block_size self.old }
-        ensures same_reference { loan_of self.new ≡ loan_of self.old }
+        ensures device { ReadsNothing self.old self.new result }
     {
         let piece = &self.block[self.start..self.end];
         match self.pairing.next(piece, visitor) {
@@ -387,8 +329,7 @@ impl<'r, R: Source, S: BuildHasher + Drop> Entries<'r, R, S> {
     /// Ends the capture, of which no byte is left.
     fn finish(&mut self) -> Result<(), Noted>
         requires reading { self.old.stage ≡ Stage.Reading }
-        requires judged { self.old.start ≡ self.old.end }
-        requires unopened { self.old.pairing.container.cursor ≡ None }
+        requires used_up { IsUsedUp self.old }
         requires end { IsSpent (R.told (source_of self.old)) }
 
         // The last entry, or the fault.
@@ -401,15 +342,11 @@ impl<'r, R: Source, S: BuildHasher + Drop> Entries<'r, R, S> {
         ensures last { OnOk result (last_of self.new ≡ Some Kind.End) }
         ensures over { OnOk result (self.new.stage ≡ Stage.Over) }
 
-        // Errors stay.
-        ensures failed { OnErr result (IsSome (failure_of self.new)) }
-        ensures unlent { OnErr result (last_of self.new ≡ None) }
+        // Errors.
+        ensures failure { NotesFailure self.new result }
 
         // The device is not read.
-        ensures never_reads { OnErr result (failure_of self.new ≢ Some Error.Read) }
-        ensures unread { source_of self.new ≡ source_of self.old }
-        ensures same_block { block_size self.new ≡ block_size self.old }
-        ensures same_reference { loan_of self.new ≡ loan_of self.old }
+        ensures device { ReadsNothing self.old self.new result }
     {
         match self.pairing.end(self.judged) {
             Ok(()) => {

@@ -16,7 +16,7 @@ unfolding Adds
 loop-handles-preserved g c =
     let u = c.loop-handles.invariant.returned in
     record {
-      going = c.in_ok-next.ensures.going;
+      going = c.in_ok-next.ensures.errors.going;
       returned =
           one_more _ _ _ _ _ _ _ _ _ _ _ c.in-Some.is u
           (c.in_ok-next.ensures.answers u.given u.handed u.stands)

@@ -16,7 +16,7 @@ loop-entries-preserved-then-is_call g c =
     let u = c.loop-entries.invariant.returned in
     let some = subst IsSome (sym c.in-Some.is) refl in
     record {
-      going = c.in_ok-kind.ensures.going;
+      going = c.in_ok-kind.ensures.errors.going;
       room = omega (arith, c.loop-entries.invariant.room, c.in_ok-kind.ensures.fewer some);
       returned =
           one_more _ _ _ _ _ _ _ _ _ _ _ c.in-Some.is u
@@ -31,7 +31,7 @@ loop-entries-preserved g c =
     let u = c.loop-entries.invariant.returned in
     let some = subst IsSome (sym c.in-Some.is) refl in
     record {
-      going = c.in_ok-kind.ensures.going;
+      going = c.in_ok-kind.ensures.errors.going;
       room = omega (arith, c.loop-entries.invariant.room, c.in_ok-kind.ensures.fewer some);
       returned =
           one_more _ _ _ _ _ _ _ _ _ _ _ c.in-Some.is u

@@ -15,7 +15,7 @@ unfolding Adds
 loop-entries-preserved g c =
     let u = c.loop-entries.invariant.returned in
     record {
-      going = c.in_ok-kind.ensures.going;
+      going = c.in_ok-kind.ensures.errors.going;
       fresh = c.new-data-in-Some.ensures;
       returned =
           one_more _ _ _ _ _ _ _ _ _ _ _ c.in-Some.is u

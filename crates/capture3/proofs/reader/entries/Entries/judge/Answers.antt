@@ -47,6 +47,10 @@ returns-in-Err-clause-goes_on g c given handed s =
     handed c.next.new.self.error) c.deref.ensures.value
     (c.in-Err.ensures.fault.fault judged handed at))
 
-pub returns-in-Err-clause-never_reads : goal.returns-in-Err-clause-never_reads
-returns-in-Err-clause-never_reads g c =
-    failed_not_read c.next.new.self.error c.in-Err.ensures.fault.device
+pub returns-in-Err-clause-device : goal.returns-in-Err-clause-device
+returns-in-Err-clause-device g c = record {
+  never_reads = failed_not_read c.next.new.self.error c.in-Err.ensures.fault.device;
+  unread = refl;
+  same_block = refl;
+  same_reference = refl;
+}

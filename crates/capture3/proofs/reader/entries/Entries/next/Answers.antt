@@ -11,7 +11,7 @@ pub returns-in-Ok-clause-answers : goal.returns-in-Ok-clause-answers
 returns-in-Ok-clause-answers g c given handed s =
     let read = c.in-Ok.ensures in
     answers_kind g.R.Source.told g.V.Visit.stands c.args.visitor.now c.next_entry.new.visitor
-    c.args.self.now c.next_entry.new.self given handed c.in-Ok.kind read.some read.going
+    c.args.self.now c.next_entry.new.self given handed c.in-Ok.kind read.some read.lends.going
     (subst
     (λ r.
     Turns g.R.Source.told g.V.Visit.stands c.args.self.now c.next_entry.new.self

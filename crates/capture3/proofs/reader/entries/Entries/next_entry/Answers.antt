@@ -46,16 +46,16 @@ pub loop-self-preserved : goal.loop-self-preserved
 loop-self-preserved g c =
     let invariant = c.loop-self.invariant in
     record {
-      reading = c.in-Ok-None.ensures.reading c.in-Ok-None.field-0-is;
+      reading = c.in-Ok-None.ensures.on.reading c.in-Ok-None.field-0-is;
       has_read =
           λ given handed s.
           read_more g.R.Source.told g.V.Visit.stands c.loop-self.visitor c.turn.new.visitor
           c.args.self.now c.loop-self.self c.turn.new.self given handed c.turn.result
           (c.in-Ok-None.is ∙ ap Ok c.in-Ok-None.field-0-is)
           (invariant.has_read given handed s) c.turn.ensures.turns;
-      untold = c.in-Ok-None.ensures.untold c.in-Ok-None.field-0-is ∙ invariant.untold;
-      fewer = omega (arith, c.in-Ok-None.ensures.no_more c.in-Ok-None.field-0-is, invariant.fewer);
-      read = c.in-Ok-None.ensures.read ∙ invariant.read;
-      same_block = c.turn.ensures.same_block ∙ invariant.same_block;
-      same_reference = c.turn.ensures.same_reference ∙ invariant.same_reference;
+      untold = c.in-Ok-None.ensures.on.untold c.in-Ok-None.field-0-is ∙ invariant.untold;
+      fewer = omega (arith, c.in-Ok-None.ensures.on.no_more c.in-Ok-None.field-0-is, invariant.fewer);
+      read = c.in-Ok-None.ensures.device.read ∙ invariant.read;
+      same_block = c.turn.ensures.device.same_block ∙ invariant.same_block;
+      same_reference = c.turn.ensures.device.same_reference ∙ invariant.same_reference;
     }

@@ -13,7 +13,7 @@ returns-in-Ok-clause-has_read g c given handed s =
     front_range _ c.in-Ok.count
     ∙ ap (take c.in-Ok.count) (with_items_is c.args.self.now.block bytes same) in
     has_read g.R.Source.told c.args.self.now _ given (take c.in-Ok.count bytes) handed
-    c.requires.reading c.requires.reading c.requires.judged c.requires.unopened refl refl refl
+    c.requires.reading c.requires.reading c.requires.used_up.0 c.requires.used_up.1 refl refl refl
     block
     (split_bytes bytes (take c.in-Ok.count bytes) (drop c.in-Ok.count bytes)
     (sym (take-append-drop c.in-Ok.count bytes)) c.read_block.ensures.fit).0
@@ -23,4 +23,4 @@ returns-in-Ok-clause-has_read g c given handed s =
 pub returns-in-Err-clause-has_read : goal.returns-in-Err-clause-has_read
 returns-in-Err-clause-has_read g c given handed s =
     has_failed g.R.Source.told c.args.self.now _ given handed c.requires.reading refl refl refl
-    c.requires.judged c.requires.unopened c.in-Err.ensures.bytes s
+    c.requires.used_up.0 c.requires.used_up.1 c.in-Err.ensures.bytes s

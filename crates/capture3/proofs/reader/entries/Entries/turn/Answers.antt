@@ -16,7 +16,7 @@ returns-clause-turns g c given handed s =
     ] in
     turned left g.V.Visit.stands c.args.visitor.now c.judge.new.visitor c.args.self.now
     c.if-is_used_up.self c.judge.new.self given handed c.judge.result read
-    c.judge.ensures.goes_on c.judge.ensures.unread
+    c.judge.ensures.goes_on c.judge.ensures.device.unread
 
 pub returns-in-Ok-clause-turns : goal.returns-in-Ok-clause-turns
 returns-in-Ok-clause-turns g c given handed s =
@@ -26,4 +26,4 @@ returns-in-Ok-clause-turns g c given handed s =
     (c.refill.ensures.has_read given handed s)
     (λ so_far out at.
     ended_on left g.V.Visit.stands c.args.visitor.now c.finish.new.self so_far out
-    (c.in-Ok.ensures.ok so_far out at)) c.finish.ensures.unread
+    (c.in-Ok.ensures.ok so_far out at)) c.finish.ensures.device.unread
