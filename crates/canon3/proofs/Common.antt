@@ -58,6 +58,7 @@ pub use Rattle.canon3.specs.Bytes.{bytes_of, chunk_bytes, entry_bytes, message_b
 pub use Rattle.canon3.specs.Canonical.{canonical, numbered, numbered_item, numbered_message}
 pub use Rattle.canon3.specs.CanonicalStream.{entries_after, items_after, message_after}
 pub use Rattle.canon3.specs.EntryCounts.{counted_steps}
+pub use Rattle.canon3.specs.EntryWriter.{IsLentAfter}
 pub use Rattle.canon3.specs.Examples.{p, q}
 pub use Rattle.canon3.specs.HandleTable.{Gathers, HoldsHandles, same_handle}
 pub use Rattle.canon3.specs.Laws.{AreFirst}
@@ -86,4 +87,3 @@ pub use Rattle.canon3.specs.machinery.ProgressSteps.{place_from, side_in}
 pub use Rattle.canon3.specs.machinery.Spelling.{HasSpelled, bytes_after, spelling_of}
 pub use Rattle.canon3.specs.machinery.Sums.{all_items}
 pub use Rattle.canon3.specs.machinery.WritingSteps.{WritesOn}
-pub use Rattle.canon3.specs.machinery.XidNumbers.{counted_from, placed}

@@ -18,6 +18,7 @@ use Rattle.canon3.specs.Laws.{AreFirst}
 use Rattle.canon3.specs.EntryCounts.{AreCounted}
 use Rattle.canon3.specs.Summary.{IsSummary}
 use Rattle.capture3.specs.Kept.{IsLent}
+use Rattle.capture3.specs.Numbering.{number_after, number_lent}
 use Rattle.canon3.specs.SinkWrites.{AppendsFront}
 
 module _ (form : List Entry → List ℕ) where
@@ -81,6 +82,10 @@ abbrev pub KeepsPrefixes : (List Entry → List ℕ) → Type 0
 KeepsPrefixes form = (entries more : List Entry) → AreFirst (entries ++ more)
     → (rest : List ℕ) × (form (entries ++ more) ≡ form entries ++ rest)
 
+-- the entry that is lent after these, with its number
+abbrev pub IsLentAfter : (before : List Entry) → EntryRef → Entry → Type 0
+IsLentAfter before lent entry = IsLent lent entry × (number_lent lent ≡ number_after before entry)
+
 -- a writer of a form, the items that stand for the entries that it wrote, and whether it can go on
 module _ {T : Type 0} (form : List Entry → List ℕ) (before : List Entry → List Item)
     (stands : T → List Item → Type 0) (going : T → Type 0) where
@@ -96,8 +101,8 @@ module _ {T : Type 0} (form : List Entry → List ℕ) (before : List Entry → 
   abbrev pub WritesOne : (was now : T) → EntryCounts → EntryRef → (between new : Option (List ℕ))
       → {X : Type 0} → Result X Error → Type 0
   WritesOne was now counts lent between new result =
-      (old : Option (List ℕ)) (entries : List Entry) (one : Entry) → IsLent lent one
-      → AreFirst (entries ++ one ∷ []) → length (entries ++ one ∷ []) < 2 ^ 32
-      → AreCounted counts entries
+      (old : Option (List ℕ)) (entries : List Entry) (one : Entry)
+      → IsLentAfter entries lent one → AreFirst (entries ++ one ∷ [])
+      → length (entries ++ one ∷ []) < 2 ^ 32 → AreCounted counts entries
       → stands was (before entries ++ items_of one) → Appends old between (form entries)
       → HasWrittenOrCut now old new (entries ++ one ∷ []) result

@@ -10,4 +10,3 @@ pub mod PartialWrites
 pub mod Spelling
 pub mod Sums
 pub mod Tally
-pub mod XidNumbers

@@ -11,9 +11,8 @@ ghost use Rattle.canon3.specs.Laws.{AreFirst};
 ghost use Rattle.canon3.specs.machinery.MessageWriter.{WriterStands, told_after, values_of};
 ghost use Rattle.capture3.specs.Told.{GavePrefix};
 ghost use Rattle.canon3.specs.CanonicalForm.{canonical_bytes, RewritesGiven, WritesNoMore};
-ghost use Rattle.canon3.specs.EntryWriter.{WritesAll};
+ghost use Rattle.canon3.specs.EntryWriter.{IsLentAfter, WritesAll};
 ghost use Rattle.canon3.specs.machinery.FormSteps.{Follows};
-ghost use Rattle.capture3.specs.Kept.{IsLent};
 ghost use Rattle.capture3.specs.Entry.{items_of};
 ghost use Rattle.canon3.specs.WriteErrors.{CountsWriting, IsOfWriting};
 ghost use Rattle.canon3.specs.SinkWrites.{IsFlushed};
@@ -61,12 +60,7 @@ pub fn canon<R: Source, W: Sink, S: BuildHasher + Drop>(
     ensures read { CountsReading (R.failures source.old) (R.failures source.new) result }
     ensures write { CountsWriting (W.failures sink.old) (W.failures sink.new) result }
 {
-    let mut message_writer = MessageWriter::new(
-        alloc,
-        hashers.handles,
-        hashers.verfs,
-        hashers.xids,
-    );
+    let mut message_writer = MessageWriter::new(alloc, hashers.handles, hashers.verfs);
     write_entries(alloc, hashers.calls, source, sink, &mut message_writer)
 }
 
@@ -76,8 +70,9 @@ fn write_after_magic<S: BuildHasher + Drop, W: Sink>(
     sink: &mut W,
     entry: EntryRef<'_>,
 ) -> Result<(), Error>
-    ensures follows { (entries : List spec.Entry) (one : spec.Entry) → IsLent entry.entry one
-        → AreFirst (entries ++ one ∷ []) → length (entries ++ one ∷ []) < 2 ^ 32
+    ensures follows { (entries : List spec.Entry) (one : spec.Entry)
+        → IsLentAfter entries entry.entry one
+        → AreFirst (entries ++ one ∷ [])
         → WriterStands message_writer.old (told_after (values_of entries) (items_of one))
         → Follows message_writer.new (W.written sink.old) (W.written sink.new) entries one
         result }

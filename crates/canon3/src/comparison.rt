@@ -13,7 +13,7 @@ ghost use Rattle.canon3.specs.machinery.ComparisonSteps.{Compares, FindsOut, Has
 ghost use Rattle.canon3.specs.machinery.Reading.{ReadsBoth, ReadsOne, ReadsSecond};
 ghost use Rattle.canon3.specs.Laws.{AreFirst};
 ghost use Rattle.canon3.specs.Progress.{steps_of};
-ghost use Rattle.capture3.specs.Kept.{IsLent};
+ghost use Rattle.canon3.specs.EntryWriter.{IsLentAfter};
 ghost use Rattle.capture3.specs.Entry.{items_of};
 
 use crate::canonical_form::message_writer::MessageWriter;
@@ -67,18 +67,8 @@ pub fn same<A: Source, B: Source, S: BuildHasher + Drop>(
     let mut entries = Entries::through(alloc, first_hashers.calls, first, block);
     let mut others = Entries::through(alloc, second_hashers.calls, second, other_block);
     let comparison = Comparison {
-        first: MessageWriter::new(
-            alloc,
-            first_hashers.handles,
-            first_hashers.verfs,
-            first_hashers.xids,
-        ),
-        second: MessageWriter::new(
-            alloc,
-            second_hashers.handles,
-            second_hashers.verfs,
-            second_hashers.xids,
-        ),
+        first: MessageWriter::new(alloc, first_hashers.handles, first_hashers.verfs),
+        second: MessageWriter::new(alloc, second_hashers.handles, second_hashers.verfs),
         progress: Progress::new(),
     };
     let result = compared(comparison, &mut entries, &mut others);
@@ -298,7 +288,7 @@ impl<S: BuildHasher + Drop> Comparison<S> {
         requires going { failure_of second.old ≡ None }
         requires room { steps_of self.old.progress + 1 < 2 ^ 32 }
         ensures meets { (first now start : Told) (a b : List spec.Entry) (e : spec.Entry)
-            → IsLent entry.entry e → AreFirst (a ++ e ∷ []) → length (a ++ e ∷ []) < 2 ^ 32
+            → IsLentAfter a entry.entry e → AreFirst (a ++ e ∷ [])
             → IsTold self.old a b (items_of e) [] → HasGiven B.told start second.old b
             → Meets B.told first now start second.new self.new a b e result }
         ensures going { IfOk result (λ next. failure_of second.new ≡ refusal_in next) }
@@ -324,9 +314,9 @@ impl<S: BuildHasher + Drop> Comparison<S> {
         other: EntryRef<'_>,
     ) -> Result<Option<Place>, SameError>
         requires room { steps_of self.old.progress + 1 < 2 ^ 32 }
-        ensures compares { (a b : List spec.Entry) (e f : spec.Entry) → IsLent entry.entry e
-            → IsLent other.entry f → AreFirst (a ++ e ∷ []) → AreFirst (b ++ f ∷ [])
-            → length (a ++ e ∷ []) < 2 ^ 32 → length (b ++ f ∷ []) < 2 ^ 32
+        ensures compares { (a b : List spec.Entry) (e f : spec.Entry)
+            → IsLentAfter a entry.entry e → IsLentAfter b other.entry f
+            → AreFirst (a ++ e ∷ []) → AreFirst (b ++ f ∷ [])
             → IsTold self.old a b (items_of e) (items_of f)
             → IfOk result (Compares self.new a b e f) }
         ensures few { steps_of self.new.progress ≤ steps_of self.old.progress + 1 }

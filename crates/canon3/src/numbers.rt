@@ -1,7 +1,6 @@
 //! Numbers of keys by their first appearance.
 
 pub(crate) mod handles;
-pub(crate) mod xid_numbers;
 
 ghost use Rattle.std.specs.Prelude.{◌≡◌, ◌+◌, ◌-◌, ◌^◌, ◌++◌, ◌∷◌, min, true, List, [], length, IfOk, OnOk, OnErr, IsOk};
 ghost use Rattle.std.specs.List.{list_any};

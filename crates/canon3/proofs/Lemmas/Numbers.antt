@@ -2,4 +2,3 @@
 pub mod RankLemmas
 pub mod Tables
 pub mod HandleTableLemmas
-pub mod XidNumbersLemmas

@@ -1,6 +1,6 @@
--- A writer of messages with numbers in place of file handles, write verifiers and xids, which are
--- noted as replacements in a message's body.
-use Rattle.std.specs.Prelude.{◌≡◌, ◌≢◌, ℕ, ◌<◌, ◌^◌, List, [], ◌∷◌, ◌++◌, length, drop, bytes_eq, nat_eq}
+-- A writer of messages with numbers in place of file handles and write verifiers, which are noted
+-- as replacements in a message's body after its xid.
+use Rattle.std.specs.Prelude.{◌≡◌, ◌≢◌, ℕ, ◌<◌, ◌^◌, List, [], ◌∷◌, ◌++◌, length, drop, bytes_eq}
 use Rattle.xdr3.specs.Item.{Item, Word, Rest, Spells, word_bytes, zero_spelling}
 use Rattle.patches.specs.Patches.{Makes, Noted, patched}
 use Rattle.capture3.specs.Entry.{Entry}
@@ -8,32 +8,27 @@ use Rattle.canon3.specs.declared.canonical_form.message_writer.MessageWriter.{Me
 use Rattle.canon3.specs.declared.canonical_form.message_writer.Stage.{Stage}
 use Rattle.canon3.specs.declared.canonical_form.message_writer.Stage.TheVariants.{Begins, Goes, Failed}
 use Rattle.canon3.specs.CanonicalStream.{items_after}
-use Rattle.capture3.specs.OpenXids.{open_xids}
 use Rattle.canon3.specs.HandleTable.{HoldsHandles}
-use Rattle.capture3.specs.Rank.{HoldsDistinct, rank}
+use Rattle.capture3.specs.Rank.{HoldsDistinct}
 use Rattle.canon3.specs.Values.{handles, handles_in, verifiers, verifiers_in}
 
 -- no more of each than a table has numbers for
 abbrev pub AreFew : (hs vs : List (List ℕ)) → Type 0
 AreFew hs vs = (length hs < 2 ^ 32) × (length vs < 2 ^ 32)
 
--- what was there before a message: the handles, the write verifiers, and the xids of the open
--- connection's calls
+-- what was there before a message: the handles and the write verifiers
 pub record Before : Type 0 where
   pub handles : List (List ℕ)
   pub verifiers : List (List ℕ)
-  pub xids : List ℕ
 
 -- the values of these entries
 abbrev pub values_of : List Entry → Before
-values_of entries =
-    record { handles = handles entries; verifiers = verifiers entries; xids = open_xids [] entries }
+values_of entries = record { handles = handles entries; verifiers = verifiers entries }
 
 -- the tables hold these
 pub record HoldsBefore {S H : Type 0} (n : MessageWriter S H) (before : Before) : Type 0 where
   pub handles : HoldsHandles n.handles before.handles
   pub verifiers : HoldsDistinct bytes_eq n.verfs before.verifiers
-  pub xids : HoldsDistinct nat_eq n.xids before.xids
 
 -- ---- within a message
 
@@ -49,32 +44,25 @@ Notes old new items others =
     (before after : List Item) → IsNotedAs old before after
     → IsNotedAs new (before ++ items) (after ++ others)
 
--- The number of the message's xid, where xs are the xids with its own, and its other items, which
--- are noted as those with numbers.
-abbrev pub IsNotedMessage : (number : ℕ) → Noted → Before → (xs : List ℕ) → (x : ℕ) → List Item
-    → Type 0
-IsNotedMessage number noted before xs x items =
+-- the items after the xid are noted as those with numbers
+abbrev pub IsNotedMessage : Noted → Before → List Item → Type 0
+IsNotedMessage noted before items =
     AreFew (before.handles ++ handles_in items) (before.verifiers ++ verifiers_in items)
-    → length xs < 2 ^ 32
-    → (number ≡ rank nat_eq x xs)
-    × IsNotedAs noted items (items_after before.handles before.verifiers items)
+    → IsNotedAs noted items (items_after before.handles before.verifiers items)
 
 -- the message up to here, which begins with its xid; nothing is said where it begins with another
 -- item
-abbrev pub IsSpelled : Stage → (table : List ℕ) → (number : ℕ) → Noted → Before → List Item
-    → Type 0
-IsSpelled stage table number noted before [] = (stage ≡ Begins)
-    × HoldsDistinct nat_eq table before.xids × IsNotedAs noted [] []
-IsSpelled stage table number noted before (Word name x ∷ items) = (stage ≡ Goes)
-    × HoldsDistinct nat_eq table (before.xids ++ x ∷ [])
-    × IsNotedMessage number noted before (before.xids ++ x ∷ []) x items
-IsSpelled stage table number noted before _ = Unit {0}
+abbrev pub IsSpelled : Stage → Noted → Before → List Item → Type 0
+IsSpelled stage noted before [] = (stage ≡ Begins) × IsNotedAs noted [] []
+IsSpelled stage noted before (Word name x ∷ items) = (stage ≡ Goes)
+    × IsNotedMessage noted before items
+IsSpelled stage noted before _ = Unit {0}
 
 pub record IsWithinMessage {S H : Type 0} (n : MessageWriter S H) (before : Before)
     (items : List Item) : Type 0 where
   pub handles : HoldsHandles n.handles (before.handles ++ handles_in items)
   pub verifiers : HoldsDistinct bytes_eq n.verfs (before.verifiers ++ verifiers_in items)
-  pub spelled : IsSpelled n.stage n.xids n.xid n.patches before items
+  pub spelled : IsSpelled n.stage n.patches before items
 
 -- A visitor stands for lists of items alone. So items in front of the message's own tell what was
 -- there before it.
@@ -83,8 +71,7 @@ in_front_of [] items = Word [] 0 ∷ items
 in_front_of (x ∷ xs) items = Rest [] x ∷ in_front_of xs items
 
 abbrev pub told_after : Before → List Item → List Item
-told_after before items =
-    Rest [] before.xids ∷ in_front_of before.handles (in_front_of before.verifiers items)
+told_after before items = in_front_of before.handles (in_front_of before.verifiers items)
 
 -- a message under way, and what was there before it
 pub record HasMessageUnderWay {S H : Type 0} (n : MessageWriter S H)

@@ -15,9 +15,8 @@ use Rattle.canon3.specs.declared.entries.entry_counts.EntryCounts.{EntryCounts}
 use Rattle.capture3.specs.declared.reader.entry.EntryRef.{EntryRef}
 use Rattle.canon3.specs.Laws.{AreFirst}
 use Rattle.canon3.specs.EntryCounts.{AreCounted}
-use Rattle.capture3.specs.Kept.{IsLent}
 use Rattle.canon3.specs.SinkWrites.{AppendsFront}
-use Rattle.canon3.specs.EntryWriter.{IsStoppedBy}
+use Rattle.canon3.specs.EntryWriter.{IsLentAfter, IsStoppedBy}
 
 -- a writer of a form, the items that stand for the entries that it wrote, and whether it can go on
 module _ {T : Type 0} (form : List Entry → List ℕ) (before : List Entry → List Item)
@@ -40,9 +39,9 @@ module _ {T : Type 0} (form : List Entry → List ℕ) (before : List Entry → 
   abbrev pub WritesMore : (was now : T) → (counts after : EntryCounts) → EntryRef
       → (between new : Option (List ℕ)) → {X : Type 0} → Result X Error → Type 0
   WritesMore was now counts after lent between new result =
-      (old : Option (List ℕ)) (entries : List Entry) (one : Entry) → IsLent lent one
-      → AreFirst (entries ++ one ∷ []) → length (entries ++ one ∷ []) < 2 ^ 32
-      → AreCounted counts entries
+      (old : Option (List ℕ)) (entries : List Entry) (one : Entry)
+      → IsLentAfter entries lent one → AreFirst (entries ++ one ∷ [])
+      → length (entries ++ one ∷ []) < 2 ^ 32 → AreCounted counts entries
       → stands was (before entries ++ items_of one) → Appends old between (form entries)
       → HasMore now after old new (entries ++ one ∷ []) result
 

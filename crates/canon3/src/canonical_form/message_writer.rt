@@ -11,7 +11,6 @@ ghost use Rattle.capture3.specs.Rank.{number_limit, rank};
 ghost use Rattle.canon3.specs.Renaming.{IsPlain};
 
 use crate::numbers::Numbers;
-use crate::numbers::xid_numbers::XidNumbers;
 use crate::sink::whole_writes::{HEAD, chunk_head};
 use byteorder::{BigEndian, ByteOrder};
 use capture3::pack_chunk;
@@ -31,20 +30,19 @@ const MANY: usize = 16_384;
 pub(crate) enum Stage {
     /// The message has been opened; its xid is the next item.
     Begins,
-    /// Its xid was noted.
+    /// Its xid was passed.
     Goes,
     /// An allocation failed, and the tables may have more than was noted.
     Failed,
 }
 
 /// The numbers of a capture's values so far, and what they replace in the body of the message whose
-/// items are visited.
+/// items are visited. The reader has the number of the message's xid.
 #[derive(Drop)]
 pub(crate) struct MessageWriter<S: BuildHasher + Drop> {
     pub(crate) handles: Numbers<Handle, S>,
     pub(crate) verfs: Numbers<[u8; 8], S>,
-    pub(crate) xids: XidNumbers<S>,
-    /// The number of the message's xid.
+    /// The number of the message's xid, once its items were visited.
     pub(crate) xid: u32,
     /// What is replaced in the body after the xid.
     pub(crate) patches: Patches,
@@ -101,32 +99,18 @@ fn set_head(room: &mut [u8], head: [u8; HEAD])
 
 impl<S: BuildHasher + Drop> MessageWriter<S> {
     /// Returns a writer before a capture.
-    pub(crate) fn new(alloc: Global, handles: S, verfs: S, xids: S) -> MessageWriter<S>
+    pub(crate) fn new(alloc: Global, handles: S, verfs: S) -> MessageWriter<S>
         ensures stands { WriterStands result (told_after (values_of []) []) }
         ensures going { IsGoing result }
     {
         MessageWriter {
             handles: Numbers::new(alloc, handles),
             verfs: Numbers::new(alloc, verfs),
-            xids: XidNumbers::new(alloc, xids),
             xid: 0,
             patches: Patches::new(alloc),
             room: Vec::new(alloc),
             stage: Stage::Begins,
         }
-    }
-
-    /// Begins a connection, whose calls have xids of their own.
-    pub(crate) fn begin_connection(&mut self)
-        ensures { (before : Before) → HoldsBefore self.old before
-            → HoldsBefore self.new (record {
-              xids = [];
-              handles = before.handles;
-              verifiers =
-                  before.verifiers;
-            }) }
-    {
-        self.xids.clear();
     }
 
     /// Begins a message in place of the one before.
@@ -211,19 +195,6 @@ impl<S: BuildHasher + Drop> MessageWriter<S> {
         Ok((put_bytes(&mut self.room, end, rest), &[]))
     }
 
-    /// Takes the number of the xid `n`.
-    fn take_xid(&mut self, n: u32) -> Result<(), AllocError>
-        requires { self.old.stage ≡ Stage.Begins }
-        ensures ok { (name : List ℕ) → OnOk result
-            (Adds WriterStands self.old self.new (Word name n ∷ [])) }
-        ensures goes { OnOk result (self.new.stage ≡ Stage.Goes) }
-    {
-        let number = self.xids.number_of(n)?;
-        self.xid = number;
-        self.stage = Stage::Goes;
-        Ok(())
-    }
-
     /// Notes that a file handle is replaced by a handle of its number.
     fn note_handle(&mut self, bytes: &[u8]) -> Result<(), AllocError>
         requires short { length bytes.now ≤ 64 }
@@ -262,28 +233,21 @@ impl<S: BuildHasher + Drop> MessageWriter<S> {
         }
     }
 
-    /// Takes the first field, which may be the xid, and then the others at once.
+    /// Passes the first field, which may be the xid, and then the others at once.
     #[inline(never)]
-    fn note_first(&mut self, fields: &[PlainField], bytes: &[u8]) -> Result<(), AllocError>
+    fn note_first(&mut self, fields: &[PlainField], bytes: &[u8])
         requires size { length bytes.now ≡ run_size fields.now }
         requires begins { self.old.stage ≡ Stage.Begins }
-        ensures ok { OnOk result
-            (Adds WriterStands self.old self.new (run_items fields.now bytes.now)) }
+        ensures { Adds WriterStands self.old self.new (run_items fields.now bytes.now) }
     {
         let Some((first, _)) = fields.split_first() else {
-            return Ok(());
+            return;
         };
+        self.stage = Stage::Goes;
         match *first {
-            PlainField::Word(_) => {
-                self.take_xid(BigEndian::read_u32(bytes))?;
-                self.patches.keep(bytes.len() - 4);
-            }
-            PlainField::Hyper(_) => {
-                self.stage = Stage::Goes;
-                self.patches.keep(bytes.len());
-            }
+            PlainField::Word(_) => self.patches.keep(bytes.len() - 4),
+            PlainField::Hyper(_) => self.patches.keep(bytes.len()),
         }
-        Ok(())
     }
 
     /// Says nothing more of the tables after an error.
@@ -305,17 +269,12 @@ impl<S: BuildHasher + Drop> Visit for MessageWriter<S> {
 
     ghost stands = { WriterStands };
 
-    fn word(&mut self, _name: &'static str, n: u32) -> Result<(), AllocError> {
+    fn word(&mut self, _name: &'static str, _n: u32) -> Result<(), AllocError> {
         match self.stage {
-            Stage::Begins => {
-                let noted = self.take_xid(n);
-                self.fail_for_good(noted)
-            }
-            Stage::Goes | Stage::Failed => {
-                self.patches.keep(4);
-                Ok(())
-            }
+            Stage::Begins => self.stage = Stage::Goes,
+            Stage::Goes | Stage::Failed => self.patches.keep(4),
         }
+        Ok(())
     }
 
     fn hyper(&mut self, _name: &'static str, _n: u64) -> Result<(), AllocError> {
@@ -361,14 +320,9 @@ impl<S: BuildHasher + Drop> Visit for MessageWriter<S> {
     #[inline(always)]
     fn plain(&mut self, fields: &[PlainField], bytes: &[u8]) -> Result<(), AllocError> {
         match self.stage {
-            Stage::Begins => {
-                let noted = self.note_first(fields, bytes);
-                self.fail_for_good(noted)
-            }
-            Stage::Goes | Stage::Failed => {
-                self.patches.keep(bytes.len());
-                Ok(())
-            }
+            Stage::Begins => self.note_first(fields, bytes),
+            Stage::Goes | Stage::Failed => self.patches.keep(bytes.len()),
         }
+        Ok(())
     }
 }

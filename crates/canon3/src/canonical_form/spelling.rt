@@ -5,7 +5,7 @@ ghost use Rattle.capture3.specs.Entry as spec;
 ghost use Rattle.canon3.specs.Laws.{AreFirst};
 ghost use Rattle.canon3.specs.machinery.MessageWriter.{Before, HoldsBefore, WriterStands, message_of, told_after, values_of};
 ghost use Rattle.canon3.specs.machinery.Spelling.{HasSpelled, spelling_of};
-ghost use Rattle.capture3.specs.Kept.{IsLent};
+ghost use Rattle.canon3.specs.EntryWriter.{IsLentAfter};
 ghost use Rattle.capture3.specs.Entry.{items_of};
 
 use crate::canonical_form::message_writer::{MessageWriter, after_xid};
@@ -27,23 +27,28 @@ pub(crate) enum Spelling<'a> {
 
 /// Returns what an entry is written as, whose items the writer visited. After an error nothing can
 /// follow.
+#[inline(always)]
 pub(crate) fn spelling_of_entry<'a, S: BuildHasher + Drop>(
     message_writer: &mut MessageWriter<S>,
     entry: EntryRef<'a>,
 ) -> Result<Spelling<'a>, AllocError>
-    ensures { (entries : List spec.Entry) (one : spec.Entry) → IsLent entry.entry one
-        → AreFirst (entries ++ one ∷ []) → length (entries ++ one ∷ []) < 2 ^ 32
+    ensures { (entries : List spec.Entry) (one : spec.Entry)
+        → IsLentAfter entries entry.entry one
+        → AreFirst (entries ++ one ∷ [])
         → WriterStands message_writer.old (told_after (values_of entries) (items_of one))
         → IfOk result (λ form. HasSpelled message_writer.new form entries one) }
 {
     message_writer.unless_failed()?;
     match entry {
-        EntryRef::Begin => {
-            message_writer.begin_connection();
-            Ok(Spelling::One)
+        EntryRef::Begin => Ok(Spelling::One),
+        EntryRef::Call(call) => {
+            message_writer.xid = call.number;
+            Ok(Spelling::Message(call.body))
         }
-        EntryRef::Call(call) => Ok(Spelling::Message(call.body)),
-        EntryRef::Reply(reply) => Ok(Spelling::Message(reply.body)),
+        EntryRef::Reply(reply) => {
+            message_writer.xid = reply.number;
+            Ok(Spelling::Message(reply.body))
+        }
         EntryRef::Turn | EntryRef::Close | EntryRef::End => Ok(Spelling::Zero),
     }
 }

@@ -1,6 +1,7 @@
 -- The canonical form grows after the entries so far.
-use Rattle.canon3.proofs.Common.{◌≡◌, ◌≤◌, ◌<◌, ◌+◌, ◌^◌, ℕ, true, List, [], ◌∷◌, ◌++◌, length, length-append, refl, sym, ap, ◌∙◌, append_assoc, append-nil, arith, flat_map, flat_map-append, Item, Word, One, magic, Entry, Begin, Call, Turn, Reply, Close, End, items_of, bytes_of, entry_bytes, canonical, numbered, entries_after, open_xids, AreFirst, are_some, magic_unless, handles, handles_in, verifiers, verifiers_in, xid_of, bytes_after}
+use Rattle.canon3.proofs.Common.{◌≡◌, ℕ, true, List, [], ◌∷◌, ◌++◌, refl, sym, ap, ◌∙◌, append_assoc, append-nil, flat_map, flat_map-append, Item, Word, One, magic, Entry, Begin, Call, Turn, Reply, Close, End, items_of, bytes_of, entry_bytes, canonical, numbered, entries_after, open_xids, AreFirst, are_some, magic_unless, handles, handles_in, verifiers, verifiers_in, xid_of, bytes_after}
 use Rattle.canon3.proofs.Lemmas.Order.First.{first_in_order}
+use Rattle.canon3.proofs.Lemmas.Order.Order.{BeginsWithXid, IsAnswering}
 use Rattle.canon3.proofs.Lemmas.Canonical.CanonicalStreamLemmas.{canonical-after, entries_after-append}
 use Rattle.canon3.proofs.Lemmas.WellFormed.Nesting.{Paired, paired}
 
@@ -39,26 +40,6 @@ open-append (Reply id m ∷ a) b xs = open-append a b xs
 open-append (Close ∷ a) b xs = open-append a b xs
 open-append (End ∷ a) b xs = open-append a b xs
 
-one_xid : (m : List Item) → length (xid_of m) ≤ 1
-one_xid (Word name x ∷ items) = omega arith
-one_xid [] = omega arith
-one_xid (_ ∷ items) = omega arith
-
-pub few_open : (a : List Entry) (xs : List ℕ) → length (open_xids xs a) ≤ length xs + length a
-few_open [] xs = omega arith
-few_open (Begin ∷ a) xs = omega (arith, few_open a [])
-few_open (Call m ∷ a) xs =
-    omega (arith, few_open a (xs ++ xid_of m), length-append xs (xid_of m), one_xid m)
-few_open (Turn ∷ a) xs = omega (arith, few_open a xs)
-few_open (Reply id m ∷ a) xs = omega (arith, few_open a xs)
-few_open (Close ∷ a) xs = omega (arith, few_open a xs)
-few_open (End ∷ a) xs = omega (arith, few_open a xs)
-
-pub few_xids : (a : List Entry) (one : Entry) → length (a ++ one ∷ []) < 2 ^ 32
-    → length (open_xids (open_xids [] a) (one ∷ [])) < 2 ^ 32
-few_xids a one few =
-    omega (arith, few, few_open (a ++ one ∷ []) [], ap length (open-append a (one ∷ []) []))
-
 -- ---- a message's xid
 
 paired_after : (a b : List Entry) (xs : List ℕ) → Paired xs (a ++ b) → Paired (open_xids xs a) b
@@ -74,6 +55,11 @@ pub last_paired : (a : List Entry) (one : Entry) → AreFirst (a ++ one ∷ [])
     → Paired (open_xids [] a) (one ∷ [])
 last_paired a one f =
     paired_after a (one ∷ []) [] (paired (first_in_order (a ++ one ∷ []) f).run [] tt)
+
+pub answering_begins : (xs : List ℕ) (items : List Item) → IsAnswering xs items
+    → BeginsWithXid items
+answering_begins xs (Word name x ∷ items) known = tt
+answering_begins xs _ known = absurd known
 
 -- ---- bytes
 

@@ -1,5 +1,5 @@
 -- A comparison of two captures, entry by entry.
-use Rattle.canon3.proofs.Common.{◌≡◌, ◌≢◌, ℕ, ◌<◌, ◌^◌, List, [], ◌∷◌, ◌++◌, length, append-nil, append_assoc, Option, None, Some, Result, Ok, Err, refl, sym, ap, ◌∙◌, subst, arith, Gave, Told, gave_both, gave_none, IsPrefixOf, shown_of_all, Item, Adds, Entries, Error, Place, Entry, items_of, Typed, MessageWriter, Kind, AreFirst, Before, told_after, WriterStands, values_of, Same, IsOfKind, HasPassed, place_from, side_in, IsMetBy, source_of, StandsFor, Progress, SameError, bytes_after, HasSpelled, spelling_of}
+use Rattle.canon3.proofs.Common.{◌≡◌, ◌≢◌, ℕ, List, [], ◌∷◌, ◌++◌, append-nil, append_assoc, Option, None, Some, Result, Ok, Err, refl, sym, ap, ◌∙◌, subst, Gave, Told, gave_both, gave_none, IsPrefixOf, shown_of_all, Item, Adds, Entries, Error, Place, Entry, items_of, Typed, MessageWriter, Kind, AreFirst, Before, told_after, WriterStands, values_of, Same, IsOfKind, HasPassed, place_from, side_in, IsMetBy, source_of, StandsFor, Progress, SameError, bytes_after, HasSpelled, spelling_of}
 use Rattle.std.specs.Option.{is_some, IsSomeAnd, MatchOption}
 use Rattle.std.specs.declared.hash.BuildHasher as BuildHasher
 use Rattle.std.specs.declared.hash.Hasher as Hasher
@@ -155,7 +155,7 @@ module _ {R S H V : Type 0} {builds : BuildHasher.Ghosts S H} {hashes : Hasher.G
   -- what a call of it says of what the source gave, and of the visitor
   abbrev pub Hands : Result (Option Kind) Error → Type 0
   Hands (Ok (Some kind)) = (entry : Entry) × IsOfKind kind entry × AreFirst (handed ++ entry ∷ [])
-      × (length (handed ++ entry ∷ []) < 2 ^ 32) × Adds stands was now (items_of entry)
+      × Adds stands was now (items_of entry)
       × HasGiven telling start new (handed ++ entry ∷ [])
   Hands (Ok None) =
       GaveAll start (telling (source_of new)) handed × HasGiven telling start new handed
@@ -171,12 +171,10 @@ module _ {R S H V : Type 0} {builds : BuildHasher.Ghosts S H} {hashes : Hasher.G
   pub hands : (h : HasGiven telling start old handed) (result : Result (Option Kind) Error)
       → HandsOutGiven telling stands old new was now h.given handed result → Hands result
   hands h (Ok (Some kind)) a =
-      let (entry, is, reached, adds, stands_for) = a.hands_out in
-      let few : length (handed ++ entry ∷ []) < 2 ^ 32 = omega (arith, stands_for.few) in (
+      let (entry, is, reached, adds, stands_for) = a.hands_out in (
         entry,
         is,
         first_reached (h.given ++ a.more) (handed ++ entry ∷ []) reached,
-        few,
         adds,
         record {
           given = h.given ++ a.more;
@@ -209,7 +207,7 @@ pub read_on : {R S H V : Type 0} {builds : BuildHasher.Ghosts S H} {hashes : Has
     → Hands telling stands start old new was now (handed ++ h.more) (Ok next)
     → ReadsOn telling start new handed (Ok (is_some next))
 read_on telling stands start old new was now handed h (Some kind)
-    (entry, is, first, few, adds, given) =
+    (entry, is, first, adds, given) =
     record {
       more = h.more ++ entry ∷ [];
       all = subst (HasGiven telling start new) (append_assoc handed h.more (entry ∷ [])) given;

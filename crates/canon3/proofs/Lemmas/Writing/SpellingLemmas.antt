@@ -1,15 +1,17 @@
 -- What an entry is written as in the canonical form.
-use Rattle.canon3.proofs.Common.{◌≡◌, ◌<◌, ◌≤◌, ◌^◌, ◌⊎◌, inl, inr, ℕ, List, [], ◌∷◌, ◌++◌, length, length-append, append-nil, drop, refl, sym, ap, ap₂, ◌∙◌, subst, arith, bytes_eq, nat_eq, max_body, Item, Spells, Word, word_bytes, zero_spelling, Entry, Begin, Call, Turn, Reply, Close, End, items_of, MessageWriter, IsCall, IsReply, chunk_bytes, message_bytes, record_bytes, open_xids, HoldsHandles, AreFirst, HoldsDistinct, rank, IsLent, handles, handles_in, verifiers, verifiers_in, EntryRef, items_after, message_after, HasSpelled}
+use Rattle.canon3.proofs.Common.{◌≡◌, ◌<◌, ◌≤◌, ◌^◌, ◌⊎◌, inl, inr, ℕ, List, [], ◌∷◌, ◌++◌, length, length-append, append-nil, drop, sym, ap, ◌∙◌, subst, arith, Some, bytes_eq, nat_eq, max_body, Item, Spells, Word, word_bytes, zero_spelling, Entry, Begin, Call, Turn, Reply, Close, End, items_of, MessageWriter, chunk_bytes, message_bytes, record_bytes, open_xids, xid_in, xid_of, HoldsHandles, AreFirst, HoldsDistinct, rank, IsLent, IsLentAfter, handles, handles_in, verifiers, verifiers_in, EntryRef, items_after, message_after, bytes_after, spelling_of, HasSpelled, AreFew, told_after, HoldsBefore, IsGoing, IsNotedAs, WriterStands, values_of}
 use Rattle.patches.specs.Patches.{patched}
+use Rattle.capture3.specs.Numbering.{number_after}
+use Rattle.canon3.specs.declared.canonical_form.spelling.Spelling.{Spelling}
 use Rattle.canon3.specs.declared.canonical_form.spelling.Spelling.TheVariants.{Zero, One, Message}
 use Rattle.capture3.specs.declared.reader.entry.CallRef.{CallRef}
 use Rattle.capture3.specs.declared.reader.entry.ReplyRef.{ReplyRef}
 use Rattle.capture3.specs.declared.reader.entry.EntryRef.TheVariants as lent
-use Rattle.canon3.specs.machinery.MessageWriter.{AreFew, told_after, HoldsBefore, IsGoing, IsNotedAs, WriterStands, message_of, values_of}
+use Rattle.canon3.specs.machinery.MessageWriter.{message_of}
 use Rattle.canon3.proofs.Lemmas.Order.First.{first_in_order}
-use Rattle.canon3.proofs.Lemmas.Canonical.Growing.{few_open, few_xids, handles_push, last_paired, open-append, verifiers_push}
-use Rattle.canon3.proofs.Lemmas.Writing.Opening.{call_held, call_written, is_under_way, nothing_held, reply_held, reply_written}
-use Rattle.canon3.proofs.Lemmas.Order.Order.{BeginsWithXid, IsAnswering}
+use Rattle.canon3.proofs.Lemmas.Order.Order.{BeginsWithXid}
+use Rattle.canon3.proofs.Lemmas.Canonical.Growing.{answering_begins, handles_push, last_paired, open-append, verifiers_push}
+use Rattle.canon3.proofs.Lemmas.Writing.Opening.{is_under_way}
 
 are_few : (entries : List Entry) (one : Entry) → AreFirst (entries ++ one ∷ [])
     → AreFew (handles entries ++ handles_in (items_of one))
@@ -22,182 +24,124 @@ are_few entries one first =
     )
 
 module _ {S H : Type 0} (n : MessageWriter S H) (entries : List Entry) where
-  held_more : (one : Entry)
-      → HoldsBefore n (record {
-        handles = handles entries ++ handles_in (items_of one);
-        verifiers = verifiers entries ++ verifiers_in (items_of one);
-        xids = open_xids (open_xids [] entries) (one ∷ []);
-      })
-      → HoldsBefore n (values_of (entries ++ one ∷ []))
-  held_more one h = record {
-    handles = subst (HoldsHandles n.handles) (sym (handles_push entries one)) h.handles;
-    verifiers =
-        subst (HoldsDistinct bytes_eq n.verfs) (sym (verifiers_push entries one)) h.verifiers;
-    xids = subst (HoldsDistinct nat_eq n.xids) (sym (open-append entries (one ∷ []) [])) h.xids;
-  }
+  holds_after : (one : Entry) (number : ℕ) → IsGoing n
+      → WriterStands n (told_after (values_of entries) (items_of one))
+      → HoldsBefore (record n { xid = number }) (values_of (entries ++ one ∷ []))
+  holds_after one number going stands =
+      let u = is_under_way n (values_of entries) (items_of one) going stands in
+      record {
+        handles = subst (HoldsHandles n.handles) (sym (handles_push entries one)) u.handles;
+        verifiers =
+            subst (HoldsDistinct bytes_eq n.verfs) (sym (verifiers_push entries one)) u.verifiers;
+      }
 
   -- ---- an entry that is no message
 
-  held_still : (one : Entry) (xs : List ℕ) → items_of one ≡ []
-      → open_xids (open_xids [] entries) (one ∷ []) ≡ xs
-      → HoldsBefore n
-      (record { handles = handles entries; verifiers = verifiers entries; xids = xs })
-      → HoldsBefore n (values_of (entries ++ one ∷ []))
-  held_still one xs none leads h = held_more one (record {
-    handles =
-        subst (λ (l : List Item). HoldsHandles n.handles (handles entries ++ handles_in l))
-        (sym none)
-        (subst (HoldsHandles n.handles) (sym (append-nil (handles entries))) h.handles);
-    verifiers =
-        subst
-        (λ (l : List Item).
-        HoldsDistinct bytes_eq n.verfs (verifiers entries ++ verifiers_in l)) (sym none)
-        (subst (HoldsDistinct bytes_eq n.verfs) (sym (append-nil (verifiers entries)))
-        h.verifiers);
-    xids = subst (HoldsDistinct nat_eq n.xids) (sym leads) h.xids;
-  })
-
-  pub begin_spelled : (one : Entry) → one ≡ Begin
-      → HoldsBefore n
-      (record { handles = handles entries; verifiers = verifiers entries; xids = [] })
-      → HasSpelled n One entries one
-  begin_spelled one is h =
-      rw is (record {
-        holds = held_still Begin [] refl refl h;
-        spelled = sym (append-nil (word_bytes 1));
-      })
-
-  turn_spelled : HoldsBefore n (values_of entries) → HasSpelled n Zero entries Turn
-  turn_spelled h =
-      record {
-        holds = held_still Turn (open_xids [] entries) refl refl h;
-        spelled = sym (append-nil (word_bytes 0));
-      }
-
-  close_spelled : HoldsBefore n (values_of entries) → HasSpelled n Zero entries Close
-  close_spelled h =
-      record {
-        holds = held_still Close (open_xids [] entries) refl refl h;
-        spelled = sym (append-nil (word_bytes 0));
-      }
-
-  end_spelled : HoldsBefore n (values_of entries) → HasSpelled n Zero entries End
-  end_spelled h =
-      record {
-        holds = held_still End (open_xids [] entries) refl refl h;
-        spelled = sym (append-nil (word_bytes 0));
-      }
+  word_held : (one : Entry) (form : Spelling) → spelling_of form n ≡ bytes_after entries (one ∷ [])
+      → IsGoing n → WriterStands n (told_after (values_of entries) (items_of one))
+      → HasSpelled n form entries one
+  word_held one form is going stands =
+      record { holds = holds_after one n.xid going stands; spelled = is }
 
   -- ---- a message
 
-  message_is : (body : List ℕ) (name : List ℕ) (x number : ℕ) (items others : List Item)
-      → (n.xid ≡ number) × IsNotedAs n.patches items others → Spells (Word name x ∷ items) body
+  message_is : (number : ℕ) (body name : List ℕ) (x : ℕ) (items others : List Item)
+      → IsNotedAs n.patches items others → Spells (Word name x ∷ items) body
       → length body ≤ max_body
-      → message_of n body ≡ zero_spelling (Word name number ∷ others)
-  message_is body name x number items others (same, noted) (front, back, first, more, split) short =
+      → message_of (record n { xid = number }) body ≡ zero_spelling (Word name number ∷ others)
+  message_is number body name x items others noted (front, back, first, more, split) short =
       let rest : drop 4 body ≡ back =
       ap (drop 4) (split ∙ ap (λ (k : List ℕ). k ++ back) first.1) in
       let few : length back < 2 ^ 64 =
       omega (arith, short, ap length split, length-append front back) in
-      ap₂ (λ (a b : List ℕ). a ++ b) (ap word_bytes same)
+      ap (λ (l : List ℕ). word_bytes number ++ l)
       (ap (patched n.patches) rest ∙ (noted back more few).makes)
 
-  call_spelled : (call : CallRef) (items : List Item) → IsCall call.body.now items
-      → BeginsWithXid items → AreFirst (entries ++ Call items ∷ [])
-      → length (entries ++ Call items ∷ []) < 2 ^ 32 → IsGoing n
-      → WriterStands n (told_after (values_of entries) items)
-      → HasSpelled n (Message call.body) entries (Call items)
-  call_spelled call (Word name xid ∷ rest) is begins first few going stands =
-      let items : List Item = Word name xid ∷ rest in
-      let xs = open_xids [] entries ++ xid ∷ [] in
+  -- its xid has the number that is its rank among these
+  message_with : (xs : List ℕ) (items : List Item) (number : ℕ) (body : List ℕ)
+      → BeginsWithXid items → Spells items body → length body ≤ max_body
+      → Some number ≡ Some (rank nat_eq (xid_in items) xs)
+      → AreFew (handles entries ++ handles_in items) (verifiers entries ++ verifiers_in items)
+      → IsGoing n → WriterStands n (told_after (values_of entries) items)
+      → chunk_bytes (record_bytes (message_of (record n { xid = number }) body))
+      ≡ message_bytes (message_after (handles entries) (verifiers entries) xs items) ++ []
+  message_with xs (Word name x ∷ rest) number body begins spells short is few going stands =
+      let items : List Item = Word name x ∷ rest in
       let u = is_under_way n (values_of entries) items going stands in
-      let noted =
-      call_written n (values_of entries) name xid rest u (are_few entries (Call items) first)
-      (few_xids entries (Call items) few) in
-      let form = message_after (handles entries) (verifiers entries) xs items in
-      record {
-        holds = held_more (Call items) (call_held n (values_of entries) name xid rest u);
-        spelled =
-            ap (λ (l : List ℕ). chunk_bytes (record_bytes l)) (message_is call.body.now name xid
-            (rank nat_eq xid xs) rest
-            (items_after (handles entries) (verifiers entries) rest) noted is.1
-            call.short) ∙ sym (append-nil (message_bytes form));
-      }
-  call_spelled call _ is begins first few going stands = absurd begins
-
-  reply_spelled : (reply : ReplyRef) (items : List Item)
-      → IsReply reply.body.now (record { id = reply.id; items = items })
-      → IsAnswering (open_xids [] entries) items → AreFirst (entries ++ Reply reply.id items ∷ [])
-      → length (entries ++ Reply reply.id items ∷ []) < 2 ^ 32 → IsGoing n
-      → WriterStands n (told_after (values_of entries) items)
-      → HasSpelled n (Message reply.body) entries (Reply reply.id items)
-  reply_spelled reply (Word name xid ∷ rest) is known first few going stands =
-      let items : List Item = Word name xid ∷ rest in
-      let one = Reply reply.id items in
-      let xs = open_xids [] entries in
-      let u = is_under_way n (values_of entries) items going stands in
-      let room : length (xs ++ xid ∷ []) < 2 ^ 32 =
-      omega (
-        arith,
-        few,
-        few_open entries [],
-        length-append xs (xid ∷ []),
-        length-append entries (one ∷ []),
-      ) in
-      let noted =
-      reply_written n (values_of entries) name xid rest known room u (are_few entries one first)
-      (few_xids entries one few) in
-      let form = message_after (handles entries) (verifiers entries) xs items in
-      record {
-        holds = held_more one (reply_held n (values_of entries) name xid rest known u);
-        spelled =
-            ap (λ (l : List ℕ). chunk_bytes (record_bytes l)) (message_is reply.body.now name xid
-            (rank nat_eq xid xs) rest
-            (items_after (handles entries) (verifiers entries) rest) noted is.1
-            reply.short) ∙ sym (append-nil (message_bytes form));
-      }
-  reply_spelled reply _ is known first few going stands = absurd known
+      let others = items_after (handles entries) (verifiers entries) rest in
+      let same : number ≡ rank nat_eq x xs = cc in
+      ap (λ (l : List ℕ). chunk_bytes (record_bytes l))
+      (message_is number body name x rest others (u.spelled.1 few) spells short
+      ∙ ap (λ k. zero_spelling (Word name k ∷ others)) same)
+      ∙ sym
+      (append-nil
+      (message_bytes (message_after (handles entries) (verifiers entries) xs items)))
+  message_with xs _ number body begins spells short is few going stands = absurd begins
 
   -- ---- a lent entry of each kind
 
+  pub begin_spelled : (entry : EntryRef) (one : Entry) → entry ≡ lent.Begin
+      → IsLentAfter entries entry one → IsGoing n
+      → WriterStands n (told_after (values_of entries) (items_of one))
+      → HasSpelled n One entries one
+  begin_spelled entry one is of =
+      let this : one ≡ Begin = subst (λ k. IsLent k one) is of.0 in
+      rw this (word_held Begin One (sym (append-nil (word_bytes 1))))
+
   pub word_spelled : (entry : EntryRef) (one : Entry)
-      → (entry ≡ lent.Turn) ⊎ ((entry ≡ lent.Close) ⊎ (entry ≡ lent.End)) → IsLent entry one
-      → IsGoing n → WriterStands n (told_after (values_of entries) (items_of one))
+      → (entry ≡ lent.Turn) ⊎ ((entry ≡ lent.Close) ⊎ (entry ≡ lent.End))
+      → IsLentAfter entries entry one → IsGoing n
+      → WriterStands n (told_after (values_of entries) (items_of one))
       → HasSpelled n Zero entries one
-  word_spelled entry one (inl is) of going stands =
-      let this : one ≡ Turn = subst (λ k. IsLent k one) is of in
-      rw this (turn_spelled (nothing_held n (values_of entries) going (subst
-      (λ (e : Entry). WriterStands n (told_after (values_of entries) (items_of e)))
-      this stands)))
-  word_spelled entry one (inr (inl is)) of going stands =
-      let this : one ≡ Close = subst (λ k. IsLent k one) is of in
-      rw this (close_spelled (nothing_held n (values_of entries) going (subst
-      (λ (e : Entry). WriterStands n (told_after (values_of entries) (items_of e)))
-      this stands)))
-  word_spelled entry one (inr (inr is)) of going stands =
-      let this : one ≡ End = subst (λ k. IsLent k one) is of in
-      rw this (end_spelled (nothing_held n (values_of entries) going (subst
-      (λ (e : Entry). WriterStands n (told_after (values_of entries) (items_of e)))
-      this stands)))
+  word_spelled entry one (inl is) of =
+      let this : one ≡ Turn = subst (λ k. IsLent k one) is of.0 in
+      rw this (word_held Turn Zero (sym (append-nil (word_bytes 0))))
+  word_spelled entry one (inr (inl is)) of =
+      let this : one ≡ Close = subst (λ k. IsLent k one) is of.0 in
+      rw this (word_held Close Zero (sym (append-nil (word_bytes 0))))
+  word_spelled entry one (inr (inr is)) of =
+      let this : one ≡ End = subst (λ k. IsLent k one) is of.0 in
+      rw this (word_held End Zero (sym (append-nil (word_bytes 0))))
 
-  pub lent_call_spelled : (entry : EntryRef) (one : Entry) (call : CallRef) → entry ≡ lent.Call call
-      → IsLent entry one → AreFirst (entries ++ one ∷ []) → length (entries ++ one ∷ []) < 2 ^ 32
-      → IsGoing n
+  pub call_spelled : (entry : EntryRef) (one : Entry) (call : CallRef) → entry ≡ lent.Call call
+      → IsLentAfter entries entry one → AreFirst (entries ++ one ∷ []) → IsGoing n
       → WriterStands n (told_after (values_of entries) (items_of one))
-      → HasSpelled n (Message call.body) entries one
-  lent_call_spelled entry one call is of =
-      let (items, spells, asks, this) = subst (λ k. IsLent k one) is of in
-      rw this (λ first few going stands.
-      call_spelled call items spells (last_paired entries (Call items) first).0 first few
-      going stands)
+      → HasSpelled (record n { xid = call.number }) (Message call.body) entries one
+  call_spelled entry one call is of =
+      let ((items, spells, asks, this), number) =
+      subst (λ k. IsLentAfter entries k one) is of in
+      let ranked : Some call.number
+      ≡ Some (rank nat_eq (xid_in items) (open_xids [] entries ++ xid_of items)) =
+      number
+      ∙ (ap (number_after entries) this
+      ∙ ap (λ xs. Some (rank nat_eq (xid_in items) xs))
+      (open-append entries (Call items ∷ []) [])) in
+      rw this (λ first going stands.
+      record {
+        holds = holds_after (Call items) call.number going stands;
+        spelled =
+            message_with (open_xids [] entries ++ xid_of items) items call.number call.body.now
+            (last_paired entries (Call items) first).0 spells.1 call.short ranked
+            (are_few entries (Call items) first) going stands;
+      })
 
-  pub lent_reply_spelled : (entry : EntryRef) (one : Entry) (reply : ReplyRef)
-      → entry ≡ lent.Reply reply → IsLent entry one → AreFirst (entries ++ one ∷ [])
-      → length (entries ++ one ∷ []) < 2 ^ 32 → IsGoing n
-      → WriterStands n (told_after (values_of entries) (items_of one))
-      → HasSpelled n (Message reply.body) entries one
-  lent_reply_spelled entry one reply is of =
-      let (items, spells, this) = subst (λ k. IsLent k one) is of in
-      rw this (λ first few going stands.
-      reply_spelled reply items spells (last_paired entries (Reply reply.id items) first).0
-      first few going stands)
+  pub reply_spelled : (entry : EntryRef) (one : Entry) (reply : ReplyRef)
+      → entry ≡ lent.Reply reply → IsLentAfter entries entry one → AreFirst (entries ++ one ∷ [])
+      → IsGoing n → WriterStands n (told_after (values_of entries) (items_of one))
+      → HasSpelled (record n { xid = reply.number }) (Message reply.body) entries one
+  reply_spelled entry one reply is of =
+      let ((items, spells, this), number) = subst (λ k. IsLentAfter entries k one) is of in
+      let ranked : Some reply.number ≡ Some (rank nat_eq (xid_in items) (open_xids [] entries)) =
+      number
+      ∙ (ap (number_after entries) this
+      ∙ ap (λ xs. Some (rank nat_eq (xid_in items) xs))
+      (open-append entries (Reply reply.id items ∷ []) [])) in
+      rw this (λ first going stands.
+      record {
+        holds = holds_after (Reply reply.id items) reply.number going stands;
+        spelled =
+            message_with (open_xids [] entries) items reply.number reply.body.now
+            (answering_begins (open_xids [] entries) items
+            (last_paired entries (Reply reply.id items) first).0) spells.1 reply.short ranked
+            (are_few entries (Reply reply.id items) first) going stands;
+      })

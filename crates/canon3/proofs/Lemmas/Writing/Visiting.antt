@@ -1,5 +1,5 @@
 -- Each visit adds its item to the message, and notes what it becomes with numbers.
-use Rattle.canon3.proofs.Common.{◌≡◌, ◌≢◌, ℕ, ◌+◌, ◌<◌, ◌≤◌, ◌^◌, List, [], ◌∷◌, ◌++◌, drop, take, replicate, length, length-append, append_assoc, append-nil, refl, sym, ap, ap₂, ◌∙◌, subst, arith, min, Result, Ok, Err, ◌⊎◌, inl, inr, Bool, true, Decides, AllByRecursion, flat_map, flat_map-append, Decides-eqb, bytes_eq-Decides, PlainField, run_items, run_size, Adds, MessageWriter, numbered_item, items_after, HoldsHandles, here, number_limit, rank, HoldsDistinct, handle_in, verifier_in, handles_in, verifiers_in, bytes_eq, nat_eq, OnOk, ◌==◌, big_bytes, big_number, Noted, IsPlain}
+use Rattle.canon3.proofs.Common.{◌≡◌, ◌≢◌, ℕ, ◌+◌, ◌<◌, ◌≤◌, ◌^◌, List, [], ◌∷◌, ◌++◌, drop, take, replicate, length, length-append, append_assoc, append-nil, refl, sym, ap, ap₂, ◌∙◌, subst, arith, min, Result, Ok, Err, ◌⊎◌, inl, inr, Bool, true, Decides, AllByRecursion, flat_map, flat_map-append, Decides-eqb, bytes_eq-Decides, PlainField, run_items, run_size, Adds, MessageWriter, numbered_item, items_after, HoldsHandles, here, number_limit, rank, HoldsDistinct, handle_in, verifier_in, handles_in, verifiers_in, bytes_eq, OnOk, ◌==◌, big_bytes, big_number, Noted, IsPlain}
 use Rattle.xdr3.specs.declared.plain.PlainField.TheVariants as fields
 use Rattle.xdr3.proofs.Lemmas.Shapes.Walks.{adds_both}
 use Rattle.xdr3.specs.Item.{Item, Fixed, Hyper, Word, WriteVerf, Opaque, Rest, Kind, Handle, residue, word_bytes}
@@ -29,9 +29,8 @@ listed-append (x ∷ xs) items more =
 pub told_after-append : (before : Before) (items more : List Item)
     → told_after before (items ++ more) ≡ told_after before items ++ more
 told_after-append before items more =
-    ap (λ (l : List Item). Rest [] before.xids ∷ l)
-    (ap (in_front_of before.handles) (listed-append before.verifiers items more)
-    ∙ listed-append before.handles (in_front_of before.verifiers items) more)
+    ap (in_front_of before.handles) (listed-append before.verifiers items more)
+    ∙ listed-append before.handles (in_front_of before.verifiers items) more
 
 listed-same : (xs ys : List (List ℕ)) (items more : List Item)
     → in_front_of xs items ≡ in_front_of ys more → (xs ≡ ys) × (items ≡ more)
@@ -48,16 +47,11 @@ listed-same (x ∷ xs) (y ∷ ys) items more e =
 pub told_after-same : (a b : Before) (items more : List Item)
     → told_after a items ≡ told_after b more → (a ≡ b) × (items ≡ more)
 told_after-same a b items more e =
-    let xids : a.xids ≡ b.xids = cc in
-    let rest : in_front_of a.handles (in_front_of a.verifiers items)
-    ≡ in_front_of b.handles (in_front_of b.verifiers more) = cc in
-    let h = listed-same a.handles b.handles _ _ rest in
+    let h = listed-same a.handles b.handles _ _ e in
     let v = listed-same a.verifiers b.verifiers items more h.1 in
     let handles : a.handles ≡ b.handles = h.0 in
     let verifiers : a.verifiers ≡ b.verifiers = v.0 in
-    let same : a ≡ b =
-    λ i. record { handles = handles i; verifiers = verifiers i; xids = xids i } in
-    (same, v.1)
+    (λ i. record { handles = handles i; verifiers = verifiers i }, v.1)
 
 -- ---- one more item
 
@@ -92,31 +86,27 @@ IsLater (Word name x) [] = ⊥
 IsLater (Word name x) (_ ∷ _) = Unit {0}
 IsLater _ _ = Unit {0}
 
-spelled_more : (stage : Stage) (table : List ℕ) (number : ℕ) (old new : Noted) (before : Before)
-    (items : List Item) (i j : Item) → IsLater i items
+spelled_more : (stage : Stage) (old new : Noted) (before : Before) (items : List Item) (i j : Item)
+    → IsLater i items
     → (AreFew (before.handles ++ handles_in (items ++ i ∷ []))
     (before.verifiers ++ verifiers_in (items ++ i ∷ []))
     → j
     ≡ numbered_item ((before.handles ++ handles_in items) ++ handle_in i)
     ((before.verifiers ++ verifiers_in items) ++ verifier_in i) i)
     → Notes old new (i ∷ []) (j ∷ [])
-    → IsSpelled stage table number old before items
-    → IsSpelled stage table number new before (items ++ i ∷ [])
-spelled_more stage table number old new before [] (Word name x) j later is notes s = absurd later
-spelled_more stage table number old new before [] _ j later is notes s = tt
-spelled_more stage table number old new before (Word name x ∷ items) i j later is notes s = (
+    → IsSpelled stage old before items
+    → IsSpelled stage new before (items ++ i ∷ [])
+spelled_more stage old new before [] (Word name x) j later is notes s = absurd later
+spelled_more stage old new before [] _ j later is notes s = tt
+spelled_more stage old new before (Word name x ∷ items) i j later is notes s = (
   s.0,
-  s.1,
-  λ few fewer.
-      let (same, noted) = s.2 (few_before before.handles before.verifiers items i few) fewer in (
-        same,
-        subst (λ (l : List Item). IsNotedAs new (items ++ i ∷ []) l) (ap
-            (λ k. items_after before.handles before.verifiers items ++ k ∷ []) (is few)
-            ∙ sym (items_after-push items before.handles before.verifiers i))
-            (notes items (items_after before.handles before.verifiers items) noted),
-      ),
+  λ few. subst (λ (l : List Item). IsNotedAs new (items ++ i ∷ []) l)
+      (ap (λ k. items_after before.handles before.verifiers items ++ k ∷ []) (is few)
+      ∙ sym (items_after-push items before.handles before.verifiers i))
+      (notes items (items_after before.handles before.verifiers items)
+      (s.1 (few_before before.handles before.verifiers items i few))),
 )
-spelled_more stage table number old new before (_ ∷ items) i j later is notes s = tt
+spelled_more stage old new before (_ ∷ items) i j later is notes s = tt
 
 module _ {S H : Type 0} (old new : MessageWriter S H) (i : Item) where
   -- what a visit keeps, besides its writing
@@ -128,7 +118,7 @@ module _ {S H : Type 0} (old new : MessageWriter S H) (i : Item) where
 
   after_by : Follows
       → ((before : Before) (items : List Item) → IsWithinMessage old before items
-      → IsSpelled new.stage new.xids new.xid new.patches before (items ++ i ∷ []))
+      → IsSpelled new.stage new.patches before (items ++ i ∷ []))
       → (all : List Item) → HasMessageUnderWay old all → HasMessageUnderWay new (all ++ i ∷ [])
   after_by f spells all b = record {
     before = b.before;
@@ -152,36 +142,33 @@ module _ {S H : Type 0} (old new : MessageWriter S H) (i : Item) where
   pub adds_by : Follows → (new.stage ≢ Failed → old.stage ≢ Failed)
       → ((before : Before) (items : List Item) → new.stage ≢ Failed
       → IsWithinMessage old before items
-      → IsSpelled new.stage new.xids new.xid new.patches before (items ++ i ∷ []))
+      → IsSpelled new.stage new.patches before (items ++ i ∷ []))
       → Adds WriterStands old new (i ∷ [])
   unfolding Adds
   adds_by f went spells all stands going =
       after_by f (λ before items. spells before items going) all (stands (went going))
 
   -- the item with its number is written
-  pub adds : (j : Item) → Follows → new.stage ≡ old.stage → new.xids ≡ old.xids → new.xid ≡ old.xid
+  pub adds : (j : Item) → Follows → new.stage ≡ old.stage
       → ((before : Before) (items : List Item) → old.stage ≢ Failed
-      → IsSpelled old.stage old.xids old.xid old.patches before items → IsLater i items)
+      → IsSpelled old.stage old.patches before items → IsLater i items)
       → ((hs vs : List (List ℕ)) → HoldsHandles old.handles hs → HoldsDistinct bytes_eq old.verfs vs
       → AreFew (hs ++ handle_in i) (vs ++ verifier_in i)
       → j ≡ numbered_item (hs ++ handle_in i) (vs ++ verifier_in i) i)
       → Notes old.patches new.patches (i ∷ []) (j ∷ []) → Adds WriterStands old new (i ∷ [])
-  adds j f stage xids xid later is notes =
+  adds j f stage later is notes =
       adds_by f (λ going e. going (stage ∙ e)) (λ before items going u.
       let hs = before.handles ++ handles_in items in
       let vs = before.verifiers ++ verifiers_in items in
-      subst (λ s. IsSpelled s new.xids new.xid new.patches before (items ++ i ∷ [])) (sym stage)
-      (subst (λ (t : List ℕ). IsSpelled old.stage t new.xid new.patches before (items ++ i ∷ []))
-      (sym xids)
-      (subst (λ k. IsSpelled old.stage old.xids k new.patches before (items ++ i ∷ [])) (sym xid)
-      (spelled_more old.stage old.xids old.xid old.patches new.patches before items i j
+      subst (λ s. IsSpelled s new.patches before (items ++ i ∷ [])) (sym stage)
+      (spelled_more old.stage old.patches new.patches before items i j
       (later before items (λ e. going (stage ∙ e)) u.spelled)
       (λ few. is hs vs u.handles u.verifiers
       (subst (λ (l : List (List ℕ)). AreFew l (vs ++ verifier_in i))
       (values-push handle_in before.handles items i)
       (subst (λ (l : List (List ℕ)). AreFew (before.handles ++ handles_in (items ++ i ∷ [])) l)
       (values-push verifier_in before.verifiers items i) few)))
-      notes u.spelled))))
+      notes u.spelled))
 
 -- a number of a table that is not full
 uncapped : {K : Type 0} (same : K → K → Bool) → ((x y : K) → Decides (same x y) (x ≡ y))
@@ -198,10 +185,9 @@ module _ {S H : Type 0} (n : MessageWriter S H) (noted : Noted) where
   abbrev pub with_patches : MessageWriter S H
   with_patches = record n { patches = noted }
 
-  follows_plain : (i : Item) (table : List ℕ) (number : ℕ) (stage : Stage) → IsPlain i
-      → Follows n
-      (record n { xids = table; xid = number; patches = noted; stage = stage }) i
-  follows_plain i table number stage plain = record {
+  follows_plain : (i : Item) (stage : Stage) → IsPlain i
+      → Follows n (record n { patches = noted; stage = stage }) i
+  follows_plain i stage plain = record {
     handles =
         λ hs h.
         subst (HoldsHandles n.handles)
@@ -216,10 +202,10 @@ module _ {S H : Type 0} (n : MessageWriter S H) (noted : Noted) where
 
   adds_plain : (i : Item) → IsPlain i
       → ((before : Before) (items : List Item) → n.stage ≢ Failed
-      → IsSpelled n.stage n.xids n.xid n.patches before items → IsLater i items)
+      → IsSpelled n.stage n.patches before items → IsLater i items)
       → Notes n.patches noted (i ∷ []) (i ∷ []) → Adds WriterStands n with_patches (i ∷ [])
   adds_plain i plain later =
-      adds n with_patches i i (follows_plain i n.xids n.xid n.stage plain) refl refl refl later
+      adds n with_patches i i (follows_plain i n.stage plain) refl later
       (λ hs vs h g few. sym (plain_numbered (hs ++ handle_in i) (vs ++ verifier_in i) i plain))
 
   pub after_xid : (n.stage ≡ Goes) ⊎ (n.stage ≡ Failed) → n.stage ≢ Begins
@@ -234,7 +220,7 @@ module _ {S H : Type 0} (n : MessageWriter S H) (noted : Noted) where
       (notes_kept n.patches noted (Word name x ∷ []) 4 (word_fixed name x) keeps)
     where
       is_later : (before : Before) (items : List Item)
-          → IsSpelled n.stage n.xids n.xid n.patches before items → IsLater (Word name x) items
+          → IsSpelled n.stage n.patches before items → IsLater (Word name x) items
       is_later before [] s = absurd (goes s.0)
       is_later before (i ∷ items) s = tt
 
@@ -290,39 +276,25 @@ module _ {S H : Type 0} (n : MessageWriter S H) (noted : Noted) where
 -- ---- the xid
 
 module _ {S H : Type 0} (n : MessageWriter S H) where
-  xid_spelled : (table : List ℕ) (name : List ℕ) (x number : ℕ) (before : Before)
-      (items : List Item) → n.stage ≡ Begins
-      → ((given : List ℕ) → HoldsDistinct nat_eq n.xids given
-      → number ≡ min (rank nat_eq x (given ++ x ∷ [])) number_limit)
-      → ((given : List ℕ) → HoldsDistinct nat_eq n.xids given
-      → HoldsDistinct nat_eq table (given ++ x ∷ []))
-      → IsSpelled n.stage n.xids n.xid n.patches before items
-      → IsSpelled Goes table number n.patches before (items ++ Word name x ∷ [])
-  xid_spelled table name x number before [] begins is given s = (
-    refl,
-    given before.xids s.1,
-    λ few fewer.
-        (uncapped nat_eq Decides-eqb before.xids x number fewer (is before.xids s.1), s.2),
-  )
-  xid_spelled table name x number before (Word other y ∷ items) begins is given s =
+  abbrev pub past_xid : MessageWriter S H
+  past_xid = record n { stage = Goes }
+
+  xid_spelled : (name : List ℕ) (x : ℕ) (before : Before) (items : List Item) → n.stage ≡ Begins
+      → IsSpelled n.stage n.patches before items
+      → IsSpelled Goes n.patches before (items ++ Word name x ∷ [])
+  xid_spelled name x before [] begins s = (refl, λ few. s.1)
+  xid_spelled name x before (Word other y ∷ items) begins s =
       let stage : n.stage ≡ Goes = s.0 in
       absurd cc
-  xid_spelled table name x number before (_ ∷ items) begins is given s = tt
+  xid_spelled name x before (_ ∷ items) begins s = tt
 
-  -- the xid's number in place of the xid
-  pub adds_xid : (table : List ℕ) (x number : ℕ) → n.stage ≡ Begins
-      → ((given : List ℕ) → HoldsDistinct nat_eq n.xids given
-      → number ≡ min (rank nat_eq x (given ++ x ∷ [])) number_limit)
-      → ((given : List ℕ) → HoldsDistinct nat_eq n.xids given
-      → HoldsDistinct nat_eq table (given ++ x ∷ [])) → (name : List ℕ)
-      → Adds WriterStands n
-      (record n { xids = table; xid = number; stage = Goes }) (Word name x ∷ [])
-  adds_xid table x number begins is given name =
-      adds_by n
-      (record n { xids = table; xid = number; stage = Goes }) (Word name x)
-      (follows_plain n n.patches (Word name x) table number Goes tt) (λ going e. absurd cc)
-      (λ before items going u.
-      xid_spelled table name x number before items begins is given u.spelled)
+  -- the xid is passed
+  pub adds_xid : (name : List ℕ) (x : ℕ) → n.stage ≡ Begins
+      → Adds WriterStands n past_xid (Word name x ∷ [])
+  adds_xid name x begins =
+      adds_by n past_xid (Word name x) (follows_plain n n.patches (Word name x) Goes tt)
+      (λ going e. absurd cc)
+      (λ before items going u. xid_spelled name x before items begins u.spelled)
 
 -- ---- runs of plain fields
 
@@ -358,8 +330,8 @@ module _ {S H : Type 0} (n : MessageWriter S H) (noted : Noted) (stage : Stage) 
     (plain : AllByRecursion IsPlain more) where
   adds_more : (stage ≢ Failed → n.stage ≢ Failed)
       → ((before : Before) (items : List Item)
-      → IsSpelled n.stage n.xids n.xid n.patches before items
-      → IsSpelled stage n.xids n.xid noted before (items ++ more))
+      → IsSpelled n.stage n.patches before items
+      → IsSpelled stage noted before (items ++ more))
       → Adds WriterStands n
       (record n { patches = noted; stage = stage }) more
   unfolding Adds
@@ -394,20 +366,15 @@ module _ {S H : Type 0} (n : MessageWriter S H) (noted : Noted) (stage : Stage) 
   )
 
   run_spelled : stage ≢ Begins → Notes n.patches noted more more
-      → (before : Before) (items : List Item) → IsSpelled stage n.xids n.xid n.patches before items
-      → IsSpelled stage n.xids n.xid noted before (items ++ more)
+      → (before : Before) (items : List Item) → IsSpelled stage n.patches before items
+      → IsSpelled stage noted before (items ++ more)
   run_spelled goes notes before [] s = absurd (goes s.0)
   run_spelled goes notes before (Word name x ∷ items) s = (
     s.0,
-    s.1,
-    λ few fewer.
-        let (same, noted_so_far) =
-        s.2 (few_before_run before.handles before.verifiers items few) fewer in (
-          same,
-          subst (λ (l : List Item). IsNotedAs noted (items ++ more) l)
-              (sym (items_after-plain items more before.handles before.verifiers plain))
-              (notes items (items_after before.handles before.verifiers items) noted_so_far),
-        ),
+    λ few. subst (λ (l : List Item). IsNotedAs noted (items ++ more) l)
+        (sym (items_after-plain items more before.handles before.verifiers plain))
+        (notes items (items_after before.handles before.verifiers items)
+        (s.1 (few_before_run before.handles before.verifiers items few))),
   )
   run_spelled goes notes before (_ ∷ items) s = tt
 
@@ -432,21 +399,21 @@ module _ {S H : Type 0} where
   adds_nothing n (field ∷ all) run none = absurd (omega (arith, none))
 
   -- a run that begins with the xid
-  pub adds_xid_run : (n mid : MessageWriter S H) (noted : Noted) (name : List ℕ)
-      (all : List PlainField) (run : List ℕ) (count : ℕ)
-      → Adds WriterStands n mid (Word name (big_number 4 run) ∷ []) → mid.stage ≡ Goes
-      → count ≡ run_size all → KeepsRun mid.patches noted count
-      → Adds WriterStands n (with_patches mid noted)
+  pub adds_xid_run : (n : MessageWriter S H) (noted : Noted) (name : List ℕ)
+      (all : List PlainField) (run : List ℕ) (count : ℕ) → n.stage ≡ Begins
+      → count ≡ run_size all → KeepsRun n.patches noted count
+      → Adds WriterStands n (with_patches (past_xid n) noted)
       (Word name (big_number 4 run) ∷ run_items all (drop 4 run))
-  adds_xid_run n mid noted name all run count first goes size keeps =
+  adds_xid_run n noted name all run count begins size keeps =
+      let mid = past_xid n in
       adds_both WriterStands n mid (with_patches mid noted) (Word name (big_number 4 run) ∷ [])
-      (run_items all (drop 4 run)) first
-      (adds_run mid noted all (drop 4 run) count (after_xid mid noted (inl goes)) size keeps)
+      (run_items all (drop 4 run)) (adds_xid n name (big_number 4 run) begins)
+      (adds_run mid noted all (drop 4 run) count (after_xid mid noted (inl refl)) size keeps)
 
   number_spelled : (n : MessageWriter S H) (noted : Noted) (name : List ℕ) (x : ℕ)
       (more : List Item) (before : Before) (items : List Item) → n.stage ≡ Begins
-      → IsSpelled n.stage n.xids n.xid n.patches before items
-      → IsSpelled Goes n.xids n.xid noted before (items ++ Hyper name x ∷ more)
+      → IsSpelled n.stage n.patches before items
+      → IsSpelled Goes noted before (items ++ Hyper name x ∷ more)
   number_spelled n noted name x more before [] begins s = tt
   number_spelled n noted name x more before (Word other y ∷ items) begins s =
       let stage : n.stage ≡ Goes = s.0 in
@@ -486,7 +453,7 @@ module _ {S H : Type 0} (n : MessageWriter S H) (noted : Noted) where
         handles = given;
         verifiers = λ vs h. subst (HoldsDistinct bytes_eq n.verfs) (sym (append-nil vs)) h;
       })
-      refl refl refl (λ before items going spelled. tt)
+      refl (λ before items going spelled. tt)
       (λ hs vs h g few.
       ap (λ k. Opaque Handle name (word_bytes k))
       (uncapped bytes_eq bytes_eq-Decides hs (b ∷ bs) number few.0 (is hs h)))
@@ -506,7 +473,7 @@ module _ {S H : Type 0} (n : MessageWriter S H) (noted : Noted) where
       (record {
         handles = λ hs h. subst (HoldsHandles n.handles) (sym (append-nil hs)) h;
         verifiers = given;
-      }) refl refl refl (λ before items going spelled. tt)
+      }) refl (λ before items going spelled. tt)
       (λ hs vs h g few.
       ap (WriteVerf name) (is_put
       ∙ ap (big_bytes 8)

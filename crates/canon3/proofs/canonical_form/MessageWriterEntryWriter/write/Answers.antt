@@ -13,7 +13,7 @@ returns-clause-writes g c old entries one of first few came told written =
     entries
     one c.args.counts.now.progress.connections first came.progress.connections_are written
     c.write_after_magic.result c.in_ok-write_magic.ensures.ok
-    (c.write_after_magic.ensures.follows entries one of first few stands)
+    (c.write_after_magic.ensures.follows entries one of first stands)
 
 pub returns-in_err-write_magic-clause-writes : goal.returns-in_err-write_magic-clause-writes
 returns-in_err-write_magic-clause-writes g c old entries one of first few came told written =

@@ -6,13 +6,13 @@ use Rattle.canon3.proofs.Lemmas.Writing.EntryWriterLemmas.{lent_kind}
 use Rattle.canon3.proofs.comparison.Comparison.compare.Goals as goal
 
 pub returns-then-branch-clause-compares : goal.returns-then-branch-clause-compares
-returns-then-branch-clause-compares g c a b e f of other_of first second few other_few told =
+returns-then-branch-clause-compares g c a b e f of other_of first second told =
     let n = c.spelling_of_entry.new.message_writer in
     let m = c.spelling_of_entry-2.new.message_writer in
     let form = c.in-Ok.form in
     let other_form = c.in-Ok-spelling_of_entry.form in
-    let s = c.in-Ok.ensures a e of first few told.first in
-    let t = c.in-Ok-spelling_of_entry.ensures b f other_of second other_few told.second in
+    let s = c.in-Ok.ensures a e of first told.first in
+    let t = c.in-Ok-spelling_of_entry.ensures b f other_of second told.second in
     let alike =
     subst
     (λ k.
@@ -30,11 +30,11 @@ returns-then-branch-clause-compares g c a b e f of other_of first second few oth
       progress =
           subst (λ p. HasPassed p (a ++ e ∷ [])) (sym c.pass.ensures.after) (after_more
           c.args.self.now.progress a told.progress c.kind_of.result e
-          (lent_kind c.args.entry c.kind_of.result e c.kind_of.ensures of));
+          (lent_kind c.args.entry c.kind_of.result e c.kind_of.ensures of.0));
     }
 
 pub returns-clause-compares : goal.returns-clause-compares
-returns-clause-compares g c a b e f of other_of first second few other_few told =
+returns-clause-compares g c a b e f of other_of first second told =
     let n = c.spelling_of_entry.new.message_writer in
     let m = c.spelling_of_entry-2.new.message_writer in
     let form = c.in-Ok.form in
@@ -46,11 +46,11 @@ returns-clause-compares g c a b e f of other_of first second few other_few told 
     (spelling_of form n ≢ spelling_of other_form m)) c.if-branch.false
     c.in_ok-are_alike.ensures.alike in
     parts_here n m form other_form a b e f first second
-    (c.in-Ok.ensures a e of first few told.first)
-    (c.in-Ok-spelling_of_entry.ensures b f other_of second other_few told.second)
+    (c.in-Ok.ensures a e of first told.first)
+    (c.in-Ok-spelling_of_entry.ensures b f other_of second told.second)
     told.agree c.args.self.now.progress c.place.result unlike told.progress
     (c.place.ensures
     ∙ ap₂ (λ x y. place_from c.args.self.now.progress x y) (side_same c.kind_of-2.result e
-    (lent_kind c.args.entry c.kind_of-2.result e c.kind_of-2.ensures of))
+    (lent_kind c.args.entry c.kind_of-2.result e c.kind_of-2.ensures of.0))
     (side_same c.kind_of-3.result f
-    (lent_kind c.args.other c.kind_of-3.result f c.kind_of-3.ensures other_of)))
+    (lent_kind c.args.other c.kind_of-3.result f c.kind_of-3.ensures other_of.0)))

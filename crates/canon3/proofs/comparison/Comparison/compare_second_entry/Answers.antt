@@ -3,13 +3,13 @@ use Rattle.canon3.proofs.Lemmas.Comparison.ComparisonLemmas.{compared_meets, Han
 use Rattle.canon3.proofs.comparison.Comparison.compare_second_entry.Goals as goal
 
 pub returns-in_ok-compare-in-Some-clause-meets : goal.returns-in_ok-compare-in-Some-clause-meets
-returns-in_ok-compare-in-Some-clause-meets g c first now start a b e of order few so_far h =
+returns-in_ok-compare-in-Some-clause-meets g c first now start a b e of order so_far h =
     let left = g.B.Source.told in
     let old = c.args.second.now in
     let new = c.next.new.self in
     let was = c.args.self.now.second in
     let visitor = c.next.new.visitor in
-    let (f, is, second, other_few, adds, given) =
+    let (f, is, second, adds, given) =
     subst
     (λ next.
     Hands left (WriterStands {S = g.row.S.Denot} {H = g.row.S-Hasher.Denot}) start old new
@@ -21,11 +21,13 @@ returns-in_ok-compare-in-Some-clause-meets g c first now start a b e of order fe
     compared_meets left first now start new c.compare.new.self a b e f given
     c.in_ok-compare-in-Some.field-0 c.map.result c.map.ensures.cases
     (c.in_ok-compare-in-Some.ensures.compares
-    a b e f of (c.in-Some.ensures.lent given.given b f given.stands) order second few
-    other_few both)
+    a b e f of (
+      c.in-Some.ensures.lent given.given b f given.stands,
+      c.in-Some.ensures.numbered given.given b f given.stands,
+    ) order second both)
 
 pub returns-in-Ok-None-clause-meets : goal.returns-in-Ok-None-clause-meets
-returns-in-Ok-None-clause-meets g c first now start a b e of order few so_far h =
+returns-in-Ok-None-clause-meets g c first now start a b e of order so_far h =
     let left = g.B.Source.told in
     let old = c.args.second.now in
     let new = c.next.new.self in
@@ -42,7 +44,7 @@ returns-in-Ok-None-clause-meets g c first now start a b e of order few so_far h 
     not_ended left first now start new c.args.self.now a b e order so_far.agree all
 
 pub returns-in-Err-clause-meets : goal.returns-in-Err-clause-meets
-returns-in-Err-clause-meets g c first now start a b e of order few so_far h =
+returns-in-Err-clause-meets g c first now start a b e of order so_far h =
     let left = g.B.Source.told in
     let new = c.next.new.self in
     subst

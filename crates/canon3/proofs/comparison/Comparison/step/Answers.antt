@@ -9,7 +9,7 @@ returns-in-Some-clause-steps g c start other_start u =
     let new = c.next.new.self in
     let was = c.args.self.now.first in
     let now = c.next.new.visitor in
-    let (e, is, first, few, adds, given) =
+    let (e, is, first, adds, given) =
     subst
     (λ next.
     Hands left (WriterStands {S = g.row.S.Denot} {H = g.row.S-Hasher.Denot}) start old new
@@ -20,8 +20,10 @@ returns-in-Some-clause-steps g c start other_start u =
     let so_far = told_first c.args.self.now u.a u.b now (items_of e) adds u.compared in
     stepped left g.B.Source.told start other_start new c.compare_second_entry.new.second
     c.compare_second_entry.new.self u.a u.b e given c.compare_second_entry.result
-    (c.compare_second_entry.ensures.meets start (left (source_of new)) other_start u.a u.b e
-    (c.in-Some.ensures.lent given.given u.a e given.stands) first few so_far u.second_given)
+    (c.compare_second_entry.ensures.meets start (left (source_of new)) other_start u.a u.b e (
+      c.in-Some.ensures.lent given.given u.a e given.stands,
+      c.in-Some.ensures.numbered given.given u.a e given.stands,
+    ) first so_far u.second_given)
 
 pub returns-in-Ok-None-clause-steps : goal.returns-in-Ok-None-clause-steps
 returns-in-Ok-None-clause-steps g c start other_start u =

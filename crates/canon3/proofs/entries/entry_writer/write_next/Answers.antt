@@ -24,8 +24,10 @@ returns-in-Some-entry-clause-goes_on g c first old u =
     (gave_both first (g.R.Source.told (source_of c.args.entries.now))
     (g.R.Source.told (source_of c.next.new.self)) u.given a.more u.consumed a.consumed)
     reached reads
-    (c.write_one.ensures.writes old u.handed one
-    (c.in-Some-entry.ensures.lent (u.given ++ a.more) u.handed one reads) order few
+    (c.write_one.ensures.writes old u.handed one (
+      c.in-Some-entry.ensures.lent (u.given ++ a.more) u.handed one reads,
+      c.in-Some-entry.ensures.numbered (u.given ++ a.more) u.handed one reads,
+    ) order few
     u.writes.came (adds (g.E.EntryWriter.before u.handed) u.writes.stands_for) u.writes.written)
 
 pub returns-in-None-clause-goes_on : goal.returns-in-None-clause-goes_on

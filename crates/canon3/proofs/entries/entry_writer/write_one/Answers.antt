@@ -10,6 +10,6 @@ returns-clause-writes g c old entries one of first few came told written =
       stands_for = stands;
       came =
           c.add.ensures.counts entries one
-          (lent_kind c.args.entry c.kind_of.result one c.kind_of.ensures of) came;
+          (lent_kind c.args.entry c.kind_of.result one c.kind_of.ensures of.0) came;
       written = more;
     }

@@ -6,7 +6,7 @@ use Rattle.listing3.proofs.line_writer.LineWriterEntryWriter.write.Goals as goal
 
 pub returns-clause-writes : goal.returns-clause-writes
 returns-clause-writes g c old entries one of first few came told written =
-    let kind = lent_kind c.args.entry c.kind_of.result one c.kind_of.ensures of in
+    let kind = lent_kind c.args.entry c.kind_of.result one c.kind_of.ensures of.0 in
     let stands =
     subst (LineStands g.H.Visit.stands c.args.self.now)
     (after_front-append (all_items entries) [] (items_of one)) told in
@@ -22,5 +22,5 @@ returns-clause-writes g c old entries one of first few came told written =
     (λ (l : List Item). LineStands g.H.Visit.stands c.begin_message.new.self (after_front l []))
     (sym (items_with_last entries one))
     (c.begin_message.ensures (all_items entries ++ items_of one) gathered))
-    (c.write_entry-written.ensures.ok entries one kind (c.body_of.ensures one of) first stands)
-    (c.write_entry-written.ensures.err entries one kind (c.body_of.ensures one of) first stands)
+    (c.write_entry-written.ensures.ok entries one kind (c.body_of.ensures one of.0) first stands)
+    (c.write_entry-written.ensures.err entries one kind (c.body_of.ensures one of.0) first stands)

@@ -37,7 +37,7 @@ returns-in_err-write_entry-clause-writes g c old entries one of first few came t
     (ap (λ (w : Ways). written_as w.machines c.kind_of.result c.args.self.now.writer)
     is.ways_are
     ∙ entry_is g.P.Plan.ways c.args.self.now.writer c.kind_of.result entries one
-    (lent_kind c.args.entry c.kind_of.result one c.kind_of.ensures of) first is.written)
+    (lent_kind c.args.entry c.kind_of.result one c.kind_of.ensures of.0) first is.written)
     c.in_ok-write_magic.ensures.ok c.in_err-write_entry.ensures.err)
 
 pub returns-clause-writes : goal.returns-clause-writes
@@ -64,6 +64,6 @@ returns-clause-writes g c old entries one of first few came told written =
           (ap (λ (w : Ways). written_as w.machines c.kind_of.result c.args.self.now.writer)
           is.ways_are
           ∙ entry_is g.P.Plan.ways c.args.self.now.writer c.kind_of.result entries one
-          (lent_kind c.args.entry c.kind_of.result one c.kind_of.ensures of) first
+          (lent_kind c.args.entry c.kind_of.result one c.kind_of.ensures of.0) first
           is.written) c.in_ok-write_magic.ensures.ok c.in_ok-write_entry.ensures.ok,
     )

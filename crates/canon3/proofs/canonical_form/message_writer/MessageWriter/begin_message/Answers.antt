@@ -4,5 +4,5 @@ use Rattle.canon3.proofs.canonical_form.message_writer.MessageWriter.begin_messa
 
 pub returns-clause-stands : goal.returns-clause-stands
 returns-clause-stands g c before h =
-    begins _ before (record { handles = h.handles; verifiers = h.verifiers; xids = h.xids }) refl
+    begins _ before (record { handles = h.handles; verifiers = h.verifiers }) refl
     c.clear.ensures

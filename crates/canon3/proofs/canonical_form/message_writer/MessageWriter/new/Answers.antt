@@ -8,5 +8,4 @@ returns-clause-stands g c =
     (record {
       handles = ([], c.new.ensures, refl);
       verifiers = c.new-2.ensures;
-      xids = c.new-3.ensures;
-    }) refl c.new-4.ensures
+    }) refl c.new-3.ensures
