@@ -40,7 +40,7 @@ pair_written xs at p h l =
           (take_more_set (set xs at (48 + p / 10)) (at + 1) (48 + p % 10)
           (omega (arith, length-set xs at (48 + p / 10)))
           ∙ ap (λ (l : List ℕ). l ++ (48 + p % 10) ∷ [])
-              (take_more_set xs at (48 + p / 10) (omega arith))
+          (take_more_set xs at (48 + p / 10) (omega arith))
           ∙ append_assoc (take at xs) ((48 + p / 10) ∷ []) ((48 + p % 10) ∷ [])),
       length-set (set xs at (get_or PAIRS (2 * p) 0)) (at + 1) (get_or PAIRS (2 * p + 1) 0)
           ∙ length-set xs at (get_or PAIRS (2 * p) 0),
