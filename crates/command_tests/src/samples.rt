@@ -30,7 +30,6 @@ pub(crate) fn commit(
 pub(crate) fn hashers() -> Hashers<BuildHasherDefault<FoldHasher>> {
     Hashers {
         calls: BuildHasherDefault::default(),
-        xids: BuildHasherDefault::default(),
         handles: BuildHasherDefault::default(),
         verfs: BuildHasherDefault::default(),
     }

@@ -48,7 +48,6 @@ impl SecretHasher {
 pub fn hashers(rt: &HostRuntime) -> io::Result<Hashers<SecretHasher>> {
     Ok(Hashers {
         calls: SecretHasher::new(rt)?,
-        xids: SecretHasher::new(rt)?,
         handles: SecretHasher::new(rt)?,
         verfs: SecretHasher::new(rt)?,
     })

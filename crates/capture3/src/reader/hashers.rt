@@ -3,11 +3,10 @@
 use std::hash::BuildHasher;
 
 /// One hasher for each kind of table: the calls of a connection by their xids, and the numbers of
-/// xids, of file handles and of write verifiers. They affect no result.
+/// file handles and of write verifiers. They affect no result.
 #[derive(Drop)]
 pub struct Hashers<S: BuildHasher + Drop> {
     pub calls: S,
-    pub xids: S,
     pub handles: S,
     pub verfs: S,
 }
