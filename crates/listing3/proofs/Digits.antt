@@ -2,7 +2,7 @@
 use Rattle.listing3.proofs.Common.{◌≡◌, ℕ, zero, suc, ◌+◌, ◌-◌, ◌*◌, ◌/◌, ◌%◌, ◌^◌, ◌<◌, ◌≤◌, Bool, true, ◌&&◌, T, eqb, List, [], ◌∷◌, ◌++◌, length, take, set, get_or, refl, ap, sym, ◌∙◌, inl, inr, arith, eq-zero-or-pos, eqb→eq, append_assoc, length-set, decimal_digit, decimal_step, take_more_set, decimal}
 use lib.Ieee.Fits.{and_l, and_r}
 use Rattle.listing3.specs.declared.room.TheConstants.{PAIRS}
-use Rattle.listing3.specs.machinery.Puts.{Puts}
+use Rattle.listing3.specs.machinery.PutsBytes.{PutsBytes}
 use Rattle.listing3.specs.machinery.Digits.{eight_digits, four_digits, two_digits}
 
 -- ---- the table
@@ -30,7 +30,7 @@ pair_at p h = below 100 p tt h
 
 -- a pair of the table that is put at a place
 pub pair_written : (xs : List ℕ) (at p : ℕ) → p < 100 → at + 2 ≤ length xs
-    → Puts xs
+    → PutsBytes xs
     (set (set xs at (get_or PAIRS (2 * p) 0)) (at + 1) (get_or PAIRS (2 * p + 1) 0))
     at (at + 2) (two_digits p)
 pair_written xs at p h l =
@@ -105,8 +105,8 @@ decimal_eight n lo hi =
 
 -- digits that are put after others
 pub after_digits : (old between new : List ℕ) (at middle end : ℕ) (first last all : List ℕ)
-    → Puts between new middle end last → Puts old between at middle first → all ≡ first ++ last
-    → Puts old new at end all
+    → PutsBytes between new middle end last → PutsBytes old between at middle first → all ≡ first ++ last
+    → PutsBytes old new at end all
 after_digits old between new at middle end first last all second written is = (
   second.0 ∙ ap (λ (l : List ℕ). l ++ last) written.0 ∙ append_assoc (take at old) first last
       ∙ ap (λ (l : List ℕ). take at old ++ l) (sym is),

@@ -1,13 +1,13 @@
 -- Room that text is written into.
 use Rattle.listing3.proofs.Common.{◌≡◌, ℕ, zero, suc, ◌+◌, ◌-◌, ◌≤◌, ◌<◌, List, ◌++◌, length, take, drop, set, length-set, refl, ap, sym, ◌∙◌, arith, append_assoc, lower_digits, decimal_digit, decimal, slice_index, take-append-add, length-take-le, take-append-drop, take_rest, take-take, take_more_set, take-append_seam}
-use Rattle.listing3.specs.machinery.Puts.{Puts}
+use Rattle.listing3.specs.machinery.PutsBytes.{PutsBytes}
 
 -- what stands before a place is kept where it is kept before a later place
 pub kept_below : (m n : ℕ) (xs ys : List ℕ) → m ≤ n → take n xs ≡ take n ys → take m xs ≡ take m ys
 kept_below m n xs ys l e = sym (take-take m n xs l) ∙ (ap (take m) e ∙ take-take m n ys l)
 
 -- what stands before the bytes that are put is kept
-pub kept_by : (old new : List ℕ) (at end : ℕ) (bytes : List ℕ) → Puts old new at end bytes
+pub kept_by : (old new : List ℕ) (at end : ℕ) (bytes : List ℕ) → PutsBytes old new at end bytes
     → at ≤ end → at ≤ length old → take at new ≡ take at old
 kept_by old new at end bytes put after within =
     let start : at ≡ length (take at old) = sym (length-take-le at old within) in
@@ -16,7 +16,7 @@ kept_by old new at end bytes put after within =
 
 -- a digit that is put at a place
 pub one_digit : (xs : List ℕ) (i n : ℕ) → n < 10 → i < length xs
-    → Puts xs (set xs i (48 + n)) i (i + 1) (decimal n)
+    → PutsBytes xs (set xs i (48 + n)) i (i + 1) (decimal n)
 one_digit xs i n s l = (
   take_more_set xs i (48 + n) l ∙ ap (λ ds. take i xs ++ ds) (sym (decimal_digit n s)),
   length-set xs i (48 + n),

@@ -4,4 +4,4 @@ pub mod Digits
 pub mod Halves
 pub mod Fields
 pub mod ItemsText
-pub mod Puts
+pub mod PutsBytes

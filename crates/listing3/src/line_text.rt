@@ -4,7 +4,7 @@ ghost use Rattle.std.specs.Prelude.{◌≡◌, ◌≤◌, ◌+◌, ◌*◌, ◌+
 ghost use Rattle.hex.specs.Hex.{encode_lower};
 ghost use Rattle.xdr3.specs.Visit.{body_limit};
 ghost use Rattle.listing3.specs.Listing.{opening, prefix, quoted};
-ghost use Rattle.listing3.specs.machinery.Puts.{Puts};
+ghost use Rattle.listing3.specs.machinery.PutsBytes.{PutsBytes};
 
 use crate::room::{DIGITS, put_decimal, put_hex, put_name, put_number, put_quoted, put_short};
 use crate::run::put_run;
@@ -188,7 +188,7 @@ impl LineText {
 fn put_prefix(room: &mut [u8], at: usize, connection: u32, side: &'static str, number: u32) -> usize
     requires { at + (length side.now + (2 * DIGITS + 2)) ≤ length room.old }
     ensures within { (at ≤ result) × (result ≤ at + (length side.now + (2 * DIGITS + 2))) }
-    ensures puts { Puts room.old room.new at result (prefix connection side.now number) }
+    ensures puts { PutsBytes room.old room.new at result (prefix connection side.now number) }
 {
     let end = put_decimal(room, at, u64::from(connection));
     let end = put_bytes(room, end, b" ");

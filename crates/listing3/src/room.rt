@@ -8,7 +8,7 @@ ghost use Rattle.xdr3.specs.Visit.{body_limit};
 ghost use Rattle.listing3.specs.Listing.{is_plain, opening, quoted, quoted_byte};
 ghost use Rattle.listing3.specs.machinery.Digits.{eight_digits, four_digits, two_digits};
 ghost use Rattle.listing3.specs.machinery.Halves.{halves_in_order, AreHalves};
-ghost use Rattle.listing3.specs.machinery.Puts.{Puts};
+ghost use Rattle.listing3.specs.machinery.PutsBytes.{PutsBytes};
 
 use std::alloc::AllocError;
 use xdr3::room::{make_room, put_bytes};
@@ -35,7 +35,7 @@ static PAIRS: [u8; 200] =
 pub(crate) fn put_name(room: &mut [u8], at: usize, name: &'static str) -> usize
     requires { at + (length name.now + 2) ≤ length room.old }
     ensures end { result ≡ at + (length name.now + 2) }
-    ensures puts { Puts room.old room.new at result (opening name.now) }
+    ensures puts { PutsBytes room.old room.new at result (opening name.now) }
 {
     room[at] = b' ';
     let end = put_short(room, at + 1, name.as_bytes());
@@ -49,7 +49,7 @@ pub(crate) fn put_name(room: &mut [u8], at: usize, name: &'static str) -> usize
 pub(crate) fn put_short(room: &mut [u8], at: usize, bytes: &[u8]) -> usize
     requires { at + length bytes.now ≤ length room.old }
     ensures end { result ≡ at + length bytes.now }
-    ensures puts { Puts room.old room.new at result bytes.now }
+    ensures puts { PutsBytes room.old room.new at result bytes.now }
 {
     let count = bytes.len();
     if (8..=16).contains(&count) {
@@ -71,7 +71,7 @@ fn put_ends<const N: usize>(room: &mut [u8], at: usize, bytes: &[u8]) -> usize
     requires least { N ≤ length bytes.now }
     requires most { length bytes.now ≤ 2 * N }
     ensures end { result ≡ at + length bytes.now }
-    ensures puts { Puts room.old room.new at result bytes.now }
+    ensures puts { PutsBytes room.old room.new at result bytes.now }
 {
     let last = bytes.len() - N;
     put_bytes(room, at, &block::<N>(bytes));
@@ -96,7 +96,7 @@ fn block<const N: usize>(bytes: &[u8]) -> [u8; N]
 pub(crate) fn put_decimal(room: &mut [u8], at: usize, n: u64) -> usize
     requires { at + DIGITS ≤ length room.old }
     ensures within { (at ≤ result) × (result ≤ at + DIGITS) }
-    ensures puts { Puts room.old room.new at result (decimal n) }
+    ensures puts { PutsBytes room.old room.new at result (decimal n) }
 {
     if n < 10 {
         room[at] = b'0' + n as u8;
@@ -114,7 +114,7 @@ fn put_long(room: &mut [u8], at: usize, n: u64) -> usize
     requires long { 100000000 ≤ n }
     requires room { at + DIGITS ≤ length room.old }
     ensures within { (at ≤ result) × (result ≤ at + DIGITS) }
-    ensures puts { Puts room.old room.new at result (decimal n) }
+    ensures puts { PutsBytes room.old room.new at result (decimal n) }
 {
     let end = put_front(room, at, n / 100_000_000);
     put_eight(room, end, (n % 100_000_000) as u32)
@@ -125,7 +125,7 @@ fn put_front(room: &mut [u8], at: usize, n: u64) -> usize
     requires few { n < 184467440738 }
     requires room { at + 12 ≤ length room.old }
     ensures within { (at ≤ result) × (result ≤ at + 12) }
-    ensures puts { Puts room.old room.new at result (decimal n) }
+    ensures puts { PutsBytes room.old room.new at result (decimal n) }
 {
     if let Ok(word) = u32::try_from(n) {
         return put_word(room, at, word);
@@ -139,7 +139,7 @@ fn put_front(room: &mut [u8], at: usize, n: u64) -> usize
 fn put_word(room: &mut [u8], at: usize, n: u32) -> usize
     requires { at + 10 ≤ length room.old }
     ensures within { (at ≤ result) × (result ≤ at + 10) }
-    ensures puts { Puts room.old room.new at result (decimal n) }
+    ensures puts { PutsBytes room.old room.new at result (decimal n) }
 {
     if n < 10_000 {
         return put_few(room, at, n);
@@ -158,7 +158,7 @@ fn put_few(room: &mut [u8], at: usize, n: u32) -> usize
     requires few { n < 10000 }
     requires room { at + 4 ≤ length room.old }
     ensures within { (at ≤ result) × (result ≤ at + 4) }
-    ensures puts { Puts room.old room.new at result (decimal n) }
+    ensures puts { PutsBytes room.old room.new at result (decimal n) }
 {
     if n < 100 {
         return put_two(room, at, n);
@@ -175,7 +175,7 @@ fn put_two(room: &mut [u8], at: usize, n: u32) -> usize
     requires few { n < 100 }
     requires room { at + 2 ≤ length room.old }
     ensures within { (at ≤ result) × (result ≤ at + 2) }
-    ensures puts { Puts room.old room.new at result (decimal n) }
+    ensures puts { PutsBytes room.old room.new at result (decimal n) }
 {
     if n < 10 {
         room[at] = b'0' + n as u8;
@@ -190,7 +190,7 @@ fn put_eight(room: &mut [u8], at: usize, n: u32) -> usize
     requires few { n < 100000000 }
     requires room { at + 8 ≤ length room.old }
     ensures end { result ≡ at + 8 }
-    ensures puts { Puts room.old room.new at result (eight_digits n) }
+    ensures puts { PutsBytes room.old room.new at result (eight_digits n) }
 {
     let end = put_four(room, at, n / 10_000);
     put_four(room, end, n % 10_000)
@@ -202,7 +202,7 @@ fn put_four(room: &mut [u8], at: usize, n: u32) -> usize
     requires few { n < 10000 }
     requires room { at + 4 ≤ length room.old }
     ensures end { result ≡ at + 4 }
-    ensures puts { Puts room.old room.new at result (four_digits n) }
+    ensures puts { PutsBytes room.old room.new at result (four_digits n) }
 {
     let first = hundreds(n);
     let end = put_pair(room, at, first);
@@ -225,7 +225,7 @@ fn put_pair(room: &mut [u8], at: usize, n: u32) -> usize
     requires few { n < 100 }
     requires room { at + 2 ≤ length room.old }
     ensures end { result ≡ at + 2 }
-    ensures puts { Puts room.old room.new at result (two_digits n) }
+    ensures puts { PutsBytes room.old room.new at result (two_digits n) }
 {
     let from = 2 * n as usize;
     room[at] = PAIRS[from];
@@ -238,7 +238,7 @@ fn put_pair(room: &mut [u8], at: usize, n: u32) -> usize
 pub(crate) fn put_number(room: &mut [u8], at: usize, name: &'static str, n: u64) -> usize
     requires { at + (length name.now + 2 + DIGITS) ≤ length room.old }
     ensures within { (at ≤ result) × (result ≤ at + (length name.now + 2 + DIGITS)) }
-    ensures puts { Puts room.old room.new at result (opening name.now ++ decimal n) }
+    ensures puts { PutsBytes room.old room.new at result (opening name.now ++ decimal n) }
 {
     let start = put_name(room, at, name);
     put_decimal(room, start, n)
@@ -249,7 +249,7 @@ pub(crate) fn put_number(room: &mut [u8], at: usize, name: &'static str, n: u64)
 pub(crate) fn put_hex(room: &mut [u8], at: usize, bytes: &[u8]) -> usize
     requires { at + 2 * length bytes.now ≤ length room.old }
     ensures end { result ≡ at + 2 * length bytes.now }
-    ensures puts { Puts room.old room.new at result (encode_lower bytes.now) }
+    ensures puts { PutsBytes room.old room.new at result (encode_lower bytes.now) }
 {
     if bytes.len() == HANDLE {
         return put_spelled(room, at, &block::<HANDLE>(bytes));
@@ -266,7 +266,7 @@ pub(crate) fn put_hex(room: &mut [u8], at: usize, bytes: &[u8]) -> usize
 fn put_spelled(room: &mut [u8], at: usize, bytes: &[u8]) -> usize
     requires { at + 2 * length bytes.now ≤ length room.old }
     ensures end { result ≡ at + 2 * length bytes.now }
-    ensures puts { Puts room.old room.new at result (encode_lower bytes.now) }
+    ensures puts { PutsBytes room.old room.new at result (encode_lower bytes.now) }
 {
     let end = at + 2 * bytes.len();
     encode(bytes, &mut room[at..end]);
@@ -297,7 +297,7 @@ fn split(bytes: &[u8], halves: &mut [u8])
     }
 }
 
-/// Puts its digit in the place of each number.
+/// PutsBytes its digit in the place of each number.
 #[inline(always)]
 fn spell(digits: &mut [u8])
     requires { AreHalves digits.old }
@@ -362,7 +362,7 @@ fn put_plain(room: &mut [u8], at: usize, bytes: &[u8]) -> usize
     requires plain { flat_map quoted_byte bytes.now ≡ bytes.now }
     requires room { at + (length bytes.now + 2) ≤ length room.old }
     ensures end { result ≡ at + (length bytes.now + 2) }
-    ensures puts { Puts room.old room.new at result (quoted bytes.now) }
+    ensures puts { PutsBytes room.old room.new at result (quoted bytes.now) }
 {
     let start = put_bytes(room, at, b"\"");
     let end = put_short(room, start, bytes);
@@ -384,7 +384,7 @@ fn are_all_plain(bytes: &[u8]) -> bool
 fn put_piece(room: &mut [u8], at: usize, bytes: &[u8]) -> usize
     requires { at + 4 * length bytes.now ≤ length room.old }
     ensures within { (at ≤ result) × (result ≤ at + 4 * length bytes.now) }
-    ensures puts { Puts room.old room.new at result (flat_map quoted_byte bytes.now) }
+    ensures puts { PutsBytes room.old room.new at result (flat_map quoted_byte bytes.now) }
 {
     if bytes.len() == PIECE && are_plain(bytes) {
         return put_bytes(room, at, &block::<PIECE>(bytes));
@@ -419,7 +419,7 @@ fn is_plain(byte: u8) -> bool
 fn put_inside(room: &mut [u8], at: usize, bytes: &[u8]) -> usize
     requires { at + 4 * length bytes.now ≤ length room.old }
     ensures within { (at ≤ result) × (result ≤ at + 4 * length bytes.now) }
-    ensures puts { Puts room.old room.new at result (flat_map quoted_byte bytes.now) }
+    ensures puts { PutsBytes room.old room.new at result (flat_map quoted_byte bytes.now) }
 {
     let mut end = at;
     for &byte in bytes {
@@ -431,7 +431,7 @@ fn put_inside(room: &mut [u8], at: usize, bytes: &[u8]) -> usize
 fn put_quoted_byte(room: &mut [u8], at: usize, byte: u8) -> usize
     requires { at + 4 ≤ length room.old }
     ensures within { (at ≤ result) × (result ≤ at + 4) }
-    ensures puts { Puts room.old room.new at result (quoted_byte byte) }
+    ensures puts { PutsBytes room.old room.new at result (quoted_byte byte) }
 {
     if is_plain(byte) {
         room[at] = byte;

@@ -5,7 +5,7 @@ ghost use Rattle.std.specs.List.{All};
 ghost use Rattle.xdr3.specs.Plain.{plain_item, run_items, run_size, width};
 ghost use Rattle.listing3.specs.Listing.{opening, shown_item, shown_items};
 ghost use Rattle.listing3.specs.machinery.Fields.{field_name, HasShortName};
-ghost use Rattle.listing3.specs.machinery.Puts.{Puts};
+ghost use Rattle.listing3.specs.machinery.PutsBytes.{PutsBytes};
 
 use crate::room::{DIGITS, put_number};
 use byteorder::{BigEndian, ByteOrder};
@@ -115,7 +115,8 @@ fn put_field(room: &mut [u8], at: usize, field: PlainField, bytes: &[u8]) -> (us
     requires room { at + FIELD ≤ length room.old }
     ensures within { result.0 ≤ at + FIELD }
     ensures size { result.1 ≡ width field }
-    ensures puts { Puts room.old room.new at result.0 (shown_item (plain_item field bytes.now)) }
+    ensures puts { PutsBytes room.old room.new at result.0
+        (shown_item (plain_item field bytes.now)) }
 {
     let (name, n, size) = number_in(field, bytes);
     (put_number(room, at, name, n), size)
@@ -130,7 +131,7 @@ fn put_one_field(room: &mut [u8], at: usize, fields: &[PlainField], bytes: &[u8]
     requires room { at + FIELD ≤ length room.old }
     ensures within { result.0 ≤ at + FIELD }
     ensures size { result.1 ≡ run_size fields.now }
-    ensures puts { Puts room.old room.new at result.0
+    ensures puts { PutsBytes room.old room.new at result.0
         (shown_items (run_items fields.now bytes.now)) }
 {
     put_field(room, at, fields[0], bytes)
@@ -146,7 +147,7 @@ fn put_two_fields(room: &mut [u8], at: usize, fields: &[PlainField], bytes: &[u8
     requires room { at + 2 * FIELD ≤ length room.old }
     ensures within { result.0 ≤ at + 2 * FIELD }
     ensures size { result.1 ≡ run_size fields.now }
-    ensures puts { Puts room.old room.new at result.0
+    ensures puts { PutsBytes room.old room.new at result.0
         (shown_items (run_items fields.now bytes.now)) }
 {
     let (end, size) = put_field(room, at, fields[0], bytes);
@@ -169,7 +170,7 @@ fn put_three_fields(
     requires room { at + 3 * FIELD ≤ length room.old }
     ensures within { result.0 ≤ at + 3 * FIELD }
     ensures size { result.1 ≡ run_size fields.now }
-    ensures puts { Puts room.old room.new at result.0
+    ensures puts { PutsBytes room.old room.new at result.0
         (shown_items (run_items fields.now bytes.now)) }
 {
     let (end, size) = put_two_fields(room, at, &fields[..2], bytes);
@@ -192,7 +193,7 @@ fn put_four_fields(
     requires room { at + 4 * FIELD ≤ length room.old }
     ensures within { result.0 ≤ at + 4 * FIELD }
     ensures size { result.1 ≡ run_size fields.now }
-    ensures puts { Puts room.old room.new at result.0
+    ensures puts { PutsBytes room.old room.new at result.0
         (shown_items (run_items fields.now bytes.now)) }
 {
     let (end, size) = put_two_fields(room, at, &fields[..2], bytes);
@@ -215,7 +216,7 @@ fn put_five_fields(
     requires room { at + 5 * FIELD ≤ length room.old }
     ensures within { result.0 ≤ at + 5 * FIELD }
     ensures size { result.1 ≡ run_size fields.now }
-    ensures puts { Puts room.old room.new at result.0
+    ensures puts { PutsBytes room.old room.new at result.0
         (shown_items (run_items fields.now bytes.now)) }
 {
     let (end, size) = put_four_fields(room, at, &fields[..4], bytes);
@@ -238,7 +239,7 @@ fn put_eight_fields(
     requires room { at + 8 * FIELD ≤ length room.old }
     ensures within { result.0 ≤ at + 8 * FIELD }
     ensures size { result.1 ≡ run_size fields.now }
-    ensures puts { Puts room.old room.new at result.0
+    ensures puts { PutsBytes room.old room.new at result.0
         (shown_items (run_items fields.now bytes.now)) }
 {
     let (end, size) = put_four_fields(room, at, &fields[..4], bytes);
@@ -261,7 +262,7 @@ fn put_sixteen_fields(
     requires room { at + 16 * FIELD ≤ length room.old }
     ensures within { result.0 ≤ at + 16 * FIELD }
     ensures size { result.1 ≡ run_size fields.now }
-    ensures puts { Puts room.old room.new at result.0
+    ensures puts { PutsBytes room.old room.new at result.0
         (shown_items (run_items fields.now bytes.now)) }
 {
     let (end, size) = put_eight_fields(room, at, &fields[..8], bytes);

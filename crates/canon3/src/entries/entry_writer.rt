@@ -37,7 +37,7 @@ pub trait EntryWriter: Visit {
     /// Holds of a writer that has not failed.
     ghost going: { Self → Type 0 };
 
-    /// Writes what the entry adds to the form. Its items were visited.
+    /// Writes what the entry adds to the form. Its items were visited. A message has its number.
     ///
     /// # Errors
     ///
