@@ -80,7 +80,8 @@ module _ {R S H : Type 0} {builds : BuildHasher.Ghosts S H} {hashes : Hasher.Gho
   abbrev pub block_size : Entries R S H builds hashes → ℕ
   block_size entries = vec_len entries.block
 
-  -- A call uses the source: at most one read of it fails, if no call failed before. It never writes.
+  -- A call uses the source: at most one read of it fails, if no call failed before. It never
+  -- writes.
   -- The block and the reference to the source stay.
   pub record UsesSource {X : Type 0} (failures : R → ℕ) (old new : Entries R S H builds hashes)
       (result : Result X Error) : Type 0 where

@@ -105,7 +105,8 @@ decimal_eight n lo hi =
 
 -- digits that are put after others
 pub after_digits : (old between new : List ℕ) (at middle end : ℕ) (first last all : List ℕ)
-    → PutsBytes between new middle end last → PutsBytes old between at middle first → all ≡ first ++ last
+    → PutsBytes between new middle end last → PutsBytes old between at middle first
+    → all ≡ first ++ last
     → PutsBytes old new at end all
 after_digits old between new at middle end first last all second written is = (
   second.0 ∙ ap (λ (l : List ℕ). l ++ last) written.0 ∙ append_assoc (take at old) first last

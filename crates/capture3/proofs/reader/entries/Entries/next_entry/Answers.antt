@@ -54,7 +54,8 @@ loop-self-preserved g c =
           (c.in-Ok-None.is ∙ ap Ok c.in-Ok-None.field-0-is)
           (invariant.has_read given handed s) c.turn.ensures.turns;
       untold = c.in-Ok-None.ensures.on.untold c.in-Ok-None.field-0-is ∙ invariant.untold;
-      fewer = omega (arith, c.in-Ok-None.ensures.on.no_more c.in-Ok-None.field-0-is, invariant.fewer);
+      fewer =
+          omega (arith, c.in-Ok-None.ensures.on.no_more c.in-Ok-None.field-0-is, invariant.fewer);
       read = c.in-Ok-None.ensures.device.read ∙ invariant.read;
       same_block = c.turn.ensures.device.same_block ∙ invariant.same_block;
       same_reference = c.turn.ensures.device.same_reference ∙ invariant.same_reference;
