@@ -25,9 +25,9 @@ import make  # noqa: E402
 # The most instructions, in millions.
 LIMITS = {
     'check small': 7.1,
-    'canon small': 11.1,
+    'canon small': 10.6,
     'show small': 16.4,
-    'same small': 19.6,
+    'same small': 18.5,
     'check mixed': 5.4,
     'canon mixed': 12.9,
     'show mixed': 19.5,
