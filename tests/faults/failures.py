@@ -34,8 +34,8 @@ OUT_OF_MEMORY, READ_FAILED, WRITE_FAILED = 'out of memory\n', 'read failed\n', '
 BLOCK = 65_536
 # The last growths of a run are those of its line, which is not printed if one of them is refused.
 GROWTHS_OF_THE_LINE = 6
-# The first calls for random bytes of a run: four hashers for each of two captures.
-OF_HASHERS = 8
+# The first calls for random bytes of a run: three hashers for each of two captures.
+OF_HASHERS = 6
 COMMANDS = ['check a', 'show a', 'canon a out', 'canon a /dev/stdout', 'same a a', 'pack out a a', 'pack /dev/stdout a a',
             'nfs3mask a out', 'nfs3mask a /dev/stdout owners=number']
 OTHER_LINES = ['check absent', 'same a absent', 'canon a ./a', 'canon a new', 'pack new a a',
