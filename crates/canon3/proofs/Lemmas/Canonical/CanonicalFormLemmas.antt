@@ -1,5 +1,6 @@
 -- What was rewritten, entry by entry.
 use Rattle.canon3.proofs.Common.{◌≡◌, ℕ, ◌+◌, Bool, true, false, List, [], ◌∷◌, ◌++◌, refl, sym, ap, ◌∙◌, subst, arith, Option, Result, Ok, Err, Decides-eqb, Appends, Error, One, magic, Entry, Begin, Call, Turn, Reply, Close, End, MessageWriter, bytes_of, canonical, AreFirst, IsGoing, WriterStands, connections, bytes_after, AppendsFront, ◌==◌, if◌then◌else◌, Appends-trans, Summary}
+use Rattle.std.proofs.lemmas.Bool.Decides.{nat_tests}
 use Rattle.canon3.specs.EntryWriter.{HasWrittenOrCut, WritesAll}
 use Rattle.canon3.specs.CanonicalForm.{canonical_bytes, WritesNoMore}
 use Rattle.canon3.specs.machinery.FormSteps.{are_some, Follows, magic_unless, values_before}
@@ -19,24 +20,15 @@ none_after [] one s (steps x r) = elim x [ ]
 none_after (e ∷ entries) one s (steps x r) = elim x [ ]
 
 no_magic : (count : ℕ) → magic_before (1 + count) ≡ []
-no_magic count = by_test (1 + count == 0) refl
-  where
-    by_test : (b : Bool) → b ≡ (1 + count == 0) → (if b then magic One else []) ≡ []
-    by_test true e =
-        let none : 1 + count ≡ 0 = (Decides-eqb (1 + count) 0).0 (sym e) in
-        absurd (omega arith)
-    by_test false e = refl
+no_magic count = grind (arith, nat_tests)
 
 -- before the first entry, and then not
 magic_is : (entries : List Entry) (one : Entry) (s : Stage) → Runs Between (entries ++ one ∷ []) s
     → magic_before (connections entries) ≡ magic_unless (are_some entries)
 magic_is [] one s r = refl
 magic_is (Begin ∷ entries) one s r = no_magic (connections entries)
-magic_is (Call m ∷ entries) one s (steps x r) = elim x [ ]
-magic_is (Turn ∷ entries) one s (steps x r) = elim x [ ]
-magic_is (Reply id m ∷ entries) one s (steps x r) = elim x [ ]
-magic_is (Close ∷ entries) one s (steps x r) = elim x [ ]
 magic_is (End ∷ entries) one s (steps end r) = absurd (none_after entries one s r)
+magic_is (_ ∷ entries) one s (steps x r) = elim x [ ]
 
 pub the_magic : (entries : List Entry) (one : Entry) (count : ℕ) → AreFirst (entries ++ one ∷ [])
     → count ≡ connections entries → magic_before count ≡ magic_unless (are_some entries)
@@ -53,8 +45,7 @@ module _ {S H : Type 0} (n : MessageWriter S H) (old before between after : Opti
   with_magic : Appends before between (magic_before count)
       → Appends old between (bytes_of (canonical entries) ++ magic_unless (are_some entries))
   with_magic magic =
-      Appends-trans old before between (bytes_of (canonical entries))
-      (magic_unless (are_some entries)) so_far
+      Appends-trans old before between _ _ so_far
       (subst (Appends before between) (the_magic entries one count first counted) magic)
 
   pub written_or_cut : {X : Type 0} (r : Result X Error)
@@ -65,26 +56,17 @@ module _ {S H : Type 0} (n : MessageWriter S H) (old before between after : Opti
     going,
     stands,
     subst (Appends old after) (sym (form_grows entries one first))
-        (Appends-trans old between after
-        (bytes_of (canonical entries) ++ magic_unless (are_some entries))
-        (bytes_after entries (one ∷ [])) (with_magic magic) followed),
+        (Appends-trans old between after _ _ (with_magic magic) followed),
   )
   written_or_cut (Err error) magic cut =
-      front_of_second old between after
-      (bytes_of (canonical entries) ++ magic_unless (are_some entries))
-      (bytes_after entries (one ∷ [])) (bytes_of (canonical (entries ++ one ∷ [])))
-      (form_grows entries one first) (with_magic magic) cut
+      front_of_second old between after _ _ _ (form_grows entries one first) (with_magic magic) cut
 
   -- the magic was cut
   pub cut_in_magic : AppendsFront before between (magic_before count)
       → AppendsFront old between (bytes_of (canonical (entries ++ one ∷ [])))
   cut_in_magic cut =
-      front_of_first old between (bytes_of (canonical entries) ++ magic_unless (are_some entries))
-      (bytes_after entries (one ∷ [])) (bytes_of (canonical (entries ++ one ∷ [])))
-      (form_grows entries one first)
-      (front_of_second old before between (bytes_of (canonical entries))
-      (magic_unless (are_some entries))
-      (bytes_of (canonical entries) ++ magic_unless (are_some entries)) refl so_far
+      front_of_first old between _ _ _ (form_grows entries one first)
+      (front_of_second old before between _ _ _ refl so_far
       (subst (AppendsFront before between) (the_magic entries one count first counted) cut))
 
 -- ---- its stream bytes

@@ -95,7 +95,6 @@ module _ (hs vs : List (List ℕ)) where
 
   item_renumbers : (i : Item) → Within (handle_in i) hs → Within (verifier_in i) vs
       → RenamesItem ps qs i (numbered_item hs vs i)
-  item_renumbers (Opaque Handle name []) h k = plain (Opaque Handle name []) tt
   item_renumbers (Opaque Handle name (b ∷ bs)) h k =
       handle (member-graph (handle_number hs) (h (b ∷ bs) here))
   item_renumbers (WriteVerf name v) h k = verifier (member-graph (verifier_number vs) (k v here))

@@ -8,29 +8,24 @@ use Rattle.canon3.proofs.Lemmas.Canonical.CanonicalLemmas.{Within, answering}
 item_after : (i : Item) (hs vs hr vr all_hs all_vs : List (List ℕ))
     → all_hs ≡ (hs ++ handle_in i) ++ hr → all_vs ≡ (vs ++ verifier_in i) ++ vr
     → numbered_item all_hs all_vs i ≡ numbered_item (hs ++ handle_in i) (vs ++ verifier_in i) i
-item_after (Opaque Handle name []) hs vs hr vr all_hs all_vs e f = refl
 item_after (Opaque Handle name (b ∷ bs)) hs vs hr vr all_hs all_vs e f =
-    ap (λ n. Opaque Handle name (word_bytes n)) (ap (rank bytes_eq (b ∷ bs)) e
-    ∙ rank-append bytes_eq bytes_eq-Decides hr (member-append_right hs here))
+    ap (λ n. Opaque Handle name (word_bytes n))
+    (rw e (rank-append bytes_eq bytes_eq-Decides hr (member-append_right hs here)))
 item_after (WriteVerf name v) hs vs hr vr all_hs all_vs e f =
-    ap (λ n. WriteVerf name (big_bytes 8 n)) (ap (rank bytes_eq v) f
-    ∙ rank-append bytes_eq bytes_eq-Decides vr (member-append_right vs here))
+    ap (λ n. WriteVerf name (big_bytes 8 n))
+    (rw f (rank-append bytes_eq bytes_eq-Decides vr (member-append_right vs here)))
 item_after _ hs vs hr vr all_hs all_vs e f = refl
-
-regrouped : {X : Type 0} (all a b c d : List X) → all ≡ a ++ ((b ++ c) ++ d)
-    → all ≡ (a ++ b) ++ (c ++ d)
-regrouped all a b c d e = e ∙ simp append_assoc
 
 all_items_after : (l : List Item) (hs vs hr vr all_hs all_vs : List (List ℕ))
     → all_hs ≡ hs ++ (handles_in l ++ hr) → all_vs ≡ vs ++ (verifiers_in l ++ vr)
     → map (numbered_item all_hs all_vs) l ≡ items_after hs vs l
 all_items_after [] hs vs hr vr all_hs all_vs e f = refl
 all_items_after (i ∷ l) hs vs hr vr all_hs all_vs e f =
-    let e' = regrouped all_hs hs (handle_in i) (handles_in l) hr e in
-    let f' = regrouped all_vs vs (verifier_in i) (verifiers_in l) vr f in
     ap₂ (λ j k. j ∷ k)
-    (item_after i hs vs (handles_in l ++ hr) (verifiers_in l ++ vr) all_hs all_vs e' f')
-    (all_items_after l (hs ++ handle_in i) (vs ++ verifier_in i) hr vr all_hs all_vs e' f')
+    (item_after i hs vs (handles_in l ++ hr) (verifiers_in l ++ vr) all_hs all_vs
+    (e ∙ simp append_assoc) (f ∙ simp append_assoc))
+    (all_items_after l (hs ++ handle_in i) (vs ++ verifier_in i) hr vr all_hs all_vs
+    (e ∙ simp append_assoc) (f ∙ simp append_assoc))
 
 is_message_after : (m : List Item) (hs vs hr vr all_hs all_vs : List (List ℕ))
     (xs xr all_xs : List ℕ) → BeginsWithXid m → Within (xid_of m) xs
@@ -49,25 +44,19 @@ are_entries_after [] hs vs all_hs all_vs xs all_xs p e f g = refl
 are_entries_after (Begin ∷ es) hs vs all_hs all_vs xs all_xs p e f g =
     ap (λ r. Begin ∷ r) (are_entries_after es hs vs all_hs all_vs [] (call_xids es) p e f refl)
 are_entries_after (Call m ∷ es) hs vs all_hs all_vs xs all_xs p e f g =
-    let g' = g ∙ sym (append_assoc xs (xid_of m) (call_xids es)) in
+    let g' : all_xs ≡ (xs ++ xid_of m) ++ call_xids es = rw append_assoc g in
     ap₂ (λ n r. Call n ∷ r) (is_message_after m hs vs (handles es) (verifiers es) all_hs all_vs
     (xs ++ xid_of m) (call_xids es) all_xs p.0 (λ x h. member-append_right xs h) e f g')
     (are_entries_after es (hs ++ handles_in m) (vs ++ verifiers_in m) all_hs all_vs (xs ++ xid_of m)
-    all_xs p.1 (e ∙ sym (append_assoc hs (handles_in m) (handles es)))
-    (f ∙ sym (append_assoc vs (verifiers_in m) (verifiers es))) g')
-are_entries_after (Turn ∷ es) hs vs all_hs all_vs xs all_xs p e f g =
-    ap (λ r. Turn ∷ r) (are_entries_after es hs vs all_hs all_vs xs all_xs p e f g)
+    all_xs p.1 (rw append_assoc e) (rw append_assoc f) g')
 are_entries_after (Reply id m ∷ es) hs vs all_hs all_vs xs all_xs p e f g =
     let a = answering xs m p.0 in
     ap₂ (λ n r. Reply id n ∷ r) (is_message_after m hs vs (handles es) (verifiers es) all_hs all_vs
     xs (call_xids es) all_xs a.0 a.1 e f g)
     (are_entries_after es (hs ++ handles_in m) (vs ++ verifiers_in m) all_hs all_vs xs all_xs p.1
-    (e ∙ sym (append_assoc hs (handles_in m) (handles es)))
-    (f ∙ sym (append_assoc vs (verifiers_in m) (verifiers es))) g)
-are_entries_after (Close ∷ es) hs vs all_hs all_vs xs all_xs p e f g =
-    ap (λ r. Close ∷ r) (are_entries_after es hs vs all_hs all_vs xs all_xs p e f g)
-are_entries_after (End ∷ es) hs vs all_hs all_vs xs all_xs p e f g =
-    ap (λ r. End ∷ r) (are_entries_after es hs vs all_hs all_vs xs all_xs p e f g)
+    (rw append_assoc e) (rw append_assoc f) g)
+are_entries_after (_ ∷ es) hs vs all_hs all_vs xs all_xs p e f g =
+    rw (are_entries_after es hs vs all_hs all_vs xs all_xs p e f g)
 
 pub canonical-after : (es : List Entry) → IsWellFormed es → canonical es ≡ entries_after [] [] [] es
 canonical-after es w =
@@ -80,16 +69,8 @@ pub take-after : (i : ℕ) (es : List Entry) (hs vs : List (List ℕ)) (xs : Lis
     → entries_after hs vs xs (take i es) ≡ take i (entries_after hs vs xs es)
 take-after zero es hs vs xs = refl
 take-after (suc i) [] hs vs xs = refl
-take-after (suc i) (Begin ∷ es) hs vs xs = ap (λ r. Begin ∷ r) (take-after i es hs vs [])
-take-after (suc i) (Call m ∷ es) hs vs xs =
-    ap (λ r. Call (message_after hs vs (xs ++ xid_of m) m) ∷ r)
-    (take-after i es (hs ++ handles_in m) (vs ++ verifiers_in m) (xs ++ xid_of m))
-take-after (suc i) (Turn ∷ es) hs vs xs = ap (λ r. Turn ∷ r) (take-after i es hs vs xs)
-take-after (suc i) (Reply id m ∷ es) hs vs xs =
-    ap (λ r. Reply id (message_after hs vs xs m) ∷ r)
-    (take-after i es (hs ++ handles_in m) (vs ++ verifiers_in m) xs)
-take-after (suc i) (Close ∷ es) hs vs xs = ap (λ r. Close ∷ r) (take-after i es hs vs xs)
-take-after (suc i) (End ∷ es) hs vs xs = ap (λ r. End ∷ r) (take-after i es hs vs xs)
+take-after (suc i) (Begin ∷ es) hs vs xs = rw (take-after i es)
+take-after (suc i) (_ ∷ es) hs vs xs = rw (take-after i es)
 
 -- ---- one more item, and more entries
 
@@ -100,24 +81,12 @@ pub items_after-push : (l : List Item) (hs vs : List (List ℕ)) (i : Item)
     ((vs ++ verifiers_in l) ++ verifier_in i) i ∷ []
 items_after-push [] hs vs i = simp append-nil
 items_after-push (j ∷ l) hs vs i =
-    ap (λ k. numbered_item (hs ++ handle_in j) (vs ++ verifier_in j) j ∷ k)
-    (items_after-push l (hs ++ handle_in j) (vs ++ verifier_in j) i ∙ simp append_assoc)
+    simp (items_after-push l, append_assoc)
 
 pub entries_after-append : (a b : List Entry) (hs vs : List (List ℕ)) (xs : List ℕ)
     → entries_after hs vs xs (a ++ b)
     ≡ entries_after hs vs xs a
     ++ entries_after (hs ++ handles a) (vs ++ verifiers a) (open_xids xs a) b
 entries_after-append [] b hs vs xs = simp append-nil
-entries_after-append (Begin ∷ a) b hs vs xs =
-    ap (λ r. Begin ∷ r) (entries_after-append a b hs vs [])
-entries_after-append (Call m ∷ a) b hs vs xs =
-    ap (λ r. Call (message_after hs vs (xs ++ xid_of m) m) ∷ r)
-    (entries_after-append a b (hs ++ handles_in m) (vs ++ verifiers_in m) (xs ++ xid_of m)
-    ∙ simp append_assoc)
-entries_after-append (Turn ∷ a) b hs vs xs = ap (λ r. Turn ∷ r) (entries_after-append a b hs vs xs)
-entries_after-append (Reply id m ∷ a) b hs vs xs =
-    ap (λ r. Reply id (message_after hs vs xs m) ∷ r)
-    (entries_after-append a b (hs ++ handles_in m) (vs ++ verifiers_in m) xs ∙ simp append_assoc)
-entries_after-append (Close ∷ a) b hs vs xs =
-    ap (λ r. Close ∷ r) (entries_after-append a b hs vs xs)
-entries_after-append (End ∷ a) b hs vs xs = ap (λ r. End ∷ r) (entries_after-append a b hs vs xs)
+entries_after-append (Begin ∷ a) b hs vs xs = simp (entries_after-append a b)
+entries_after-append (_ ∷ a) b hs vs xs = simp (entries_after-append a b, append_assoc)

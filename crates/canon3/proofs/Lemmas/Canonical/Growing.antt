@@ -19,26 +19,11 @@ first_front a b f =
 
 pub handles_push : (entries : List Entry) (one : Entry)
     → handles (entries ++ one ∷ []) ≡ handles entries ++ handles_in (items_of one)
-handles_push entries one =
-    flat_map-append (λ e. handles_in (items_of e)) entries (one ∷ [])
-    ∙ ap (λ (l : List (List ℕ)). handles entries ++ l) (append-nil (handles_in (items_of one)))
+handles_push entries one = simp (flat_map-append, append-nil)
 
 pub verifiers_push : (entries : List Entry) (one : Entry)
     → verifiers (entries ++ one ∷ []) ≡ verifiers entries ++ verifiers_in (items_of one)
-verifiers_push entries one =
-    flat_map-append (λ e. verifiers_in (items_of e)) entries (one ∷ [])
-    ∙ ap (λ (l : List (List ℕ)). verifiers entries ++ l)
-    (append-nil (verifiers_in (items_of one)))
-
-pub open-append : (a b : List Entry) (xs : List ℕ)
-    → open_xids xs (a ++ b) ≡ open_xids (open_xids xs a) b
-open-append [] b xs = refl
-open-append (Begin ∷ a) b xs = open-append a b []
-open-append (Call m ∷ a) b xs = open-append a b (xs ++ xid_of m)
-open-append (Turn ∷ a) b xs = open-append a b xs
-open-append (Reply id m ∷ a) b xs = open-append a b xs
-open-append (Close ∷ a) b xs = open-append a b xs
-open-append (End ∷ a) b xs = open-append a b xs
+verifiers_push entries one = simp (flat_map-append, append-nil)
 
 -- ---- a message's xid
 
@@ -46,10 +31,8 @@ paired_after : (a b : List Entry) (xs : List ℕ) → Paired xs (a ++ b) → Pai
 paired_after [] b xs p = p
 paired_after (Begin ∷ a) b xs p = paired_after a b [] p
 paired_after (Call m ∷ a) b xs p = paired_after a b (xs ++ xid_of m) p.1
-paired_after (Turn ∷ a) b xs p = paired_after a b xs p
 paired_after (Reply id m ∷ a) b xs p = paired_after a b xs p.1
-paired_after (Close ∷ a) b xs p = paired_after a b xs p
-paired_after (End ∷ a) b xs p = paired_after a b xs p
+paired_after (_ ∷ a) b xs p = paired_after a b xs p
 
 pub last_paired : (a : List Entry) (one : Entry) → AreFirst (a ++ one ∷ [])
     → Paired (open_xids [] a) (one ∷ [])
@@ -66,11 +49,7 @@ answering_begins xs _ known = absurd known
 some_numbered : (e : Entry) (a : List Entry) (hs vs : List (List ℕ)) (xs : List ℕ)
     → are_some (numbered hs vs xs (e ∷ a)) ≡ true
 some_numbered Begin a hs vs xs = refl
-some_numbered (Call m) a hs vs xs = refl
-some_numbered Turn a hs vs xs = refl
-some_numbered (Reply id m) a hs vs xs = refl
-some_numbered Close a hs vs xs = refl
-some_numbered End a hs vs xs = refl
+some_numbered _ a hs vs xs = refl
 
 some_canonical : (e : Entry) (a : List Entry) → are_some (canonical (e ∷ a)) ≡ true
 some_canonical e a = some_numbered e a (handles (e ∷ a)) (verifiers (e ∷ a)) []
@@ -83,8 +62,7 @@ bytes_with : (l m : List Entry) → are_some l ≡ true
     → bytes_of (l ++ m) ≡ bytes_of l ++ flat_map entry_bytes m
 bytes_with [] m some = absurd cc
 bytes_with (e ∷ l) m some =
-    ap (λ (b : List ℕ). magic One ++ b) (flat_map-append entry_bytes (e ∷ l) m)
-    ∙ sym (append_assoc (magic One) (flat_map entry_bytes (e ∷ l)) (flat_map entry_bytes m))
+    rw (flat_map-append entry_bytes (e ∷ l) m) (simp append_assoc)
 
 form_some : (e : Entry) (a b : List Entry) → AreFirst ((e ∷ a) ++ b)
     → bytes_of (canonical ((e ∷ a) ++ b)) ≡ bytes_of (canonical (e ∷ a)) ++ bytes_after (e ∷ a) b

@@ -1,16 +1,11 @@
 -- Renamed captures have one canonical form.
-use Rattle.canon3.proofs.Common.{◌≡◌, ℕ, List, [], ◌∷◌, ◌++◌, map, refl, sym, ap, ap₂, ◌∙◌, bytes_eq, nat_eq, AllByRecursion, flat_map, big_bytes, Item, Word, Opaque, Handle, WriteVerf, word_bytes, Entry, Begin, Call, Turn, Reply, Close, End, handle_in, verifier_in, handles_in, verifiers_in, handles, verifiers, call_xids, Member, Pairs, IsXid, numbered_item, numbered_message, numbered, canonical, IsPlain, RenamesItem, handle, verifier, plain, Pairwise, none, more, RenamesMessage, message, Renames, ended, begins, calls, turns, replies, closes, ends, Same}
-use Rattle.canon3.proofs.Lemmas.Numbers.RankLemmas.{rank_paired}
+use Rattle.canon3.proofs.Common.{◌≡◌, ℕ, List, [], ◌∷◌, ◌++◌, map, refl, sym, ap, ap₂, ◌∙◌, bytes_eq, nat_eq, AllByRecursion, flat_map, big_bytes, Item, Word, Opaque, Handle, WriteVerf, word_bytes, Entry, Begin, Call, Turn, Reply, Close, End, items_of, handle_in, verifier_in, handles, verifiers, call_xids, Member, Pairs, IsXid, numbered_item, numbered_message, numbered, canonical, IsPlain, RenamesItem, handle, verifier, plain, Pairwise, none, more, RenamesMessage, message, Renames, ended, begins, calls, turns, replies, closes, ends, Same}
+use Rattle.canon3.proofs.Lemmas.Numbers.RankLemmas.{pairwise-append, rank_paired}
 use Rattle.canon3.proofs.Lemmas.Renaming.PairingLemmas.{Agree, Alike}
 use Rattle.canon3.proofs.Lemmas.Renaming.RenamingLemmas.{matches-from_same}
 
 abbrev pub In : {K : Type 0} → Pairs K → K → K → Type 0
 In pairs x y = Member (x, y) pairs
-
-pub pairwise-append : {A B : Type 0} {R : A → B → Type 0} {l m : List A} {l' m' : List B}
-    → Pairwise R l l' → Pairwise R m m' → Pairwise R (l ++ m) (l' ++ m')
-pairwise-append none q = q
-pairwise-append (more r p) q = more r (pairwise-append p q)
 
 pairwise-flat_map : {A X : Type 0} {R : A → A → Type 0} {S : X → X → Type 0} {l m : List A}
     (f : A → List X) → ((x y : A) → R x y → Pairwise S (f x) (f y)) → Pairwise R l m
@@ -21,7 +16,6 @@ pairwise-flat_map f g (more r p) = pairwise-append (g _ _ r) (pairwise-flat_map 
 -- ---- an item that no renaming changes
 
 pub plain_handle : (i : Item) → IsPlain i → handle_in i ≡ []
-plain_handle (Opaque Handle name []) f = refl
 plain_handle (Opaque Handle name (b ∷ bs)) f = absurd f
 plain_handle _ f = refl
 
@@ -30,7 +24,6 @@ plain_verifier (WriteVerf name bytes) f = absurd f
 plain_verifier _ f = refl
 
 pub plain_numbered : (hs vs : List (List ℕ)) (i : Item) → IsPlain i → numbered_item hs vs i ≡ i
-plain_numbered hs vs (Opaque Handle name []) f = refl
 plain_numbered hs vs (Opaque Handle name (b ∷ bs)) f = absurd f
 plain_numbered hs vs (WriteVerf name bytes) f = absurd f
 plain_numbered hs vs _ f = refl
@@ -50,35 +43,33 @@ module _ {ps vs : Pairs (List ℕ)} where
   verifier_paired i j (verifier m) = more m none
   verifier_paired i j (plain item f) = rw (plain_verifier item f) none
 
-  pub handles_paired : {xs : Pairs ℕ} (m n : List Item) → RenamesMessage ps vs xs m n
-      → Pairwise (In ps) (handles_in m) (handles_in n)
-  handles_paired m n (message x p) = pairwise-flat_map handle_in handle_paired p
+  -- such values of all entries
+  module _ (qs : Pairs (List ℕ)) (f : Item → List (List ℕ))
+      (none_in_word : (name : List ℕ) (x : ℕ) → f (Word name x) ≡ [])
+      (each : (i j : Item) → RenamesItem ps vs i j → Pairwise (In qs) (f i) (f j)) where
+    message_paired : {xs : Pairs ℕ} (m n : List Item) → RenamesMessage ps vs xs m n
+        → Pairwise (In qs) (flat_map f m) (flat_map f n)
+    message_paired m n (message {name = name} {x = x} {y = y} h p) =
+        rw (none_in_word name x, none_in_word name y) (pairwise-flat_map f each p)
 
-  verifiers_paired : {xs : Pairs ℕ} (m n : List Item) → RenamesMessage ps vs xs m n
-      → Pairwise (In vs) (verifiers_in m) (verifiers_in n)
-  verifiers_paired m n (message x p) = pairwise-flat_map verifier_in verifier_paired p
+    all_paired : {xs : Pairs ℕ} {xss : List (Pairs ℕ)} {a b : List Entry} → Renames ps vs xs xss a b
+        → Pairwise (In qs) (flat_map (λ e. flat_map f (items_of e)) a)
+        (flat_map (λ e. flat_map f (items_of e)) b)
+    all_paired ended = none
+    all_paired (begins r) = all_paired r
+    all_paired (calls m r) = pairwise-append (message_paired _ _ m) (all_paired r)
+    all_paired (turns r) = all_paired r
+    all_paired (replies m r) = pairwise-append (message_paired _ _ m) (all_paired r)
+    all_paired (closes r) = all_paired r
+    all_paired (ends r) = all_paired r
 
   pub all_handles_paired : {xs : Pairs ℕ} {xss : List (Pairs ℕ)} {a b : List Entry}
       → Renames ps vs xs xss a b → Pairwise (In ps) (handles a) (handles b)
-  all_handles_paired ended = none
-  all_handles_paired (begins r) = all_handles_paired r
-  all_handles_paired (calls m r) = pairwise-append (handles_paired _ _ m) (all_handles_paired r)
-  all_handles_paired (turns r) = all_handles_paired r
-  all_handles_paired (replies m r) = pairwise-append (handles_paired _ _ m) (all_handles_paired r)
-  all_handles_paired (closes r) = all_handles_paired r
-  all_handles_paired (ends r) = all_handles_paired r
+  all_handles_paired r = all_paired ps handle_in (λ name x. refl) handle_paired r
 
   pub all_verifiers_paired : {xs : Pairs ℕ} {xss : List (Pairs ℕ)} {a b : List Entry}
       → Renames ps vs xs xss a b → Pairwise (In vs) (verifiers a) (verifiers b)
-  all_verifiers_paired ended = none
-  all_verifiers_paired (begins r) = all_verifiers_paired r
-  all_verifiers_paired (calls m r) =
-      pairwise-append (verifiers_paired _ _ m) (all_verifiers_paired r)
-  all_verifiers_paired (turns r) = all_verifiers_paired r
-  all_verifiers_paired (replies m r) =
-      pairwise-append (verifiers_paired _ _ m) (all_verifiers_paired r)
-  all_verifiers_paired (closes r) = all_verifiers_paired r
-  all_verifiers_paired (ends r) = all_verifiers_paired r
+  all_verifiers_paired r = all_paired vs verifier_in (λ name x. refl) verifier_paired r
 
   xids_paired : {xs : Pairs ℕ} {xss : List (Pairs ℕ)} {a b : List Entry} → Renames ps vs xs xss a b
       → Pairwise (In xs) (call_xids a) (call_xids b)

@@ -92,24 +92,18 @@ says_of : (start now : Told) (given : List ℕ) (handed : List Entry) (error : E
     → Gave start now given → IsMetBy error now given handed → SaysOfGiven start now error
 says_of start now given handed (errors.Refused fault) gave met =
     record { given = given; handed = handed; gave = gave; shown = met }
-says_of start now given handed errors.Read gave met = tt
-says_of start now given handed errors.Write gave met = tt
-says_of start now given handed errors.Memory gave met = tt
+says_of start now given handed _ gave met = tt
 
 module _ (old new old_other new_other : Told) where
   pub first_stops : (error : Error) → SaysOfGiven old new error
       → StopsGiven old new old_other new_other error First
   first_stops (errors.Refused fault) met = met
-  first_stops errors.Read met = tt
-  first_stops errors.Write met = tt
-  first_stops errors.Memory met = tt
+  first_stops _ met = tt
 
   pub second_stops : (a : List Entry) (error : Error) → GaveAll old new a
       → SaysOfGiven old_other new_other error → StopsGiven old new old_other new_other error Second
   second_stops a (errors.Refused fault) whole met = ((a, whole), met)
-  second_stops a errors.Read whole met = tt
-  second_stops a errors.Write whole met = tt
-  second_stops a errors.Memory whole met = tt
+  second_stops a _ whole met = tt
 
 -- ---- of all bytes, of which those that were given are a prefix
 
@@ -119,25 +113,18 @@ module _ (old new old_other new_other : Told) (file other : List ℕ)
     (other_prefix : (given : List ℕ) → Gave old_other new_other given
     → IsPrefixOf new_other given other) where
   all_typed : (a : List Entry) → GaveAll old new a → Typed file a
-  all_typed a all =
-      subst (λ (l : List ℕ). Typed l a) ((prefix all.given all.gave).all all.ended) all.typed
+  all_typed a all = rw ((prefix all.given all.gave).all all.ended) at all.typed
 
   all_other_typed : (b : List Entry) → GaveAll old_other new_other b → Typed other b
-  all_other_typed b all =
-      subst (λ (l : List ℕ). Typed l b) ((other_prefix all.given all.gave).all all.ended) all.typed
+  all_other_typed b all = rw ((other_prefix all.given all.gave).all all.ended) at all.typed
 
   stops_all : (error : Error) (which : Which) → StopsGiven old new old_other new_other error which
       → StopsComparing file other error which
   stops_all (errors.Refused fault) First f =
-      (shown_of_all new f.given file f.handed fault (prefix f.given f.gave) f.shown).0
-  stops_all (errors.Refused fault) Second ((a, whole), f) = (
-    (a, all_typed a whole),
-    (shown_of_all new_other f.given other f.handed fault
-        (other_prefix f.given f.gave) f.shown).0,
-  )
-  stops_all errors.Read which s = tt
-  stops_all errors.Write which s = tt
-  stops_all errors.Memory which s = tt
+      (shown_of_all _ _ file _ _ (prefix f.given f.gave) f.shown).0
+  stops_all (errors.Refused fault) Second ((a, whole), f) =
+      ((a, all_typed a whole), (shown_of_all _ _ other _ _ (other_prefix f.given f.gave) f.shown).0)
+  stops_all _ which s = tt
 
   pub decides_all : (result : Result Verdict SameError)
       → DecidesGiven old new old_other new_other result → DecidesSame file other result
@@ -232,9 +219,7 @@ module _ {R S H : Type 0} {builds : BuildHasher.Ghosts S H} {hashes : Hasher.Gho
   pub refused_meets : (error : Error) → SaysOfGiven start (telling (source_of reader)) error
       → Meets telling first now start reader comparison a b e (met_second error)
   refused_meets (errors.Refused fault) met = met
-  refused_meets errors.Read met = tt
-  refused_meets errors.Write met = tt
-  refused_meets errors.Memory met = tt
+  refused_meets _ met = tt
 
   -- an entry of the second came, and was compared
   pub compared_meets : (f : Entry) → HasGiven telling start reader (b ++ f ∷ [])
@@ -304,10 +289,9 @@ module _ {A B S H : Type 0} {builds : BuildHasher.Ghosts S H} {hashes : Hasher.G
     whole_first h rest all =
         let none : rest ≡ [] =
         no_more h.file h.a h.a rest h.typed
-        (typed_first all.given (h.a ++ rest) []
-        (subst (Typed all.given) (sym (append-nil (h.a ++ rest))) all.typed))
+        (typed_first all.given (h.a ++ rest) [] (rw append-nil all.typed))
         (record { many = refl; bytes = refl }) in
-        subst (GaveAll start now) (ap (λ (l : List Entry). h.a ++ l) none ∙ append-nil h.a) all
+        rw (none, append-nil) at all
 
     -- and the second has no more either
     pub ended_decides : (h : HaveEnded telling telling_other start other_start first second)
@@ -319,16 +303,10 @@ module _ {A B S H : Type 0} {builds : BuildHasher.Ghosts S H} {hashes : Hasher.G
         let whole = whole_first h rest all in
         let none : more ≡ [] =
         no_more whole.given h.a h.b more whole.typed
-        (typed_first other_all.given (h.b ++ more) []
-        (subst (Typed other_all.given) (sym (append-nil (h.b ++ more))) other_all.typed))
-        h.agree in
-        let other_whole : GaveAll other_start other_now h.b =
-        subst (GaveAll other_start other_now)
-        (ap (λ (l : List Entry). h.b ++ l) none ∙ append-nil h.b) other_all in
+        (typed_first other_all.given (h.b ++ more) [] (rw append-nil other_all.typed)) h.agree in
+        let other_whole = rw (none, append-nil) at other_all in
         let alike : Same h.a h.b =
-        same_from_bytes h.a h.b
-        (typed_first whole.given h.a []
-        (subst (Typed whole.given) (sym (append-nil h.a)) whole.typed))
+        same_from_bytes h.a h.b (typed_first whole.given h.a [] (rw append-nil whole.typed))
         (typed_first other_all.given h.b more other_all.typed) h.agree.bytes in
         rw same (h.a, h.b, whole, other_whole, alike)
     ended_decides h (Err error) (rest, all) (is, met) =

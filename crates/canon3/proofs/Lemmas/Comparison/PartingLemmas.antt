@@ -1,13 +1,14 @@
 -- Two complete captures that are not the same part at one place.
-use Rattle.canon3.proofs.Common.{◌≡◌, ◌⊎◌, inl, inr, ⊎_elim, ℕ, zero, suc, ◌+◌, ◌≤◌, List, [], ◌∷◌, ◌++◌, length, take, refl, sym, ap, ◌∙◌, subst, arith, Option, Some, None, append-nil, slice_get, bytes_eq, cases_lt, take_all, bytes_eq-Decides, Entry, Begin, Call, Turn, Reply, Close, End, Typed, Client, Server, Place, bytes_of, canonical, entries_after, open_xids, handles, verifiers, Same, ended, AreFirst, Side, IsMessageOf, IsPlaceOf, first_message, second_message, first_ends, second_ends, next_record, PartsAt, Parting}
+use Rattle.canon3.proofs.Common.{◌≡◌, ◌⊎◌, inl, inr, ⊎_elim, ℕ, zero, suc, ◌+◌, ◌≤◌, List, [], ◌∷◌, ◌++◌, length, take, refl, sym, ap, ◌∙◌, subst, arith, Option, Some, None, append-nil, slice_get, bytes_eq, cases_lt, take_all, bytes_eq-Decides, Entry, Begin, Call, Turn, Reply, Close, End, Typed, Client, Server, Place, bytes_of, canonical, entries_after, Same, AreFirst, Side, IsMessageOf, IsPlaceOf, first_message, second_message, first_ends, second_ends, next_record, PartsAt, Parting}
 use Rattle.canon3.proofs.Lemmas.Order.Order.{Stage, Between, Steps, call, reply, IsWellFormed}
+use Rattle.std.proofs.Common.{add-one}
 use Rattle.capture3.proofs.Lemmas.Connections.RankLemmas.{by_test}
 use Rattle.canon3.proofs.Lemmas.Canonical.CanonicalStreamLemmas.{canonical-after, entries_after-append}
 use Rattle.canon3.proofs.Lemmas.Order.Prefixes.{IsWellFormed-take, canonical-take}
 use Rattle.canon3.proofs.Lemmas.Comparison.Places.{AreAlike, stages_alike, stage_at, place_from_parting}
 use Rattle.canon3.proofs.Lemmas.Order.First.{forms_of_fronts, first_in_order, same_from_bytes, fronts_decided, parts_where_forms_do}
 use Rattle.canon3.proofs.Lemmas.Order.Ends.{past, ends_too}
-use Rattle.canon3.proofs.Lemmas.Renaming.Equality.{same_symmetric}
+use Rattle.canon3.proofs.Lemmas.Renaming.Equality.{same_reflexive, same_symmetric}
 
 -- ---- one place
 
@@ -77,18 +78,9 @@ module _ (a b : List Entry) where
       ]
 
   -- where they part at entry i, the first i are the same
-  same_so_far : (i : ℕ) → PartsAt a b i → Same (take i a) (take i b)
-  same_so_far zero p =
-      record {
-        handle_pairs = [];
-        verifier_pairs = [];
-        xid_pairs = [];
-        handles_one_to_one = record { parts = λ q m. elim m [ ]; no_two_alike = tt };
-        verifiers_one_to_one = record { parts = λ q m. elim m [ ]; no_two_alike = tt };
-        xids_one_to_one = tt;
-        renames = ended;
-      }
-  same_so_far (suc i) p =
+  same_so_far : IsWellFormed a → (i : ℕ) → PartsAt a b i → Same (take i a) (take i b)
+  same_so_far w zero p = same_reflexive [] (IsWellFormed-take zero a w)
+  same_so_far w (suc i) p =
       let e : i + 1 ≡ suc i = omega arith in
       subst (λ n. Same (take n a) (take n b)) e (p.same_before i (omega arith))
 
@@ -106,11 +98,10 @@ module _ (a b : List Entry) where
   pub one_parting : AreFirst a → AreFirst b → (p q : Place) → Parting a b p → Parting a b q → p ≡ q
   one_parting f g p q x y =
       let e : x.0 ≡ y.0 = one_number x.0 y.0 x.1 y.1 in
-      let again : IsPlaceOf (take x.0 a) (slice_get a x.0) (slice_get b x.0) q =
-      subst (λ n. IsPlaceOf (take n a) (slice_get a n) (slice_get b n) q) (sym e) y.2 in
-      one_place (take x.0 a) (slice_get a x.0) (slice_get b x.0) p q
-      (sides_at (first_in_order a f) (first_in_order b g) x.0 (same_so_far x.0 x.1)
-      (slice_get a x.0) (slice_get b x.0) refl refl) x.2 again
+      let v = first_in_order a f in
+      one_place _ _ _ p q
+      (sides_at v (first_in_order b g) x.0 (same_so_far v x.0 x.1) _ _ refl refl) x.2
+      (subst (λ n. IsPlaceOf (take n a) (slice_get a n) (slice_get b n) q) (sym e) y.2)
 
 -- ---- there is one
 
@@ -142,12 +133,9 @@ abbrev IsMark : Entry → Type 0
 IsMark e = (hs vs : List (List ℕ)) (xs : List ℕ) → entries_after hs vs xs (e ∷ []) ≡ e ∷ []
 
 message_or_mark : (e : Entry) → ((side : Side) × IsMessageOf side (Some e)) ⊎ IsMark e
-message_or_mark Begin = inr (λ hs vs xs. refl)
 message_or_mark (Call m) = inl (Client, tt)
-message_or_mark Turn = inr (λ hs vs xs. refl)
 message_or_mark (Reply id m) = inl (Server, tt)
-message_or_mark Close = inr (λ hs vs xs. refl)
-message_or_mark End = inr (λ hs vs xs. refl)
+message_or_mark _ = inr (λ hs vs xs. refl)
 
 one_taken : (l : List Entry) (i : ℕ) (e : Entry) → slice_get l i ≡ Some e
     → take (suc i) l ≡ take i l ++ e ∷ []
@@ -157,24 +145,18 @@ one_taken (x ∷ l) (suc i) e h = ap (λ (k : List Entry). x ∷ k) (one_taken l
 
 one_more : (l : List Entry) (i : ℕ) (e : Entry) → slice_get l i ≡ Some e
     → take (i + 1) l ≡ take i l ++ e ∷ []
-one_more l i e h =
-    let next : i + 1 ≡ suc i = omega arith in
-    ap (λ n. take n l) next ∙ one_taken l i e h
+one_more l i e h = rw add-one (one_taken l i e h)
 
 mark_kept : (a : List Entry) (i : ℕ) (e : Entry) → IsWellFormed a → slice_get a i ≡ Some e
     → IsMark e → take (i + 1) (canonical a) ≡ take i (canonical a) ++ e ∷ []
 mark_kept a i e w h mark =
-    let more = one_more a i e h in
     let front = take i a in
-    let all = canonical-take (i + 1) a w in
-    let wi = IsWellFormed-take (i + 1) a w in
-    sym all
-    ∙ (canonical-after (take (i + 1) a) wi
-    ∙ (ap (entries_after [] [] []) more ∙ (entries_after-append front (e ∷ []) [] [] []
-    ∙ (ap (λ (k : List Entry). entries_after [] [] [] front ++ k)
-    (mark ([] ++ handles front) ([] ++ verifiers front) (open_xids [] front))
+    sym (canonical-take (i + 1) a w)
+    ∙ canonical-after (take (i + 1) a) (IsWellFormed-take (i + 1) a w)
+    ∙ ap (entries_after [] [] []) (one_more a i e h) ∙ entries_after-append front (e ∷ []) [] [] []
+    ∙ ap (λ (k : List Entry). entries_after [] [] [] front ++ k) (mark _ _ _)
     ∙ ap (λ (k : List Entry). k ++ e ∷ [])
-    (sym (canonical-after front (IsWellFormed-take i a w)) ∙ canonical-take i a w)))))
+    (sym (canonical-after front (IsWellFormed-take i a w)) ∙ canonical-take i a w)
 
 module _ (file other : List ℕ) (a b : List Entry) (p : Typed file a) (q : Typed other b) where
   first_a : AreFirst a

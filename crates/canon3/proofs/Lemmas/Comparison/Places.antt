@@ -53,12 +53,7 @@ stage_at {s = s} (steps {t = t} p r) zero e h =
     record { here_stage = s; next_stage = t; front = stays; step = subst (λ x. Steps s x t) (cc) p }
 stage_at (steps p r) (suc i) e h =
     let a = stage_at r i e h in
-    record {
-      here_stage = a.here_stage;
-      next_stage = a.next_stage;
-      front = steps p a.front;
-      step = a.step;
-    }
+    record { here_stage = _; next_stage = _; front = steps p a.front; step = a.step }
 
 pub place_from_parting : (a b : List Entry) (i : ℕ) (e f : Entry) → IsWellFormed a → IsWellFormed b
     → Same (take i a) (take i b) → slice_get a i ≡ Some e → slice_get b i ≡ Some f

@@ -1,62 +1,11 @@
 -- Tables that gather the handles of items.
 use Rattle.canon3.proofs.Common.{◌≡◌, ◌≢◌, ℕ, ◌+◌, Bool, true, false, List, [], ◌∷◌, ◌++◌, drop, length, map, refl, sym, ap, ◌∙◌, append-nil, ◌≤◌, arith, list_any, flat_map-append, PlainField, run_items, Item, Opaque, Handle, Spells, length_of_spelling, max_body, Entry, items_of, all_items, handle_in, handles, handles_in, handle_bytes, Gathers, same_handle, before, distinct, rank, with_key, with_keys, HoldsDistinct}
 use Rattle.std.specs.Prelude.{bytes_eq, if◌then◌else◌, ◌||◌}
-use Rattle.std.proofs.lemmas.List.{length-map, map-append}
+use Rattle.std.proofs.lemmas.List.{map-append}
 use Rattle.xdr3.specs.declared.plain.PlainField.TheVariants as fields
 use Rattle.xdr3.specs.Visit.{AreWithinLimit}
 use Rattle.nfs3_types.specs.declared.values.handle.Handle as handles
-
--- ---- distinct ones by what they hold
-
-module _ {K L : Type 0} (same : L → L → Bool) (f : K → L) where
-  abbrev same_by : K → K → Bool
-  same_by x y = same (f x) (f y)
-
-  any_mapped : (x : K) (keys : List K)
-      → list_any (same (f x)) (map f keys) ≡ list_any (same_by x) keys
-  any_mapped x [] = refl
-  any_mapped x (key ∷ keys) = ap (λ b. same (f x) (f key) || b) (any_mapped x keys)
-
-  key_mapped : (keys : List K) (x : K)
-      → map f (with_key same_by keys x) ≡ with_key same (map f keys) (f x)
-  key_mapped keys x =
-      by_found (list_any (same_by x) keys)
-      ∙ ap (λ (b : Bool). if b then map f keys else map f keys ++ f x ∷ [])
-      (sym (any_mapped x keys))
-    where
-      by_found : (b : Bool)
-          → map f (if b then keys else keys ++ x ∷ [])
-          ≡ (if b then map f keys else map f keys ++ f x ∷ [])
-      by_found true = refl
-      by_found false = map-append f keys (x ∷ [])
-
-  keys_mapped : (keys l : List K)
-      → map f (with_keys same_by keys l) ≡ with_keys same (map f keys) (map f l)
-  keys_mapped keys [] = refl
-  keys_mapped keys (x ∷ l) =
-      keys_mapped (with_key same_by keys x) l
-      ∙ ap (λ (ks : List L). with_keys same ks (map f l)) (key_mapped keys x)
-
-  pub distinct_mapped : (l : List K)
-      → length (distinct same_by l) ≡ length (distinct same (map f l))
-  distinct_mapped l = sym (length-map (distinct same_by l) f) ∙ ap length (keys_mapped [] l)
-
-  before_mapped : (x : K) (l : List K) → map f (before same_by x l) ≡ before same (f x) (map f l)
-  before_mapped x [] = refl
-  before_mapped x (y ∷ l) =
-      by_found (same (f x) (f y))
-      ∙ ap (λ (k : List L). if same (f x) (f y) then [] else f y ∷ k) (before_mapped x l)
-    where
-      by_found : (b : Bool)
-          → map f (if b then [] else y ∷ before same_by x l)
-          ≡ (if b then [] else f y ∷ map f (before same_by x l))
-      by_found true = refl
-      by_found false = refl
-
-  pub rank_mapped : (x : K) (l : List K) → rank same_by x l ≡ rank same (f x) (map f l)
-  rank_mapped x l =
-      ap (λ n. 1 + n) (distinct_mapped (before same_by x l)
-      ∙ ap (λ (k : List L). length (distinct same k)) (before_mapped x l))
+use Rattle.canon3.proofs.Lemmas.Numbers.RankLemmas.{distinct_mapped}
 
 -- ---- along items
 
@@ -64,9 +13,7 @@ module _ {K L : Type 0} (same : L → L → Bool) (f : K → L) where
 none_more : (items more : List Item) → handles_in more ≡ []
     → handles_in items ≡ handles_in (items ++ more)
 none_more items more none =
-    sym (flat_map-append handle_in items more
-    ∙ ap (λ (l : List (List ℕ)). handles_in items ++ l) none
-    ∙ append-nil (handles_in items))
+    simp (flat_map-append, none, append-nil)
 
 -- one handle more
 one_more : (given : List handles.Handle) (handle : handles.Handle) (name bytes : List ℕ)
@@ -75,10 +22,7 @@ one_more : (given : List handles.Handle) (handle : handles.Handle) (name bytes :
     → map handle_bytes (given ++ handle ∷ []) ≡ handles_in (items ++ Opaque Handle name bytes ∷ [])
 one_more given handle name [] items is some are = absurd (some refl)
 one_more given handle name (b ∷ bs) items is some are =
-    map-append handle_bytes given (handle ∷ [])
-    ∙ ap (λ (l : List (List ℕ)). l ++ handle_bytes handle ∷ []) are
-    ∙ ap (λ (x : List ℕ). handles_in items ++ x ∷ []) is
-    ∙ sym (flat_map-append handle_in items (Opaque Handle name (b ∷ bs) ∷ []))
+    simp (map-append, are, is, flat_map-append)
 
 pub gathers_none : (table : List handles.Handle) (items more : List Item) → handles_in more ≡ []
     → Gathers table items → Gathers table (items ++ more)
@@ -114,9 +58,7 @@ count_gathered table items (given, stands, are) = distinct_held given are
 
 pub handles_of_all : (entries : List Entry) → handles_in (all_items entries) ≡ handles entries
 handles_of_all [] = refl
-handles_of_all (entry ∷ entries) =
-    flat_map-append handle_in (items_of entry) (all_items entries)
-    ∙ ap (λ (l : List (List ℕ)). handles_in (items_of entry) ++ l) (handles_of_all entries)
+handles_of_all (entry ∷ entries) = simp (flat_map-append, handles_of_all entries)
 
 -- ---- of one message
 

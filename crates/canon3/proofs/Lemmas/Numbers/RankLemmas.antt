@@ -6,6 +6,18 @@ use Rattle.capture3.specs.Rank.{before, distinct, rank, with_key, with_keys}
 use Rattle.canon3.specs.Rank.{IsInjectiveOn}
 use Rattle.capture3.proofs.Lemmas.Connections.RankLemmas.{before-append, by_test, cond_either, length-with_keys, or_true, rank-place}
 
+-- ---- lists side by side
+
+pub pairwise-append : {A B : Type 0} {R : A → B → Type 0} {l m : List A} {l' m' : List B}
+    → Pairwise R l l' → Pairwise R m m' → Pairwise R (l ++ m) (l' ++ m')
+pairwise-append none q = q
+pairwise-append (more r p) q = more r (pairwise-append p q)
+
+pub pairwise-length : {A B : Type 0} {R : A → B → Type 0} {l : List A} {m : List B} → Pairwise R l m
+    → length l ≡ length m
+pairwise-length none = refl
+pairwise-length (more r p) = ap suc (pairwise-length p)
+
 -- ---- what stands beside one another is alike
 
 module _ {K L : Type 0} (same : K → K → Bool) (alike : L → L → Bool) (R : K → L → Type 0)
@@ -14,11 +26,6 @@ module _ {K L : Type 0} (same : K → K → Bool) (alike : L → L → Bool) (R 
       → list_any (same x) ks ≡ list_any (alike u) ls
   any_paired r none = refl
   any_paired r (more s p) = ap₂ (λ a b. a || b) (agree _ _ _ _ r s) (any_paired r p)
-
-  pushed_paired : {x : K} {u : L} {ks : List K} {ls : List L} → Pairwise R ks ls → R x u
-      → Pairwise R (ks ++ x ∷ []) (ls ++ u ∷ [])
-  pushed_paired none r = more r none
-  pushed_paired (more s p) r = more s (pushed_paired p r)
 
   cond_paired : {ks ks' : List K} {ls ls' : List L} (b : Bool) → Pairwise R ks ls
       → Pairwise R ks' ls' → Pairwise R (cond b ks ks') (cond b ls ls')
@@ -30,7 +37,8 @@ module _ {K L : Type 0} (same : K → K → Bool) (alike : L → L → Bool) (R 
   with_keys_paired none ks ls p = p
   with_keys_paired (more {x = x} {y = u} r q) ks ls p =
       with_keys_paired q (with_key same ks x) (with_key alike ls u)
-      (rw (any_paired r p) (cond_paired (list_any (alike u) ls) p (pushed_paired p r)))
+      (rw (any_paired r p)
+      (cond_paired (list_any (alike u) ls) p (pairwise-append p (more r none))))
 
   before_paired : {x : K} {u : L} {l : List K} {m : List L} → R x u → Pairwise R l m
       → Pairwise R (before same x l) (before alike u m)
@@ -38,14 +46,28 @@ module _ {K L : Type 0} (same : K → K → Bool) (alike : L → L → Bool) (R 
   before_paired {u = u} r (more {y = v} s q) =
       rw (agree _ _ _ _ r s) (cond_paired (alike u v) none (more s (before_paired r q)))
 
-  length_paired : {l : List K} {m : List L} → Pairwise R l m → length l ≡ length m
-  length_paired none = refl
-  length_paired (more r p) = ap suc (length_paired p)
+  pub distinct_paired : {l : List K} {m : List L} → Pairwise R l m
+      → length (distinct same l) ≡ length (distinct alike m)
+  distinct_paired p = pairwise-length (with_keys_paired p [] [] none)
 
   pub rank_paired : {x : K} {u : L} {l : List K} {m : List L} → R x u → Pairwise R l m
       → rank same x l ≡ rank alike u m
-  rank_paired r p =
-      ap (λ n. 1 + n) (length_paired (with_keys_paired (before_paired r p) [] [] none))
+  rank_paired r p = ap (λ n. 1 + n) (distinct_paired (before_paired r p))
+
+-- ---- distinct ones by what they hold
+
+module _ {K L : Type 0} (same : L → L → Bool) (f : K → L) where
+  held : (l : List K) → Pairwise (λ x u. f x ≡ u) l (map f l)
+  held [] = none
+  held (x ∷ l) = more refl (held l)
+
+  pub distinct_mapped : (l : List K)
+      → length (distinct (λ x y. same (f x) (f y)) l) ≡ length (distinct same (map f l))
+  distinct_mapped l = distinct_paired _ same _ (λ x y u v p q. ap₂ same p q) (held l)
+
+  pub rank_mapped : (x : K) (l : List K)
+      → rank (λ x y. same (f x) (f y)) x l ≡ rank same (f x) (map f l)
+  rank_mapped x l = rank_paired _ same _ (λ x y u v p q. ap₂ same p q) refl (held l)
 
 -- ---- members
 

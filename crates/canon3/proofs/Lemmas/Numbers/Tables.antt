@@ -2,14 +2,12 @@
 use Rattle.canon3.proofs.Common.{◌≡◌, ℕ, List, [], ◌∷◌, ◌++◌, map, ap, ap₂, ◌∙◌, min, Result, Ok, Err, map-append, number_limit, rank, HoldsDistinct, handle_bytes, HoldsHandles, same_handle}
 use Rattle.std.specs.Prelude.{bytes_eq, IfOk}
 use Rattle.nfs3_types.specs.declared.values.handle.Handle as declared
-use Rattle.canon3.proofs.Lemmas.Numbers.HandleTableLemmas.{rank_mapped}
+use Rattle.canon3.proofs.Lemmas.Numbers.RankLemmas.{rank_mapped}
 
 mapped_more : (given : List declared.Handle) (handle : declared.Handle) (hs : List (List ℕ))
     (bytes : List ℕ) → map handle_bytes given ≡ hs → handle_bytes handle ≡ bytes
     → map handle_bytes (given ++ handle ∷ []) ≡ hs ++ bytes ∷ []
-mapped_more given handle hs bytes are is =
-    map-append handle_bytes given (handle ∷ [])
-    ∙ ap₂ (λ (l : List (List ℕ)) (b : List ℕ). l ++ b ∷ []) are is
+mapped_more given handle hs bytes are is = simp (map-append, are, is)
 
 -- the rank among handles is the rank among their bytes
 pub rank_of_handle : (given : List declared.Handle) (handle : declared.Handle) (hs : List (List ℕ))

@@ -23,12 +23,10 @@ module _ {A : Type 0} where
   splits (z ∷ x) t (y ∷ p) more e =
       let first : z ≡ y = cc in
       let tail : x ++ t ≡ p ++ more = cc in
-      ⊎_elim (λ (s : (rest : List A) × (x ≡ p ++ rest)).
-      inl (s.0, ap₂ (λ (w : A) (l : List A). w ∷ l) first s.1))
-      (λ (s : (w : A) × (told_after : List A) × (p ≡ x ++ w ∷ told_after)
-      × (t ≡ w ∷ (told_after ++ more))).
-      inr (s.0, s.1, ap₂ (λ (w : A) (l : List A). w ∷ l) (sym first) s.2, s.3))
-      (splits x t p more tail)
+      elim (splits x t p more tail) [
+        | inl s ↦ inl (s.0, ap₂ (λ (w : A) (l : List A). w ∷ l) first s.1)
+        | inr s ↦ inr (s.0, s.1, ap₂ (λ (w : A) (l : List A). w ∷ l) (sym first) s.2, s.3)
+      ]
 
   all_front : (P : A → Type 0) (l m : List A) → AllByRecursion P (l ++ m) → AllByRecursion P l
   all_front P [] m h = tt
@@ -58,13 +56,11 @@ module _ (c : Conversation) (h : AreConversing c) where
   fewer_calls : (calls more : List (List Item)) → c.calls ≡ calls ++ more
       → AreConversing (record { calls = calls; replies = [] })
   fewer_calls calls more e = record {
-    calls_are =
-        all_front IsSpelledCall calls more (subst (AllByRecursion IsSpelledCall) e h.calls_are);
+    calls_are = all_front IsSpelledCall calls more (rw e at h.calls_are);
     replies_are = tt;
     one_procedure =
         λ a b i j.
-        h.one_procedure a b (subst (IsIn a) (sym e) (in_joined calls more a i))
-        (subst (IsIn b) (sym e) (in_joined calls more b j));
+        h.one_procedure a b (rw e (in_joined calls more a i)) (rw e (in_joined calls more b j));
     answers = λ r i. absurd (in_none r i.0 i.1 i.2);
   }
 
@@ -72,20 +68,13 @@ module _ (c : Conversation) (h : AreConversing c) where
       → AreConversing (record { calls = c.calls; replies = replies })
   fewer_replies replies more e = record {
     calls_are = h.calls_are;
-    replies_are =
-        all_front IsSpelledReply replies more
-        (subst (AllByRecursion IsSpelledReply) e h.replies_are);
+    replies_are = all_front IsSpelledReply replies more (rw e at h.replies_are);
     one_procedure = h.one_procedure;
-    answers = λ r i. h.answers r (subst (IsIn r) (sym e) (in_joined replies more r i));
+    answers = λ r i. h.answers r (rw e (in_joined replies more r i));
   }
 
 stream_front : (l m : List (List Item)) → length (stream_of l) ≤ length (stream_of (l ++ m))
-stream_front l m =
-    omega (
-      arith,
-      ap length (flat_map-append (λ (k : List Item). record_bytes (zero_spelling k)) l m),
-      length-append (stream_of l) (stream_of m),
-    )
+stream_front l m = simp (flat_map-append, length-append) (omega arith)
 
 -- ---- words 0 after the first entries
 
@@ -127,7 +116,7 @@ module _ (c : Conversation) (cs : List Conversation) (h : AreConversing c) where
         ds = record { calls = r.0; replies = [] } ∷ [];
         is =
             ap (λ (l : List Entry). Begin ∷ (l ++ (Turn ∷ Close ∷ End ∷ []))) r.3
-            ∙ sym (all_regrouped (record { calls = r.0; replies = [] }) []);
+            ∙ simp append_assoc;
         converse = (fewer_calls c h r.0 r.1 r.2, tt);
         few = omega arith;
         light = omega (arith, stream_front r.0 r.1, ap (λ l. length (stream_of l)) r.2);
@@ -145,9 +134,7 @@ module _ (c : Conversation) (cs : List Conversation) (h : AreConversing c) where
             ap
             (λ (l : List Entry).
             (Begin ∷ (map Call c.calls ++ (Turn ∷ l))) ++ (Close ∷ End ∷ [])) r.3
-            ∙ (ap (λ (l : List Entry). Begin ∷ l) (append_assoc (map Call c.calls)
-            (Turn ∷ map reply_entry r.0) (Close ∷ End ∷ []))
-            ∙ sym (all_regrouped (record { calls = c.calls; replies = r.0 }) []));
+            ∙ simp append_assoc;
         converse = (fewer_replies c h r.0 r.1 r.2, tt);
         few = omega arith;
         light =
@@ -166,15 +153,7 @@ module _ (c : Conversation) (cs : List Conversation) (h : AreConversing c) where
     count = k.count;
     most = k.most;
     ds = c ∷ k.ds;
-    is =
-        ap (λ (l : List Entry). Begin ∷ l) (append_assoc (map Call c.calls)
-        (Turn ∷ (map reply_entry c.replies ++ (Close ∷ p))) (closers k.count)
-        ∙ ap (λ (l : List Entry). map Call c.calls ++ (Turn ∷ l))
-        (append_assoc (map reply_entry c.replies) (Close ∷ p) (closers k.count)))
-        ∙ (ap
-        (λ (l : List Entry).
-        Begin ∷ (map Call c.calls ++ (Turn ∷ (map reply_entry c.replies ++ (Close ∷ l)))))
-        k.is ∙ sym (all_regrouped c k.ds));
+    is = simp (append_assoc, k.is);
     converse = (h, k.converse);
     few = omega (arith, k.few);
     light = omega (arith, k.light);
@@ -203,23 +182,17 @@ closed (c ∷ cs) (y ∷ p) more h e =
     let first : Begin ≡ y = cc in
     let tail : map Call c.calls ++ (Turn ∷ (map reply_entry c.replies ++ (Close ∷ all_of cs)))
     ≡ p ++ more = cc in
-    subst (λ z. Closed (z ∷ p) (c ∷ cs)) first
-    (⊎_elim (λ s. closed_calls c cs h.0 p s.0 s.1)
-    (λ s.
-    let turn : Turn ≡ s.0 = cc in
-    let rest : map reply_entry c.replies ++ (Close ∷ all_of cs) ≡ s.1 ++ more = cc in
-    subst (λ l. Closed (Begin ∷ l) (c ∷ cs))
-    (ap (λ z. map Call c.calls ++ (z ∷ s.1)) turn ∙ sym s.2)
-    (⊎_elim (λ t. closed_replies c cs h.0 s.1 t.0 t.1)
-    (λ t.
-    let close : Close ≡ t.0 = cc in
-    let later : all_of cs ≡ t.1 ++ more = cc in
-    subst (λ l. Closed (Begin ∷ (map Call c.calls ++ (Turn ∷ l))) (c ∷ cs))
-    (ap (λ z. map reply_entry c.replies ++ (z ∷ t.1)) close ∙ sym t.2)
-    (closed_later c cs h.0 t.1 (closed cs t.1 more h.1 later)))
-    (splits (map reply_entry c.replies) (Close ∷ all_of cs) s.1 more rest)))
-    (splits (map Call c.calls) (Turn ∷ (map reply_entry c.replies ++ (Close ∷ all_of cs))) p more
-    tail))
+    rw (← first) (elim (splits (map Call c.calls) _ p more tail) [
+      | inl s ↦ closed_calls c cs h.0 p s.0 s.1
+      | inr s ↦ let turn : Turn ≡ s.0 = cc in
+          let rest : map reply_entry c.replies ++ (Close ∷ all_of cs) ≡ s.1 ++ more = cc in
+          rw (s.2, ← turn) (elim (splits (map reply_entry c.replies) _ s.1 more rest) [
+            | inl t ↦ closed_replies c cs h.0 s.1 t.0 t.1
+            | inr t ↦ let close : Close ≡ t.0 = cc in
+                let later : all_of cs ≡ t.1 ++ more = cc in
+                rw (t.2, ← close) (closed_later c cs h.0 t.1 (closed cs t.1 more h.1 later))
+          ])
+    ])
 
 -- ---- the bytes of a capture are bytes
 
@@ -231,10 +204,12 @@ word_are_bytes n = are_bytes_of_number 4 n
 
 message_are_bytes : (m : List Item) → AreBytes (zero_spelling m) → AreBytes (message_bytes m)
 message_are_bytes m h =
-    AreBytes-append (word_bytes (length (record_bytes (zero_spelling m))))
-    (record_bytes (zero_spelling m)) (word_are_bytes (length (record_bytes (zero_spelling m))))
-    (AreBytes-append (word_bytes (2 ^ 31 + length (zero_spelling m))) (zero_spelling m)
-    (word_are_bytes (2 ^ 31 + length (zero_spelling m))) h)
+    let body = zero_spelling m in
+    AreBytes-append (word_bytes (length (record_bytes body))) (record_bytes body)
+    (word_are_bytes (length (record_bytes body)))
+    (AreBytes-append (word_bytes (2 ^ 31 + length body)) body
+        (word_are_bytes (2 ^ 31 + length body))
+    h)
 
 call_bytes : (m : List Item) → IsSpelledCall m → HasBytes (Call m)
 call_bytes m s = message_are_bytes m (spellings_are_bytes m (zero_spelling m) s.0.1)
@@ -299,29 +274,22 @@ closer_bytes (suc (suc (suc (suc k)))) h = absurd (omega arith)
 bytes_closed : (e : Entry) (p : List Entry) (k : ℕ) → k ≤ 3
     → bytes_of ((e ∷ p) ++ closers k) ≡ bytes_of (e ∷ p) ++ zeros k
 bytes_closed e p k h =
-    ap (λ (l : List ℕ). magic One ++ l) (flat_map-append entry_bytes (e ∷ p) (closers k)
-    ∙ ap (λ (l : List ℕ). flat_map entry_bytes (e ∷ p) ++ l) (closer_bytes k h))
-    ∙ sym (append_assoc (magic One) (flat_map entry_bytes (e ∷ p)) (zeros k))
+    rw (flat_map-append entry_bytes (e ∷ p) (closers k), closer_bytes k h) (simp append_assoc)
 
 zeros_more : (m n : ℕ) → m < n → (rest : List ℕ) × (zeros n ≡ zeros m ++ 0 ∷ rest)
 zeros_more m zero lt = absurd (omega arith)
 zeros_more zero (suc n) lt = (_, refl)
 zeros_more (suc m) (suc n) lt =
-    let r = zeros_more m n (omega arith) in (
-      r.0,
-      ap (λ (l : List ℕ). word_bytes 0 ++ l) r.1
-          ∙ sym (append_assoc (word_bytes 0) (zeros m) (0 ∷ r.0)),
-    )
+    let r = zeros_more m n (omega arith) in (r.0, ap (λ (l : List ℕ). word_bytes 0 ++ l) r.1)
 
 fewer_zeros : (base : List ℕ) (m n : ℕ) (a b : List Entry) → m < n → AreBytes (base ++ zeros n)
     → Typed (base ++ zeros m) a → Typed (base ++ zeros n) b → ⊥
 fewer_zeros base m n a b lt are p q =
     let r = zeros_more m n lt in
-    let e : base ++ zeros n ≡ (base ++ zeros m) ++ 0 ∷ r.0 =
-    ap (λ (l : List ℕ). base ++ l) r.1 ∙ sym (append_assoc base (zeros m) (0 ∷ r.0)) in
-    let whole : AreBytes ((base ++ zeros m) ++ 0 ∷ r.0) = subst AreBytes e are in
+    let e : base ++ zeros n ≡ (base ++ zeros m) ++ 0 ∷ r.0 = rw (r.1, append_assoc) refl in
+    let whole = rw e at are in
     no_longer (base ++ zeros m) a b 0 r.0 whole (AreBytes-front (base ++ zeros m) (0 ∷ r.0) whole) p
-    (subst (λ l. Typed l b) e q)
+    (rw e at q)
 
 -- the first entries of a capture
 pub record IsFront (es : List Entry) : Type 0 where
@@ -379,14 +347,10 @@ told_apart (x ∷ p) (y ∷ q) f g e =
     let a = made x p f in
     let b = made y q g in
     let base = bytes_of (x ∷ p) in
-    let same_are : AreBytes (base ++ zeros b.count) =
-    subst (λ l. AreBytes (l ++ zeros b.count)) (sym e) b.are in
-    let same_typed : Typed (base ++ zeros b.count) ((y ∷ q) ++ closers b.count) =
+    let same_are = subst (λ l. AreBytes (l ++ zeros b.count)) (sym e) b.are in
+    let same_typed =
     subst (λ l. Typed (l ++ zeros b.count) ((y ∷ q) ++ closers b.count)) (sym e) b.typed in
     let k : a.count ≡ b.count =
-    one_count base a.count b.count ((x ∷ p) ++ closers a.count) ((y ∷ q) ++ closers b.count) a.are
-    same_are a.typed same_typed in
-    let again : Typed (base ++ zeros a.count) ((y ∷ q) ++ closers a.count) =
-    subst (λ n. Typed (base ++ zeros n) ((y ∷ q) ++ closers n)) (sym k) same_typed in
-    append_cancel_right (x ∷ p) (y ∷ q) (closers a.count) (one_list (base ++ zeros a.count)
-    ((x ∷ p) ++ closers a.count) ((y ∷ q) ++ closers a.count) a.typed again)
+    one_count base a.count b.count _ _ a.are same_are a.typed same_typed in
+    append_cancel_right (x ∷ p) (y ∷ q) (closers a.count) (one_list _ _ _ a.typed
+    (subst (λ n. Typed (base ++ zeros n) ((y ∷ q) ++ closers n)) (sym k) same_typed))

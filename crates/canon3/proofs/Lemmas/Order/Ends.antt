@@ -12,7 +12,7 @@ use Rattle.canon3.proofs.Lemmas.Order.InOrder.{runs_all}
 typed_runs : (file : List ℕ) (all : List Entry) → Typed file all → Runs Between all Over
 typed_runs file all typed =
     let h = holds file all typed in
-    subst (λ l. Runs Between l Over) (sym h.is) (runs_all h.cs h.are.converse)
+    rw h.is (runs_all h.cs h.are.converse)
 
 runs_split : (p q : List Entry) (s u : Stage) → Runs s (p ++ q) u
     → (t : Stage) × Runs s p t × Runs t q u
@@ -26,9 +26,7 @@ over_ends q u (steps x r) = elim x [ ]
 
 is_over : (t : Stage) → AreAlike Over t → t ≡ Over
 is_over Over k = refl
-is_over Between k = absurd k
-is_over (InCalls xs) k = absurd k
-is_over (InReplies xs) k = absurd k
+is_over _ k = absurd k
 
 pub past : (l : List Entry) (i : ℕ) → slice_get l i ≡ None → length l ≤ i
 past l i e =
@@ -43,15 +41,12 @@ module _ (file other : List ℕ) (a b : List Entry) (p : Typed file a) (q : Type
   pub ends_too : Same (take i a) (take i b) → slice_get a i ≡ None → slice_get b i ≡ None
   ends_too s e =
       let whole : take i a ≡ a = take_all i a (past a i e) in
-      let runs : Runs Between (take i a) Over =
-      subst (λ l. Runs Between l Over) (sym whole) (typed_runs file a p) in
+      let runs : Runs Between (take i a) Over = rw whole (typed_runs file a p) in
       let parts =
-      runs_split (take i b) (drop i b) Between Over
-      (subst (λ l. Runs Between l Over) (sym (take-append-drop i b)) (typed_runs other b q)) in
+      runs_split (take i b) (drop i b) Between Over (rw take-append-drop (typed_runs other b q)) in
       let over : parts.0 ≡ Over =
       is_over parts.0 (stages_alike s.renames Between Between Over parts.0 runs parts.1 tt) in
-      let none : drop i b ≡ [] =
-      over_ends (drop i b) Over (subst (λ t. Runs t (drop i b) Over) over parts.2) in
+      let none : drop i b ≡ [] = over_ends (drop i b) Over (rw over at parts.2) in
       slice_get_past b i (omega (arith, ap length none, length-drop i b))
 
 pub end_together : (file other : List ℕ) (a b : List Entry) → Typed file a → Typed other b → (i : ℕ)

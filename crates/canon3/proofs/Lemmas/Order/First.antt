@@ -22,9 +22,8 @@ first_taken i a f = record {
   more = drop i a ++ f.more;
   typed = f.typed;
   split =
-      f.split
-      ∙ (ap (λ (l : List Entry). l ++ f.more) (sym (take-append-drop i a))
-      ∙ append_assoc (take i a) (drop i a) f.more);
+      f.split ∙ ap (λ (l : List Entry). l ++ f.more) (sym (take-append-drop i a))
+      ∙ append_assoc (take i a) (drop i a) f.more;
 }
 
 -- the canonical form of first entries is the first entries of a capture

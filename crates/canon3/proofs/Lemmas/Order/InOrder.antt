@@ -3,9 +3,8 @@ use Rattle.canon3.proofs.Common.{ℕ, ◌≤◌, List, [], ◌∷◌, ◌++◌, 
 use Rattle.capture3.specs.Laws.{spelled}
 use Rattle.capture3.proofs.Lemmas.Reached.Limits.{typed_within}
 use Rattle.canon3.proofs.Lemmas.Order.Order.{BeginsWithXid, IsAnswering, Between, InCalls, InReplies, Over, begin, call, turn, reply, close, end, Runs, stays, steps, IsWellFormed}
-use Rattle.canon3.proofs.Lemmas.Numbers.RankLemmas.{member-append_cases}
 use Rattle.canon3.proofs.Lemmas.Renaming.RenamingLemmas.{all_weaker}
-use Rattle.canon3.proofs.Lemmas.WellFormed.Items.{IsShort, handles_are, verifiers_are, few_handles, few_verifiers}
+use Rattle.canon3.proofs.Lemmas.WellFormed.Items.{IsShort, all_members, handles_are, verifiers_are, few_handles, few_verifiers}
 use Rattle.canon3.proofs.Lemmas.WellFormed.Messages.{BeginsWithWord, call_begins, reply_begins, call_short, reply_short}
 use Rattle.canon3.proofs.Lemmas.WellFormed.Conversations.{all_in, of_all, Conversation, IsSpelledCall, IsSpelledReply, AreConversing}
 use Rattle.canon3.proofs.Lemmas.WellFormed.Conversing.{xids_of, reply_known}
@@ -14,20 +13,19 @@ use Rattle.canon3.proofs.Lemmas.WellFormed.Files.{all_entries, all_of, all_regro
 -- ---- order
 
 begins_with_xid : (m : List Item) → BeginsWithWord m → BeginsWithXid m
-begins_with_xid m b = subst BeginsWithXid (sym b.is) tt
+begins_with_xid m b = rw b.is tt
 
 answering : (xs : List ℕ) (m : List Item) → BeginsWithWord m → Member (xid_in m) xs
     → IsAnswering xs m
-answering xs m b k = subst (IsAnswering xs) (sym b.is) (subst (λ l. Member (xid_in l) xs) b.is k)
+answering xs m b k = rw b.is (rw b.is at k)
 
 runs_calls : (calls : List (List Item)) (tail : List Entry) (xs : List ℕ)
     → AllByRecursion IsSpelledCall calls → Runs (InCalls (xs ++ xids_of calls)) tail Over
     → Runs (InCalls xs) (map Call calls ++ tail) Over
-runs_calls [] tail xs h r = subst (λ l. Runs (InCalls l) tail Over) (append-nil xs) r
+runs_calls [] tail xs h r = rw append-nil at r
 runs_calls (m ∷ calls) tail xs h r =
-    steps (call m (begins_with_xid m (call_begins m h.0.0.0))) (runs_calls calls tail
-    (xs ++ xid_of m) h.1 (subst (λ l. Runs (InCalls l) tail Over)
-    (sym (append_assoc xs (xid_of m) (xids_of calls))) r))
+    steps (call m (begins_with_xid m (call_begins m h.0.0.0)))
+    (runs_calls calls tail (xs ++ xid_of m) h.1 (rw append_assoc r))
 
 runs_replies : (replies : List ReplyItems) (tail : List Entry) (xs : List ℕ)
     → AllByRecursion (λ r. IsAnswering xs r.items) replies → Runs (InReplies xs) tail Over
@@ -48,11 +46,9 @@ pub runs_all : (cs : List Conversation) → AllByRecursion AreConversing cs
 runs_all [] h = steps end stays
 runs_all (c ∷ cs) h =
     subst (λ l. Runs Between l Over) (sym (all_regrouped c cs))
-    (steps begin (runs_calls c.calls (Turn ∷ (map reply_entry c.replies ++ (Close ∷ all_of cs))) []
-    h.0.calls_are
-    (steps turn (runs_replies c.replies (Close ∷ all_of cs) (xids_of c.calls)
-    (all_in (λ r. IsAnswering (xids_of c.calls) r.items) c.replies (reply_answers c h.0))
-    (steps close (runs_all cs h.1))))))
+    (steps begin (runs_calls c.calls _ [] h.0.calls_are
+    (steps turn (runs_replies c.replies _ (xids_of c.calls)
+    (all_in _ c.replies (reply_answers c h.0)) (steps close (runs_all cs h.1))))))
 
 -- ---- handles and write verifiers
 
@@ -79,7 +75,7 @@ message_fits m body s p =
     record {
       handle_fits = handles_are m s;
       verifier_fits = verifiers_are m body p;
-      handle_count = few_handles m;
+      handle_count = few_handles m body p;
       verifier_count = few_verifiers m body p;
     }
 
@@ -89,29 +85,13 @@ call_fits m s = message_fits m (zero_spelling m) (call_short m s.0.0) s.0.1
 reply_fits : (r : ReplyItems) → IsSpelledReply r → EntryFits (reply_entry r)
 reply_fits r s = message_fits r.items (zero_spelling r.items) (reply_short r.id r.items s.0.0) s.0.1
 
-member_fits : (f : List Item → List (List ℕ)) (P : List ℕ → Type 0) (es : List Entry)
-    → AllByRecursion (λ e. (x : List ℕ) → Member x (f (items_of e)) → P x) es → (x : List ℕ)
-    → Member x (flat_map (λ e. f (items_of e)) es) → P x
-member_fits f P [] h x m = elim m [ ]
-member_fits f P (e ∷ es) h x m =
-    ⊎_elim (h.0 x) (member_fits f P es h.1 x) (member-append_cases (f (items_of e)) m)
-
 count_of : (f : List Item → List (List ℕ)) (es : List Entry)
     → AllByRecursion (λ e. length (f (items_of e)) ≤ length (zero_spelling (items_of e))) es
     → length (flat_map (λ e. f (items_of e)) es) ≤ spelled es
 count_of f [] h = omega arith
 count_of f (Begin ∷ es) h =
-    omega (arith, h.0, count_of f es h.1, length-append (f []) (flat_map (λ e. f (items_of e)) es))
-count_of f (Call m ∷ es) h =
-    omega (arith, h.0, count_of f es h.1, length-append (f m) (flat_map (λ e. f (items_of e)) es))
-count_of f (Turn ∷ es) h =
-    omega (arith, h.0, count_of f es h.1, length-append (f []) (flat_map (λ e. f (items_of e)) es))
-count_of f (Reply id m ∷ es) h =
-    omega (arith, h.0, count_of f es h.1, length-append (f m) (flat_map (λ e. f (items_of e)) es))
-count_of f (Close ∷ es) h =
-    omega (arith, h.0, count_of f es h.1, length-append (f []) (flat_map (λ e. f (items_of e)) es))
-count_of f (End ∷ es) h =
-    omega (arith, h.0, count_of f es h.1, length-append (f []) (flat_map (λ e. f (items_of e)) es))
+    rw length-append (omega (arith, h.0, count_of f es h.1))
+count_of f (_ ∷ es) h = rw length-append (omega (arith, h.0, count_of f es h.1))
 
 in_order : (cs : List Conversation) → AllByRecursion AreConversing cs
     → spelled (all_of cs) ≤ max_bytes → IsWellFormed (all_of cs)
@@ -124,32 +104,22 @@ in_order cs h small =
       stage = Over;
       run = runs_all cs h;
       handles_fit =
-          member_fits handles_in IsHandle all (all_weaker EntryFits
-          (λ e. (x : List ℕ) → Member x (handles_in (items_of e)) → IsHandle x)
-          (λ e f. f.handle_fits) all fit);
+          all_members IsHandle (λ e. handles_in (items_of e)) all
+          (all_weaker _ _ (λ e f. f.handle_fits) all fit);
       verifiers_fit =
-          member_fits verifiers_in IsVerifier all (all_weaker EntryFits
-          (λ e. (x : List ℕ) → Member x (verifiers_in (items_of e)) → IsVerifier x)
-          (λ e f. f.verifier_fits) all fit);
+          all_members IsVerifier (λ e. verifiers_in (items_of e)) all
+          (all_weaker _ _ (λ e f. f.verifier_fits) all fit);
       few_handles =
           omega (
             arith,
             small,
-            count_of handles_in all (all_weaker EntryFits
-                (λ e.
-                length (handles_in (items_of e))
-                ≤ length (zero_spelling (items_of e))) (λ e f. f.handle_count) all
-                fit),
+            count_of handles_in all (all_weaker _ _ (λ e f. f.handle_count) all fit),
           );
       few_verifiers =
           omega (
             arith,
             small,
-            count_of verifiers_in all (all_weaker EntryFits
-                (λ e.
-                length (verifiers_in (items_of e))
-                ≤ length (zero_spelling (items_of e))) (λ e f. f.verifier_count)
-                all fit),
+            count_of verifiers_in all (all_weaker _ _ (λ e f. f.verifier_count) all fit),
           );
     }
 
@@ -157,5 +127,4 @@ pub typed_in_order : (file : List ℕ) (all : List Entry) → Typed file all →
 typed_in_order file all typed =
     let h = holds file all typed in
     let small : spelled all ≤ max_bytes = (typed_within file all typed).small in
-    subst IsWellFormed (sym h.is)
-    (in_order h.cs h.are.converse (subst (λ l. spelled l ≤ max_bytes) h.is small))
+    rw h.is (in_order h.cs h.are.converse (rw h.is at small))

@@ -20,12 +20,7 @@ module _ {X : Type 0} (f : Entry → List X) (i : ℕ) (es : List Entry) where
       subst (Member x) (sym flat_map_split) (member-append_left (flat_map f (drop i es)) m)
 
   length-flat_map_take : length (flat_map f (take i es)) ≤ length (flat_map f es)
-  length-flat_map_take =
-      omega (
-        arith,
-        ap length flat_map_split,
-        length-append (flat_map f (take i es)) (flat_map f (drop i es)),
-      )
+  length-flat_map_take = omega (arith, ap length flat_map_split, length-append {A = X})
 
 pub IsWellFormed-take : (i : ℕ) (es : List Entry) → IsWellFormed es → IsWellFormed (take i es)
 IsWellFormed-take i es w = record {
@@ -49,12 +44,8 @@ canonical-take i es w =
 
 bytes_of-append : (a b : List Entry) → (rest : List ℕ) × (bytes_of (a ++ b) ≡ bytes_of a ++ rest)
 bytes_of-append [] b = (bytes_of b, refl)
-bytes_of-append (e ∷ a) b = (
-  flat_map entry_bytes b,
-  ap (λ (l : List ℕ). magic One ++ l) (flat_map-append entry_bytes (e ∷ a) b)
-      ∙ sym
-      (append_assoc (magic One) (flat_map entry_bytes (e ∷ a)) (flat_map entry_bytes b)),
-)
+bytes_of-append (e ∷ a) b =
+    (flat_map entry_bytes b, rw (flat_map-append entry_bytes (e ∷ a) b) (simp append_assoc))
 
 pub bytes_of-take : (i : ℕ) (es : List Entry)
     → (rest : List ℕ) × (bytes_of es ≡ bytes_of (take i es) ++ rest)

@@ -30,10 +30,9 @@ all_with : (cs : List Conversation) (c : Conversation)
 all_with [] c =
     ap (λ (l : List Entry). l ++ End ∷ []) (append-nil (connection_entries c.calls c.replies))
 all_with (d ∷ cs) c =
-    append_assoc (connection_entries d.calls d.replies) (entries_of (cs ++ c ∷ [])) (End ∷ [])
+    append_assoc (connection_entries d.calls d.replies) _ _
     ∙ ap (λ (l : List Entry). connection_entries d.calls d.replies ++ l) (all_with cs c)
-    ∙ sym (append_assoc (connection_entries d.calls d.replies) (entries_of cs)
-    (connection_entries c.calls c.replies ++ End ∷ []))
+    ∙ sym (append_assoc (connection_entries d.calls d.replies) _ _)
 
 weight_with : (cs : List Conversation) (c : Conversation)
     → total_weight (cs ++ c ∷ []) ≡ total_weight cs + weight c
@@ -89,7 +88,7 @@ inside_first One connections before bytes more messages few (inl r) =
       ap length r.holds.split,
       length-append r.holds.front r.holds.last,
     ) in
-    subst (λ (l : List Entry). AreFirst (before ++ l)) (sym r.entries_are)
+    rw r.entries_are
     (open_first connections before streams r.calls [] (Begin ∷ map Call r.calls) (Turn ∷ Close ∷ [])
     messages (conversed streams r.calls [] r.holds.holds ([], refl, refl)) few fits
     (append_assoc (Begin ∷ map Call r.calls) (Turn ∷ []) (Close ∷ [])))
@@ -104,14 +103,14 @@ inside_first One connections before bytes more messages few (inr r) =
     ) in
     let calls : List Entry = Begin ∷ map Call r.calls in
     let replies : List Entry = Turn ∷ map reply_entry r.replies in
-    subst (λ (l : List Entry). AreFirst (before ++ l)) (sym r.entries_are)
-    (open_first connections before streams r.calls r.replies (calls ++ replies) (Close ∷ [])
+    rw r.entries_are
+        (open_first connections before streams r.calls r.replies (calls ++ replies) (Close ∷ [])
     messages (conversed streams r.calls r.replies r.holds r.answers.holds) few fits refl)
 inside_first Two connections before bytes more messages few (begins, is) =
     let streams : Streams = record { client = []; server = [] } in
     let fits : total_size connections + size streams ≤ max_bytes =
     omega (arith, mixed_fits (total_size connections) bytes begins) in
-    subst (λ (l : List Entry). AreFirst (before ++ l)) (sym is)
+    rw is
     (open_first connections before streams [] [] (Begin ∷ []) (Turn ∷ Close ∷ []) messages
     (conversed streams [] [] ([], refl, refl) ([], refl, refl)) few fits refl)
 
@@ -119,7 +118,7 @@ inside_first Two connections before bytes more messages few (begins, is) =
 
 whole_first : (bytes : List ℕ) (entries : List Entry) → AreWhole bytes entries → AreFirst entries
 whole_first bytes entries (InMagic version more e none) =
-    subst AreFirst (sym none) (first_of [] [] (all_of [])
+    rw none (first_of [] [] (all_of [])
     (record { converse = tt; few = omega arith; small = omega arith }) refl)
 whole_first bytes entries (BetweenConnections version front part connections split opens last) =
     let h = have connections entries opens.messages in
@@ -132,8 +131,7 @@ whole_first bytes entries (BetweenConnections version front part connections spl
     (ap (λ (l : List Entry). l ++ End ∷ []) (sym h.is))
 whole_first bytes entries
     (InConnection version front mark rest connections before more split opens one few inside are) =
-    subst AreFirst (sym are)
-    (inside_first version connections before rest more opens.messages few inside)
+    rw are (inside_first version connections before rest more opens.messages few inside)
 
 pub reached_first : (bytes : List ℕ) (entries : List Entry) → Reached bytes entries
     → AreFirst entries

@@ -9,10 +9,9 @@ use Rattle.canon3.proofs.Lemmas.Comparison.Places.{place_from_parting}
 use Rattle.canon3.proofs.Lemmas.Order.Prefixes.{canonical-take}
 
 same_some : (a b : List Entry) → length a ≡ length b → are_some a ≡ are_some b
-same_some [] [] e = refl
 same_some [] (y ∷ b) e = absurd (omega arith)
 same_some (x ∷ a) [] e = absurd (omega arith)
-same_some (x ∷ a) (y ∷ b) e = refl
+same_some _ _ e = refl
 
 -- ---- two entries more
 
@@ -25,7 +24,7 @@ module _ (a b : List Entry) (e f : Entry) (first : AreFirst (a ++ e ∷ []))
   pub agree_more : bytes_after a (e ∷ []) ≡ bytes_after b (f ∷ [])
       → Agree (a ++ e ∷ []) (b ++ f ∷ [])
   agree_more same = record {
-    many = omega (arith, g.many, length-append a (e ∷ []), length-append b (f ∷ []));
+    many = omega (arith, g.many, length-append {A = Entry});
     bytes =
         form_grows a e first
         ∙ (ap₂ (λ (x y : List ℕ). x ++ y) fronts same ∙ sym (form_grows b f second));
@@ -48,12 +47,9 @@ module _ (a b : List Entry) (e f : Entry) (first : AreFirst (a ++ e ∷ []))
 -- an entry that is no message is written as itself
 pub mark_alike : (a b : List Entry) (e : Entry) → side_in e ≡ None
     → bytes_after a (e ∷ []) ≡ bytes_after b (e ∷ [])
-mark_alike a b Begin none = refl
 mark_alike a b (Call m) none = absurd (cc)
-mark_alike a b Turn none = refl
 mark_alike a b (Reply id m) none = absurd (cc)
-mark_alike a b Close none = refl
-mark_alike a b End none = refl
+mark_alike a b _ none = refl
 
 -- ---- the entry after some
 
@@ -64,7 +60,7 @@ got (x ∷ a) e more = got a e more
 
 got_at : (a : List Entry) (e : Entry) (more : List Entry) (i : ℕ) → i ≡ length a
     → slice_get (a ++ e ∷ more) i ≡ Some e
-got_at a e more i is = subst (λ n. slice_get (a ++ e ∷ more) n ≡ Some e) (sym is) (got a e more)
+got_at a e more i is = rw is (got a e more)
 
 pub place_there : (a b : List Entry) (e f : Entry) → AreFirst (a ++ e ∷ []) → AreFirst (b ++ f ∷ [])
     → Agree a b → (e ≡ f) ⊎ ((place : Place) × IsPlaceOf a (Some e) (Some f) place)
@@ -72,13 +68,9 @@ place_there a b e f first second g =
     let i = length a in
     let front : take i (a ++ e ∷ []) ≡ a = take_at a (e ∷ []) i refl in
     let other : take i (b ++ f ∷ []) ≡ b = take_at b (f ∷ []) i (sym g.many) in
-    subst (λ (l : List Entry). (e ≡ f) ⊎ ((place : Place) × IsPlaceOf l (Some e) (Some f) place))
-    front
-    (place_from_parting (a ++ e ∷ []) (b ++ f ∷ []) i e f (first_in_order (a ++ e ∷ []) first)
-    (first_in_order (b ++ f ∷ []) second)
-    (subst (λ (l : List Entry). Same l (take i (b ++ f ∷ []))) (sym front)
-    (subst (λ (l : List Entry). Same a l) (sym other) (same_so_far a b e f first second g)))
-    (got a e []) (got_at b f [] i g.many))
+    rw front at (place_from_parting (a ++ e ∷ []) (b ++ f ∷ []) i e f
+    (first_in_order (a ++ e ∷ []) first) (first_in_order (b ++ f ∷ []) second)
+    (rw (front, other) (same_so_far a b e f first second g)) (got a e []) (got_at b f [] i g.many))
 
 -- ---- at the ends
 
@@ -98,18 +90,11 @@ no_more file a b more typed first g =
     ap (take i) whole ∙ take_at b (more ++ first.more) i (sym g.many) in
     let same : Same a b =
     same_from_bytes a b (whole_first file a typed) (first_front b more first) g.bytes in
-    let ends = ends_too file first.file a all typed first.typed i
-    (subst (λ (l : List Entry). Same l (take i all)) (sym front)
-    (subst (λ (l : List Entry). Same a l) (sym other) same))
+    let ends =
+    ends_too file first.file a all typed first.typed i (rw (front, other) same)
     (slice_get_past a i (omega arith)) in
-    nil_from_length more (omega (
-      arith,
-      past all i ends,
-      ap length whole,
-      length-append b (more ++ first.more),
-      length-append more first.more,
-      g.many,
-    ))
+    nil_from_length more
+    (omega (arith, past all i ends, ap length whole, g.many, length-append {A = Entry}))
 
 pub typed_first : (file : List ℕ) (a more : List Entry) → Typed file (a ++ more) → AreFirst a
 typed_first file a more typed =
@@ -127,24 +112,10 @@ module _ (file other : List ℕ) (a b : List Entry) (e f : Entry) (more rest : L
       ∙ ap canonical (take_at x y i is))
 
   first_all : AreFirst ((a ++ e ∷ []) ++ more)
-  first_all =
-      record {
-        file = file;
-        all = (a ++ e ∷ []) ++ more;
-        more = [];
-        typed = typed;
-        split = simp append-nil;
-      }
+  first_all = whole_first file _ typed
 
   second_all : AreFirst ((b ++ f ∷ []) ++ rest)
-  second_all =
-      record {
-        file = other;
-        all = (b ++ f ∷ []) ++ rest;
-        more = [];
-        typed = other_typed;
-        split = simp append-nil;
-      }
+  second_all = whole_first other _ other_typed
 
   pub not_same : Same ((a ++ e ∷ []) ++ more) ((b ++ f ∷ []) ++ rest) → ⊥
   not_same same =

@@ -73,38 +73,36 @@ renames_turned (ends r) = ends (renames_turned r)
 
 -- ---- linked
 
-module _ (ps qs vs ws : Pairs (List ℕ)) where
-  abbrev handle_links : Pairs (List ℕ)
-  handle_links = linked bytes_eq ps qs
+abbrev links : List (Pairs ℕ) → List (Pairs ℕ) → List (Pairs ℕ)
+links (xs ∷ xss) (ys ∷ yss) = linked nat_eq xs ys ∷ links xss yss
+links _ _ = []
 
-  abbrev verifier_links : Pairs (List ℕ)
-  verifier_links = linked bytes_eq vs ws
+agree-links : (xss yss : List (Pairs ℕ)) → AllByRecursion (Agree nat_eq IsXid) xss
+    → AllByRecursion (Agree nat_eq IsXid) yss → AllByRecursion (Agree nat_eq IsXid) (links xss yss)
+agree-links (xs ∷ xss) (ys ∷ yss) g h =
+    (agree-linked nat_eq Decides-eqb g.0 h.0, agree-links xss yss g.1 h.1)
+agree-links _ _ g h = tt
 
+module _ {ps qs vs ws : Pairs (List ℕ)} where
   item_linked : (i j k : Item) → RenamesItem ps vs i j → RenamesItem qs ws j k
-      → RenamesItem handle_links verifier_links i k
+      → RenamesItem (linked bytes_eq ps qs) (linked bytes_eq vs ws) i k
   item_linked i j k (handle m) (handle n) = handle (member-linked bytes_eq bytes_eq-Decides m n)
-  item_linked i j k (handle m) (plain item f) = absurd f
   item_linked i j k (verifier m) (verifier n) =
       verifier (member-linked bytes_eq bytes_eq-Decides m n)
-  item_linked i j k (verifier m) (plain item f) = absurd f
-  item_linked i j k (plain item f) (handle n) = absurd f
-  item_linked i j k (plain item f) (verifier n) = absurd f
   item_linked i j k (plain item f) (plain other g) = plain item f
+  item_linked i j k (plain item f) _ = absurd f
+  item_linked i j k _ (plain item f) = absurd f
 
   message_linked : {xs ys : Pairs ℕ} {l m n : List Item} → RenamesMessage ps vs xs l m
       → RenamesMessage qs ws ys m n
-      → RenamesMessage handle_links verifier_links (linked nat_eq xs ys) l n
+      → RenamesMessage (linked bytes_eq ps qs) (linked bytes_eq vs ws) (linked nat_eq xs ys) l n
   message_linked (message m p) (message n q) =
       message (member-linked nat_eq Decides-eqb m n) (pairwise_linked item_linked p q)
 
-  abbrev links : List (Pairs ℕ) → List (Pairs ℕ) → List (Pairs ℕ)
-  links [] yss = []
-  links (xs ∷ xss) [] = []
-  links (xs ∷ xss) (ys ∷ yss) = linked nat_eq xs ys ∷ links xss yss
-
   renames_linked : {xs ys : Pairs ℕ} {xss yss : List (Pairs ℕ)} {a b c : List Entry}
       → Renames ps vs xs xss a b → Renames qs ws ys yss b c
-      → Renames handle_links verifier_links (linked nat_eq xs ys) (links xss yss) a c
+      → Renames (linked bytes_eq ps qs) (linked bytes_eq vs ws) (linked nat_eq xs ys)
+          (links xss yss) a c
   renames_linked ended ended = ended
   renames_linked (begins r) (begins s) = begins (renames_linked r s)
   renames_linked (calls m r) (calls n s) = calls (message_linked m n) (renames_linked r s)
@@ -112,14 +110,6 @@ module _ (ps qs vs ws : Pairs (List ℕ)) where
   renames_linked (replies m r) (replies n s) = replies (message_linked m n) (renames_linked r s)
   renames_linked (closes r) (closes s) = closes (renames_linked r s)
   renames_linked (ends r) (ends s) = ends (renames_linked r s)
-
-  agree-links : (xss yss : List (Pairs ℕ)) → AllByRecursion (Agree nat_eq IsXid) xss
-      → AllByRecursion (Agree nat_eq IsXid) yss
-      → AllByRecursion (Agree nat_eq IsXid) (links xss yss)
-  agree-links [] yss g h = tt
-  agree-links (xs ∷ xss) [] g h = tt
-  agree-links (xs ∷ xss) (ys ∷ yss) g h =
-      (agree-linked nat_eq Decides-eqb g.0 h.0, agree-links xss yss g.1 h.1)
 
 -- ---- what Same says, where a pair may be repeated
 
@@ -151,8 +141,7 @@ same-from_matches m = record {
   verifiers_one_to_one =
       one_to_one-kept bytes_eq bytes_eq-Decides m.verifier_pairs m.verifiers_agree;
   xids_one_to_one =
-      all_mapped (Agree nat_eq IsXid) (OneToOne IsXid) (kept nat_eq)
-      (one_to_one-kept nat_eq Decides-eqb) m.xid_pairs m.xids_agree;
+      all_mapped _ _ (kept nat_eq) (one_to_one-kept nat_eq Decides-eqb) m.xid_pairs m.xids_agree;
   renames = renames_kept
       (λ p. member-kept bytes_eq bytes_eq-Decides m.handle_pairs p m.handles_agree.alike)
       (λ p. member-kept bytes_eq bytes_eq-Decides m.verifier_pairs p m.verifiers_agree.alike)
@@ -167,8 +156,7 @@ matches-from_same s = record {
   handles_agree = agree-from bytes_eq bytes_eq-Decides s.handles_one_to_one;
   verifiers_agree = agree-from bytes_eq bytes_eq-Decides s.verifiers_one_to_one;
   xids_agree =
-      all_weaker (OneToOne IsXid) (Agree nat_eq IsXid) (λ ps. agree-from nat_eq Decides-eqb)
-      s.xid_pairs s.xids_one_to_one;
+      all_weaker _ _ (λ ps. agree-from nat_eq Decides-eqb) s.xid_pairs s.xids_one_to_one;
   renames = s.renames;
 }
 
@@ -180,8 +168,7 @@ matches_turned m = record {
   handles_agree = agree-turned bytes_eq bytes_eq-Decides m.handles_agree;
   verifiers_agree = agree-turned bytes_eq bytes_eq-Decides m.verifiers_agree;
   xids_agree =
-      all_mapped (Agree nat_eq IsXid) (Agree nat_eq IsXid) turned
-      (λ ps. agree-turned nat_eq Decides-eqb) m.xid_pairs m.xids_agree;
+      all_mapped _ _ turned (λ ps. agree-turned nat_eq Decides-eqb) m.xid_pairs m.xids_agree;
   renames = renames_turned m.renames;
 }
 
@@ -189,14 +176,9 @@ pub matches_linked : {a b c : List Entry} → Matches a b → Matches b c → Ma
 matches_linked m n = record {
   handle_pairs = linked bytes_eq m.handle_pairs n.handle_pairs;
   verifier_pairs = linked bytes_eq m.verifier_pairs n.verifier_pairs;
-  xid_pairs =
-      links m.handle_pairs n.handle_pairs m.verifier_pairs n.verifier_pairs m.xid_pairs n.xid_pairs;
+  xid_pairs = links m.xid_pairs n.xid_pairs;
   handles_agree = agree-linked bytes_eq bytes_eq-Decides m.handles_agree n.handles_agree;
   verifiers_agree = agree-linked bytes_eq bytes_eq-Decides m.verifiers_agree n.verifiers_agree;
-  xids_agree =
-      agree-links m.handle_pairs n.handle_pairs m.verifier_pairs n.verifier_pairs m.xid_pairs
-      n.xid_pairs m.xids_agree n.xids_agree;
-  renames =
-      renames_linked m.handle_pairs n.handle_pairs m.verifier_pairs n.verifier_pairs m.renames
-      n.renames;
+  xids_agree = agree-links m.xid_pairs n.xid_pairs m.xids_agree n.xids_agree;
+  renames = renames_linked m.renames n.renames;
 }

@@ -1,5 +1,5 @@
 -- The messages of connections, apart from the streams that carry them.
-use Rattle.canon3.proofs.Common.{◌≡◌, ℕ, ◌+◌, ◌≤◌, ◌^◌, false, List, [], ◌∷◌, ◌++◌, length, map, refl, sym, ap, ◌∙◌, subst, arith, length-append, map-append, length-bytes_high_first, Item, Spells, word_bytes, zero_spelling, length_of_spelling, ReplyItems, IsCall, IsReply, Streams, record_bytes, chunk_bytes, message_bytes, Joins, AreEach, IsIn, HaveOneProcedure, AnswerCalls}
+use Rattle.canon3.proofs.Common.{◌≡◌, ℕ, ◌+◌, ◌≤◌, ◌^◌, false, List, [], ◌∷◌, ◌++◌, length, map, refl, sym, ap, ◌∙◌, subst, arith, length-append, map-append, Item, Spells, word_bytes, zero_spelling, length_of_spelling, ReplyItems, IsCall, IsReply, Streams, record_bytes, chunk_bytes, message_bytes, Joins, AreEach, IsIn, HaveOneProcedure, AnswerCalls}
 use Rattle.std.specs.List.{AllByRecursion, flat_map, concat}
 use Rattle.record_mark.specs.RecordMark.{max_body, IsFragment, IsRecord, Marks}
 use Rattle.record_mark.proofs.Steps.{IsWord-big_bytes, heads, one_fragment}
@@ -49,12 +49,7 @@ abbrev pub IsSmall : List Item → Type 0
 IsSmall message = length (zero_spelling message) ≤ max_body
 
 pub length_of_record : (body : List ℕ) → length (record_bytes body) ≡ 4 + length body
-length_of_record body =
-    omega (
-      arith,
-      length-append (word_bytes (2 ^ 31 + length body)) body,
-      length-bytes_high_first 4 (2 ^ 31 + length body),
-    )
+length_of_record body = omega arith
 
 is_record : (body : List ℕ) → length body ≤ max_body → IsRecord (record_bytes body) body
 is_record body fits =
@@ -64,13 +59,7 @@ is_record body fits =
 pub marks_of : (messages : List (List Item)) → AllByRecursion IsSmall messages
     → Marks (stream_of messages) (map zero_spelling messages)
 marks_of [] h = refl
-marks_of (m ∷ messages) h = (
-  record_bytes (zero_spelling m),
-  stream_of messages,
-  refl,
-  is_record (zero_spelling m) h.0,
-  marks_of messages h.1,
-)
+marks_of (m ∷ messages) h = (_, _, refl, is_record (zero_spelling m) h.0, marks_of messages h.1)
 
 abbrev records_of : List (List Item) → List (List ℕ)
 records_of messages = map (λ m. record_bytes (zero_spelling m)) messages
@@ -82,25 +71,18 @@ carried_of (m ∷ messages) =
 
 is_chunk : (body : List ℕ) → length body ≤ max_body
     → IsChunk (chunk_bytes (record_bytes body)) (record_bytes body)
-is_chunk body fits =
-    let size = length_of_record body in
-    record {
-      header = word_bytes (length (record_bytes body));
-      split = refl;
-      word = IsWord-big_bytes (length (record_bytes body)) (omega arith);
-      some = omega arith;
-    }
+is_chunk body fits = record {
+  header = word_bytes (length (record_bytes body));
+  split = refl;
+  word = IsWord-big_bytes (length (record_bytes body)) (omega arith);
+  some = omega arith;
+}
 
 chunks_joined : (messages : List (List Item)) → AllByRecursion IsSmall messages
     → Joins IsChunk (chunks_of messages) (records_of messages)
 chunks_joined [] h = refl
-chunks_joined (m ∷ messages) h = (
-  message_bytes m,
-  chunks_of messages,
-  refl,
-  is_chunk (zero_spelling m) h.0,
-  chunks_joined messages h.1,
-)
+chunks_joined (m ∷ messages) h =
+    (_, _, refl, is_chunk (zero_spelling m) h.0, chunks_joined messages h.1)
 
 pub is_stream : (messages : List (List Item)) → AllByRecursion IsSmall messages
     → IsStream (chunks_of messages ++ word_bytes 0) (stream_of messages)
@@ -123,15 +105,7 @@ carried_size : (parts : List (List ℕ)) (bytes : List ℕ) → Joins (IsFragmen
     → length (concat parts) ≤ length bytes
 carried_size [] bytes h = omega arith
 carried_size (part ∷ parts) bytes h =
-    omega (
-      arith,
-      carried_size parts h.1 h.4,
-      length-append part (concat parts),
-      ap length h.2,
-      length-append h.0 h.1,
-      ap length h.3.1,
-      length-append h.3.0 part,
-    )
+    omega (arith, carried_size parts h.1 h.4, ap length h.2, ap length h.3.1, length-append {A = ℕ})
 
 record_size : (bytes body : List ℕ) → IsRecord bytes body → 4 + length body ≤ length bytes
 record_size bytes body h =
@@ -139,12 +113,10 @@ record_size bytes body h =
       arith,
       carried_size h.fragments h.front h.joined,
       ap length h.carried,
-      length-append (concat h.fragments) h.last,
       ap length h.split,
-      length-append h.front h.back,
       ap length h.closes.1,
-      length-append h.closes.0 h.last,
       h.closes.2.word,
+      length-append {A = ℕ},
     )
 
 module _ {M : Type 0} (items : M → List Item) (Is : List ℕ → M → Type 0)
@@ -155,30 +127,20 @@ module _ {M : Type 0} (items : M → List Item) (Is : List ℕ → M → Type 0)
 
   pub each_has_body : (bodies : List (List ℕ)) (ms : List M) (stream : List ℕ) → Marks stream bodies
       → AreEach Is bodies ms → AllByRecursion HasBody ms
-  each_has_body [] ms stream marks each = subst (AllByRecursion HasBody) (sym each) tt
+  each_has_body [] ms stream marks each = rw each tt
   each_has_body (body ∷ bodies) ms stream marks each =
-      subst (AllByRecursion HasBody) (sym each.2)
-      ((body, each.3, marks.3.fits), each_has_body bodies each.1 marks.1 marks.4 each.4)
+      rw each.2 ((body, each.3, marks.3.fits), each_has_body bodies each.1 marks.1 marks.4 each.4)
 
   pub each_size : (bodies : List (List ℕ)) (ms : List M) (stream : List ℕ) → Marks stream bodies
       → AreEach Is bodies ms → length (stream_of (map items ms)) ≤ length stream
-  each_size [] ms stream marks each =
-      let none = ap (λ l. length (stream_of (map items l))) each in omega (arith, none)
+  each_size [] ms stream marks each = rw each (omega arith)
   each_size (body ∷ bodies) ms stream marks each =
-      let m = each.0 in
-      let parts = ap (λ l. length (stream_of (map items l))) each.2 in
-      let spell = zero_spelling (items m) in
-      omega (
+      rw (each.2, marks.2) (simp length-append (omega (
         arith,
-        parts,
-        length-append (record_bytes spell) (stream_of (map items each.1)),
-        length_of_record spell,
-        length_of_spelling (items m) body (spelled body m each.3),
+        length_of_spelling (items each.0) body (spelled body each.0 each.3),
         record_size marks.0 body marks.3,
         each_size bodies each.1 marks.1 marks.4 each.4,
-        ap length marks.2,
-        length-append marks.0 marks.1,
-      )
+      )))
 
   pub each_from : (ms : List M) → AllByRecursion (λ m. Is (zero_spelling (items m)) m) ms
       → AreEach Is (map zero_spelling (map items ms)) ms

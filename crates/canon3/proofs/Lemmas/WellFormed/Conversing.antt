@@ -1,5 +1,6 @@
 -- Messages of connections: from their streams, in streams of their own, and under numbers.
 use Rattle.canon3.proofs.Common.{◌≡◌, ℕ, ◌<◌, ◌≤◌, ◌^◌, List, [], ◌∷◌, length, map, refl, sym, ap, ◌∙◌, subst, arith, length-append, nat_eq, AllByRecursion, flat_map, Decides-eqb, Item, Word, Spells, zero_spelling, length_of_spelling, xid_of, record_bytes, Member, here, rank, numbered_message, zero_spelled_all, procedure_in, ReplyItems, IsCall, IsReply, xid_in, Streams, size, AreEach, IsIn, HaveOneProcedure, AnswerCalls, Converses}
+use Rattle.std.proofs.lemmas.List.{map-id}
 use Rattle.std.proofs.lemmas.List.Concat.{flat_map-append}
 use Rattle.canon3.proofs.Lemmas.Numbers.RankLemmas.{member-append_left, member-append_right, same_rank}
 use Rattle.canon3.proofs.Lemmas.Renaming.RenamingLemmas.{all_mapped, all_weaker}
@@ -19,21 +20,15 @@ spelled_reply r p = (
   omega (arith, p.2, length_of_spelling r.items p.0 p.1.1),
 )
 
-map_itself : (l : List (List Item)) → map itself l ≡ l
-map_itself [] = refl
-map_itself (m ∷ l) = ap (λ k. m ∷ k) (map_itself l)
-
 pub conversing : (streams : Streams) (calls : List (List Item)) (replies : List ReplyItems)
     → Converses streams calls replies → AreConversing (record { calls = calls; replies = replies })
 conversing streams calls replies c = record {
   calls_are =
-      all_weaker (HasBody itself IsCall (λ body m p. p.1)) IsSpelledCall spelled_call calls
-      (each_has_body itself IsCall (λ body m p. p.1) c.client_bodies calls streams.client
-      c.client c.are_calls);
+      all_weaker _ _ spelled_call calls (each_has_body itself IsCall (λ body m p. p.1)
+      c.client_bodies calls streams.client c.client c.are_calls);
   replies_are =
-      all_weaker (HasBody items_of_reply IsReply (λ body m p. p.1)) IsSpelledReply spelled_reply
-      replies (each_has_body items_of_reply IsReply (λ body m p. p.1) c.server_bodies replies
-      streams.server c.server c.are_replies);
+      all_weaker _ _ spelled_reply replies (each_has_body items_of_reply IsReply (λ body m p. p.1)
+      c.server_bodies replies streams.server c.server c.are_replies);
   one_procedure = c.one_procedure;
   answers = c.answers;
 }
@@ -46,7 +41,7 @@ conversing_weight streams calls replies c =
       arith,
       each_size itself IsCall (λ body m p. p.1) c.client_bodies calls streams.client c.client
           c.are_calls,
-      ap (λ l. length (stream_of l)) (map_itself calls),
+      ap (λ l. length (stream_of l)) (map-id calls),
       each_size items_of_reply IsReply (λ body m p. p.1) c.server_bodies replies streams.server
           c.server c.are_replies,
     )
@@ -55,21 +50,21 @@ conversing_weight streams calls replies c =
 
 pub small_items : (replies : List ReplyItems) → AllByRecursion IsSpelledReply replies
     → AllByRecursion IsSmall (reply_items replies)
-small_items replies h = all_mapped IsSpelledReply IsSmall items_of_reply (λ r p. p.1) replies h
+small_items replies h = all_mapped _ _ items_of_reply (λ r p. p.1) replies h
 
 pub converses_anew : (c : Conversation) → AreConversing c
     → Converses (streams_of c) c.calls c.replies
 converses_anew c h = record {
   client_bodies = map zero_spelling c.calls;
   server_bodies = map zero_spelling (reply_items c.replies);
-  client = marks_of c.calls (all_weaker IsSpelledCall IsSmall (λ m p. p.1) c.calls h.calls_are);
+  client = marks_of c.calls (all_weaker _ _ (λ m p. p.1) c.calls h.calls_are);
   server = marks_of (reply_items c.replies) (small_items c.replies h.replies_are);
-  are_calls = subst (λ l. AreEach IsCall (map zero_spelling l) c.calls) (map_itself c.calls)
-      (each_from itself IsCall (λ body m p. p.1) c.calls (all_weaker IsSpelledCall
-      (λ m. IsCall (zero_spelling m) m) (λ m p. p.0) c.calls h.calls_are));
+  are_calls = subst (λ l. AreEach IsCall (map zero_spelling l) c.calls) (map-id c.calls)
+      (each_from itself IsCall (λ body m p. p.1) c.calls
+      (all_weaker _ _ (λ m p. p.0) c.calls h.calls_are));
   are_replies =
-      each_from items_of_reply IsReply (λ body m p. p.1) c.replies (all_weaker IsSpelledReply
-      (λ r. IsReply (zero_spelling r.items) r) (λ r p. p.0) c.replies h.replies_are);
+      each_from items_of_reply IsReply (λ body m p. p.1) c.replies
+      (all_weaker _ _ (λ r p. p.0) c.replies h.replies_are);
   one_procedure = h.one_procedure;
   answers = h.answers;
 }
@@ -82,22 +77,14 @@ xids_of calls = flat_map xid_of calls
 in_xids : (calls : List (List Item)) (call : List Item) → IsIn call calls → BeginsWithWord call
     → Member (xid_in call) (xids_of calls)
 in_xids calls call p b =
-    let own : Member (xid_in call) (xid_of call) =
-    subst (λ l. Member (xid_in l) (xid_of l)) (sym b.is) here in
-    subst (Member (xid_in call)) (sym (ap xids_of p.2 ∙ flat_map-append xid_of p.0 (call ∷ p.1)))
+    let own : Member (xid_in call) (xid_of call) = rw b.is here in
+    rw (p.2, flat_map-append xid_of)
     (member-append_right (xids_of p.0) (member-append_left (xids_of p.1) own))
 
 pub length_of_xids : (calls : List (List Item)) → length (xids_of calls) ≤ length (stream_of calls)
 length_of_xids [] = omega arith
 length_of_xids (m ∷ calls) =
-    omega (
-      arith,
-      length-append (xid_of m) (xids_of calls),
-      length-append (record_bytes (zero_spelling m)) (stream_of calls),
-      length_of_record (zero_spelling m),
-      one m,
-      length_of_xids calls,
-    )
+    simp length-append (omega (arith, one m, length_of_xids calls))
   where
     one : (m : List Item) → length (xid_of m) ≤ 1
     one [] = omega arith
@@ -176,12 +163,9 @@ module _ (hs vs : List (List ℕ)) where
     one_procedure_under a b i j e =
         let p = in_map under c.calls a i.0 i.1 i.2 in
         let q = in_map under c.calls b j.0 j.1 j.2 in
-        let same : xid_in p.0 ≡ xid_in q.0 =
-        one_xid p.0 q.0 p.1 q.1 (sym (ap xid_in p.2) ∙ (e ∙ ap xid_in q.2)) in
-        ap procedure_in p.2 ∙ (procedure_numbered hs vs xs p.0 (begins_in c h p.0 p.1)
-        ∙ (h.one_procedure p.0 q.0 p.1 q.1 same
-        ∙ (sym (procedure_numbered hs vs xs q.0 (begins_in c h q.0 q.1))
-        ∙ sym (ap procedure_in q.2))))
+        rw (p.2, q.2, procedure_numbered hs vs xs p.0 (begins_in c h p.0 p.1),
+        procedure_numbered hs vs xs q.0 (begins_in c h q.0 q.1))
+        (h.one_procedure p.0 q.0 p.1 q.1 (one_xid p.0 q.0 p.1 q.1 (rw (p.2, q.2) at e)))
 
     answers_under : AnswerCalls (map under c.calls) (map (numbered_reply xs) c.replies)
     answers_under reply i =
@@ -190,25 +174,20 @@ module _ (hs vs : List (List ℕ)) where
         let a = h.answers r p.1 in
         let b = begins_in c h a.0 a.1 in
         let s = of_all IsSpelledReply c.replies r h.replies_are p.1 in
-        let xid : xid_in (under a.0) ≡ xid_in reply.items =
-        xid_numbered hs vs xs a.0 b
-        ∙ (ap (λ x. rank nat_eq x xs) a.2
-        ∙ (sym (xid_numbered hs vs xs r.items (reply_begins r.id r.items s.0.0))
-        ∙ sym (ap (λ (k : ReplyItems). xid_in k.items) p.2))) in (
+        rw p.2 (
           under a.0,
           map_in under c.calls a.0 a.1,
-          xid,
-          procedure_numbered hs vs xs a.0 b ∙ (a.3 ∙ sym (ap (λ (k : ReplyItems). k.id) p.2)),
+          xid_numbered hs vs xs a.0 b ∙ ap (λ x. rank nat_eq x xs) a.2
+              ∙ sym (xid_numbered hs vs xs r.items (reply_begins r.id r.items s.0.0)),
+          procedure_numbered hs vs xs a.0 b ∙ a.3,
         )
 
     pub conversing_numbered : AreConversing (numbered_conversation c)
     conversing_numbered = record {
-      calls_are =
-          all_mapped (λ m. IsIn m c.calls) IsSpelledCall under call_under c.calls
-          (all_in (λ m. IsIn m c.calls) c.calls (λ m i. i));
+      calls_are = all_mapped _ _ under call_under c.calls (all_in _ c.calls (λ m i. i));
       replies_are =
-          all_mapped (λ r. IsIn r c.replies) IsSpelledReply (numbered_reply xs) reply_under
-          c.replies (all_in (λ r. IsIn r c.replies) c.replies (λ r i. i));
+          all_mapped _ _ (numbered_reply xs) reply_under c.replies
+          (all_in _ c.replies (λ r i. i));
       one_procedure = one_procedure_under;
       answers = answers_under;
     }
@@ -222,15 +201,7 @@ module _ (hs vs : List (List ℕ)) where
         → length (stream_of (map under l)) ≤ length (stream_of l)
     stream_shorter [] k = omega arith
     stream_shorter (m ∷ l) k =
-        omega (
-          arith,
-          k.0,
-          stream_shorter l k.1,
-          length-append (record_bytes (zero_spelling m)) (stream_of l),
-          length-append (record_bytes (zero_spelling (under m))) (stream_of (map under l)),
-          length_of_record (zero_spelling m),
-          length_of_record (zero_spelling (under m)),
-        )
+        simp length-append (omega (arith, k.0, stream_shorter l k.1))
 
     items_under : (l : List ReplyItems)
         → reply_items (map (numbered_reply xs) l) ≡ map under (reply_items l)
@@ -249,9 +220,8 @@ module _ (hs vs : List (List ℕ)) where
     weight_numbered =
         omega (
           arith,
-          stream_shorter c.calls
-              (all_weaker IsSpelledCall IsShorter call_shorter c.calls h.calls_are),
-          stream_shorter (reply_items c.replies) (all_mapped IsSpelledReply IsShorter items_of_reply
-              reply_shorter c.replies h.replies_are),
+          stream_shorter c.calls (all_weaker _ _ call_shorter c.calls h.calls_are),
+          stream_shorter (reply_items c.replies)
+              (all_mapped _ _ items_of_reply reply_shorter c.replies h.replies_are),
           ap (λ l. length (stream_of l)) (items_under c.replies),
         )

@@ -1,5 +1,6 @@
 -- Files from the messages of their connections.
 use Rattle.canon3.proofs.Common.{◌≡◌, ℕ, suc, ◌+◌, ◌<◌, ◌≤◌, ◌^◌, List, [], ◌∷◌, ◌++◌, length, map, refl, sym, ap, ap₂, ◌∙◌, subst, arith, append_assoc, append-nil, AllByRecursion, flat_map, Item, word_bytes, ReplyItems, Streams, max_bytes, Entry, Begin, Call, Turn, Reply, Close, End, xid_of, call_xids, handles, verifiers, message_bytes, entry_bytes, bytes_of, numbered_message, numbered, canonical, Joins, IsWord-big_bytes, reply_entry, connection_entries, HaveEntries, Typed}
+use Rattle.std.proofs.lemmas.List.{length-map}
 use Rattle.std.proofs.lemmas.List.Concat.{flat_map-append}
 use Rattle.std.proofs.lemmas.List.Folds.{flat_map-map}
 use Rattle.capture3.specs.Capture.{One, magic, max_connections, total_size, IsConnection}
@@ -76,15 +77,6 @@ holds file all typed =
 
 -- ---- the bytes of entries
 
-call_bytes : (calls : List (List Item)) → flat_map entry_bytes (map Call calls) ≡ chunks_of calls
-call_bytes calls = flat_map-map entry_bytes Call calls
-
-reply_bytes : (replies : List ReplyItems)
-    → flat_map entry_bytes (map reply_entry replies) ≡ chunks_of (reply_items replies)
-reply_bytes replies =
-    flat_map-map entry_bytes reply_entry replies
-    ∙ sym (flat_map-map message_bytes items_of_reply replies)
-
 abbrev pub client_bytes : Conversation → List ℕ
 client_bytes c = chunks_of c.calls ++ word_bytes 0
 
@@ -95,14 +87,10 @@ connection_bytes : (c : Conversation)
     → flat_map entry_bytes (connection_entries c.calls c.replies)
     ≡ word_bytes 1 ++ (client_bytes c ++ server_bytes c)
 connection_bytes c =
-    let calls = map Call c.calls in
-    let replies = map reply_entry c.replies in
-    flat_map-append entry_bytes ((Begin ∷ calls) ++ (Turn ∷ replies)) (Close ∷ [])
-    ∙ ap₂ (λ (l m : List ℕ). l ++ m)
-    (flat_map-append entry_bytes (Begin ∷ calls) (Turn ∷ replies)
-    ∙ ap₂ (λ (l m : List ℕ). (word_bytes 1 ++ l) ++ (word_bytes 0 ++ m))
-    (call_bytes c.calls) (reply_bytes c.replies)) (append-nil (word_bytes 0))
-    ∙ simp append_assoc
+    let front : List Entry = Begin ∷ map Call c.calls in
+    flat_map-append entry_bytes (front ++ (Turn ∷ map reply_entry c.replies)) (Close ∷ [])
+    ∙ ap (λ (l : List ℕ). l ++ word_bytes 0) (flat_map-append entry_bytes front _)
+    ∙ simp (flat_map-map, append_assoc)
 
 is_connection : (c : Conversation) → AreConversing c
     → IsConnection One (word_bytes 1 ++ (client_bytes c ++ server_bytes c)) (streams_of c)
@@ -115,7 +103,7 @@ is_connection c h = record {
     front = client_bytes c;
     last = server_bytes c;
     split = refl;
-    client = is_stream c.calls (all_weaker IsSpelledCall IsSmall (λ m p. p.1) c.calls h.calls_are);
+    client = is_stream c.calls (all_weaker _ _ (λ m p. p.1) c.calls h.calls_are);
     server = is_stream (reply_items c.replies) (small_items c.replies h.replies_are);
   };
 }
@@ -127,7 +115,7 @@ joined_connections (c ∷ cs) h = (
   flat_map entry_bytes (connection_entries c.calls c.replies),
   flat_map entry_bytes (entries_of cs),
   flat_map-append entry_bytes (connection_entries c.calls c.replies) (entries_of cs),
-  subst (λ l. IsConnection One l (streams_of c)) (sym (connection_bytes c)) (is_connection c h.0),
+  rw (connection_bytes c) (is_connection c h.0),
   joined_connections cs h.1,
 )
 
@@ -141,18 +129,12 @@ total_anew : (cs : List Conversation) → total_size (map streams_of cs) ≡ tot
 total_anew [] = refl
 total_anew (c ∷ cs) = ap (λ n. weight c + n) (total_anew cs)
 
-length_anew : (cs : List Conversation) → length (map streams_of cs) ≡ length cs
-length_anew [] = refl
-length_anew (c ∷ cs) = ap suc (length_anew cs)
-
 bytes_of_all : (cs : List Conversation)
     → bytes_of (all_of cs) ≡ magic One ++ (flat_map entry_bytes (entries_of cs) ++ word_bytes 0)
 bytes_of_all [] = simp append-nil
 bytes_of_all (c ∷ cs) =
     ap (λ (l : List ℕ). magic One ++ l) (flat_map-append entry_bytes (entries_of (c ∷ cs))
-    (End ∷ [])
-    ∙ ap (λ (l : List ℕ). flat_map entry_bytes (entries_of (c ∷ cs)) ++ l)
-    (append-nil (word_bytes 0)))
+    (End ∷ []))
 
 -- they are the entries of their own bytes
 pub typed_anew : (cs : List Conversation) → AreCapture cs → Typed (bytes_of (all_of cs)) (all_of cs)
@@ -166,7 +148,7 @@ typed_anew cs h = record {
     split = bytes_of_all cs;
     joined = joined_connections cs h.converse;
     closes = IsWord-big_bytes 0 (omega arith);
-    few = omega (arith, length_anew cs, h.few);
+    few = rw length-map h.few;
     small = omega (arith, total_anew cs, h.small);
   };
   messages = have_anew cs h.converse;
@@ -180,17 +162,10 @@ total_of_anew cs h = total_anew cs
 
 -- ---- under numbers
 
-regrouped : (calls replies rest : List Entry)
-    → (((Begin ∷ calls) ++ (Turn ∷ replies)) ++ Close ∷ []) ++ rest
-    ≡ Begin ∷ (calls ++ (Turn ∷ (replies ++ (Close ∷ rest))))
-regrouped calls replies rest = simp append_assoc
-
 call_xids-calls : (calls : List (List Item)) (tail : List Entry)
     → call_xids (map Call calls ++ tail) ≡ xids_of calls ++ call_xids tail
 call_xids-calls [] tail = refl
-call_xids-calls (m ∷ calls) tail =
-    ap (λ (l : List ℕ). xid_of m ++ l) (call_xids-calls calls tail)
-    ∙ sym (append_assoc (xid_of m) (xids_of calls) (call_xids tail))
+call_xids-calls (m ∷ calls) tail = simp (call_xids-calls calls, append_assoc)
 
 call_xids-replies : (replies : List ReplyItems) (tail : List Entry)
     → call_xids (map reply_entry replies ++ tail) ≡ call_xids tail
@@ -206,17 +181,12 @@ own_xids : (c : Conversation) (cs : List Conversation)
     → call_xids (map Call c.calls ++ (Turn ∷ (map reply_entry c.replies ++ (Close ∷ all_of cs))))
     ≡ xids_of c.calls
 own_xids c cs =
-    call_xids-calls c.calls (Turn ∷ (map reply_entry c.replies ++ (Close ∷ all_of cs)))
-    ∙ (ap (λ (l : List ℕ). xids_of c.calls ++ l)
-    (call_xids-replies c.replies (Close ∷ all_of cs) ∙ no_calls cs)
-    ∙ append-nil (xids_of c.calls))
+    rw (call_xids-calls c.calls, call_xids-replies c.replies, no_calls cs, append-nil)
 
 pub all_regrouped : (c : Conversation) (cs : List Conversation)
     → all_of (c ∷ cs)
     ≡ Begin ∷ (map Call c.calls ++ (Turn ∷ (map reply_entry c.replies ++ (Close ∷ all_of cs))))
-all_regrouped c cs =
-    append_assoc (connection_entries c.calls c.replies) (entries_of cs) (End ∷ [])
-    ∙ regrouped (map Call c.calls) (map reply_entry c.replies) (all_of cs)
+all_regrouped c cs = simp append_assoc
 
 -- what holds of each message, and of each other entry, holds of all
 module _ (P : Entry → Type 0) (call : (m : List Item) → IsSpelledCall m → P (Call m))
@@ -228,13 +198,12 @@ module _ (P : Entry → Type 0) (call : (m : List Item) → IsSpelledCall m → 
   all_entries (c ∷ cs) h =
       subst (AllByRecursion P) (sym (all_regrouped c cs)) (
         begin,
-        all_append P (map Call c.calls) (Turn ∷ (map reply_entry c.replies ++ (Close ∷ all_of cs)))
-            (all_mapped IsSpelledCall P Call call c.calls h.0.calls_are) (
-              turn,
-              all_append P (map reply_entry c.replies) (Close ∷ all_of cs)
-                  (all_mapped IsSpelledReply P reply_entry reply c.replies h.0.replies_are)
-                  (close, all_entries cs h.1),
-            ),
+        all_append P (map Call c.calls) _ (all_mapped _ P Call call c.calls h.0.calls_are) (
+          turn,
+          all_append P (map reply_entry c.replies) _
+              (all_mapped _ P reply_entry reply c.replies h.0.replies_are)
+              (close, all_entries cs h.1),
+        ),
       )
 
 module _ (hs vs : List (List ℕ)) where
@@ -242,16 +211,13 @@ module _ (hs vs : List (List ℕ)) where
       → numbered hs vs xs (map Call calls ++ tail)
       ≡ map Call (map (numbered_message hs vs xs) calls) ++ numbered hs vs xs tail
   numbered-calls xs [] tail = refl
-  numbered-calls xs (m ∷ calls) tail =
-      ap (λ (l : List Entry). Call (numbered_message hs vs xs m) ∷ l) (numbered-calls xs calls tail)
+  numbered-calls xs (m ∷ calls) tail = simp (numbered-calls xs calls)
 
   numbered-replies : (xs : List ℕ) (replies : List ReplyItems) (tail : List Entry)
       → numbered hs vs xs (map reply_entry replies ++ tail)
       ≡ map reply_entry (map (numbered_reply hs vs xs) replies) ++ numbered hs vs xs tail
   numbered-replies xs [] tail = refl
-  numbered-replies xs (r ∷ replies) tail =
-      ap (λ (l : List Entry). Reply r.id (numbered_message hs vs xs r.items) ∷ l)
-      (numbered-replies xs replies tail)
+  numbered-replies xs (r ∷ replies) tail = simp (numbered-replies xs replies)
 
   abbrev pub numbered_all_conversations : List Conversation → List Conversation
   numbered_all_conversations cs = map (numbered_conversation hs vs) cs
@@ -261,19 +227,9 @@ module _ (hs vs : List (List ℕ)) where
   numbered-all [] xs = refl
   numbered-all (c ∷ cs) xs =
       let own = xids_of c.calls in
-      let d = numbered_conversation hs vs c in
-      let told_after : List Entry = map reply_entry c.replies ++ (Close ∷ all_of cs) in
       ap (numbered hs vs xs) (all_regrouped c cs)
-      ∙ (ap (λ (l : List ℕ). Begin ∷ numbered hs vs l (map Call c.calls ++ (Turn ∷ told_after)))
-      (own_xids c cs)
-      ∙ (ap (λ (l : List Entry). Begin ∷ l) (numbered-calls own c.calls (Turn ∷ told_after)
-      ∙ ap (λ (l : List Entry). map Call d.calls ++ (Turn ∷ l))
-      (numbered-replies own c.replies (Close ∷ all_of cs)
-      ∙ ap (λ (l : List Entry). map reply_entry d.replies ++ (Close ∷ l)) (numbered-all cs own)))
-      ∙ sym (all_regrouped d (map (numbered_conversation hs vs) cs))))
-
-  light_xids : (c : Conversation) → weight c ≤ max_bytes → length (xids_of c.calls) < 2 ^ 32
-  light_xids c light = omega (arith, length_of_xids c.calls)
+      ∙ rw (own_xids c cs, numbered-calls own c.calls, numbered-replies own c.replies,
+      numbered-all cs own) (sym (all_regrouped (numbered_conversation hs vs c) _))
 
   all_numbered : (cs : List Conversation) → AllByRecursion AreConversing cs
       → total_weight cs ≤ max_bytes
@@ -282,15 +238,10 @@ module _ (hs vs : List (List ℕ)) where
   all_numbered [] h small = (tt, omega arith)
   all_numbered (c ∷ cs) h small =
       let more = all_numbered cs h.1 (omega arith) in
-      let few = light_xids c (omega arith) in (
+      let few : length (xids_of c.calls) < 2 ^ 32 = omega (arith, length_of_xids c.calls) in (
         (conversing_numbered hs vs c h.0 few, more.0),
         omega (arith, more.1, weight_numbered hs vs c h.0 few),
       )
-
-  length_numbered : (cs : List Conversation)
-      → length (map (numbered_conversation hs vs) cs) ≡ length cs
-  length_numbered [] = refl
-  length_numbered (c ∷ cs) = ap suc (length_numbered cs)
 
   pub capture_numbered : (cs : List Conversation) → AreCapture cs
       → AreCapture (map (numbered_conversation hs vs) cs)
@@ -298,7 +249,7 @@ module _ (hs vs : List (List ℕ)) where
       let n = all_numbered cs h.converse h.small in
       record {
         converse = n.0;
-        few = omega (arith, length_numbered cs, h.few);
+        few = rw length-map h.few;
         small = omega (arith, n.1, h.small);
       }
 
@@ -316,7 +267,7 @@ canonical_is_file file all typed =
     let ds = map (numbered_conversation hs vs) h.cs in
     let are = capture_numbered hs vs h.cs h.are in
     let e : canonical all ≡ all_of ds = ap (numbered hs vs []) h.is ∙ numbered-all hs vs h.cs [] in
-    subst (λ l. AreOfTheirBytes l (total_size typed.connections)) (sym e) (
+    rw e (
       typed_anew ds are,
       omega (arith, total_of_anew ds are, weight_of_numbered hs vs h.cs h.are, h.light),
     )

@@ -1,16 +1,11 @@
 -- A renamed capture is well formed too.
 use Rattle.canon3.proofs.Common.{◌≡◌, ℕ, suc, List, [], ◌∷◌, length, refl, sym, ap, ◌∙◌, subst, arith, ⊤, nat_eq, AllByRecursion, Decides-eqb, Entry, Member, here, there, Pairs, IsXid, Pairwise, none, more, message, Renames, ended, begins, calls, turns, replies, closes, ends, Same, canonical}
 use Rattle.canon3.proofs.Lemmas.Order.Order.{Stage, Between, InCalls, InReplies, Over, begin, call, turn, reply, close, end, Runs, stays, steps, IsWellFormed}
-use Rattle.canon3.proofs.Lemmas.Numbers.RankLemmas.{itself}
+use Rattle.canon3.proofs.Lemmas.Numbers.RankLemmas.{itself, pairwise-append, pairwise-length}
 use Rattle.canon3.proofs.Lemmas.Renaming.PairingLemmas.{Agree, Alike}
 use Rattle.canon3.proofs.Lemmas.Renaming.RenamingLemmas.{matches-from_same}
-use Rattle.canon3.proofs.Lemmas.Canonical.OneFormLemmas.{In, pairwise-append, all_handles_paired, all_verifiers_paired}
+use Rattle.canon3.proofs.Lemmas.Canonical.OneFormLemmas.{In, all_handles_paired, all_verifiers_paired}
 use Rattle.canon3.proofs.Lemmas.Canonical.CanonicalLemmas.{same-canonical}
-
-pairwise-length : {A B : Type 0} {R : A → B → Type 0} {l : List A} {m : List B} → Pairwise R l m
-    → length l ≡ length m
-pairwise-length none = refl
-pairwise-length (more r p) = ap suc (pairwise-length p)
 
 -- a member of the second list has a partner
 first_part : {K : Type 0} {ps : Pairs K} {l m : List K} (y : K) → Pairwise (In ps) l m → Member y m

@@ -1,5 +1,5 @@
 -- Messages under numbers are messages of the same procedures.
-use Rattle.canon3.proofs.Common.{◌≡◌, ℕ, zero, suc, ◌<◌, ◌≤◌, ◌^◌, List, [], ◌∷◌, ◌++◌, length, map, refl, sym, ap, ◌∙◌, subst, arith, length-append, nat_eq, if◌then◌else◌, AllByRecursion, map-append, Decides-eqb, length-bytes_high_first, Item, Word, Hyper, Fixed, WriteVerf, Opaque, Rest, Var, Text, Handle, Spells, word_bytes, zero_spelling, rank, numbered_item, numbered_message, Member, ProcId, call_head, reply_head, arguments_of, results_of}
+use Rattle.canon3.proofs.Common.{◌≡◌, ℕ, zero, suc, ◌<◌, ◌≤◌, ◌^◌, List, [], ◌∷◌, ◌++◌, length, map, refl, ap, arith, nat_eq, if◌then◌else◌, AllByRecursion, map-append, Decides-eqb, Item, Word, Opaque, Handle, Spells, zero_spelling, rank, numbered_item, numbered_message, Member, ProcId, call_head, reply_head, arguments_of, results_of}
 use Rattle.xdr3.specs.Shape.{Shape, ◌then◌, both, nothing, word, listed, Fits}
 use Rattle.xdr3.specs.Layout.{Layout, exactly, after, FitsLayout, number_of_word, word_in}
 use Rattle.xdr3.proofs.Lemmas.Shapes.ShapeParts.{HasParts, Part, RowHasParts, parts_weaker, row_weaker}
@@ -26,15 +26,8 @@ call_head_room = call_head_parts HasRoom (λ part is. is.room) tt
 
 number_under : (hs vs : List (List ℕ)) (i : Item)
     → number_of_word (numbered_item hs vs i) ≡ number_of_word i
-number_under hs vs (Opaque Handle name []) = refl
 number_under hs vs (Opaque Handle name (b ∷ bs)) = refl
-number_under hs vs (Opaque Var name bytes) = refl
-number_under hs vs (Opaque Text name bytes) = refl
-number_under hs vs (WriteVerf name v) = refl
-number_under hs vs (Word name n) = refl
-number_under hs vs (Hyper name n) = refl
-number_under hs vs (Fixed name bytes) = refl
-number_under hs vs (Rest name bytes) = refl
+number_under hs vs _ = refl
 
 words_under : (hs vs : List (List ℕ)) (items : List Item) (i : ℕ)
     → word_in (map (numbered_item hs vs) items) i ≡ word_in items i
@@ -58,20 +51,11 @@ module _ (name : List ℕ) (s t : Shape) (next : List Item → Layout) where
     pub back_fits : FitsLayout (next (Word name number ∷ (start ++ head))) back
     pub is : items ≡ Word name number ∷ ((start ++ head) ++ back)
 
-  front_is : (first word_items more start_items head_items : List Item) (n : ℕ) → more ≡ []
-      → word_items ≡ Word name n ∷ more → first ≡ word_items ++ start_items
-      → first ++ head_items ≡ Word name n ∷ (start_items ++ head_items)
-  front_is first word_items more start_items head_items n e f g =
-      ap (λ (l : List Item). l ++ head_items) (g
-      ∙ ap (λ (l : List Item). l ++ start_items)
-      (f ∙ ap (λ (l : List Item). Word name n ∷ l) e))
-
   pub is_headed : (items : List Item) → FitsLayout headed items → IsHeaded items
   is_headed items p =
       let first = p.2 in
       let w = first.2 in
-      let f : p.0 ≡ Word name w.2.0 ∷ (w.1 ++ first.1) =
-      first.4 ∙ front_is first.0 w.0 w.2.1 w.1 first.1 w.2.0 w.2.3 w.2.4 w.4 in
+      let f : p.0 ≡ Word name w.2.0 ∷ (w.1 ++ first.1) = rw (first.4, w.4, w.2.4, w.2.3) refl in
       record {
         number = w.2.0;
         start = w.1;
@@ -79,8 +63,8 @@ module _ (name : List ℕ) (s t : Shape) (next : List Item → Layout) where
         back = p.1;
         start_fits = w.3;
         head_fits = first.3;
-        back_fits = subst (λ l. FitsLayout (next l) p.1) f p.3;
-        is = p.4 ∙ ap (λ (l : List Item). l ++ p.1) f;
+        back_fits = rw f at p.3;
+        is = rw (p.4, f) refl;
       }
 
   pub headed_fits : (items : List Item) → IsHeaded items → FitsLayout headed items
@@ -105,8 +89,6 @@ module _ (name : List ℕ) (s t : Shape) (next : List Item → Layout) where
       → IsHeaded items → IsHeaded (numbered_message hs vs xs items)
   headed_numbered hs vs xs items s_room t_room rooms blind h =
       let f = numbered_item hs vs in
-      let parts : map f (h.start ++ h.head) ≡ map f h.start ++ map f h.head =
-      map-append f h.start h.head in
       let number = rank nat_eq h.number xs in
       record {
         number = number;
@@ -116,15 +98,10 @@ module _ (name : List ℕ) (s t : Shape) (next : List Item → Layout) where
         start_fits = fits_numbered hs vs s h.start s_room h.start_fits;
         head_fits = fits_numbered hs vs t h.head t_room h.head_fits;
         back_fits =
-            subst (λ layout. FitsLayout layout (map f h.back)) (sym
-            (blind number h.number (h.start ++ h.head))
-            ∙ ap (λ (l : List Item). next (Word name number ∷ l)) parts)
-            (row_numbered hs vs (next (Word name h.number ∷ (h.start ++ h.head))) h.back
-            (rooms (Word name h.number ∷ (h.start ++ h.head))) h.back_fits);
-        is =
-            ap (numbered_message hs vs xs) h.is
-            ∙ ap (λ (l : List Item). Word name number ∷ l) (map-append f (h.start ++ h.head)
-            h.back ∙ ap (λ (l : List Item). l ++ map f h.back) parts);
+            rw (← map-append f h.start h.head, blind number h.number (h.start ++ h.head))
+            (row_numbered hs vs _ h.back (rooms (Word name h.number ∷ (h.start ++ h.head)))
+            h.back_fits);
+        is = rw (h.is, map-append, map-append) refl;
       }
 
 -- ---- calls and replies
@@ -247,24 +224,11 @@ pub record BeginsWithWord (items : List Item) : Type 0 where
   pub is : items ≡ Word name number ∷ more
 
 pub call_begins : (items : List Item) → FitsCall items → BeginsWithWord items
-call_begins items p =
-    let h = is_headed_call items p in
-    record {
-      name = head_names.xid;
-      number = h.number;
-      more = (h.start ++ h.head) ++ h.back;
-      is = h.is;
-    }
+call_begins items p = record { name = _; number = _; more = _; is = (is_headed_call items p).is }
 
 pub reply_begins : (id : ProcId) (items : List Item) → FitsReply id items → BeginsWithWord items
 reply_begins id items p =
-    let h = is_headed_reply id items p in
-    record {
-      name = head_names.xid;
-      number = h.number;
-      more = (h.start ++ h.head) ++ h.back;
-      is = h.is;
-    }
+    record { name = _; number = _; more = _; is = (is_headed_reply id items p).is }
 
 pub xid_numbered : (hs vs : List (List ℕ)) (xs : List ℕ) (items : List Item) → BeginsWithWord items
     → word_in (numbered_message hs vs xs items) 0 ≡ rank nat_eq (word_in items 0) xs
@@ -283,32 +247,15 @@ pub message_spelled : (hs vs : List (List ℕ)) (xs : List ℕ) (items : List It
     → BeginsWithWord items → Member (word_in items 0) xs → length xs < 2 ^ 32 → Spells items bytes
     → Spells (numbered_message hs vs xs items) (zero_spelling (numbered_message hs vs xs items))
 message_spelled hs vs xs items bytes b m few p =
-    let q : Spells (Word b.name b.number ∷ b.more) bytes = subst (λ l. Spells l bytes) b.is p in
-    let n : Member b.number xs = subst (λ l. Member (word_in l 0) xs) b.is m in
-    let number = rank nat_eq b.number xs in
-    let small : number < 2 ^ 32 = omega (arith, rank-le-length nat_eq Decides-eqb n) in
-    subst (λ l. Spells (numbered_message hs vs xs l) (zero_spelling (numbered_message hs vs xs l)))
-    (sym b.is) (
-      word_bytes number,
-      zero_spelling (map (numbered_item hs vs) b.more),
-      (small, refl),
-      spells_numbered hs vs b.more q.1 q.3,
-      refl,
-    )
+    let q = rw b.is at p in
+    let n = rw b.is at m in
+    let small : rank nat_eq b.number xs < 2 ^ 32 =
+    omega (arith, rank-le-length nat_eq Decides-eqb n) in
+    rw b.is (_, _, (small, refl), spells_numbered hs vs b.more q.1 q.3, refl)
 
 pub message_shorter : (hs vs : List (List ℕ)) (xs : List ℕ) (items : List Item) (bytes : List ℕ)
     → BeginsWithWord items → Spells items bytes
     → length (zero_spelling (numbered_message hs vs xs items)) ≤ length (zero_spelling items)
 message_shorter hs vs xs items bytes b p =
-    let q : Spells (Word b.name b.number ∷ b.more) bytes = subst (λ l. Spells l bytes) b.is p in
-    subst (λ l. length (zero_spelling (numbered_message hs vs xs l)) ≤ length (zero_spelling l))
-    (sym b.is)
-    (omega (
-      arith,
-      shorter_numbered hs vs b.more q.1 q.3,
-      length-append (word_bytes (rank nat_eq b.number xs))
-          (zero_spelling (map (numbered_item hs vs) b.more)),
-      length-append (word_bytes b.number) (zero_spelling b.more),
-      length-bytes_high_first 4 (rank nat_eq b.number xs),
-      length-bytes_high_first 4 b.number,
-    ))
+    let q = rw b.is at p in
+    rw b.is (omega (arith, shorter_numbered hs vs b.more q.1 q.3))

@@ -8,9 +8,10 @@ use Rattle.capture3.specs.declared.reader.entry.CallRef.{CallRef}
 use Rattle.capture3.specs.declared.reader.entry.ReplyRef.{ReplyRef}
 use Rattle.capture3.specs.declared.reader.entry.EntryRef.TheVariants as lent
 use Rattle.canon3.specs.machinery.MessageWriter.{message_of}
+use Rattle.capture3.proofs.Lemmas.Connections.NumberingLemmas.{open-append}
 use Rattle.canon3.proofs.Lemmas.Order.First.{first_in_order}
 use Rattle.canon3.proofs.Lemmas.Order.Order.{BeginsWithXid}
-use Rattle.canon3.proofs.Lemmas.Canonical.Growing.{answering_begins, handles_push, last_paired, open-append, verifiers_push}
+use Rattle.canon3.proofs.Lemmas.Canonical.Growing.{answering_begins, handles_push, last_paired, verifiers_push}
 use Rattle.canon3.proofs.Lemmas.Writing.Opening.{is_under_way}
 
 are_few : (entries : List Entry) (one : Entry) → AreFirst (entries ++ one ∷ [])
