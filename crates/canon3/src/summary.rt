@@ -10,7 +10,7 @@ ghost use Rattle.capture3.specs.Laws.{most_entries};
 ghost use Rattle.canon3.specs.EntryCounts.{counted_steps};
 ghost use Rattle.canon3.specs.Summary.{ConcludesAll, ConcludesGiven, IsSummary};
 ghost use Rattle.canon3.specs.machinery.Reading.{ReadsOne};
-ghost use Rattle.canon3.specs.machinery.Sums.{Sums};
+ghost use Rattle.capture3.specs.Typed.{Typed};
 ghost use Rattle.canon3.specs.machinery.Tally.{TalliesOn, TalliesToTheEnd, IsTallying, Tallies};
 
 use crate::entries::entry_counts::EntryCounts;
@@ -142,7 +142,8 @@ impl<S: BuildHasher + Drop> Tally<S> {
     }
 
     fn summary(&self) -> Summary
-        ensures { (entries : List spec.Entry) → Tallies self.now entries → Sums result entries }
+        ensures { (bytes : List ℕ) (entries : List spec.Entry) → Typed bytes entries
+            → Tallies self.now entries → IsSummary bytes result }
     {
         self.counts.summary(self.handles.len())
     }

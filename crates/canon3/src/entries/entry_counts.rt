@@ -1,11 +1,12 @@
 //! What came of a capture so far.
 
-ghost use Rattle.std.specs.Prelude.{◌≡◌, ◌<◌, ◌≤◌, ◌+◌, ◌^◌, ◌++◌, ◌∷◌, List, [], bytes_eq, if◌then◌else◌, length, min};
+ghost use Rattle.std.specs.Prelude.{◌≡◌, ◌<◌, ◌≤◌, ◌+◌, ◌^◌, ◌++◌, ◌∷◌, ℕ, List, [], bytes_eq, if◌then◌else◌, length, min};
 ghost use Rattle.capture3.specs.Entry as spec;
 ghost use Rattle.canon3.specs.EntryCounts.{AreCounted, connections_in, counted_steps, records_in};
 ghost use Rattle.canon3.specs.machinery.CountedKinds.{calls, replies};
 ghost use Rattle.capture3.specs.Rank.{distinct, number_limit};
-ghost use Rattle.canon3.specs.machinery.Sums.{Sums, SumsMessages};
+ghost use Rattle.canon3.specs.Summary.{AreMessageCounts, IsSummary};
+ghost use Rattle.capture3.specs.Typed.{Typed};
 ghost use Rattle.capture3.specs.Kept.{IsOfKind};
 ghost use Rattle.canon3.specs.Values as values;
 
@@ -75,8 +76,8 @@ impl EntryCounts {
 
     /// Returns the counts so far.
     pub(crate) fn message_counts(&self) -> MessageCounts
-        ensures { (entries : List spec.Entry) → AreCounted self.now entries
-            → SumsMessages result entries }
+        ensures { (bytes : List ℕ) (entries : List spec.Entry) → Typed bytes entries
+            → AreCounted self.now entries → AreMessageCounts bytes result }
     {
         MessageCounts {
             connections: self.progress.connections(),
@@ -87,17 +88,14 @@ impl EntryCounts {
 
     /// Returns the counts so far, with the given number of distinct handles.
     pub(crate) fn summary(&self, handles: u32) -> Summary
-        ensures { (entries : List spec.Entry) → AreCounted self.now entries
+        ensures { (bytes : List ℕ) (entries : List spec.Entry) → Typed bytes entries
+            → AreCounted self.now entries
             → handles ≡ min (length (distinct bytes_eq (values.handles entries))) number_limit
-            → Sums result entries }
+            → IsSummary bytes result }
     {
-        let MessageCounts {
-            connections,
-            calls,
-            replies,
-        } = self.message_counts();
+        let (calls, replies) = (self.calls, self.replies);
         Summary {
-            connections,
+            connections: self.progress.connections(),
             calls,
             replies,
             handles,

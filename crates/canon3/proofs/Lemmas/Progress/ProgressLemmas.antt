@@ -3,6 +3,8 @@ use Rattle.canon3.proofs.Common.{◌≡◌, ◌⊎◌, inl, inr, ⊎_elim, ℕ, 
 use Rattle.capture3.specs.declared.fault.Place.TheVariants as places
 use Rattle.capture3.specs.declared.reader.entry.Kind.TheVariants as kinds
 use Rattle.canon3.specs.Parting.{connections, records_after, IsMessageOf, IsPlaceOf, first_message, second_message, first_ends, second_ends, next_record}
+use Rattle.canon3.specs.Summary.{is_call, is_reply}
+use Rattle.canon3.specs.machinery.CountedKinds.{calls, replies}
 use Rattle.canon3.specs.machinery.ProgressSteps.{place_from, progress_after, side_in, side_of_kind}
 
 -- ---- one entry more
@@ -10,21 +12,13 @@ use Rattle.canon3.specs.machinery.ProgressSteps.{place_from, progress_after, sid
 pub connections-append : (a b : List Entry) → connections (a ++ b) ≡ connections a + connections b
 connections-append [] b = omega arith
 connections-append (Begin ∷ a) b = omega (arith, connections-append a b)
-connections-append (Call m ∷ a) b = connections-append a b
-connections-append (Turn ∷ a) b = connections-append a b
-connections-append (Reply id m ∷ a) b = connections-append a b
-connections-append (Close ∷ a) b = connections-append a b
-connections-append (End ∷ a) b = connections-append a b
+connections-append (_ ∷ a) b = connections-append a b
 
 pub records-append : (n : ℕ) (a b : List Entry)
     → records_after n (a ++ b) ≡ records_after (records_after n a) b
 records-append n [] b = refl
 records-append n (Begin ∷ a) b = records-append 0 a b
-records-append n (Call m ∷ a) b = records-append (n + 1) a b
-records-append n (Turn ∷ a) b = records-append 0 a b
-records-append n (Reply id m ∷ a) b = records-append (n + 1) a b
-records-append n (Close ∷ a) b = records-append n a b
-records-append n (End ∷ a) b = records-append n a b
+records-append n (_ ∷ a) b = records-append _ a b
 
 module _ (progress : Progress) (entries : List Entry) (b : HasPassed progress entries) where
   after_one : (now : Progress) (one : Entry)
@@ -33,10 +27,7 @@ module _ (progress : Progress) (entries : List Entry) (b : HasPassed progress en
       → HasPassed now (entries ++ one ∷ [])
   after_one now one more is = record {
     connections_are = omega (arith, more, b.connections_are, connections-append entries (one ∷ []));
-    records_are =
-        is
-        ∙ (ap (λ n. records_after n (one ∷ [])) b.records_are
-        ∙ sym (records-append 0 entries (one ∷ [])));
+    records_are = is ∙ rw (b.records_are, records-append 0 entries) refl;
   }
 
   pub after_more : (kind : Kind) (one : Entry) → IsOfKind kind one
@@ -53,13 +44,16 @@ module _ (progress : Progress) (entries : List Entry) (b : HasPassed progress en
   after_more kinds.Close one is = rw is (after_one progress Close (omega arith) refl)
   after_more kinds.End one is = rw is (after_one progress End (omega arith) refl)
 
-pub side_same : (kind : Kind) (one : Entry) → IsOfKind kind one → side_of_kind kind ≡ side_in one
-side_same kinds.Begin one is = sym (ap side_in is)
-side_same (kinds.Call id) one is = sym (ap side_in is.2)
-side_same kinds.Turn one is = sym (ap side_in is)
-side_same (kinds.Reply id) one is = sym (ap side_in is.1)
-side_same kinds.Close one is = sym (ap side_in is)
-side_same kinds.End one is = sym (ap side_in is)
+-- what the kind tells of an entry
+pub record IsToldBy (kind : Kind) (one : Entry) : Type 0 where
+  pub side : side_of_kind kind ≡ side_in one
+  pub call : calls kind ≡ is_call one
+  pub reply : replies kind ≡ is_reply one
+
+pub told_by : (kind : Kind) (one : Entry) → IsOfKind kind one → IsToldBy kind one
+told_by (kinds.Call id) one is = rw is.2 (record { side = refl; call = refl; reply = refl })
+told_by (kinds.Reply id) one is = rw is.1 (record { side = refl; call = refl; reply = refl })
+told_by _ one is = rw is (record { side = refl; call = refl; reply = refl })
 
 -- ---- a place
 
@@ -67,12 +61,9 @@ abbrev IsSided : Entry → Type 0
 IsSided e = (side : Side) × (side_in e ≡ Some side) × IsMessageOf side (Some e)
 
 sided : (e : Entry) → (side_in e ≡ None) ⊎ IsSided e
-sided Begin = inl refl
 sided (Call m) = inr (Client, refl, tt)
-sided Turn = inl refl
 sided (Reply id m) = inr (Server, refl, tt)
-sided Close = inl refl
-sided End = inl refl
+sided _ = inl refl
 
 no_side : (side : Side) (e : Entry) → IsMessageOf side (Some e) → side_in e ≡ None → ⊥
 no_side Client (Call m) h e = absurd (cc)
@@ -83,38 +74,29 @@ no_side Server _ h e = absurd h
 module _ (progress : Progress) (before : List Entry) (b : HasPassed progress before) where
   next_is : (side : Side)
       → next_record side before ≡ places.Record progress.connections side (1 + progress.records) 0
-  next_is side =
-      ap₂ (λ c r. places.Record c side (1 + r) 0) (sym b.connections_are) (sym b.records_are)
+  next_is side = rw (b.connections_are, b.records_are)
 
   ending : (e f : Option Entry) (place : Place) → ((side : Side) → IsMessageOf side e → ⊥)
       → ((side : Side) → IsMessageOf side f → ⊥) → IsPlaceOf before e f place
       → IsPlaceOf before e f (places.Record (1 + progress.connections) Client 0 0)
   ending e f place none other_none (first_message side h) = absurd (none side h)
   ending e f place none other_none (second_message side h) = absurd (other_none side h)
-  ending e f place none other_none first_ends =
-      subst (IsPlaceOf before (Some End) (Some Begin))
-      (ap (λ c. places.Record (1 + c) Client 0 0) (sym b.connections_are)) first_ends
-  ending e f place none other_none second_ends =
-      subst (IsPlaceOf before (Some Begin) (Some End))
-      (ap (λ c. places.Record (1 + c) Client 0 0) (sym b.connections_are)) second_ends
+  ending e f place none other_none first_ends = rw b.connections_are first_ends
+  ending e f place none other_none second_ends = rw b.connections_are second_ends
 
   -- the place of two entries that differ, where they have one
   pub place_is : (e f : Entry) → (e ≡ f → side_in e ≡ None → ⊥)
       → (e ≡ f) ⊎ ((place : Place) × IsPlaceOf before (Some e) (Some f) place)
       → IsPlaceOf before (Some e) (Some f) (place_from progress (side_in e) (side_in f))
   place_is e f differ there =
-      ⊎_elim
-      (λ (none : side_in e ≡ None).
-      ⊎_elim
-      (λ (other_none : side_in f ≡ None).
-      rw none (rw other_none (⊎_elim (λ (same : e ≡ f). absurd (differ same none))
-      (λ (p : (place : Place) × IsPlaceOf before (Some e) (Some f) place).
-      ending (Some e) (Some f) p.0 (λ side h. no_side side e h none)
-      (λ side h. no_side side f h other_none) p.1) there)))
-      (λ (s : IsSided f).
-      rw none (rw s.1 (subst (IsPlaceOf before (Some e) (Some f)) (next_is s.0)
-      (second_message s.0 s.2))))
-      (sided f))
-      (λ (s : IsSided e).
-      rw s.1 (subst (IsPlaceOf before (Some e) (Some f)) (next_is s.0) (first_message s.0 s.2)))
-      (sided e)
+      elim (sided e) [
+        | inl none ↦ elim (sided f) [
+          | inl other_none ↦ rw (none, other_none) (elim there [
+            | inl same ↦ absurd (differ same none)
+            | inr p ↦ ending (Some e) (Some f) p.0 (λ side h. no_side side e h none)
+                (λ side h. no_side side f h other_none) p.1
+          ])
+          | inr s ↦ rw (none, s.1, ← next_is s.0) (second_message s.0 s.2)
+        ]
+        | inr s ↦ rw (s.1, ← next_is s.0) (first_message s.0 s.2)
+      ]

@@ -9,9 +9,10 @@ use Rattle.capture3.specs.declared.reader.entry.Kind.TheVariants as kinds
 use Rattle.canon3.specs.EntryCounts.{AreCounted}
 use Rattle.canon3.specs.machinery.CountedKinds.{calls, replies}
 use Rattle.canon3.specs.Summary.{AreMessageCounts, ConcludesAll, ConcludesGiven, is_begin, is_call, is_reply, IsSummary}
-use Rattle.canon3.specs.machinery.Sums.{all_items, Sums, SumsMessages}
+use Rattle.canon3.specs.machinery.Sums.{all_items}
 use Rattle.canon3.proofs.Lemmas.Order.InOrder.{typed_in_order}
 use Rattle.capture3.proofs.Lemmas.Connections.RankLemmas.{length-with_keys}
+use Rattle.canon3.proofs.Lemmas.Progress.ProgressLemmas.{told_by}
 
 -- one more is counted where it is one of them
 pub counts_after : {X : Type 0} (p : X → Bool) (n m : ℕ) (items : List X) (one : X)
@@ -25,25 +26,7 @@ counts_after p n m items one more is =
 
 pub items_with_last : (front : List Entry) (last : Entry)
     → all_items (front ++ last ∷ []) ≡ all_items front ++ items_of last
-items_with_last front last =
-    flat_map-append items_of front (last ∷ [])
-    ∙ ap (λ (l : List Item). all_items front ++ l) (append-nil (items_of last))
-
-call_same : (kind : Kind) (entry : Entry) → IsOfKind kind entry → calls kind ≡ is_call entry
-call_same kinds.Begin entry is = sym (ap is_call is)
-call_same (kinds.Call id) entry is = sym (ap is_call is.2)
-call_same kinds.Turn entry is = sym (ap is_call is)
-call_same (kinds.Reply id) entry is = sym (ap is_call is.1)
-call_same kinds.Close entry is = sym (ap is_call is)
-call_same kinds.End entry is = sym (ap is_call is)
-
-reply_same : (kind : Kind) (entry : Entry) → IsOfKind kind entry → replies kind ≡ is_reply entry
-reply_same kinds.Begin entry is = sym (ap is_reply is)
-reply_same (kinds.Call id) entry is = sym (ap is_reply is.2)
-reply_same kinds.Turn entry is = sym (ap is_reply is)
-reply_same (kinds.Reply id) entry is = sym (ap is_reply is.1)
-reply_same kinds.Close entry is = sym (ap is_reply is)
-reply_same kinds.End entry is = sym (ap is_reply is)
+items_with_last front last = simp (flat_map-append, append-nil)
 
 -- an entry is counted, after its place in the capture
 pub counted_more : (old new : EntryCounts) (kind : Kind) (entry : Entry) (entries : List Entry)
@@ -51,24 +34,23 @@ pub counted_more : (old new : EntryCounts) (kind : Kind) (entry : Entry) (entrie
     → new.calls ≡ old.calls + cond (calls kind) 1 0
     → new.replies ≡ old.replies + cond (replies kind) 1 0 → AreCounted old entries
     → AreCounted new (entries ++ entry ∷ [])
-counted_more old new kind entry entries is progress called replied t = record {
-  progress = progress;
-  calls_are =
-      counts_after is_call old.calls new.calls entries entry
-      (called ∙ ap (λ b. old.calls + cond b 1 0) (call_same kind entry is)) t.calls_are;
-  replies_are =
-      counts_after is_reply old.replies new.replies entries entry
-      (replied ∙ ap (λ b. old.replies + cond b 1 0) (reply_same kind entry is)) t.replies_are;
-}
+counted_more old new kind entry entries is progress called replied t =
+    let told = told_by kind entry is in
+    record {
+      progress = progress;
+      calls_are =
+          counts_after is_call old.calls new.calls entries entry (rw told.call at called)
+          t.calls_are;
+      replies_are =
+          counts_after is_reply old.replies new.replies entries entry (rw told.reply at replied)
+          t.replies_are;
+    }
 
 -- an entry is a call or a reply at most
 pub counts_once : (kind : Kind) → cond (calls kind) 1 0 + cond (replies kind) 1 0 ≤ 1
-counts_once kinds.Begin = omega arith
 counts_once (kinds.Call id) = omega arith
-counts_once kinds.Turn = omega arith
 counts_once (kinds.Reply id) = omega arith
-counts_once kinds.Close = omega arith
-counts_once kinds.End = omega arith
+counts_once _ = omega arith
 
 pub connections_counted : (entries : List Entry) → connections entries ≡ count_by is_begin entries
 connections_counted [] = refl
@@ -76,24 +58,10 @@ connections_counted (Begin ∷ entries) =
     let whole : count_by is_begin (Begin ∷ entries) ≡ 1 + count_by is_begin entries =
     sum_by-cons (λ entry. cond (is_begin entry) 1 0) Begin entries in
     omega (arith, whole, connections_counted entries)
-connections_counted (Call items ∷ entries) = connections_counted entries
-connections_counted (Turn ∷ entries) = connections_counted entries
-connections_counted (Reply id items ∷ entries) = connections_counted entries
-connections_counted (Close ∷ entries) = connections_counted entries
-connections_counted (End ∷ entries) = connections_counted entries
-
-pub message_counts_are : (bytes : List ℕ) (counts : MessageCounts) (entries : List Entry)
-    → Typed bytes entries → SumsMessages counts entries → AreMessageCounts bytes counts
-message_counts_are bytes counts entries typed sums = record {
-  entries = entries;
-  typed = typed;
-  connections = sums.connections;
-  calls = sums.calls;
-  replies = sums.replies;
-}
+connections_counted (_ ∷ entries) = connections_counted entries
 
 -- there are few enough handles to be counted
-few_distinct : (bytes : List ℕ) (entries : List Entry) → Typed bytes entries
+pub few_distinct : (bytes : List ℕ) (entries : List Entry) → Typed bytes entries
     → min (length (distinct bytes_eq (handles entries))) number_limit
     ≡ length (distinct bytes_eq (handles entries))
 few_distinct bytes entries typed =
@@ -103,28 +71,15 @@ few_distinct bytes entries typed =
       length-with_keys bytes_eq nat_list_eq_equiv (handles entries) [],
     )
 
-pub summary_is : (bytes : List ℕ) (summary : Summary) (entries : List Entry) → Typed bytes entries
-    → Sums summary entries → IsSummary bytes summary
-summary_is bytes summary entries typed sums = record {
-  entries = entries;
-  typed = typed;
-  connections = sums.connections;
-  calls = sums.calls;
-  replies = sums.replies;
-  handles = sums.handles ∙ few_distinct bytes entries typed;
-}
-
 -- of all bytes, of which those that were given are a prefix
 pub concluded : (bytes : List ℕ) (old new : Told) (result : Result Summary Error)
     → ((given : List ℕ) → Gave old new given → IsPrefixOf new given bytes)
     → ConcludesGiven old new result → ConcludesAll bytes result
 concluded bytes old new (Ok summary) prefix (given, gave, (ended, is)) =
-    (subst (λ (b : List ℕ). IsSummary b summary) ((prefix given gave).all ended) is, tt)
+    (rw ((prefix given gave).all ended) at is, tt)
 concluded bytes old new (Err (errors.Refused fault)) prefix (given, gave, (entries, met)) =
     (tt, (shown_of_all new given bytes entries fault (prefix given gave) met).0)
-concluded bytes old new (Err errors.Read) prefix c = (tt, tt)
-concluded bytes old new (Err errors.Write) prefix c = (tt, tt)
-concluded bytes old new (Err errors.Memory) prefix c = (tt, tt)
+concluded bytes old new (Err _) prefix c = (tt, tt)
 
 -- before any byte was read
 pub nothing_concluded : (told : Told) → ConcludesGiven told told (Err errors.Memory)

@@ -64,17 +64,15 @@ module _ (form : List Entry → List ℕ) (prefixes : KeepsPrefixes form) where
       (given, gave, (entries, ended, typed, are, written)) =
       let all = (prefix given gave).all ended in (
         entries,
-        subst (λ (b : List ℕ). Typed b entries) all typed,
-        subst (λ (b : List ℕ). AreCountsOf b counts) all are,
+        rw all at typed,
+        rw all at are,
         written,
       )
   all_written AreCountsOf bytes first told old new (Err (errors.Refused fault)) prefix
       (given, gave, (entries, met, written)) =
       let shown = shown_of_all told given bytes entries fault (prefix given gave) met in
       (entries, shown.0, shown.1, written)
-  all_written AreCountsOf bytes first told old new (Err errors.Read) prefix w = tt
-  all_written AreCountsOf bytes first told old new (Err errors.Write) prefix w = tt
-  all_written AreCountsOf bytes first told old new (Err errors.Memory) prefix w = tt
+  all_written AreCountsOf bytes first told old new (Err _) prefix w = tt
 
   -- ---- along a reader
 
@@ -116,20 +114,3 @@ module _ (form : List Entry → List ℕ) (prefixes : KeepsPrefixes form) where
         ⊎_elim (λ e. absurd (cc)) (λ e. absurd (cc)) error
     written_goes_on given handed one (Err (errors.Refused fault)) more error consumed reached reads
         cut = ⊎_elim (λ e. absurd (cc)) (λ e. absurd (cc)) error
-
--- ---- at the end
-
--- what is said of a writer that wrote all, or that an error stopped, and of what was counted
-module _ {T C : Type 0} (form : List Entry → List ℕ) (before : List Entry → List Item)
-    (stands : T → List Item → Type 0) (going : T → Type 0) (first : Told) (old : Option (List ℕ))
-    (AreCountsOf : List ℕ → C → Type 0) (told : Told) (new : Option (List ℕ)) where
-  pub whole_given : (writer : T) (counts : EntryCounts) (counted : C)
-      (w : HasWrittenAll form before stands going first old told writer counts new)
-      → AreCountsOf w.given counted
-      → WritesGivenCounted AreCountsOf form first told old new (Ok counted)
-  whole_given writer counts counted w are =
-      (w.given, w.ended.consumed, (w.handed, w.ended.ended, w.ended.typed, are, w.writes.written))
-
-  pub stopped_given : (error : Error) → HasStopped form before stands going first old told new error
-      → WritesGivenCounted AreCountsOf form first told old new (Err error)
-  stopped_given error s = (s.given, s.consumed, s.stopped)

@@ -1,5 +1,4 @@
 use Rattle.canon3.proofs.Common.{[], gave_none, source_of, error_is}
-use Rattle.canon3.proofs.Lemmas.Progress.SummaryLemmas.{summary_is}
 use Rattle.canon3.proofs.summary.summed.Goals as goal
 
 pub returns-clause-concludes : goal.returns-clause-concludes
@@ -16,24 +15,16 @@ returns-clause-concludes g c =
     }) in (
       done.given,
       done.consumed,
-      (
-        done.ended,
-        summary_is done.given c.summary.result done.handed done.typed
-            (c.summary.ensures done.handed done.tallied),
-      ),
+      (done.ended, c.summary.ensures done.given done.handed done.typed done.tallied),
     )
 
 pub returns-in_err-add_all-clause-concludes : goal.returns-in_err-add_all-clause-concludes
 returns-in_err-add_all-clause-concludes g c =
     let before = g.R.Source.told (source_of c.args.entries.now) in
-    let failed =
-    c.in_err-add_all.ensures.over before
-    (record {
+    rw (error_is _ _ c.from_residual.ensures) (c.in_err-add_all.ensures.over before (record {
       given = [];
       handed = [];
       consumed = gave_none before;
       stands = c.requires.fresh;
       tallied = c.new-tally.ensures.tallies;
-    }) in
-    rw (error_is _ _ c.from_residual.ensures)
-    (failed.given, failed.consumed, (failed.handed, failed.met))
+    }))

@@ -1,7 +1,7 @@
 use Rattle.canon3.proofs.Common.{◌≡◌, ◌∙◌, ap₂, subst, sym, [], ◌∷◌, ◌++◌, values_of, HasPassed, place_from, spelling_of}
 use Rattle.std.specs.Prelude.{MatchBool, ◌≢◌}
 use Rattle.canon3.proofs.Lemmas.Comparison.ComparisonLemmas.{agree_on, parts_here}
-use Rattle.canon3.proofs.Lemmas.Progress.ProgressLemmas.{after_more, side_same}
+use Rattle.canon3.proofs.Lemmas.Progress.ProgressLemmas.{after_more, told_by}
 use Rattle.canon3.proofs.Lemmas.Writing.EntryWriterLemmas.{lent_kind}
 use Rattle.canon3.proofs.comparison.Comparison.compare.Goals as goal
 
@@ -50,7 +50,6 @@ returns-clause-compares g c a b e f of other_of first second told =
     (c.in-Ok-spelling_of_entry.ensures b f other_of second told.second)
     told.agree c.args.self.now.progress c.place.result unlike told.progress
     (c.place.ensures
-    ∙ ap₂ (λ x y. place_from c.args.self.now.progress x y) (side_same c.kind_of-2.result e
-    (lent_kind c.args.entry c.kind_of-2.result e c.kind_of-2.ensures of.0))
-    (side_same c.kind_of-3.result f
-    (lent_kind c.args.other c.kind_of-3.result f c.kind_of-3.ensures other_of.0)))
+    ∙ ap₂ (λ x y. place_from c.args.self.now.progress x y)
+    (told_by _ e (lent_kind c.args.entry _ e c.kind_of-2.ensures of.0)).side
+    (told_by _ f (lent_kind c.args.other _ f c.kind_of-3.ensures other_of.0)).side)

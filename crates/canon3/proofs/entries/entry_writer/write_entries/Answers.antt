@@ -1,42 +1,27 @@
 use Rattle.canon3.proofs.Common.{Err, Ok, error_is, prefix_of_kept, IsSummary}
-use Rattle.canon3.proofs.Lemmas.Progress.SummaryLemmas.{summary_is}
-use Rattle.canon3.proofs.Lemmas.Writing.EntryWriterLemmas.{all_written, stopped_given, whole_given}
+use Rattle.canon3.proofs.Lemmas.Writing.EntryWriterLemmas.{all_written}
 use Rattle.canon3.proofs.entries.entry_writer.write_entries.Goals as goal
 
-pub returns : goal.returns
-returns g c =
-    let form = g.E.EntryWriter.form in
+pub returns-clause-writes : goal.returns-clause-writes
+returns-clause-writes g c =
+    let w = c.in_ok-counts.ensures.ends in
+    (w.given, w.ended.consumed, (w.handed, w.ended.ended, w.ended.typed,
+            c.summary.ensures w.given w.handed w.ended.typed w.writes.came
+        (c.handles.ensures w.handed w.writes.goes w.writes.stands_for), w.writes.written))
+
+pub returns-clause-whole : goal.returns-clause-whole
+returns-clause-whole g c bytes gave =
     let first = g.R.Source.told c.args.source.now in
     let told = g.R.Source.told c.write_whole.new.source in
-    let old = g.W.Sink.written c.args.sink.now in
-    let new = g.W.Sink.written c.write_whole.new.sink in
-    let w = c.in_ok-counts.ensures.ends in
-    let writes =
-    whole_given form g.E.EntryWriter.before g.E.Visit.stands g.E.EntryWriter.going first old
-    IsSummary told new _ _ c.summary.result w
-    (summary_is w.given c.summary.result w.handed w.ended.typed (c.summary.ensures w.handed
-    w.writes.came (c.handles.ensures w.handed w.writes.goes w.writes.stands_for))) in
-    record {
-      writes = writes;
-      whole =
-          λ bytes gave.
-          all_written form c.requires.prefixes IsSummary bytes first told old new
-          (Ok c.summary.result) (λ given. prefix_of_kept first told given bytes gave)
-          writes;
-      flushes = c.in_ok-counts.ensures.flushes;
-      read = c.in_ok-counts.ensures.read;
-      write = c.in_ok-counts.ensures.write;
-    }
+    all_written _ c.requires.prefixes IsSummary bytes first told _ _ (Ok c.summary.result)
+    (λ given. prefix_of_kept first told given bytes gave) (returns-clause-writes g c)
 
 pub returns-in_err-counts-clause-whole : goal.returns-in_err-counts-clause-whole
 returns-in_err-counts-clause-whole g c bytes gave =
-    let form = g.E.EntryWriter.form in
     let first = g.R.Source.told c.args.source.now in
     let told = g.R.Source.told c.write_whole.new.source in
-    let old = g.W.Sink.written c.args.sink.now in
-    let new = g.W.Sink.written c.write_whole.new.sink in
-    rw (error_is _ _ c.from_residual.ensures) (all_written form c.requires.prefixes IsSummary bytes
-    first told old new (Err c.in_err-counts.field-0.0)
-    (λ given. prefix_of_kept first told given bytes gave)
-    (stopped_given form g.E.EntryWriter.before g.E.Visit.stands g.E.EntryWriter.going first old
-    IsSummary told new c.in_err-counts.field-0.0 c.in_err-counts.ensures.ends))
+    let s = c.in_err-counts.ensures.ends in
+    rw (error_is _ _ c.from_residual.ensures)
+        (all_written _ c.requires.prefixes IsSummary bytes first told _ _
+    (Err c.in_err-counts.field-0.0) (λ given. prefix_of_kept first told given bytes gave)
+    (s.given, s.consumed, s.stopped))

@@ -1,4 +1,4 @@
-use Rattle.std.proofs.Common.{Ok, subst}
+use Rattle.canon3.proofs.Common.{Ok, subst, error_is}
 use Rattle.canon3.specs.machinery.Tally.{TalliesOn}
 use Rattle.canon3.proofs.summary.Tally.add_all.Goals as goal
 
@@ -9,3 +9,8 @@ returns-clause-over g c first u =
     TalliesOn g.R.Source.told first c.add_next.new.entries c.add_next.new.self (Ok more))
     c.if-branch.false
     (c.in_ok-add_next.ensures.goes_on first (c.loop.invariant.under_way first u))
+
+pub returns-in_err-add_next-clause-over : goal.returns-in_err-add_next-clause-over
+returns-in_err-add_next-clause-over g c first u =
+    rw (error_is _ _ c.from_residual.ensures)
+    (c.in_err-add_next.ensures.goes_on first (c.loop.invariant.under_way first u))

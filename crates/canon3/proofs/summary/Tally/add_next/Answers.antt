@@ -30,14 +30,12 @@ returns-in-Some-clause-goes_on g c first u =
 pub returns-in_err-kind-clause-goes_on : goal.returns-in_err-kind-clause-goes_on
 returns-in_err-kind-clause-goes_on g c first u =
     let a = c.in_err-kind.ensures.answers u.given u.handed u.stands in
-    rw (error_is _ _ c.from_residual.ensures) (record {
-      given = u.given ++ a.more;
-      handed = u.handed;
-      consumed =
-          gave_both first (g.R.Source.told (source_of c.args.entries.now))
-          (g.R.Source.told (source_of c.next.new.self)) u.given a.more u.consumed a.consumed;
-      met = a.hands_out.0;
-    })
+    rw (error_is _ _ c.from_residual.ensures) (
+      u.given ++ a.more,
+      gave_both first (g.R.Source.told (source_of c.args.entries.now))
+          (g.R.Source.told (source_of c.next.new.self)) u.given a.more u.consumed a.consumed,
+      (u.handed, a.hands_out.0),
+    )
 
 pub returns-in-None-clause-goes_on : goal.returns-in-None-clause-goes_on
 returns-in-None-clause-goes_on g c first u =

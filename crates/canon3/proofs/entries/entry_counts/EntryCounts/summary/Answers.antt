@@ -1,11 +1,13 @@
+use Rattle.std.proofs.Common.{◌∙◌}
+use Rattle.canon3.proofs.Lemmas.Progress.SummaryLemmas.{connections_counted, few_distinct}
 use Rattle.canon3.proofs.entries.entry_counts.EntryCounts.summary.Goals as goal
 
 pub returns : goal.returns
-returns c entries are handles =
-    let sums = c.message_counts-connections.ensures entries are in
-    record {
-      connections = sums.connections;
-      calls = sums.calls;
-      replies = sums.replies;
-      handles = handles;
-    }
+returns c bytes entries typed are handles = record {
+  entries = entries;
+  typed = typed;
+  connections = c.connections.ensures ∙ are.progress.connections_are ∙ connections_counted entries;
+  calls = are.calls_are;
+  replies = are.replies_are;
+  handles = handles ∙ few_distinct bytes entries typed;
+}
