@@ -9,6 +9,7 @@ use Rattle.capture3.specs.Entries.{CountsReads, loan_of}
 use Rattle.canon3.specs.declared.comparison.verdict.SameError.{SameError}
 use Rattle.canon3.specs.declared.comparison.verdict.Which.TheVariants.{First, Second}
 use Rattle.canon3.specs.Comparison.{CountsReadingOf}
+use Rattle.canon3.specs.WriteErrors.{CountsWriting}
 use Rattle.canon3.specs.machinery.ComparisonSteps.{CountsReadsOf}
 
 -- of one reader
@@ -19,6 +20,14 @@ pub record ReadsOne {R S H X : Type 0} {builds : BuildHasher.Ghosts S H} {hashes
   -- it only reads
   pub write : IfErr result (λ error. error ≢ errors.Write)
   -- it keeps the source that it was lent
+  pub same_reference : loan_of new ≡ loan_of old
+
+-- of one reader whose entries are written, where so many writes had failed before and after
+pub record ReadsAndWrites {R S H X : Type 0} {builds : BuildHasher.Ghosts S H}
+    {hashes : Hasher.Ghosts H} (failures : R → ℕ) (old new : Entries R S H builds hashes)
+    (old_writes new_writes : ℕ) (result : Result X Error) : Type 0 where
+  pub read : CountsReads failures old new result
+  pub write : CountsWriting old_writes new_writes result
   pub same_reference : loan_of new ≡ loan_of old
 
 -- of the second of two

@@ -87,6 +87,11 @@ module _ {T R S H : Type 0} {builds : BuildHasher.Ghosts S H} {hashes : Hasher.G
     pub reads : StandsFor told reader given handed
     pub writes : HasWritten form before stands going writer counts old new handed
 
+  -- before the first entry
+  abbrev pub BeginsWriting : Entries R S H builds hashes → T → Type 0
+  BeginsWriting reader writer = (counts : EntryCounts) → AreCounted counts []
+      → IsWriting reader writer counts old
+
   abbrev pub WritesOn : Entries R S H builds hashes → T → EntryCounts → Option (List ℕ)
       → Result Bool Error → Type 0
   WritesOn reader writer counts new (Ok true) = IsWriting reader writer counts new

@@ -3,13 +3,14 @@
 ghost use Rattle.std.specs.Prelude.{◌≡◌, ◌<◌, ◌≤◌, ◌+◌, ◌^◌, ◌++◌, ◌∷◌, ℕ, List, [], Option, None, bytes_eq, length, min, IfErr, IfOk, IsTrue, OnOk};
 ghost use Rattle.capture3.specs.Told.{GavePrefix, Told};
 ghost use Rattle.xdr3.specs.Item.{Item};
-ghost use Rattle.capture3.specs.Entries.{CountsReading, CountsReads, failure_of, loan_of, source_of};
-ghost use Rattle.capture3.specs.machinery.EntriesHistory.{entries_left, StandsFor};
+ghost use Rattle.capture3.specs.Entries.{CountsReading, failure_of, source_of};
+ghost use Rattle.capture3.specs.machinery.EntriesHistory.{entries_left};
 ghost use Rattle.capture3.specs.Entry as spec;
 ghost use Rattle.capture3.specs.Laws.{most_entries};
 ghost use Rattle.canon3.specs.EntryWriter.{KeepsPrefixes, WritesAll, WritesAllCounted, WritesGiven, WritesGivenCounted, WritesOne};
 ghost use Rattle.canon3.specs.Summary.{AreMessageCounts};
-ghost use Rattle.canon3.specs.machinery.WritingSteps.{WritesOn, EndsWriting, WritesToTheEnd, IsWriting, WritesMore};
+ghost use Rattle.canon3.specs.machinery.Reading.{ReadsAndWrites};
+ghost use Rattle.canon3.specs.machinery.WritingSteps.{BeginsWriting, WritesOn, EndsWriting, WritesToTheEnd, IsWriting, WritesMore};
 ghost use Rattle.canon3.specs.EntryCounts.{AreCounted, counted_steps};
 ghost use Rattle.capture3.specs.Rank.{distinct, number_limit};
 ghost use Rattle.canon3.specs.Values as values;
@@ -173,19 +174,16 @@ fn write_new<R: Source, W: Sink, E: EntryWriter, S: BuildHasher + Drop>(
     sink: &mut W,
     writer: &mut E,
 ) -> Result<EntryCounts, Error>
-    requires new { E.stands writer.old (E.before []) }
-    requires well { E.going writer.old }
-    requires empty { E.form [] ≡ [] }
-    requires prefixes { KeepsPrefixes E.form }
-    requires fresh { StandsFor R.told entries.old [] [] }
+    requires begins { BeginsWriting E.form E.before E.stands E.going R.told
+        (R.told (source_of entries.old)) (W.written sink.old) entries.old writer.old }
     requires going { failure_of entries.old ≡ None }
+    requires prefixes { KeepsPrefixes E.form }
     ensures ends { EndsWriting E.form E.before E.stands E.going (R.told (source_of entries.old))
         (W.written sink.old) (R.told (source_of entries.new)) writer.new (W.written sink.new)
         result }
     ensures flushes { OnOk result (IsFlushed (W.written sink.new) (W.flushed sink.new)) }
-    ensures read { CountsReads R.failures entries.old entries.new result }
-    ensures write { CountsWriting (W.failures sink.old) (W.failures sink.new) result }
-    ensures same_reference { loan_of entries.new ≡ loan_of entries.old }
+    ensures devices { ReadsAndWrites R.failures entries.old entries.new (W.failures sink.old)
+        (W.failures sink.new) result }
 {
     let mut counts = EntryCounts::new();
     write_rest(entries, &mut counts, sink, writer)?;
@@ -211,9 +209,8 @@ fn write_rest<R: Source, W: Sink, E: EntryWriter, S: BuildHasher + Drop>(
         → WritesToTheEnd E.form E.before E.stands E.going R.told first old entries.new writer.new
         counts.new
         (W.written sink.new) result }
-    ensures read { CountsReads R.failures entries.old entries.new result }
-    ensures write { CountsWriting (W.failures sink.old) (W.failures sink.new) result }
-    ensures same_reference { loan_of entries.new ≡ loan_of entries.old }
+    ensures devices { ReadsAndWrites R.failures entries.old entries.new (W.failures sink.old)
+        (W.failures sink.new) result }
 {
     while write_next(entries, counts, sink, writer)? {}
     Ok(())
@@ -241,9 +238,8 @@ fn write_next<R: Source, W: Sink, E: EntryWriter, S: BuildHasher + Drop>(
     ensures room { IfOk result
         (λ more. IsTrue more
         → counted_steps counts.new + entries_left entries.new ≤ most_entries) }
-    ensures read { CountsReads R.failures entries.old entries.new result }
-    ensures write { CountsWriting (W.failures sink.old) (W.failures sink.new) result }
-    ensures same_reference { loan_of entries.new ≡ loan_of entries.old }
+    ensures devices { ReadsAndWrites R.failures entries.old entries.new (W.failures sink.old)
+        (W.failures sink.new) result }
 {
     match entries.next(writer)? {
         Some(_) => match entries.entry() {

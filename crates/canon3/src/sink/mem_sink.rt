@@ -103,10 +103,9 @@ impl Sink for MemSink {
         ensures given { IfOk result (λ n. n ≡ min (min self.old.block self.old.room)
             (length piece.now)) }
         ensures fails { IsErr result ↔ ((self.old.fails_in ≡ 1) ⊎ (self.old.room ≡ 0)) }
-        ensures room { self.new.room + length self.new.bytes
-            ≡ self.old.room + length self.old.bytes }
         ensures next { (self.new.fails_in ≡ self.old.fails_in - 1)
-            × (self.new.block ≡ self.old.block) }
+            × (self.new.block ≡ self.old.block)
+            × (self.new.room + length self.new.bytes ≡ self.old.room + length self.old.bytes) }
     {
         self.plan.next_call()?;
         if self.room == 0 {

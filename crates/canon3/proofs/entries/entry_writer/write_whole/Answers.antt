@@ -1,19 +1,34 @@
-use Rattle.canon3.proofs.Common.{[], sym, ◌≡◌, ◌∙◌, source_of, gave_none}
+use Rattle.canon3.proofs.Common.{[], sym, ◌≡◌, ◌∙◌, source_of, gave_none, Appends-nil}
 use Rattle.canon3.proofs.Lemmas.Writing.EntryWriterLemmas.{nothing_written}
 use Rattle.canon3.proofs.entries.entry_writer.write_whole.Goals as goal
+
+pub write_new-result-requires-clause-begins : goal.write_new-result-requires-clause-begins
+write_new-result-requires-clause-begins g c counts came = record {
+  given = [];
+  handed = [];
+  consumed = gave_none (g.R.Source.told (source_of c.through-entries.result));
+  reads = c.through-entries.ensures.stands;
+  writes =
+      record {
+        goes = c.requires.well;
+        stands_for = c.requires.new;
+        came = came;
+        written = rw c.requires.empty (Appends-nil _);
+      };
+}
 
 -- the reader gave back the source that it was lent
 pub returns : goal.returns
 returns g c =
     let w = c.write_new-result in
     let back : _ ≡ source_of w.new.entries =
-    c.source-1.given.1 (sym (c.into_source.ensures.same_reference ∙ w.ensures.same_reference
+    c.source-1.given.1 (sym (c.into_source.ensures.same_reference ∙ w.ensures.devices.same_reference
     ∙ c.through-entries.ensures.same_reference)) ∙ c.into_source.ensures.value in
     rw (back, ← c.through-entries.ensures.unread) (record {
       ends = w.ensures.ends;
       flushes = w.ensures.flushes;
-      read = w.ensures.read;
-      write = w.ensures.write;
+      read = w.ensures.devices.read;
+      write = w.ensures.devices.write;
     })
 
 pub returns-in-Err-clause-ends : goal.returns-in-Err-clause-ends
