@@ -11,7 +11,7 @@ returns-in-Ended-clause-gave g c start other_start found =
     let second = c.args.second.now in
     let now = left (source_of c.drain.new.entries) in
     let other_now = left_other (source_of c.read_second.new.entries) in
-    let h = subst (IsFound left left_other start other_start first second) c.in-Ended.is found in
+    let h = rw c.in-Ended.is at found in
     ended_decides left left_other start other_start first second now other_now h
     c.read_second.result
     (c.in-Ok.ensures.out start h.a (given_on left start first h.a h.first_given))
@@ -28,7 +28,7 @@ returns-in-Parted-clause-gave g c start other_start found =
     let second = c.args.second.now in
     let now = left (source_of c.drain.new.entries) in
     let other_now = left_other (source_of c.read_second-in-Parted.new.entries) in
-    let h = subst (IsFound left left_other start other_start first second) c.in-Parted.is found in
+    let h = rw c.in-Parted.is at found in
     parted_decides left left_other start other_start first second now other_now c.in-Parted.place h
     c.read_second-in-Parted.result (c.in-Ok.ensures.out start (h.a ++ h.e ∷ [])
     (given_on left start first (h.a ++ h.e ∷ []) h.first_given))
@@ -41,9 +41,7 @@ returns-in-Parted-clause-reads g c =
 pub returns-in-Refused-clause-gave : goal.returns-in-Refused-clause-gave
 returns-in-Refused-clause-gave g c start other_start found =
     let left = g.A.Source.told in
-    let h =
-    subst (IsFound left g.B.Source.told start other_start c.args.first.now c.args.second.now)
-    c.in-Refused.is found in
+    let h = rw c.in-Refused.is at found in
     let (more, all) =
     c.in-Ok.ensures.out start h.0.0 (given_on left start c.args.first.now h.0.0 h.0.1) in
     ((h.0.0 ++ more, all), h.1)

@@ -3,8 +3,7 @@ use Rattle.canon3.proofs.comparison.drain.Goals as goal
 
 pub returns-clause-out : goal.returns-clause-out
 returns-clause-out g c start handed h =
-    subst (λ more. ReadsOn g.R.Source.told start c.read_next.new.entries handed (Ok more))
-    c.if-branch.false
+    rw c.if-branch.false at
     (c.in_ok-read_next.ensures.on start handed (c.loop.invariant.given start handed h))
 
 pub returns-in_err-read_next-clause-out : goal.returns-in_err-read_next-clause-out

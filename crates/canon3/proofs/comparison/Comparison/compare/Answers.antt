@@ -13,12 +13,7 @@ returns-then-branch-clause-compares g c a b e f of other_of first second told =
     let other_form = c.in-Ok-spelling_of_entry.form in
     let s = c.in-Ok.ensures a e of first told.first in
     let t = c.in-Ok-spelling_of_entry.ensures b f other_of second told.second in
-    let alike =
-    subst
-    (λ k.
-    MatchBool k (spelling_of form n ≡ spelling_of other_form m)
-    (spelling_of form n ≢ spelling_of other_form m)) c.if-branch.true
-    c.in_ok-are_alike.ensures.alike in
+    let alike = rw c.if-branch.true at c.in_ok-are_alike.ensures.alike in
     record {
       agree = agree_on n m form other_form a b e f first second s t told.agree alike;
       first =
@@ -28,9 +23,8 @@ returns-then-branch-clause-compares g c a b e f of other_of first second told =
           c.begin_message-then-branch.ensures.stands (values_of (b ++ f ∷ []))
           (c.in_ok-are_alike.ensures.other_holds (values_of (b ++ f ∷ [])) t.holds);
       progress =
-          subst (λ p. HasPassed p (a ++ e ∷ [])) (sym c.pass.ensures.after) (after_more
-          c.args.self.now.progress a told.progress c.kind_of.result e
-          (lent_kind c.args.entry c.kind_of.result e c.kind_of.ensures of.0));
+          rw c.pass.ensures.after (after_more c.args.self.now.progress a told.progress _ e
+          (lent_kind c.args.entry _ e c.kind_of.ensures of.0));
     }
 
 pub returns-clause-compares : goal.returns-clause-compares
@@ -39,12 +33,7 @@ returns-clause-compares g c a b e f of other_of first second told =
     let m = c.spelling_of_entry-2.new.message_writer in
     let form = c.in-Ok.form in
     let other_form = c.in-Ok-spelling_of_entry.form in
-    let unlike =
-    subst
-    (λ k.
-    MatchBool k (spelling_of form n ≡ spelling_of other_form m)
-    (spelling_of form n ≢ spelling_of other_form m)) c.if-branch.false
-    c.in_ok-are_alike.ensures.alike in
+    let unlike = rw c.if-branch.false at c.in_ok-are_alike.ensures.alike in
     parts_here n m form other_form a b e f first second
     (c.in-Ok.ensures a e of first told.first)
     (c.in-Ok-spelling_of_entry.ensures b f other_of second told.second)

@@ -10,10 +10,7 @@ returns-in_ok-compare-in-Some-clause-meets g c first now start a b e of order so
     let was = c.args.self.now.second in
     let visitor = c.next.new.visitor in
     let (f, is, second, adds, given) =
-    subst
-    (λ next.
-    Hands left (WriterStands {S = g.row.S.Denot} {H = g.row.S-Hasher.Denot}) start old new
-    was visitor b (Ok next)) c.in-Ok-Some.field-0-is
+    rw c.in-Ok-Some.field-0-is at
     (hands left (WriterStands {S = g.row.S.Denot} {H = g.row.S-Hasher.Denot}) start old new was
     visitor b h (Ok c.in-Ok-Some.field-0) (c.in-Ok-Some.ensures.answers h.given b h.stands))
     in
@@ -34,10 +31,7 @@ returns-in-Ok-None-clause-meets g c first now start a b e of order so_far h =
     let was = c.args.self.now.second in
     let visitor = c.next.new.visitor in
     let (all, given) =
-    subst
-    (λ next.
-    Hands left (WriterStands {S = g.row.S.Denot} {H = g.row.S-Hasher.Denot}) start old new
-    was visitor b (Ok next)) c.in-Ok-None.field-0-is
+    rw c.in-Ok-None.field-0-is at
     (hands left (WriterStands {S = g.row.S.Denot} {H = g.row.S-Hasher.Denot}) start old new was
     visitor b h (Ok c.in-Ok-None.field-0) (c.in-Ok-None.ensures.answers h.given b h.stands))
     in
@@ -47,10 +41,7 @@ pub returns-in-Err-clause-meets : goal.returns-in-Err-clause-meets
 returns-in-Err-clause-meets g c first now start a b e of order so_far h =
     let left = g.B.Source.told in
     let new = c.next.new.self in
-    subst
-    (λ r.
-    Meets left first now start new (with_second c.args.self.now c.next.new.visitor) a b e r)
-    (sym c.refused.ensures)
+    rw c.refused.ensures
     (refused_meets left first now start new (with_second c.args.self.now c.next.new.visitor) a b e
     c.in-Err.error (hands left (WriterStands {S = g.row.S.Denot} {H = g.row.S-Hasher.Denot})
     start c.args.second.now new c.args.self.now.second c.next.new.visitor b h

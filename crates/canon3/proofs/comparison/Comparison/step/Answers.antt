@@ -10,10 +10,7 @@ returns-in-Some-clause-steps g c start other_start u =
     let was = c.args.self.now.first in
     let now = c.next.new.visitor in
     let (e, is, first, adds, given) =
-    subst
-    (λ next.
-    Hands left (WriterStands {S = g.row.S.Denot} {H = g.row.S-Hasher.Denot}) start old new
-    was now u.a (Ok next)) c.in-Ok-Some.field-0-is
+    rw c.in-Ok-Some.field-0-is at
     (hands left (WriterStands {S = g.row.S.Denot} {H = g.row.S-Hasher.Denot}) start old new was
     now u.a u.first_given (Ok c.in-Ok-Some.field-0)
     (c.in-Ok-Some.ensures.answers u.first_given.given u.a u.first_given.stands)) in
@@ -33,10 +30,7 @@ returns-in-Ok-None-clause-steps g c start other_start u =
     let was = c.args.self.now.first in
     let now = c.next.new.visitor in
     let (all, given) =
-    subst
-    (λ next.
-    Hands left (WriterStands {S = g.row.S.Denot} {H = g.row.S-Hasher.Denot}) start old new
-    was now u.a (Ok next)) c.in-Ok-None.field-0-is
+    rw c.in-Ok-None.field-0-is at
     (hands left (WriterStands {S = g.row.S.Denot} {H = g.row.S-Hasher.Denot}) start old new was
     now u.a u.first_given (Ok c.in-Ok-None.field-0)
     (c.in-Ok-None.ensures.answers u.first_given.given u.a u.first_given.stands)) in

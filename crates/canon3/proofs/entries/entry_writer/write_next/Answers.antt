@@ -8,13 +8,7 @@ pub returns-in-Some-entry-clause-goes_on : goal.returns-in-Some-entry-clause-goe
 unfolding Adds
 returns-in-Some-entry-clause-goes_on g c first old u =
     let a = c.in_ok-next.ensures.answers u.given u.handed u.reads in
-    let out =
-    subst
-    (λ next.
-    HandsOut g.R.Source.told g.E.Visit.stands c.next.new.self c.args.writer.now
-    c.next.new.visitor (u.given ++ a.more) u.handed (Ok next)) c.in-Some.is a.hands_out
-    in
-    let (one, is, reached, adds, reads) = out in
+    let (one, is, reached, adds, reads) = rw c.in-Some.is at a.hands_out in
     let order = first_reached (u.given ++ a.more) (u.handed ++ one ∷ []) reached in
     let few : length (u.handed ++ one ∷ []) < 2 ^ 32 = omega (arith, reads.few) in
     written_goes_on g.E.EntryWriter.form c.requires.prefixes g.E.EntryWriter.before g.E.Visit.stands
@@ -33,12 +27,7 @@ returns-in-Some-entry-clause-goes_on g c first old u =
 pub returns-in-None-clause-goes_on : goal.returns-in-None-clause-goes_on
 returns-in-None-clause-goes_on g c first old u =
     let a = c.in_ok-next.ensures.answers u.given u.handed u.reads in
-    let out =
-    subst
-    (λ next.
-    HandsOut g.R.Source.told g.E.Visit.stands c.next.new.self c.args.writer.now
-    c.next.new.visitor (u.given ++ a.more) u.handed (Ok next)) c.in-None.is a.hands_out
-    in
+    let out = rw c.in-None.is at a.hands_out in
     record {
       given = u.given ++ a.more;
       handed = u.handed;
@@ -49,13 +38,7 @@ returns-in-None-clause-goes_on g c first old u =
         ended = out.1;
         typed = out.0;
       };
-      writes =
-          subst
-          (λ writer.
-          HasWritten g.E.EntryWriter.form g.E.EntryWriter.before g.E.Visit.stands
-          g.E.EntryWriter.going writer c.args.counts.now old
-          (g.W.Sink.written c.args.sink.now) u.handed)
-          (sym (c.in_ok-next.ensures.untold c.in-None.is)) u.writes;
+      writes = rw (c.in_ok-next.ensures.untold c.in-None.is) u.writes;
     }
 
 pub returns-in_err-next-clause-goes_on : goal.returns-in_err-next-clause-goes_on

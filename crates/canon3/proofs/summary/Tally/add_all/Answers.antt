@@ -4,10 +4,7 @@ use Rattle.canon3.proofs.summary.Tally.add_all.Goals as goal
 
 pub returns-clause-over : goal.returns-clause-over
 returns-clause-over g c first u =
-    subst
-    (λ more.
-    TalliesOn g.R.Source.told first c.add_next.new.entries c.add_next.new.self (Ok more))
-    c.if-branch.false
+    rw c.if-branch.false at
     (c.in_ok-add_next.ensures.goes_on first (c.loop.invariant.under_way first u))
 
 pub returns-in_err-add_next-clause-over : goal.returns-in_err-add_next-clause-over

@@ -6,12 +6,7 @@ pub returns-in-Some-clause-goes_on : goal.returns-in-Some-clause-goes_on
 unfolding Adds
 returns-in-Some-clause-goes_on g c first u =
     let a = c.in_ok-kind.ensures.answers u.given u.handed u.stands in
-    let (one, is, reached, adds, stands) =
-    subst
-    (λ next.
-    HandsOut g.R.Source.told Gathers c.next.new.self c.args.self.now.handles
-    c.next.new.visitor (u.given ++ a.more) u.handed (Ok next)) c.in-Some.is a.hands_out
-    in
+    let (one, is, reached, adds, stands) = rw c.in-Some.is at a.hands_out in
     record {
       given = u.given ++ a.more;
       handed = u.handed ++ one ∷ [];
@@ -40,12 +35,7 @@ returns-in_err-kind-clause-goes_on g c first u =
 pub returns-in-None-clause-goes_on : goal.returns-in-None-clause-goes_on
 returns-in-None-clause-goes_on g c first u =
     let a = c.in_ok-kind.ensures.answers u.given u.handed u.stands in
-    let (typed, ended, stands) =
-    subst
-    (λ next.
-    HandsOut g.R.Source.told Gathers c.next.new.self c.args.self.now.handles
-    c.next.new.visitor (u.given ++ a.more) u.handed (Ok next)) c.in-None.is a.hands_out
-    in
+    let (typed, ended, stands) = rw c.in-None.is at a.hands_out in
     record {
       given = u.given ++ a.more;
       handed = u.handed;
