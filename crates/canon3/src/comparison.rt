@@ -83,10 +83,9 @@ fn compared<A: Source, B: Source, S: BuildHasher + Drop>(
     first: &mut Entries<'_, A, S>,
     second: &mut Entries<'_, B, S>,
 ) -> Result<Verdict, SameError>
-    requires new { IsCompared comparison [] [] }
-    requires none { steps_of comparison.progress ≡ 0 }
-    requires fresh_first { StandsFor A.told first.old [] [] }
-    requires fresh_second { StandsFor B.told second.old [] [] }
+    requires begins { IsComparing A.told B.told (A.told (source_of first.old))
+        (B.told (source_of second.old)) first.old second.old comparison }
+    requires room { steps_of comparison.progress + entries_left first.old ≤ most_entries }
     requires going_first { failure_of first.old ≡ None }
     requires going_second { failure_of second.old ≡ None }
     ensures gave { DecidesGiven (A.told (source_of first.old)) (A.told (source_of first.new))

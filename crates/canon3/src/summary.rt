@@ -3,7 +3,7 @@
 ghost use Rattle.std.specs.Prelude.{◌≡◌, ◌≢◌, ◌<◌, ◌≤◌, ◌+◌, ℕ, List, [], Option, None, Some, IfErr, IfOk, IsTrue, OnOk};
 ghost use Rattle.capture3.specs.Told.{GavePrefix, Told};
 ghost use Rattle.capture3.specs.Entries.{CountsReading, failure_of, OnRefused, source_of};
-ghost use Rattle.capture3.specs.machinery.EntriesHistory.{entries_left, StandsFor};
+ghost use Rattle.capture3.specs.machinery.EntriesHistory.{entries_left};
 ghost use Rattle.capture3.specs.Entry as spec;
 ghost use Rattle.capture3.specs.FirstFault.{FirstFault};
 ghost use Rattle.capture3.specs.Laws.{most_entries};
@@ -11,7 +11,7 @@ ghost use Rattle.canon3.specs.EntryCounts.{counted_steps};
 ghost use Rattle.canon3.specs.Summary.{ConcludesAll, ConcludesGiven, IsSummary};
 ghost use Rattle.canon3.specs.machinery.Reading.{ReadsOne};
 ghost use Rattle.capture3.specs.Typed.{Typed};
-ghost use Rattle.canon3.specs.machinery.Tally.{TalliesOn, TalliesToTheEnd, IsTallying, Tallies};
+ghost use Rattle.canon3.specs.machinery.Tally.{BeginsTallying, TalliesOn, TalliesToTheEnd, IsTallying, Tallies};
 
 use crate::entries::entry_counts::EntryCounts;
 use crate::numbers::handles::HandleTable;
@@ -78,7 +78,7 @@ fn summed<R: Source, S: BuildHasher + Drop>(
     hasher: S,
     entries: &mut Entries<'_, R, S>,
 ) -> Result<Summary, Error>
-    requires fresh { StandsFor R.told entries.old [] [] }
+    requires begins { BeginsTallying R.told (R.told (source_of entries.old)) entries.old }
     requires going { failure_of entries.old ≡ None }
     ensures concludes { ConcludesGiven (R.told (source_of entries.old))
         (R.told (source_of entries.new)) result }

@@ -1,5 +1,5 @@
 -- What is tallied of a capture's entries along a reader.
-use Rattle.std.specs.Prelude.{ℕ, Bool, true, false, List, Result, Ok, Err}
+use Rattle.std.specs.Prelude.{ℕ, Bool, true, false, List, [], Result, Ok, Err}
 use Rattle.capture3.specs.Told.{Gave, IsSpent, Told}
 use Rattle.std.specs.declared.hash.BuildHasher as BuildHasher
 use Rattle.std.specs.declared.hash.Hasher as Hasher
@@ -31,6 +31,10 @@ module _ {R S H : Type 0} {builds : BuildHasher.Ghosts S H} {hashes : Hasher.Gho
     pub consumed : Gave first (told (source_of reader)) given
     pub stands : StandsFor told reader given handed
     pub tallied : Tallies tally handed
+
+  -- before the first entry
+  abbrev pub BeginsTallying : Entries R S H builds hashes → Type 0
+  BeginsTallying reader = (tally : Tally S H) → Tallies tally [] → IsTallying reader tally
 
   -- all bytes were a capture's, and all its entries are in the tally
   pub record HasTalliedAll (reader : Entries R S H builds hashes) (tally : Tally S H) : Type 0 where
