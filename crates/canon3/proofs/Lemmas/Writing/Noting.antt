@@ -22,7 +22,7 @@ AreFixed items count =
     (bytes : List ℕ) → Spells items bytes → (bytes ≡ zero_spelling items) × (length bytes ≡ count)
 
 pub noted_none : (noted : Noted) → Makes noted [] [] → IsNotedAs noted [] []
-noted_none noted makes body none few = subst (λ (b : List ℕ). Makes noted b []) (sym none) makes
+noted_none noted makes body none few = rw none makes
 
 -- a replacement that was noted
 pub replaced : {T E : Type 0} (r : Result T E) (old new : Noted) (skipped : ℕ) (put : List ℕ)
@@ -37,28 +37,19 @@ module _ (old new : Noted) where
   notes_kept items count fixed keeps l m noted body spells few =
       let (a, b, front, back, split) = Spells-split l items body spells in
       let same = fixed b back in
-      let all : length (a ++ b) < 2 ^ 64 = subst (λ (k : List ℕ). length k < 2 ^ 64) split few in
-      let made =
-      keeps a b (zero_spelling m) (noted a front (omega (arith, all, length-append a b))) same.1 all
-      in
-      subst (λ (k : List ℕ). Makes new k (zero_spelling (m ++ items))) (sym split)
-      (subst (Makes new (a ++ b))
-      (ap (λ (k : List ℕ). zero_spelling m ++ k) same.0
-      ∙ sym (flat_map-append zero_spelling_of m items)) made)
+      let all : length (a ++ b) < 2 ^ 64 = rw split at few in
+      rw (split, flat_map-append zero_spelling_of m items, ← same.0) (keeps a b (zero_spelling m)
+      (noted a front (omega (arith, all, length-append a b))) same.1 all)
 
   pub notes_replaced : (i j : Item) (skipped : ℕ) (put : List ℕ)
       → ((bytes : List ℕ) → SpellsItem i bytes → length bytes ≡ skipped) → put ≡ zero_spelling_of j
       → ReplacesRun old new skipped put → Notes old new (i ∷ []) (j ∷ [])
   notes_replaced i j skipped put size is replaces l m noted body spells few =
       let (a, b, front, back, split) = Spells-split l (i ∷ []) body spells in
-      let all : length (a ++ b) < 2 ^ 64 = subst (λ (k : List ℕ). length k < 2 ^ 64) split few in
-      let made =
-      replaces a b (zero_spelling m) (noted a front (omega (arith, all, length-append a b)))
-      (size b (Spells-single i b back)) in
-      subst (λ (k : List ℕ). Makes new k (zero_spelling (m ++ j ∷ []))) (sym split)
-      (subst (Makes new (a ++ b))
-      (ap (λ (k : List ℕ). zero_spelling m ++ k) (is ∙ sym (append-nil (zero_spelling_of j)))
-      ∙ sym (flat_map-append zero_spelling_of m (j ∷ []))) made)
+      let all : length (a ++ b) < 2 ^ 64 = rw split at few in
+      rw (split, flat_map-append zero_spelling_of m (j ∷ []), append-nil (zero_spelling_of j), ← is)
+      (replaces a b (zero_spelling m) (noted a front (omega (arith, all, length-append a b)))
+      (size b (Spells-single i b back)))
 
 -- ---- items of a fixed size
 
@@ -88,13 +79,7 @@ run_fixed kind name bytes none = fixed_one (Opaque kind name bytes) (4 + length 
     let no_more : s.0 ≡ [] = nil_from_length s.0 (s.3 ∙ none) in
     let zeros : replicate (residue (length bytes)) 0 ≡ [] = ap (λ k. replicate k 0) none in (
       s.5 ∙ ap (λ (k : List ℕ). word_bytes (length bytes) ++ (bytes ++ k)) (no_more ∙ sym zeros),
-      omega (
-        arith,
-        ap length s.5,
-        length-append (word_bytes (length bytes)) (bytes ++ s.0),
-        length-append bytes s.0,
-        ap length no_more,
-      ),
+      omega (arith, ap length s.5, length-append bytes s.0, ap length no_more),
     ))
 
 pub plain_fixed : (all : List PlainField) (run : List ℕ)
@@ -102,12 +87,12 @@ pub plain_fixed : (all : List PlainField) (run : List ℕ)
 plain_fixed [] run bytes spells = (spells, ap length spells)
 plain_fixed (fields.Word name ∷ all) run bytes (front, back, first, more, split) =
     let (same, size) = plain_fixed all (drop 4 run) back more in (
-      split ∙ ap₂ (λ (a b : List ℕ). a ++ b) first.1 same,
+      rw (split, first.1, same),
       omega (arith, ap length split, length-append front back, ap length first.1, size),
     )
 plain_fixed (fields.Hyper name ∷ all) run bytes (front, back, first, more, split) =
     let (same, size) = plain_fixed all (drop 8 run) back more in (
-      split ∙ ap₂ (λ (a b : List ℕ). a ++ b) first.1 same,
+      rw (split, first.1, same),
       omega (arith, ap length split, length-append front back, ap length first.1, size),
     )
 
@@ -116,14 +101,7 @@ plain_fixed (fields.Hyper name ∷ all) run bytes (front, back, first, more, spl
 pub opaque_size : (kind : Kind) (name bytes spelling : List ℕ)
     → SpellsItem (Opaque kind name bytes) spelling
     → length spelling ≡ 4 + (length bytes + residue (length bytes))
-opaque_size kind name bytes spelling s =
-    omega (
-      arith,
-      ap length s.5,
-      s.3,
-      length-append (word_bytes (length bytes)) (bytes ++ s.0),
-      length-append bytes s.0,
-    )
+opaque_size kind name bytes spelling s = omega (arith, ap length s.5, s.3, length-append bytes s.0)
 
 pub zeros_put : (n : ℕ) → take {A = ℕ} (residue n) (replicate 8 0) ≡ replicate (residue n) 0
 zeros_put n = take-replicate (residue n) 8 0 (omega arith)
@@ -138,29 +116,21 @@ notes_padded old mid new kind name bytes keeps replaces l m noted body spells fe
     let (a, b, front, back, split) = Spells-split l (i ∷ []) body spells in
     let (residual, short, fit, count, fits, is) = Spells-single i b back in
     let run : List ℕ = word_bytes (length bytes) ++ bytes in
-    let zeros : List ℕ = replicate (residue (length bytes)) 0 in
     let whole : body ≡ (a ++ run) ++ residual =
-    split
-    ∙ (ap (λ (k : List ℕ). a ++ k)
-    (is ∙ sym (append_assoc (word_bytes (length bytes)) bytes residual))
-    ∙ sym (append_assoc a run residual)) in
-    let all : length ((a ++ run) ++ residual) < 2 ^ 64 =
-    subst (λ (k : List ℕ). length k < 2 ^ 64) whole few in
+    split ∙ ap (λ (k : List ℕ). a ++ k) is ∙ simp append_assoc in
+    let all : length ((a ++ run) ++ residual) < 2 ^ 64 = rw whole at few in
     let first : length (a ++ run) < 2 ^ 64 =
     omega (arith, all, length-append (a ++ run) residual) in
     let kept =
     keeps a run (zero_spelling m) (noted a front (omega (arith, first, length-append a run)))
     (length-append (word_bytes (length bytes)) bytes) first in
-    let made = replaces (a ++ run) residual (zero_spelling m ++ run) kept count in
     let form : (zero_spelling m ++ run) ++ take {A = ℕ} (residue (length bytes)) (replicate 8 0)
     ≡ zero_spelling (m ++ i ∷ []) =
-    ap (λ (k : List ℕ). (zero_spelling m ++ run) ++ k) (zeros_put (length bytes))
-    ∙ (append_assoc (zero_spelling m) run zeros
-    ∙ (ap (λ (k : List ℕ). zero_spelling m ++ k) (append_assoc (word_bytes (length bytes)) bytes
-    zeros ∙ sym (append-nil (zero_spelling_of i)))
-    ∙ sym (flat_map-append zero_spelling_of m (i ∷ [])))) in
+    rw (zeros_put (length bytes), flat_map-append zero_spelling_of m (i ∷ [])) (simp (append_assoc,
+    append-nil)) in
     subst (λ (k : List ℕ). Makes new k (zero_spelling (m ++ i ∷ []))) (sym whole)
-    (subst (Makes new ((a ++ run) ++ residual)) form made)
+    (subst (Makes new ((a ++ run) ++ residual)) form
+    (replaces (a ++ run) residual (zero_spelling m ++ run) kept count))
 
 -- ---- numbers in place of values
 

@@ -12,9 +12,8 @@ module _ {S H : Type 0} (n : MessageWriter S H) (before : Before) where
     items = [];
     are = refl;
     under_way = record {
-      handles = subst (HoldsHandles n.handles) (sym (append-nil before.handles)) h.handles;
-      verifiers =
-          subst (HoldsDistinct bytes_eq n.verfs) (sym (append-nil before.verifiers)) h.verifiers;
+      handles = rw append-nil h.handles;
+      verifiers = rw append-nil h.verifiers;
       spelled = (stage, noted_none n.patches none);
     };
   }
@@ -24,5 +23,4 @@ module _ {S H : Type 0} (n : MessageWriter S H) (before : Before) where
   is_under_way items going stands =
       let b = stands going in
       let same = told_after-same before b.before items b.items b.are in
-      subst (λ k. IsWithinMessage n k items) (sym same.0)
-      (subst (IsWithinMessage n b.before) (sym same.1) b.under_way)
+      rw (same.0, same.1) b.under_way

@@ -13,9 +13,7 @@ taken_more {bytes = bytes} {rest = rest} first old new n m taken appended whole 
     take_all m (drop n rest) (omega (arith, length-drop n rest, whole)) in
     rw cut (record {
       front = taken.front ++ take n rest;
-      split =
-          taken.split ∙ ap (λ (l : List ℕ). taken.front ++ l) (sym (take-append-drop n rest))
-          ∙ sym (append_assoc taken.front (take n rest) (drop n rest));
+      split = taken.split ∙ simp (append_assoc, take-append-drop);
       appended = Appends-trans first old new taken.front (take n rest) taken.appended appended;
     })
 

@@ -19,9 +19,8 @@ are_few : (entries : List Entry) (one : Entry) → AreFirst (entries ++ one ∷ 
     (verifiers entries ++ verifiers_in (items_of one))
 are_few entries one first =
     let order = first_in_order (entries ++ one ∷ []) first in (
-      subst (λ (l : List (List ℕ)). length l < 2 ^ 32) (handles_push entries one) order.few_handles,
-      subst (λ (l : List (List ℕ)). length l < 2 ^ 32) (verifiers_push entries one)
-          order.few_verifiers,
+      rw (handles_push entries one) at order.few_handles,
+      rw (verifiers_push entries one) at order.few_verifiers,
     )
 
 module _ {S H : Type 0} (n : MessageWriter S H) (entries : List Entry) where
@@ -31,9 +30,8 @@ module _ {S H : Type 0} (n : MessageWriter S H) (entries : List Entry) where
   holds_after one number going stands =
       let u = is_under_way n (values_of entries) (items_of one) going stands in
       record {
-        handles = subst (HoldsHandles n.handles) (sym (handles_push entries one)) u.handles;
-        verifiers =
-            subst (HoldsDistinct bytes_eq n.verfs) (sym (verifiers_push entries one)) u.verifiers;
+        handles = rw (handles_push entries one) u.handles;
+        verifiers = rw (verifiers_push entries one) u.verifiers;
       }
 
   -- ---- an entry that is no message
@@ -51,8 +49,7 @@ module _ {S H : Type 0} (n : MessageWriter S H) (entries : List Entry) where
       → length body ≤ max_body
       → message_of (record n { xid = number }) body ≡ zero_spelling (Word name number ∷ others)
   message_is number body name x items others noted (front, back, first, more, split) short =
-      let rest : drop 4 body ≡ back =
-      ap (drop 4) (split ∙ ap (λ (k : List ℕ). k ++ back) first.1) in
+      let rest : drop 4 body ≡ back = rw (split, first.1) in
       let few : length back < 2 ^ 64 =
       omega (arith, short, ap length split, length-append front back) in
       ap (λ (l : List ℕ). word_bytes number ++ l)
@@ -86,7 +83,7 @@ module _ {S H : Type 0} (n : MessageWriter S H) (entries : List Entry) where
       → WriterStands n (told_after (values_of entries) (items_of one))
       → HasSpelled n One entries one
   begin_spelled entry one is of =
-      let this : one ≡ Begin = subst (λ k. IsLent k one) is of.0 in
+      let this : one ≡ Begin = rw is at of.0 in
       rw this (word_held Begin One (sym (append-nil (word_bytes 1))))
 
   pub word_spelled : (entry : EntryRef) (one : Entry)
@@ -95,13 +92,13 @@ module _ {S H : Type 0} (n : MessageWriter S H) (entries : List Entry) where
       → WriterStands n (told_after (values_of entries) (items_of one))
       → HasSpelled n Zero entries one
   word_spelled entry one (inl is) of =
-      let this : one ≡ Turn = subst (λ k. IsLent k one) is of.0 in
+      let this : one ≡ Turn = rw is at of.0 in
       rw this (word_held Turn Zero (sym (append-nil (word_bytes 0))))
   word_spelled entry one (inr (inl is)) of =
-      let this : one ≡ Close = subst (λ k. IsLent k one) is of.0 in
+      let this : one ≡ Close = rw is at of.0 in
       rw this (word_held Close Zero (sym (append-nil (word_bytes 0))))
   word_spelled entry one (inr (inr is)) of =
-      let this : one ≡ End = subst (λ k. IsLent k one) is of.0 in
+      let this : one ≡ End = rw is at of.0 in
       rw this (word_held End Zero (sym (append-nil (word_bytes 0))))
 
   pub call_spelled : (entry : EntryRef) (one : Entry) (call : CallRef) → entry ≡ lent.Call call
@@ -109,8 +106,7 @@ module _ {S H : Type 0} (n : MessageWriter S H) (entries : List Entry) where
       → WriterStands n (told_after (values_of entries) (items_of one))
       → HasSpelled (record n { xid = call.number }) (Message call.body) entries one
   call_spelled entry one call is of =
-      let ((items, spells, asks, this), number) =
-      subst (λ k. IsLentAfter entries k one) is of in
+      let ((items, spells, asks, this), number) = rw is at of in
       let ranked : Some call.number
       ≡ Some (rank nat_eq (xid_in items) (open_xids [] entries ++ xid_of items)) =
       number
@@ -131,7 +127,7 @@ module _ {S H : Type 0} (n : MessageWriter S H) (entries : List Entry) where
       → IsGoing n → WriterStands n (told_after (values_of entries) (items_of one))
       → HasSpelled (record n { xid = reply.number }) (Message reply.body) entries one
   reply_spelled entry one reply is of =
-      let ((items, spells, this), number) = subst (λ k. IsLentAfter entries k one) is of in
+      let ((items, spells, this), number) = rw is at of in
       let ranked : Some reply.number ≡ Some (rank nat_eq (xid_in items) (open_xids [] entries)) =
       number
       ∙ (ap (number_after entries) this

@@ -1,5 +1,6 @@
 -- Each visit adds its item to the message, and notes what it becomes with numbers.
 use Rattle.canon3.proofs.Common.{◌≡◌, ◌≢◌, ℕ, ◌+◌, ◌<◌, ◌≤◌, ◌^◌, List, [], ◌∷◌, ◌++◌, drop, take, replicate, length, length-append, append_assoc, append-nil, refl, sym, ap, ap₂, ◌∙◌, subst, arith, min, Result, Ok, Err, ◌⊎◌, inl, inr, Bool, true, Decides, AllByRecursion, flat_map, flat_map-append, Decides-eqb, bytes_eq-Decides, PlainField, run_items, run_size, Adds, MessageWriter, numbered_item, items_after, HoldsHandles, here, number_limit, rank, HoldsDistinct, handle_in, verifier_in, handles_in, verifiers_in, bytes_eq, OnOk, ◌==◌, big_bytes, big_number, Noted, IsPlain}
+use Rattle.std.proofs.lemmas.List.{nil_from_length}
 use Rattle.xdr3.specs.declared.plain.PlainField.TheVariants as fields
 use Rattle.xdr3.proofs.Lemmas.Shapes.Walks.{adds_both}
 use Rattle.xdr3.specs.Item.{Item, Fixed, Hyper, Word, WriteVerf, Opaque, Rest, Kind, Handle, residue, word_bytes}
@@ -13,10 +14,7 @@ use Rattle.canon3.proofs.Lemmas.Numbers.RankLemmas.{member-append_right, rank-le
 use Rattle.canon3.proofs.Lemmas.Writing.Noting.{KeepsRun, ReplacesRun, bytes_fixed, hyper_fixed, notes_handle, notes_kept, notes_padded, notes_verifier, plain_fixed, rest_fixed, run_fixed, word_fixed}
 
 pub is_none : (l : List ℕ) (b : Bool) → b ≡ (length l == 0) → b ≡ true → l ≡ []
-is_none [] b e t = refl
-is_none (x ∷ l) b e t =
-    let none : length (x ∷ l) ≡ 0 = (Decides-eqb (length (x ∷ l)) 0).0 (sym e ∙ t) in
-    absurd (omega arith)
+is_none l b e t = nil_from_length l ((Decides-eqb (length l) 0).0 (sym e ∙ t))
 
 -- ---- items in front of a message's own
 
@@ -57,28 +55,19 @@ told_after-same a b items more e =
 
 values-push : (f : Item → List (List ℕ)) (l : List (List ℕ)) (items : List Item) (i : Item)
     → l ++ flat_map f (items ++ i ∷ []) ≡ (l ++ flat_map f items) ++ f i
-values-push f l items i =
-    ap (λ (k : List (List ℕ)). l ++ k) (flat_map-append f items (i ∷ [])
-    ∙ ap (λ (k : List (List ℕ)). flat_map f items ++ k) (append-nil (f i)))
-    ∙ sym (append_assoc l (flat_map f items) (f i))
+values-push f l items i = simp (flat_map-append, append_assoc, append-nil)
 
-few_before : (hs vs : List (List ℕ)) (items : List Item) (i : Item)
-    → AreFew (hs ++ handles_in (items ++ i ∷ [])) (vs ++ verifiers_in (items ++ i ∷ []))
+few_before : (f : Item → List (List ℕ)) (l : List (List ℕ)) (items more : List Item)
+    → length (l ++ flat_map f (items ++ more)) < 2 ^ 32 → length (l ++ flat_map f items) < 2 ^ 32
+few_before f l items more few =
+    let all = simp (flat_map-append, length-append) at few in
+    simp length-append (omega arith)
+
+are_few_before : (hs vs : List (List ℕ)) (items more : List Item)
+    → AreFew (hs ++ handles_in (items ++ more)) (vs ++ verifiers_in (items ++ more))
     → AreFew (hs ++ handles_in items) (vs ++ verifiers_in items)
-few_before hs vs items i few = (
-  omega (
-    arith,
-    few.0,
-    ap length (values-push handle_in hs items i),
-    length-append (hs ++ handles_in items) (handle_in i),
-  ),
-  omega (
-    arith,
-    few.1,
-    ap length (values-push verifier_in vs items i),
-    length-append (vs ++ verifiers_in items) (verifier_in i),
-  ),
-)
+are_few_before hs vs items more few =
+    (few_before handle_in hs items more few.0, few_before verifier_in vs items more few.1)
 
 -- a message that has its xid, or an item that is no word
 abbrev pub IsLater : Item → List Item → Type 0
@@ -104,7 +93,7 @@ spelled_more stage old new before (Word name x ∷ items) i j later is notes s =
       (ap (λ k. items_after before.handles before.verifiers items ++ k ∷ []) (is few)
       ∙ sym (items_after-push items before.handles before.verifiers i))
       (notes items (items_after before.handles before.verifiers items)
-      (s.1 (few_before before.handles before.verifiers items i few))),
+      (s.1 (are_few_before before.handles before.verifiers items (i ∷ []) few))),
 )
 spelled_more stage old new before (_ ∷ items) i j later is notes s = tt
 
@@ -128,11 +117,10 @@ module _ {S H : Type 0} (old new : MessageWriter S H) (i : Item) where
         ∙ sym (told_after-append b.before b.items (i ∷ []));
     under_way = record {
       handles =
-          subst (HoldsHandles new.handles) (sym (values-push handle_in b.before.handles b.items i))
+          rw (values-push handle_in b.before.handles b.items i)
           (f.handles (b.before.handles ++ handles_in b.items) b.under_way.handles);
       verifiers =
-          subst (HoldsDistinct bytes_eq new.verfs)
-          (sym (values-push verifier_in b.before.verifiers b.items i))
+          rw (values-push verifier_in b.before.verifiers b.items i)
           (f.verifiers (b.before.verifiers ++ verifiers_in b.items) b.under_way.verifiers);
       spelled = spells b.before b.items b.under_way;
     };
@@ -163,11 +151,8 @@ module _ {S H : Type 0} (old new : MessageWriter S H) (i : Item) where
       subst (λ s. IsSpelled s new.patches before (items ++ i ∷ [])) (sym stage)
       (spelled_more old.stage old.patches new.patches before items i j
       (later before items (λ e. going (stage ∙ e)) u.spelled)
-      (λ few. is hs vs u.handles u.verifiers
-      (subst (λ (l : List (List ℕ)). AreFew l (vs ++ verifier_in i))
-      (values-push handle_in before.handles items i)
-      (subst (λ (l : List (List ℕ)). AreFew (before.handles ++ handles_in (items ++ i ∷ [])) l)
-      (values-push verifier_in before.verifiers items i) few)))
+      (λ few. is hs vs u.handles u.verifiers (rw (values-push handle_in before.handles items i,
+      values-push verifier_in before.verifiers items i) at few))
       notes u.spelled))
 
 -- a number of a table that is not full
@@ -188,16 +173,8 @@ module _ {S H : Type 0} (n : MessageWriter S H) (noted : Noted) where
   follows_plain : (i : Item) (stage : Stage) → IsPlain i
       → Follows n (record n { patches = noted; stage = stage }) i
   follows_plain i stage plain = record {
-    handles =
-        λ hs h.
-        subst (HoldsHandles n.handles)
-        (ap (λ (l : List (List ℕ)). hs ++ l) (sym (plain_handle i plain)))
-        (subst (HoldsHandles n.handles) (sym (append-nil hs)) h);
-    verifiers =
-        λ vs h.
-        subst (HoldsDistinct bytes_eq n.verfs)
-        (ap (λ (l : List (List ℕ)). vs ++ l) (sym (plain_verifier i plain)))
-        (subst (HoldsDistinct bytes_eq n.verfs) (sym (append-nil vs)) h);
+    handles = λ hs h. rw (plain_handle i plain, append-nil hs) h;
+    verifiers = λ vs h. rw (plain_verifier i plain, append-nil vs) h;
   }
 
   adds_plain : (i : Item) → IsPlain i
@@ -283,9 +260,7 @@ module _ {S H : Type 0} (n : MessageWriter S H) where
       → IsSpelled n.stage n.patches before items
       → IsSpelled Goes n.patches before (items ++ Word name x ∷ [])
   xid_spelled name x before [] begins s = (refl, λ few. s.1)
-  xid_spelled name x before (Word other y ∷ items) begins s =
-      let stage : n.stage ≡ Goes = s.0 in
-      absurd cc
+  xid_spelled name x before (Word other y ∷ items) begins s = absurd (cc (begins, s.0))
   xid_spelled name x before (_ ∷ items) begins s = tt
 
   -- the xid is passed
@@ -302,12 +277,10 @@ items_after-plain : (l more : List Item) (hs vs : List (List ℕ)) → AllByRecu
     → items_after hs vs (l ++ more) ≡ items_after hs vs l ++ more
 items_after-plain [] [] hs vs all = refl
 items_after-plain [] (i ∷ more) hs vs all =
-    ap₂ (λ (j : Item) (k : List Item). j ∷ k)
-    (plain_numbered (hs ++ handle_in i) (vs ++ verifier_in i) i all.0)
-    (items_after-plain [] more (hs ++ handle_in i) (vs ++ verifier_in i) all.1)
+    rw (plain_numbered (hs ++ handle_in i) (vs ++ verifier_in i) i all.0,
+    items_after-plain [] more (hs ++ handle_in i) (vs ++ verifier_in i) all.1)
 items_after-plain (j ∷ l) more hs vs all =
-    ap (λ (k : List Item). numbered_item (hs ++ handle_in j) (vs ++ verifier_in j) j ∷ k)
-    (items_after-plain l more (hs ++ handle_in j) (vs ++ verifier_in j) all)
+    rw (items_after-plain l more (hs ++ handle_in j) (vs ++ verifier_in j) all)
 
 no_values : (f : Item → List (List ℕ)) → ((i : Item) → IsPlain i → f i ≡ []) → (l : List Item)
     → AllByRecursion IsPlain l → flat_map f l ≡ []
@@ -317,9 +290,7 @@ no_values f none (i ∷ l) all = rw (none i all.0) (no_values f none l all.1)
 same_values : (f : Item → List (List ℕ)) → ((i : Item) → IsPlain i → f i ≡ [])
     → (l more : List Item) → AllByRecursion IsPlain more → flat_map f (l ++ more) ≡ flat_map f l
 same_values f none l more all =
-    flat_map-append f l more
-    ∙ (ap (λ (k : List (List ℕ)). flat_map f l ++ k) (no_values f none more all)
-    ∙ append-nil (flat_map f l))
+    rw (flat_map-append f l more, no_values f none more all, append-nil)
 
 all_plain : (all : List PlainField) (run : List ℕ) → AllByRecursion IsPlain (run_items all run)
 all_plain [] run = tt
@@ -344,26 +315,12 @@ module _ {S H : Type 0} (n : MessageWriter S H) (noted : Noted) (stage : Stage) 
             ap (λ (l : List Item). l ++ more) b.are ∙ sym (told_after-append b.before b.items more);
         under_way = record {
           handles =
-              subst (λ (l : List (List ℕ)). HoldsHandles n.handles (b.before.handles ++ l))
-              (sym (same_values handle_in plain_handle b.items more plain)) b.under_way.handles;
+              rw (same_values handle_in plain_handle b.items more plain) b.under_way.handles;
           verifiers =
-              subst
-              (λ (l : List (List ℕ)). HoldsDistinct bytes_eq n.verfs (b.before.verifiers ++ l))
-              (sym (same_values verifier_in plain_verifier b.items more plain))
-              b.under_way.verifiers;
+              rw (same_values verifier_in plain_verifier b.items more plain) b.under_way.verifiers;
           spelled = spells b.before b.items b.under_way.spelled;
         };
       }
-
-  few_before_run : (hs vs : List (List ℕ)) (items : List Item)
-      → AreFew (hs ++ handles_in (items ++ more)) (vs ++ verifiers_in (items ++ more))
-      → AreFew (hs ++ handles_in items) (vs ++ verifiers_in items)
-  few_before_run hs vs items few = (
-    subst (λ (l : List (List ℕ)). length (hs ++ l) < 2 ^ 32)
-        (same_values handle_in plain_handle items more plain) few.0,
-    subst (λ (l : List (List ℕ)). length (vs ++ l) < 2 ^ 32)
-        (same_values verifier_in plain_verifier items more plain) few.1,
-  )
 
   run_spelled : stage ≢ Begins → Notes n.patches noted more more
       → (before : Before) (items : List Item) → IsSpelled stage n.patches before items
@@ -374,7 +331,7 @@ module _ {S H : Type 0} (n : MessageWriter S H) (noted : Noted) (stage : Stage) 
     λ few. subst (λ (l : List Item). IsNotedAs noted (items ++ more) l)
         (sym (items_after-plain items more before.handles before.verifiers plain))
         (notes items (items_after before.handles before.verifiers items)
-        (s.1 (few_before_run before.handles before.verifiers items few))),
+        (s.1 (are_few_before before.handles before.verifiers items more few))),
   )
   run_spelled goes notes before (_ ∷ items) s = tt
 
@@ -395,7 +352,7 @@ module _ {S H : Type 0} where
       → Adds WriterStands n n (run_items all run)
   unfolding Adds
   adds_nothing n [] run none =
-      λ before stands. subst (WriterStands n) (sym (append-nil before)) stands
+      λ before stands. rw append-nil stands
   adds_nothing n (field ∷ all) run none = absurd (omega (arith, none))
 
   -- a run that begins with the xid
@@ -416,8 +373,7 @@ module _ {S H : Type 0} where
       → IsSpelled Goes noted before (items ++ Hyper name x ∷ more)
   number_spelled n noted name x more before [] begins s = tt
   number_spelled n noted name x more before (Word other y ∷ items) begins s =
-      let stage : n.stage ≡ Goes = s.0 in
-      absurd cc
+      absurd (cc (begins, s.0))
   number_spelled n noted name x more before (_ ∷ items) begins s = tt
 
   -- nothing is said of a message that begins with a number
@@ -451,7 +407,7 @@ module _ {S H : Type 0} (n : MessageWriter S H) (noted : Noted) where
       (Opaque Handle name (word_bytes number))
       (record {
         handles = given;
-        verifiers = λ vs h. subst (HoldsDistinct bytes_eq n.verfs) (sym (append-nil vs)) h;
+        verifiers = λ vs h. rw append-nil h;
       })
       refl (λ before items going spelled. tt)
       (λ hs vs h g few.
@@ -471,7 +427,7 @@ module _ {S H : Type 0} (n : MessageWriter S H) (noted : Noted) where
       adds n
       (record n { verfs = table; patches = noted }) (WriteVerf name verifier) (WriteVerf name put)
       (record {
-        handles = λ hs h. subst (HoldsHandles n.handles) (sym (append-nil hs)) h;
+        handles = λ hs h. rw append-nil h;
         verifiers = given;
       }) refl (λ before items going spelled. tt)
       (λ hs vs h g few.
