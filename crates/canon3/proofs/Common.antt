@@ -62,7 +62,7 @@ pub use Rattle.canon3.specs.EntryWriter.{IsLentAfter}
 pub use Rattle.canon3.specs.Examples.{p, q}
 pub use Rattle.canon3.specs.HandleTable.{Gathers, HoldsHandles, same_handle}
 pub use Rattle.canon3.specs.Laws.{AreFirst}
-pub use Rattle.canon3.specs.Pairing.{IsHandle, IsVerifier, IsXid, Member, OneToOne, Pairs, here, there}
+pub use Rattle.canon3.specs.OneToOne.{IsHandle, IsVerifier, IsXid, Member, OneToOne, Pairs, here, there}
 pub use Rattle.canon3.specs.Parting.{IsMessageOf, IsPlaceOf, Parting, PartsAt, connections, first_ends, first_message, next_record, second_ends, second_message}
 pub use Rattle.canon3.specs.Progress.{HasPassed, steps_of}
 pub use Rattle.capture3.specs.Rank.{HoldsDistinct, before, distinct, number_limit, rank, with_key, with_keys}

@@ -3,7 +3,7 @@ pub mod Traced
 pub mod HandleTable
 pub mod Summary
 pub mod Values
-pub mod Pairing
+pub mod OneToOne
 pub mod Renaming
 pub mod Rank
 pub mod Canonical

@@ -1,6 +1,6 @@
 -- Functions that are one-to-one on a list.
 use Rattle.std.specs.Prelude.{◌≡◌, List}
-use Rattle.canon3.specs.Pairing.{Member}
+use Rattle.canon3.specs.OneToOne.{Member}
 
 -- no two of the list's members have one value
 abbrev pub IsInjectiveOn : {K L : Type 0} → (K → L) → List K → Type 0

@@ -4,7 +4,7 @@ use Rattle.std.specs.List.{AllByRecursion}
 use Rattle.xdr3.specs.Item.{Item, Word, Opaque, Handle, WriteVerf}
 use Rattle.rpc_head.specs.declared.values.call.ProcId.{ProcId}
 use Rattle.capture3.specs.Entry.{Entry, Begin, Call, Turn, Reply, Close, End}
-use Rattle.canon3.specs.Pairing.{Member, Pairs, OneToOne, IsHandle, IsVerifier, IsXid}
+use Rattle.canon3.specs.OneToOne.{Member, Pairs, OneToOne, IsHandle, IsVerifier, IsXid}
 
 -- an item that no renaming changes
 abbrev pub IsPlain : Item → Type 0

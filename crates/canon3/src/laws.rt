@@ -10,7 +10,7 @@ ghost use Rattle.capture3.specs.Reached.{Reached};
 ghost use Rattle.capture3.specs.Typed.{Typed};
 ghost use Rattle.capture3.specs.Rank.{rank, distinct, with_key};
 ghost use Rattle.canon3.specs.Rank.{IsInjectiveOn};
-ghost use Rattle.canon3.specs.Pairing.{Member, Pairs, OneToOne, IsHandle, AreBeside};
+ghost use Rattle.canon3.specs.OneToOne.{Member, Pairs, OneToOne, IsHandle, AreBeside};
 ghost use Rattle.canon3.specs.Renaming.{Pairwise, Same};
 ghost use Rattle.canon3.specs.Canonical.{canonical};
 ghost use Rattle.canon3.specs.CanonicalStream.{entries_after};

@@ -3,7 +3,7 @@ pub use Rattle.byteorder.specs.Endian.{big_bytes, big_number}
 pub use Rattle.byteorder.specs.Numbers.{big_number-reads_back, length-bytes_high_first}
 pub use Rattle.capture3.proofs.Lemmas.Connections.RankLemmas.{by_test, cond_either, length-with_keys}
 pub use Rattle.canon3.proofs.Lemmas.Numbers.RankLemmas.{equivalence, member-append_cases, member-append_left, member-append_right, rank-append, rank-le-length, rank-map, rank_paired, same_rank}
-pub use Rattle.canon3.proofs.Lemmas.Renaming.PairingLemmas.{Agree, agree-graph, graph, member-graph}
+pub use Rattle.canon3.proofs.Lemmas.Renaming.OneToOneLemmas.{Agree, agree-graph, graph, member-graph}
 pub use Rattle.canon3.proofs.Lemmas.Renaming.RenamingLemmas.{all_mapped, all_weaker}
 pub use Rattle.canon3.proofs.Lemmas.WellFormed.Conversations.{AreConversing, Conversation, IsSpelledCall, IsSpelledReply, in_map, items_of_reply, length_of_record, map_in, of_all, reply_items, stream_of, weight}
 pub use Rattle.canon3.proofs.Lemmas.WellFormed.Files.{AreCapture, all_entries, all_of, entries_of, holds, total_of_anew, total_weight, typed_anew}
@@ -13,7 +13,7 @@ pub use Rattle.canon3.proofs.Lemmas.Writing.Visiting.{settled}
 pub use Rattle.canon3.specs.Bytes.{bytes_of, chunk_bytes, entry_bytes, magic_before, record_bytes}
 pub use Rattle.canon3.specs.HandleTable.{Gathers, HoldsHandles}
 pub use Rattle.canon3.specs.Laws.{AreFirst, AreOfTheirBytes}
-pub use Rattle.canon3.specs.Pairing.{Member, OneToOne, Pairs, here, there}
+pub use Rattle.canon3.specs.OneToOne.{Member, OneToOne, Pairs, here, there}
 pub use Rattle.capture3.specs.Rank.{before, distinct, number_limit, rank}
 pub use Rattle.canon3.specs.Renaming.{IsPlain, Pairwise, Renames, RenamesItem, RenamesMessage, Same, begins, calls, closes, ended, ends, handle, message, more, none, plain, replies, turns}
 pub use Rattle.canon3.specs.SinkWrites.{AppendsFront}

@@ -3,7 +3,7 @@ use Rattle.std.specs.Prelude.{◌≡◌, ◌⊎◌, ℕ, true, false, List, [], 
 use Rattle.xdr3.specs.Item.{Item, Word, Hyper, Fixed}
 use Rattle.rpc_head.specs.declared.values.call.ProcId.{ProcId}
 use Rattle.capture3.specs.Entry.{Entry, Begin, Call, Turn, Reply, Close, End}
-use Rattle.canon3.specs.Pairing.{AreBeside, OneToOne, Pairs}
+use Rattle.canon3.specs.OneToOne.{AreBeside, OneToOne, Pairs}
 use Rattle.canon3.specs.Renaming.{Pairwise, Same}
 use Rattle.masking3.specs.declared.class.Class.{Class}
 use Rattle.masking3.specs.declared.spot.Spot.{Spot}

@@ -4,7 +4,7 @@ use Rattle.byteorder.specs.Numbers.{big_number-reads_back}
 use Rattle.canon3.proofs.Lemmas.Order.Order.{BeginsWithXid, IsAnswering, IsWellFormed}
 use Rattle.canon3.proofs.Lemmas.WellFormed.Nesting.{Paired, paired, no_call}
 use Rattle.canon3.proofs.Lemmas.Numbers.RankLemmas.{same_rank, rank-le-length, member-append_left, member-append_right, member-append_cases}
-use Rattle.canon3.proofs.Lemmas.Renaming.PairingLemmas.{Agree, graph, member-graph, agree-graph}
+use Rattle.canon3.proofs.Lemmas.Renaming.OneToOneLemmas.{Agree, graph, member-graph, agree-graph}
 use Rattle.canon3.proofs.Lemmas.Renaming.RenamingLemmas.{Matches, same-from_matches}
 
 -- each member of l is one of m

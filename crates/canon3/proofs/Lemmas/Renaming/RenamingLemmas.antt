@@ -1,6 +1,6 @@
 -- Renamings can be turned, linked and carried over to more pairs.
 use Rattle.canon3.proofs.Common.{ℕ, List, [], ◌∷◌, map, bytes_eq, nat_eq, AllByRecursion, Decides-eqb, bytes_eq-Decides, Item, Entry, RenamesItem, handle, verifier, plain, Pairwise, none, more, RenamesMessage, message, Renames, ended, begins, calls, turns, replies, closes, ends, Same, Member, Pairs, OneToOne, IsHandle, IsVerifier, IsXid}
-use Rattle.canon3.proofs.Lemmas.Renaming.PairingLemmas.{Agree, agree-from, turned, member-turned, agree-turned, linked, member-linked, agree-linked, kept, member-kept, one_to_one-kept}
+use Rattle.canon3.proofs.Lemmas.Renaming.OneToOneLemmas.{Agree, agree-from, turned, member-turned, agree-turned, linked, member-linked, agree-linked, kept, member-kept, one_to_one-kept}
 
 -- ---- lists side by side
 

@@ -1,7 +1,7 @@
 use Rattle.canon3.proofs.Common.{bytes_eq, bytes_eq-Decides}
-use Rattle.canon3.specs.Pairing.{AreBeside}
+use Rattle.canon3.specs.OneToOne.{AreBeside}
 use Rattle.canon3.proofs.Lemmas.Numbers.RankLemmas.{rank_paired, rank-map}
-use Rattle.canon3.proofs.Lemmas.Renaming.PairingLemmas.{agree-from}
+use Rattle.canon3.proofs.Lemmas.Renaming.OneToOneLemmas.{agree-from}
 use Rattle.canon3.proofs.laws.ranks_are_blind.Goals as goal
 
 pub returns-clause-injective : goal.returns-clause-injective

@@ -4,7 +4,7 @@ use Rattle.masking3.proofs.Common.{◌≡◌, inl, inr, ⊎_elim, ℕ, ◌<◌, 
 use Rattle.canon3.specs.Renaming.{verifier}
 use Rattle.canon3.proofs.Lemmas.Canonical.OneFormLemmas.{In}
 use Rattle.canon3.proofs.Lemmas.Numbers.RankLemmas.{pairwise-append}
-use Rattle.canon3.proofs.Lemmas.Renaming.PairingLemmas.{agree-from, agree-linked, agree-turned, kept, linked, member-kept, member-linked, member-turned, one_to_one-kept, turned}
+use Rattle.canon3.proofs.Lemmas.Renaming.OneToOneLemmas.{agree-from, agree-linked, agree-turned, kept, linked, member-kept, member-linked, member-turned, one_to_one-kept, turned}
 use Rattle.masking3.proofs.Lemmas.Masked.AgainLemmas.{by_class, no_zero, small, value_put, zero_still}
 use Rattle.masking3.proofs.Lemmas.Classes.ClassLemmas.{none_of_other, same_class, seen_alike}
 use Rattle.masking3.proofs.Lemmas.Classes.SpotLemmas.{IsFree, still}

@@ -1,7 +1,7 @@
 -- Lists of pairs that agree are one-to-one once each pair is kept one time; they can be turned and
 -- linked.
 use Rattle.canon3.proofs.Common.{◌≡◌, ⊎_elim, Bool, true, false, cond, List, [], ◌∷◌, ◌++◌, refl, sym, ap, ap₂, ◌∙◌, subst, Decides, list_any}
-use Rattle.canon3.specs.Pairing.{Member, here, there, Pairs, NoTwoAlike, OneToOne}
+use Rattle.canon3.specs.OneToOne.{Member, here, there, Pairs, NoTwoAlike, OneToOne}
 use Rattle.capture3.proofs.Lemmas.Connections.RankLemmas.{by_test, cond_either}
 use Rattle.canon3.proofs.Lemmas.Numbers.RankLemmas.{itself, apart, member-append_left, member-append_right, member-append_cases, member_under}
 
