@@ -44,6 +44,9 @@ pub record AreWorked : Type 0 where
   pub directory_is : IsWorked directory directory_entries directory_form
   pub by_system_is : IsWorked by_system by_system_entries by_system_form
   pub raw_is : IsWorked (raw_of 5) raw_entries (raw_of 1)
+  pub refused_calls : RefusedCalls
+  pub refused_credentials : RefusedCredentials
+  pub refused_replies : RefusedReplies
 
 pub worked : AreWorked
 unfolding all_bytes number is_last length_of judge_call judge_reply reading reading_layout
@@ -61,52 +64,28 @@ worked = record {
   directory_is = worked_by directory directory_entries directory_form refl refl refl;
   by_system_is = worked_by by_system by_system_entries by_system_form refl refl refl;
   raw_is = worked_by (raw_of 5) raw_entries (raw_of 1) refl refl refl;
-}
-
-pub refused_calls : RefusedCalls
-unfolding all_bytes number is_last length_of judge_call judge_reply reading reading_layout
-    message_start call_layout call_start call_head reply_layout reply_start reply_head credential
-    auth_sys parameters gids verifier accept deny arguments_of results_of rpc_names names file_kind
-    handle time times attributes post_op_attr wcc wcc_attr post_op_fh dir_op status results mount_ok
-    flavor entry_plus file_range readdirplus_args readdirplus_ok commit_ok lookup_ok mount_results
-    dirpath optional
-refused_calls = record {
-  version = refused_by Client 1 8 RpcVersion refl refl;
-  credential = refused_by Client 1 24 Flavor refl refl;
-  verifier = refused_by Client 1 32 Flavor refl refl;
-  long_handle = refused_by Client 1 40 TooLong refl refl;
-  short_handle = refused_by Client 1 44 Short refl refl;
-  one_word_more = refused_by Client 1 48 Trailing refl refl;
-  one_xid = refused_by Client 2 0 XidConflict refl refl;
-}
-
-pub refused_credentials : RefusedCredentials
-unfolding all_bytes number is_last length_of judge_call judge_reply reading reading_layout
-    message_start call_layout call_start call_head reply_layout reply_start reply_head credential
-    auth_sys parameters gids verifier accept deny arguments_of results_of rpc_names names file_kind
-    handle time times attributes post_op_attr wcc wcc_attr post_op_fh dir_op status results mount_ok
-    flavor entry_plus file_range readdirplus_args readdirplus_ok commit_ok lookup_ok mount_results
-    dirpath optional
-refused_credentials = record {
-  too_many_groups = refused_by Client 1 56 TooLong refl refl;
-  one_word_more = refused_by Client 1 60 AuthLength refl refl;
-  no_count = refused_by Client 1 56 AuthLength refl refl;
-  too_long = refused_by Client 1 28 TooLong refl refl;
-}
-
-pub refused_replies : RefusedReplies
-unfolding all_bytes number is_last length_of judge_call judge_reply reading reading_layout
-    message_start call_layout call_start call_head reply_layout reply_start reply_head credential
-    auth_sys parameters gids verifier accept deny arguments_of results_of rpc_names names file_kind
-    handle time times attributes post_op_attr wcc wcc_attr post_op_fh dir_op status results mount_ok
-    flavor entry_plus file_range readdirplus_args readdirplus_ok commit_ok lookup_ok mount_results
-    dirpath optional
-refused_replies = record {
-  no_call = refused_by Server 1 0 NoCall refl refl;
-  a_call = refused_by Server 1 4 WrongSide refl refl;
-  reply_stat = refused_by Server 1 8 BadEnum refl refl;
-  auth_stat = refused_by Server 1 16 BadEnum refl refl;
-  accept_stat = refused_by Server 1 20 BadEnum refl refl;
-  status = refused_by Server 1 24 BadEnum refl refl;
-  attributes = refused_by Server 1 28 BadBool refl refl;
+  refused_calls = record {
+    version = refused_by Client 1 8 RpcVersion refl refl;
+    credential = refused_by Client 1 24 Flavor refl refl;
+    verifier = refused_by Client 1 32 Flavor refl refl;
+    long_handle = refused_by Client 1 40 TooLong refl refl;
+    short_handle = refused_by Client 1 44 Short refl refl;
+    one_word_more = refused_by Client 1 48 Trailing refl refl;
+    one_xid = refused_by Client 2 0 XidConflict refl refl;
+  };
+  refused_credentials = record {
+    too_many_groups = refused_by Client 1 56 TooLong refl refl;
+    one_word_more = refused_by Client 1 60 AuthLength refl refl;
+    no_count = refused_by Client 1 56 AuthLength refl refl;
+    too_long = refused_by Client 1 28 TooLong refl refl;
+  };
+  refused_replies = record {
+    no_call = refused_by Server 1 0 NoCall refl refl;
+    a_call = refused_by Server 1 4 WrongSide refl refl;
+    reply_stat = refused_by Server 1 8 BadEnum refl refl;
+    auth_stat = refused_by Server 1 16 BadEnum refl refl;
+    accept_stat = refused_by Server 1 20 BadEnum refl refl;
+    status = refused_by Server 1 24 BadEnum refl refl;
+    attributes = refused_by Server 1 28 BadBool refl refl;
+  };
 }

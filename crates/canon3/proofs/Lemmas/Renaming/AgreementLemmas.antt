@@ -135,30 +135,18 @@ module _ (file other : List ℕ) (a b : List Entry) (e f : Entry) (more rest : L
       let first : (a ++ e ∷ []) ++ more ≡ a ++ (e ∷ more) = append_assoc a (e ∷ []) more in
       let second : (b ++ f ∷ []) ++ rest ≡ b ++ (f ∷ rest) = append_assoc b (f ∷ []) rest in
       let left : bytes_of (take i (canonical ((a ++ e ∷ []) ++ more))) ≡ bytes_of (canonical a) =
-      ap (λ (l : List Entry). bytes_of (take i (canonical l))) first
-      ∙ front_form a (e ∷ more) i refl (subst AreFirst first first_all) in
+      rw first (front_form a (e ∷ more) i refl (rw first at first_all)) in
       let right : bytes_of (take i (canonical ((b ++ f ∷ []) ++ rest))) ≡ bytes_of (canonical b) =
-      ap (λ (l : List Entry). bytes_of (take i (canonical l))) second
-      ∙ front_form b (f ∷ rest) i (sym g.many) (subst AreFirst second second_all) in
+      rw second (front_form b (f ∷ rest) i (sym g.many) (rw second at second_all)) in
       let left_one = front_form (a ++ e ∷ []) more (i + 1) (length-append a (e ∷ [])) first_all in
       let right_one =
       front_form (b ++ f ∷ []) rest (i + 1)
       (length-append b (f ∷ []) ∙ ap (λ n. n + 1) (sym g.many)) second_all in
       let at : PartsAt ((a ++ e ∷ []) ++ more) ((b ++ f ∷ []) ++ rest) i =
-      parts_where_forms_do ((a ++ e ∷ []) ++ more) ((b ++ f ∷ []) ++ rest) first_all second_all i
-      (left ∙ (g.bytes ∙ sym right)) (λ is. parts.differ (sym left_one ∙ (is ∙ right_one))) in
-      let here : slice_get ((a ++ e ∷ []) ++ more) i ≡ Some e =
-      ap (λ (l : List Entry). slice_get l i) first ∙ got a e more in
-      let there : slice_get ((b ++ f ∷ []) ++ rest) i ≡ Some f =
-      ap (λ (l : List Entry). slice_get l i) second ∙ got_at b f rest i g.many in
-      let front : take i ((a ++ e ∷ []) ++ more) ≡ a =
-      ap (take i) first ∙ take_at a (e ∷ more) i refl in (
+      parts_where_forms_do _ _ first_all second_all i (left ∙ (g.bytes ∙ sym right))
+      (λ is. parts.differ (sym left_one ∙ (is ∙ right_one))) in (
         i,
         at,
-        subst
-            (λ (l : List Entry).
-            IsPlaceOf l (slice_get ((a ++ e ∷ []) ++ more) i)
-            (slice_get ((b ++ f ∷ []) ++ rest) i) place) (sym front)
-            (subst (λ o. IsPlaceOf a o (slice_get ((b ++ f ∷ []) ++ rest) i) place) (sym here)
-            (subst (λ o. IsPlaceOf a (Some e) o place) (sym there) parts.place_is)),
+        rw (first, second, got a e more, got_at b f rest i g.many, take_at a (e ∷ more) i refl)
+            parts.place_is,
       )

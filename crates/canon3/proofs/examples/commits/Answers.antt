@@ -1,5 +1,4 @@
 use Rattle.canon3.proofs.Common.{refl, arith, Server, first_message}
-use Rattle.canon3.specs.Examples.{commits, long, zero_verifier, in_server}
 use Rattle.canon3.proofs.Checks.{same_by, parted_by}
 use Rattle.canon3.proofs.Vectors.{worked}
 use Rattle.canon3.proofs.examples.commits.Goals as goal
@@ -12,9 +11,7 @@ returns-clause-verifiers c = record {
   form = refl;
   later = refl;
   zeros = refl;
-  swapped = same_by (commits long zero_verifier) (commits zero_verifier long) refl refl refl;
-  parted =
-      parted_by (commits long long) (commits long zero_verifier) 5 (in_server 1 2) refl refl refl
-      (λ e. grind arith) (first_message Server tt);
+  swapped = same_by _ _ refl refl refl;
+  parted = parted_by _ _ 5 _ refl refl refl (λ e. grind arith) (first_message Server tt);
   cookie_stays = refl;
 }
