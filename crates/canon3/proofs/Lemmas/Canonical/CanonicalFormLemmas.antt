@@ -1,5 +1,5 @@
 -- What was rewritten, entry by entry.
-use Rattle.canon3.proofs.Common.{◌≡◌, ℕ, ◌+◌, Bool, true, false, List, [], ◌∷◌, ◌++◌, refl, sym, ap, ◌∙◌, subst, arith, Option, Result, Ok, Err, Decides-eqb, Appends, Error, One, magic, Entry, Begin, Call, Turn, Reply, Close, End, MessageWriter, bytes_of, canonical, AreFirst, IsGoing, WriterStands, connections, bytes_after, AppendsFront, ◌==◌, if◌then◌else◌, Appends-trans, Summary}
+use Rattle.canon3.proofs.Common.{◌≡◌, ℕ, ◌+◌, List, [], ◌∷◌, ◌++◌, refl, sym, ap, ◌∙◌, subst, arith, Option, Result, Ok, Err, Appends, Error, magic, Entry, Begin, End, MessageWriter, bytes_of, canonical, AreFirst, IsGoing, WriterStands, connections, AppendsFront, Appends-trans, Summary}
 use Rattle.std.proofs.lemmas.Bool.Decides.{nat_tests}
 use Rattle.canon3.specs.EntryWriter.{HasWrittenOrCut, WritesAll}
 use Rattle.canon3.specs.CanonicalForm.{canonical_bytes, WritesNoMore}

@@ -1,5 +1,5 @@
 -- What comes later in a capture leaves the numbers so far.
-use Rattle.canon3.proofs.Common.{◌≡◌, ℕ, zero, suc, List, [], ◌∷◌, ◌++◌, map, take, refl, sym, ap, ap₂, ◌∙◌, append_assoc, append-nil, bytes_eq, nat_eq, big_bytes, Decides-eqb, bytes_eq-Decides, Item, Word, Opaque, Handle, WriteVerf, word_bytes, Entry, Begin, Call, Turn, Reply, Close, End, handle_in, verifier_in, handles_in, verifiers_in, handles, verifiers, call_xids, xid_of, rank, here, numbered_item, numbered_message, numbered, canonical, open_xids, items_after, message_after, entries_after}
+use Rattle.canon3.proofs.Common.{◌≡◌, ℕ, zero, suc, List, [], ◌∷◌, ◌++◌, map, take, refl, ap, ap₂, ◌∙◌, append_assoc, append-nil, bytes_eq, nat_eq, big_bytes, Decides-eqb, bytes_eq-Decides, Item, Word, Opaque, Handle, WriteVerf, word_bytes, Entry, Begin, Call, Reply, handle_in, verifier_in, handles_in, verifiers_in, handles, verifiers, call_xids, xid_of, rank, here, numbered_item, numbered_message, numbered, canonical, open_xids, items_after, message_after, entries_after}
 use Rattle.canon3.proofs.Lemmas.Order.Order.{BeginsWithXid, IsWellFormed}
 use Rattle.canon3.proofs.Lemmas.WellFormed.Nesting.{Paired, paired, no_call}
 use Rattle.canon3.proofs.Lemmas.Numbers.RankLemmas.{rank-append, member-append_right}

@@ -1,5 +1,5 @@
 -- The canonical form grows after the entries so far.
-use Rattle.canon3.proofs.Common.{◌≡◌, ℕ, true, List, [], ◌∷◌, ◌++◌, refl, sym, ap, ◌∙◌, append_assoc, append-nil, flat_map, flat_map-append, Item, Word, One, magic, Entry, Begin, Call, Turn, Reply, Close, End, items_of, bytes_of, entry_bytes, canonical, numbered, entries_after, open_xids, AreFirst, are_some, magic_unless, handles, handles_in, verifiers, verifiers_in, xid_of, bytes_after}
+use Rattle.canon3.proofs.Common.{◌≡◌, ℕ, true, List, [], ◌∷◌, ◌++◌, refl, sym, ap, ◌∙◌, append_assoc, append-nil, flat_map, flat_map-append, Item, Word, One, magic, Entry, Begin, Call, Reply, items_of, bytes_of, entry_bytes, canonical, numbered, entries_after, open_xids, AreFirst, are_some, magic_unless, handles, handles_in, verifiers, verifiers_in, xid_of, bytes_after}
 use Rattle.canon3.proofs.Lemmas.Order.First.{first_in_order}
 use Rattle.canon3.proofs.Lemmas.Order.Order.{BeginsWithXid, IsAnswering}
 use Rattle.canon3.proofs.Lemmas.Canonical.CanonicalStreamLemmas.{canonical-after, entries_after-append}

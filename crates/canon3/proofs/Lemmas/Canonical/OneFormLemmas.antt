@@ -1,5 +1,5 @@
 -- Renamed captures have one canonical form.
-use Rattle.canon3.proofs.Common.{◌≡◌, ℕ, List, [], ◌∷◌, ◌++◌, map, refl, sym, ap, ap₂, ◌∙◌, bytes_eq, nat_eq, AllByRecursion, flat_map, big_bytes, Item, Word, Opaque, Handle, WriteVerf, word_bytes, Entry, Begin, Call, Turn, Reply, Close, End, items_of, handle_in, verifier_in, handles, verifiers, call_xids, Member, Pairs, IsXid, numbered_item, numbered_message, numbered, canonical, IsPlain, RenamesItem, handle, verifier, plain, Pairwise, none, more, RenamesMessage, message, Renames, ended, begins, calls, turns, replies, closes, ends, Same}
+use Rattle.canon3.proofs.Common.{◌≡◌, ℕ, List, [], ◌∷◌, map, refl, sym, ap, ap₂, ◌∙◌, bytes_eq, nat_eq, AllByRecursion, flat_map, big_bytes, Item, Word, Opaque, Handle, WriteVerf, word_bytes, Entry, Begin, Call, Turn, Reply, Close, End, items_of, handle_in, verifier_in, handles, verifiers, call_xids, Member, Pairs, IsXid, numbered_item, numbered_message, numbered, canonical, IsPlain, RenamesItem, handle, verifier, plain, Pairwise, none, more, RenamesMessage, message, Renames, ended, begins, calls, turns, replies, closes, ends, Same}
 use Rattle.canon3.proofs.Lemmas.Numbers.RankLemmas.{pairwise-append, rank_paired}
 use Rattle.canon3.proofs.Lemmas.Renaming.OneToOneLemmas.{Agree, Alike}
 use Rattle.canon3.proofs.Lemmas.Renaming.RenamingLemmas.{matches-from_same}

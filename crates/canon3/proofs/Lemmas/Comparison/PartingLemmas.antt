@@ -1,5 +1,5 @@
 -- Two complete captures that are not the same part at one place.
-use Rattle.canon3.proofs.Common.{◌≡◌, ◌⊎◌, inl, inr, ⊎_elim, ℕ, zero, suc, ◌+◌, ◌≤◌, List, [], ◌∷◌, ◌++◌, length, take, refl, sym, ap, ◌∙◌, subst, arith, Option, Some, None, append-nil, slice_get, bytes_eq, cases_lt, take_all, bytes_eq-Decides, Entry, Begin, Call, Turn, Reply, Close, End, Typed, Client, Server, Place, bytes_of, canonical, entries_after, Same, AreFirst, Side, IsMessageOf, IsPlaceOf, first_message, second_message, first_ends, second_ends, next_record, PartsAt, Parting}
+use Rattle.canon3.proofs.Common.{◌≡◌, ◌⊎◌, inl, inr, ⊎_elim, ℕ, zero, suc, ◌+◌, ◌≤◌, List, [], ◌∷◌, ◌++◌, length, take, refl, sym, ap, ◌∙◌, subst, arith, Option, Some, None, append-nil, slice_get, bytes_eq, cases_lt, take_all, bytes_eq-Decides, Entry, Begin, Call, Reply, End, Typed, Client, Server, Place, bytes_of, canonical, entries_after, Same, AreFirst, Side, IsMessageOf, IsPlaceOf, first_message, second_message, first_ends, second_ends, next_record, PartsAt, Parting}
 use Rattle.canon3.proofs.Lemmas.Order.Order.{Stage, Between, Steps, call, reply, IsWellFormed}
 use Rattle.std.proofs.Common.{add-one}
 use Rattle.capture3.proofs.Lemmas.Connections.RankLemmas.{by_test}

@@ -1,6 +1,6 @@
 -- Tables that gather the handles of items.
-use Rattle.canon3.proofs.Common.{◌≡◌, ◌≢◌, ℕ, ◌+◌, Bool, true, false, List, [], ◌∷◌, ◌++◌, drop, length, map, refl, sym, ap, ◌∙◌, append-nil, ◌≤◌, arith, list_any, flat_map-append, PlainField, run_items, Item, Opaque, Handle, Spells, length_of_spelling, max_body, Entry, items_of, all_items, handle_in, handles, handles_in, handle_bytes, Gathers, same_handle, before, distinct, rank, with_key, with_keys, HoldsDistinct}
-use Rattle.std.specs.Prelude.{bytes_eq, if◌then◌else◌, ◌||◌}
+use Rattle.canon3.proofs.Common.{◌≡◌, ◌≢◌, ℕ, List, [], ◌∷◌, ◌++◌, drop, length, map, refl, ap, ◌∙◌, append-nil, ◌≤◌, arith, flat_map-append, PlainField, run_items, Item, Opaque, Handle, Spells, length_of_spelling, max_body, Entry, all_items, handles, handles_in, handle_bytes, Gathers, same_handle, distinct, HoldsDistinct}
+use Rattle.std.specs.Prelude.{bytes_eq}
 use Rattle.std.proofs.lemmas.List.{map-append}
 use Rattle.xdr3.specs.declared.plain.PlainField.TheVariants as fields
 use Rattle.xdr3.specs.Visit.{AreWithinLimit}

@@ -1,5 +1,5 @@
 -- The first entries of a capture are told apart by their bytes: words 0 make a file of them.
-use Rattle.canon3.proofs.Common.{◌≡◌, ◌⊎◌, inl, inr, ⊎_elim, ℕ, zero, suc, ◌+◌, ◌^◌, ◌<◌, ◌≤◌, List, [], ◌∷◌, ◌++◌, length, map, refl, sym, ap, ap₂, ◌∙◌, subst, arith, length-append, append_assoc, AllByRecursion, flat_map, cases_lt, ReplyItems, One, magic, Entry, Begin, Call, Turn, Close, End, IsIn, reply_entry, Typed, record_bytes, message_bytes, entry_bytes, bytes_of, Item, AreBytes, word_bytes, zero_spelling}
+use Rattle.canon3.proofs.Common.{◌≡◌, ◌⊎◌, inl, inr, ℕ, zero, suc, ◌+◌, ◌^◌, ◌<◌, ◌≤◌, List, [], ◌∷◌, ◌++◌, length, map, refl, sym, ap, ap₂, ◌∙◌, subst, arith, length-append, append_assoc, AllByRecursion, flat_map, cases_lt, ReplyItems, One, magic, Entry, Begin, Call, Turn, Close, End, IsIn, reply_entry, Typed, record_bytes, message_bytes, entry_bytes, bytes_of, Item, AreBytes, word_bytes, zero_spelling}
 use Rattle.std.proofs.lemmas.List.{map-append, append_cancel_right}
 use Rattle.std.proofs.lemmas.List.Concat.{flat_map-append}
 use Rattle.capture3.proofs.Lemmas.Container.BytesOf.{AreBytes-nil, AreBytes-append, AreBytes-front, all_bytes, checked}
@@ -208,7 +208,7 @@ message_are_bytes m h =
     AreBytes-append (word_bytes (length (record_bytes body))) (record_bytes body)
     (word_are_bytes (length (record_bytes body)))
     (AreBytes-append (word_bytes (2 ^ 31 + length body)) body
-        (word_are_bytes (2 ^ 31 + length body))
+    (word_are_bytes (2 ^ 31 + length body))
     h)
 
 call_bytes : (m : List Item) → IsSpelledCall m → HasBytes (Call m)

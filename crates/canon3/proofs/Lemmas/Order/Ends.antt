@@ -1,9 +1,9 @@
 -- Two complete captures that are the same so far end together.
-use Rattle.canon3.proofs.Common.{◌≡◌, ◌↔◌, ℕ, ◌≤◌, List, [], ◌∷◌, ◌++◌, length, take, drop, None, Some, refl, sym, ap, subst, arith, take-append-drop, inl, inr, cases_lt, Entry, End, Typed, Same}
+use Rattle.canon3.proofs.Common.{◌≡◌, ◌↔◌, ℕ, ◌≤◌, List, [], ◌∷◌, ◌++◌, length, take, drop, None, Some, refl, ap, arith, take-append-drop, inl, inr, cases_lt, Entry, End, Typed, Same}
 use Rattle.std.specs.Prelude.{slice_get, get_or}
 use Rattle.std.proofs.lemmas.List.{take_all, length-drop}
 use Rattle.std.proofs.lemmas.Option.{slice_get_past, slice_get-get_or}
-use Rattle.canon3.proofs.Lemmas.Order.Order.{Stage, Between, InCalls, InReplies, Over, Runs, stays, steps}
+use Rattle.canon3.proofs.Lemmas.Order.Order.{Stage, Between, Over, Runs, stays, steps}
 use Rattle.canon3.proofs.Lemmas.Renaming.Equality.{same_symmetric}
 use Rattle.canon3.proofs.Lemmas.Comparison.Places.{AreAlike, stages_alike}
 use Rattle.canon3.proofs.Lemmas.WellFormed.Files.{holds}

@@ -1,5 +1,5 @@
 -- The entries of a well-formed file are in order, and their handles and write verifiers fit.
-use Rattle.canon3.proofs.Common.{ℕ, ◌≤◌, List, [], ◌∷◌, ◌++◌, length, map, sym, subst, arith, length-append, append_assoc, append-nil, ⊎_elim, AllByRecursion, flat_map, Item, Spells, zero_spelling, max_bytes, Entry, Begin, Call, Turn, Reply, Close, End, items_of, IsIn, reply_entry, Typed, handles_in, verifiers_in, xid_of, Member, IsHandle, IsVerifier, ReplyItems, xid_in}
+use Rattle.canon3.proofs.Common.{ℕ, ◌≤◌, List, [], ◌∷◌, ◌++◌, length, map, sym, subst, arith, length-append, append_assoc, append-nil, AllByRecursion, flat_map, Item, Spells, zero_spelling, max_bytes, Entry, Begin, Call, items_of, IsIn, reply_entry, Typed, handles_in, verifiers_in, xid_of, Member, IsHandle, IsVerifier, ReplyItems, xid_in}
 use Rattle.capture3.specs.Laws.{spelled}
 use Rattle.capture3.proofs.Lemmas.Reached.Limits.{typed_within}
 use Rattle.canon3.proofs.Lemmas.Order.Order.{BeginsWithXid, IsAnswering, Between, InCalls, InReplies, Over, begin, call, turn, reply, close, end, Runs, stays, steps, IsWellFormed}

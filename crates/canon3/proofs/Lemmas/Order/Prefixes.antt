@@ -1,6 +1,6 @@
 -- The first entries of a capture, and where two captures part.
 use Rattle.std.proofs.Common.{◌≡◌, ◌≢◌, ℕ, ◌≤◌, ◌+◌, ◌↔◌, List, [], ◌∷◌, ◌++◌, length, take, drop, refl, sym, ap, ◌∙◌, subst, arith, append_assoc, length-append, take-append-drop, take-take}
-use Rattle.canon3.proofs.Common.{flat_map, Entry, items_of, handles_in, verifiers_in, Member, Same, canonical, One, magic, entry_bytes, bytes_of, PartsAt}
+use Rattle.canon3.proofs.Common.{flat_map, Entry, items_of, handles_in, verifiers_in, Member, Same, canonical, entry_bytes, bytes_of, PartsAt}
 use Rattle.std.proofs.lemmas.List.Concat.{flat_map-append}
 use Rattle.canon3.proofs.Lemmas.Order.Order.{IsWellFormed}
 use Rattle.canon3.proofs.Lemmas.Numbers.RankLemmas.{member-append_left}

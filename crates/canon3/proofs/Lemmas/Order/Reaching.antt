@@ -104,7 +104,7 @@ inside_first One connections before bytes more messages few (inr r) =
     let calls : List Entry = Begin ∷ map Call r.calls in
     let replies : List Entry = Turn ∷ map reply_entry r.replies in
     rw r.entries_are
-        (open_first connections before streams r.calls r.replies (calls ++ replies) (Close ∷ [])
+    (open_first connections before streams r.calls r.replies (calls ++ replies) (Close ∷ [])
     messages (conversed streams r.calls r.replies r.holds r.answers.holds) few fits refl)
 inside_first Two connections before bytes more messages few (begins, is) =
     let streams : Streams = record { client = []; server = [] } in

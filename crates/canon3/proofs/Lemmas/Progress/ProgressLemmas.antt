@@ -1,5 +1,5 @@
 -- How far the entries of a capture have come.
-use Rattle.canon3.proofs.Common.{◌≡◌, ◌⊎◌, inl, inr, ⊎_elim, ℕ, ◌+◌, List, [], ◌∷◌, ◌++◌, Option, None, Some, refl, sym, ap, ap₂, ◌∙◌, subst, arith, Client, Server, Place, Entry, Begin, Call, Turn, Reply, Close, End, Kind, HasPassed, IsOfKind, Side, Progress}
+use Rattle.canon3.proofs.Common.{◌≡◌, ◌⊎◌, inl, inr, ℕ, ◌+◌, List, [], ◌∷◌, ◌++◌, Option, None, Some, refl, ◌∙◌, arith, Client, Server, Place, Entry, Begin, Call, Turn, Reply, Close, End, Kind, HasPassed, IsOfKind, Side, Progress}
 use Rattle.capture3.specs.declared.fault.Place.TheVariants as places
 use Rattle.capture3.specs.declared.reader.entry.Kind.TheVariants as kinds
 use Rattle.canon3.specs.Parting.{connections, records_after, IsMessageOf, IsPlaceOf, first_message, second_message, first_ends, second_ends, next_record}

@@ -1,5 +1,5 @@
 -- Renamings can be turned, linked and carried over to more pairs.
-use Rattle.canon3.proofs.Common.{ℕ, List, [], ◌∷◌, map, bytes_eq, nat_eq, AllByRecursion, Decides-eqb, bytes_eq-Decides, Item, Entry, RenamesItem, handle, verifier, plain, Pairwise, none, more, RenamesMessage, message, Renames, ended, begins, calls, turns, replies, closes, ends, Same, Member, Pairs, OneToOne, IsHandle, IsVerifier, IsXid}
+use Rattle.canon3.proofs.Common.{ℕ, List, [], ◌∷◌, map, bytes_eq, nat_eq, AllByRecursion, Decides-eqb, bytes_eq-Decides, Item, Entry, RenamesItem, handle, verifier, plain, Pairwise, none, more, RenamesMessage, message, Renames, ended, begins, calls, turns, replies, closes, ends, Same, Member, Pairs, IsHandle, IsVerifier, IsXid}
 use Rattle.canon3.proofs.Lemmas.Renaming.OneToOneLemmas.{Agree, agree-from, turned, member-turned, agree-turned, linked, member-linked, agree-linked, kept, member-kept, one_to_one-kept}
 
 -- ---- lists side by side
@@ -102,7 +102,7 @@ module _ {ps qs vs ws : Pairs (List ℕ)} where
   renames_linked : {xs ys : Pairs ℕ} {xss yss : List (Pairs ℕ)} {a b c : List Entry}
       → Renames ps vs xs xss a b → Renames qs ws ys yss b c
       → Renames (linked bytes_eq ps qs) (linked bytes_eq vs ws) (linked nat_eq xs ys)
-          (links xss yss) a c
+      (links xss yss) a c
   renames_linked ended ended = ended
   renames_linked (begins r) (begins s) = begins (renames_linked r s)
   renames_linked (calls m r) (calls n s) = calls (message_linked m n) (renames_linked r s)

@@ -1,11 +1,11 @@
 -- Messages of connections: from their streams, in streams of their own, and under numbers.
-use Rattle.canon3.proofs.Common.{◌≡◌, ℕ, ◌<◌, ◌≤◌, ◌^◌, List, [], ◌∷◌, length, map, refl, sym, ap, ◌∙◌, subst, arith, length-append, nat_eq, AllByRecursion, flat_map, Decides-eqb, Item, Word, Spells, zero_spelling, length_of_spelling, xid_of, record_bytes, Member, here, rank, numbered_message, zero_spelled_all, procedure_in, ReplyItems, IsCall, IsReply, xid_in, Streams, size, AreEach, IsIn, HaveOneProcedure, AnswerCalls, Converses}
+use Rattle.canon3.proofs.Common.{◌≡◌, ℕ, ◌<◌, ◌≤◌, ◌^◌, List, [], ◌∷◌, length, map, refl, sym, ap, ◌∙◌, subst, arith, length-append, nat_eq, AllByRecursion, flat_map, Decides-eqb, Item, Word, Spells, zero_spelling, length_of_spelling, xid_of, Member, here, rank, numbered_message, zero_spelled_all, ReplyItems, IsCall, IsReply, xid_in, Streams, size, AreEach, IsIn, HaveOneProcedure, AnswerCalls, Converses}
 use Rattle.std.proofs.lemmas.List.{map-id}
 use Rattle.std.proofs.lemmas.List.Concat.{flat_map-append}
 use Rattle.canon3.proofs.Lemmas.Numbers.RankLemmas.{member-append_left, member-append_right, same_rank}
 use Rattle.canon3.proofs.Lemmas.Renaming.RenamingLemmas.{all_mapped, all_weaker}
 use Rattle.canon3.proofs.Lemmas.WellFormed.Messages.{BeginsWithWord, call_begins, reply_begins, call_numbered, reply_numbered, xid_numbered, procedure_numbered, message_spelled, message_shorter}
-use Rattle.canon3.proofs.Lemmas.WellFormed.Conversations.{all_in, of_all, in_map, map_in, stream_of, IsSmall, length_of_record, marks_of, HasBody, each_has_body, each_size, each_from, Conversation, items_of_reply, reply_items, itself, IsSpelledCall, IsSpelledReply, AreConversing, weight, streams_of}
+use Rattle.canon3.proofs.Lemmas.WellFormed.Conversations.{all_in, of_all, in_map, map_in, stream_of, IsSmall, marks_of, HasBody, each_has_body, each_size, each_from, Conversation, items_of_reply, reply_items, itself, IsSpelledCall, IsSpelledReply, AreConversing, weight, streams_of}
 
 -- ---- from streams
 
@@ -163,8 +163,12 @@ module _ (hs vs : List (List ℕ)) where
     one_procedure_under a b i j e =
         let p = in_map under c.calls a i.0 i.1 i.2 in
         let q = in_map under c.calls b j.0 j.1 j.2 in
-        rw (p.2, q.2, procedure_numbered hs vs xs p.0 (begins_in c h p.0 p.1),
-        procedure_numbered hs vs xs q.0 (begins_in c h q.0 q.1))
+        rw (
+          p.2,
+          q.2,
+          procedure_numbered hs vs xs p.0 (begins_in c h p.0 p.1),
+          procedure_numbered hs vs xs q.0 (begins_in c h q.0 q.1),
+        )
         (h.one_procedure p.0 q.0 p.1 q.1 (one_xid p.0 q.0 p.1 q.1 (rw (p.2, q.2) at e)))
 
     answers_under : AnswerCalls (map under c.calls) (map (numbered_reply xs) c.replies)

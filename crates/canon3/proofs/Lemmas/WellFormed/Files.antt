@@ -1,5 +1,5 @@
 -- Files from the messages of their connections.
-use Rattle.canon3.proofs.Common.{◌≡◌, ℕ, suc, ◌+◌, ◌<◌, ◌≤◌, ◌^◌, List, [], ◌∷◌, ◌++◌, length, map, refl, sym, ap, ap₂, ◌∙◌, subst, arith, append_assoc, append-nil, AllByRecursion, flat_map, Item, word_bytes, ReplyItems, Streams, max_bytes, Entry, Begin, Call, Turn, Reply, Close, End, xid_of, call_xids, handles, verifiers, message_bytes, entry_bytes, bytes_of, numbered_message, numbered, canonical, Joins, IsWord-big_bytes, reply_entry, connection_entries, HaveEntries, Typed}
+use Rattle.canon3.proofs.Common.{◌≡◌, ℕ, suc, ◌+◌, ◌<◌, ◌≤◌, ◌^◌, List, [], ◌∷◌, ◌++◌, length, map, refl, sym, ap, ◌∙◌, subst, arith, append_assoc, append-nil, AllByRecursion, flat_map, Item, word_bytes, ReplyItems, Streams, max_bytes, Entry, Begin, Call, Turn, Close, End, call_xids, handles, verifiers, entry_bytes, bytes_of, numbered_message, numbered, canonical, Joins, IsWord-big_bytes, reply_entry, connection_entries, HaveEntries, Typed}
 use Rattle.std.proofs.lemmas.List.{length-map}
 use Rattle.std.proofs.lemmas.List.Concat.{flat_map-append}
 use Rattle.std.proofs.lemmas.List.Folds.{flat_map-map}
@@ -7,7 +7,7 @@ use Rattle.capture3.specs.Capture.{One, magic, max_connections, total_size, IsCo
 use Rattle.canon3.specs.Laws.{AreOfTheirBytes}
 use Rattle.canon3.proofs.Lemmas.Renaming.RenamingLemmas.{all_mapped, all_weaker}
 use Rattle.canon3.proofs.Lemmas.WellFormed.Items.{all_append}
-use Rattle.canon3.proofs.Lemmas.WellFormed.Conversations.{chunks_of, IsSmall, is_stream, Conversation, items_of_reply, reply_items, IsSpelledCall, IsSpelledReply, AreConversing, weight, streams_of}
+use Rattle.canon3.proofs.Lemmas.WellFormed.Conversations.{chunks_of, is_stream, Conversation, reply_items, IsSpelledCall, IsSpelledReply, AreConversing, weight, streams_of}
 use Rattle.canon3.proofs.Lemmas.WellFormed.Conversing.{conversing, conversing_weight, converses_anew, small_items, xids_of, length_of_xids, numbered_reply, numbered_conversation, conversing_numbered, weight_numbered}
 
 -- ---- the entries of conversations
@@ -228,8 +228,12 @@ module _ (hs vs : List (List ℕ)) where
   numbered-all (c ∷ cs) xs =
       let own = xids_of c.calls in
       ap (numbered hs vs xs) (all_regrouped c cs)
-      ∙ rw (own_xids c cs, numbered-calls own c.calls, numbered-replies own c.replies,
-      numbered-all cs own) (sym (all_regrouped (numbered_conversation hs vs c) _))
+      ∙ rw (
+        own_xids c cs,
+        numbered-calls own c.calls,
+        numbered-replies own c.replies,
+        numbered-all cs own,
+      ) (sym (all_regrouped (numbered_conversation hs vs c) _))
 
   all_numbered : (cs : List Conversation) → AllByRecursion AreConversing cs
       → total_weight cs ≤ max_bytes

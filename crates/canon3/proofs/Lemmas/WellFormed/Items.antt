@@ -1,6 +1,6 @@
 -- Items under numbers fit the same shapes, and are not longer.
 use Rattle.std.proofs.Common.{◌≡◌, ℕ, zero, suc, ◌+◌, ◌%◌, ◌/◌, ◌^◌, ◌<◌, ◌≤◌, List, [], ◌∷◌, ◌++◌, length, map, replicate, refl, ap, ap₂, subst, arith, length-append, append-nil, ⊎_elim}
-use Rattle.canon3.proofs.Common.{⊤, bytes_eq, AllByRecursion, flat_map, handle_in, verifier_in, handles_in, verifiers_in, Member, here, there, IsHandle, IsVerifier, rank, numbered_item, Item, Word, Hyper, Fixed, WriteVerf, Opaque, Rest, Var, Text, Handle, AreBytes, SpellsItem, Spells, residue, word_bytes, zero_spelling_of, zero_spelling, zero_spelled_all, AreBytes-nil, AreBytes-append}
+use Rattle.canon3.proofs.Common.{⊤, bytes_eq, AllByRecursion, flat_map, handle_in, verifier_in, handles_in, verifiers_in, Member, here, there, IsHandle, IsVerifier, rank, numbered_item, Item, Word, Hyper, Fixed, WriteVerf, Opaque, Rest, Handle, AreBytes, SpellsItem, Spells, residue, word_bytes, zero_spelling_of, zero_spelling, zero_spelled_all, AreBytes-nil, AreBytes-append}
 use Rattle.std.specs.Int.{bytes_high_first, byte_at}
 use Rattle.std.proofs.lemmas.List.{length-map, length-replicate, map-append}
 use Rattle.xdr3.specs.Shape.{Shape, choose, hyper, fixed, write_verf, opaque, nothing, both, linked, counted, sized, Fits, links, joined}
@@ -98,7 +98,7 @@ module _ (P : Item → Type 0) where
       → FitsLayout (after s next) items → AllAre items
   all_in_message s next items h k p =
       rw p.4
-          (all_append P p.0 p.1 (all_fitting s p.0 h p.2) (all_in_row (next p.0) p.1 (k p.0) p.3))
+      (all_append P p.0 p.1 (all_fitting s p.0 h p.2) (all_in_row (next p.0) p.1 (k p.0) p.3))
 
 -- ---- items under numbers
 

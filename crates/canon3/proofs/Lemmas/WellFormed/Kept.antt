@@ -1,5 +1,5 @@
 -- A renamed capture is well formed too.
-use Rattle.canon3.proofs.Common.{◌≡◌, ℕ, suc, List, [], ◌∷◌, length, refl, sym, ap, ◌∙◌, subst, arith, ⊤, nat_eq, AllByRecursion, Decides-eqb, Entry, Member, here, there, Pairs, IsXid, Pairwise, none, more, message, Renames, ended, begins, calls, turns, replies, closes, ends, Same, canonical}
+use Rattle.canon3.proofs.Common.{ℕ, List, [], ◌∷◌, sym, ◌∙◌, subst, arith, ⊤, nat_eq, AllByRecursion, Decides-eqb, Entry, Member, here, there, Pairs, IsXid, Pairwise, none, more, message, Renames, ended, begins, calls, turns, replies, closes, ends, Same, canonical}
 use Rattle.canon3.proofs.Lemmas.Order.Order.{Stage, Between, InCalls, InReplies, Over, begin, call, turn, reply, close, end, Runs, stays, steps, IsWellFormed}
 use Rattle.canon3.proofs.Lemmas.Numbers.RankLemmas.{itself, pairwise-append, pairwise-length}
 use Rattle.canon3.proofs.Lemmas.Renaming.OneToOneLemmas.{Agree, Alike}

@@ -1,14 +1,14 @@
 -- What is written of the entries that a reader hands out.
 use Rattle.std.proofs.Common.{⊎_elim, ◌≡◌, ℕ, Bool, true, false, List, [], ◌∷◌, ◌++◌, refl, subst, sym, Option, Result, Ok, Err, IfErr, IfOk, arith}
 use Rattle.std.specs.Prelude.{IsTrue}
-use Rattle.canon3.proofs.Common.{Gave, Told, IsPrefixOf, shown_of_all, Appends, Item, Entries, Error, Entry, Kind, Typed, AppendsFront, Appends-nil, IsMetBy, source_of, StandsFor, EntryRef, AreFirstReached, Reached, reached_by_machine, EntryCounts}
+use Rattle.canon3.proofs.Common.{Gave, Told, IsPrefixOf, shown_of_all, Appends, Item, Entries, Error, Entry, Kind, AppendsFront, Appends-nil, IsMetBy, source_of, StandsFor, EntryRef, AreFirstReached, Reached, reached_by_machine, EntryCounts}
 use Rattle.std.specs.declared.hash.BuildHasher as BuildHasher
 use Rattle.std.specs.declared.hash.Hasher as Hasher
 use Rattle.capture3.specs.declared.fault.Error.TheVariants as errors
 use Rattle.capture3.specs.declared.reader.entry.EntryRef.TheVariants as lent
 use Rattle.capture3.specs.Kept.{IsLent, IsOfKind, kind_of}
 use Rattle.canon3.specs.EntryWriter.{IsStoppedBy, KeepsPrefixes, WritesAllCounted, WritesGivenCounted}
-use Rattle.canon3.specs.machinery.WritingSteps.{WritesOn, HasMore, HasStopped, HasWrittenAll}
+use Rattle.canon3.specs.machinery.WritingSteps.{WritesOn, HasMore}
 use Rattle.canon3.specs.WriteErrors.{IsOfWriting}
 use Rattle.canon3.proofs.Lemmas.Order.Reaching.{reached_first}
 use Rattle.canon3.proofs.Lemmas.Writing.SinkWritesLemmas.{front_of_first, whole_front}

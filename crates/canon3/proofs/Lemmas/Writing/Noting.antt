@@ -1,5 +1,5 @@
 -- What stays and what is replaced of the spellings of items.
-use Rattle.canon3.proofs.Common.{◌≡◌, ℕ, ◌+◌, ◌^◌, ◌<◌, List, [], ◌∷◌, ◌++◌, length, replicate, take, drop, refl, sym, ap, ap₂, ◌∙◌, subst, arith, length-append, append-nil, append_assoc, Result, Ok, Err, flat_map-append, PlainField, run_items, run_size, OnOk, Makes, Noted, IsNotedAs, Notes}
+use Rattle.canon3.proofs.Common.{◌≡◌, ℕ, ◌+◌, ◌^◌, ◌<◌, List, [], ◌∷◌, ◌++◌, length, replicate, take, drop, refl, sym, ap, ◌∙◌, subst, arith, length-append, append-nil, append_assoc, Result, Ok, Err, flat_map-append, PlainField, run_items, run_size, OnOk, Makes, Noted, IsNotedAs, Notes}
 use Rattle.std.proofs.lemmas.List.{nil_from_length, take-replicate}
 use Rattle.xdr3.specs.declared.plain.PlainField.TheVariants as fields
 use Rattle.xdr3.specs.Item.{Item, Word, Hyper, Fixed, WriteVerf, Opaque, Rest, Kind, Handle, SpellsItem, Spells, residue, word_bytes, zero_spelling_of, zero_spelling}
@@ -126,8 +126,10 @@ notes_padded old mid new kind name bytes keeps replaces l m noted body spells fe
     (length-append (word_bytes (length bytes)) bytes) first in
     let form : (zero_spelling m ++ run) ++ take {A = ℕ} (residue (length bytes)) (replicate 8 0)
     ≡ zero_spelling (m ++ i ∷ []) =
-    rw (zeros_put (length bytes), flat_map-append zero_spelling_of m (i ∷ [])) (simp (append_assoc,
-    append-nil)) in
+    rw (zeros_put (length bytes), flat_map-append zero_spelling_of m (i ∷ [])) (simp (
+      append_assoc,
+      append-nil,
+    )) in
     subst (λ (k : List ℕ). Makes new k (zero_spelling (m ++ i ∷ []))) (sym whole)
     (subst (Makes new ((a ++ run) ++ residual)) form
     (replaces (a ++ run) residual (zero_spelling m ++ run) kept count))

@@ -1,5 +1,5 @@
 -- A message with numbers is begun, or under way.
-use Rattle.canon3.proofs.Common.{◌≡◌, List, [], append-nil, refl, sym, subst, bytes_eq, Item, MessageWriter, HoldsHandles, HoldsDistinct, Makes, Begins, Before, told_after, HoldsBefore, IsGoing, IsWithinMessage, WriterStands}
+use Rattle.canon3.proofs.Common.{◌≡◌, List, [], append-nil, refl, Item, MessageWriter, Makes, Begins, Before, told_after, HoldsBefore, IsGoing, IsWithinMessage, WriterStands}
 use Rattle.canon3.proofs.Lemmas.Writing.Noting.{noted_none}
 use Rattle.canon3.proofs.Lemmas.Writing.Visiting.{told_after-same}
 

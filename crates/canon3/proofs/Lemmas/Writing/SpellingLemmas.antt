@@ -1,5 +1,5 @@
 -- What an entry is written as in the canonical form.
-use Rattle.canon3.proofs.Common.{◌≡◌, ◌<◌, ◌≤◌, ◌^◌, ◌⊎◌, inl, inr, ℕ, List, [], ◌∷◌, ◌++◌, length, length-append, append-nil, drop, sym, ap, ◌∙◌, subst, arith, Some, bytes_eq, nat_eq, max_body, Item, Spells, Word, word_bytes, zero_spelling, Entry, Begin, Call, Turn, Reply, Close, End, items_of, MessageWriter, chunk_bytes, message_bytes, record_bytes, open_xids, xid_in, xid_of, HoldsHandles, AreFirst, HoldsDistinct, rank, IsLent, IsLentAfter, handles, handles_in, verifiers, verifiers_in, EntryRef, items_after, message_after, bytes_after, spelling_of, HasSpelled, AreFew, told_after, HoldsBefore, IsGoing, IsNotedAs, WriterStands, values_of}
+use Rattle.canon3.proofs.Common.{◌≡◌, ◌<◌, ◌≤◌, ◌^◌, ◌⊎◌, inl, inr, ℕ, List, [], ◌∷◌, ◌++◌, length, length-append, append-nil, drop, sym, ap, ◌∙◌, arith, Some, nat_eq, max_body, Item, Spells, Word, word_bytes, zero_spelling, Entry, Begin, Call, Turn, Reply, Close, End, items_of, MessageWriter, chunk_bytes, message_bytes, record_bytes, open_xids, xid_in, xid_of, AreFirst, rank, IsLentAfter, handles, handles_in, verifiers, verifiers_in, EntryRef, items_after, message_after, bytes_after, spelling_of, HasSpelled, AreFew, told_after, HoldsBefore, IsGoing, IsNotedAs, WriterStands, values_of}
 use Rattle.patches.specs.Patches.{patched}
 use Rattle.capture3.specs.Numbering.{number_after}
 use Rattle.canon3.specs.declared.canonical_form.spelling.Spelling.{Spelling}

@@ -151,8 +151,10 @@ module _ {S H : Type 0} (old new : MessageWriter S H) (i : Item) where
       subst (λ s. IsSpelled s new.patches before (items ++ i ∷ [])) (sym stage)
       (spelled_more old.stage old.patches new.patches before items i j
       (later before items (λ e. going (stage ∙ e)) u.spelled)
-      (λ few. is hs vs u.handles u.verifiers (rw (values-push handle_in before.handles items i,
-      values-push verifier_in before.verifiers items i) at few))
+      (λ few. is hs vs u.handles u.verifiers (rw (
+        values-push handle_in before.handles items i,
+        values-push verifier_in before.verifiers items i,
+      ) at few))
       notes u.spelled))
 
 -- a number of a table that is not full
@@ -277,8 +279,10 @@ items_after-plain : (l more : List Item) (hs vs : List (List ℕ)) → AllByRecu
     → items_after hs vs (l ++ more) ≡ items_after hs vs l ++ more
 items_after-plain [] [] hs vs all = refl
 items_after-plain [] (i ∷ more) hs vs all =
-    rw (plain_numbered (hs ++ handle_in i) (vs ++ verifier_in i) i all.0,
-    items_after-plain [] more (hs ++ handle_in i) (vs ++ verifier_in i) all.1)
+    rw (
+      plain_numbered (hs ++ handle_in i) (vs ++ verifier_in i) i all.0,
+      items_after-plain [] more (hs ++ handle_in i) (vs ++ verifier_in i) all.1,
+    )
 items_after-plain (j ∷ l) more hs vs all =
     rw (items_after-plain l more (hs ++ handle_in j) (vs ++ verifier_in j) all)
 

@@ -1,4 +1,4 @@
-use Rattle.canon3.proofs.Common.{[], ◌∷◌, ◌++◌, subst, source_of, IsFound}
+use Rattle.canon3.proofs.Common.{[], ◌∷◌, ◌++◌, source_of}
 use Rattle.canon3.proofs.Lemmas.Comparison.ComparisonLemmas.{ended_decides, first_of, first_stops, given_on, parted_decides}
 use Rattle.canon3.proofs.Lemmas.Comparison.Reading.{both_read}
 use Rattle.canon3.proofs.comparison.conclude.Goals as goal

@@ -1,4 +1,4 @@
-use Rattle.canon3.proofs.Common.{Ok, subst, error_is, ReadsOn}
+use Rattle.canon3.proofs.Common.{error_is}
 use Rattle.canon3.proofs.comparison.drain.Goals as goal
 
 pub returns-clause-out : goal.returns-clause-out

@@ -1,5 +1,4 @@
-use Rattle.canon3.proofs.Common.{◌≡◌, ◌∙◌, ap₂, subst, sym, [], ◌∷◌, ◌++◌, values_of, HasPassed, place_from, spelling_of}
-use Rattle.std.specs.Prelude.{MatchBool, ◌≢◌}
+use Rattle.canon3.proofs.Common.{◌∙◌, ap₂, [], ◌∷◌, ◌++◌, values_of, place_from}
 use Rattle.canon3.proofs.Lemmas.Comparison.ComparisonLemmas.{agree_on, parts_here}
 use Rattle.canon3.proofs.Lemmas.Progress.ProgressLemmas.{after_more, told_by}
 use Rattle.canon3.proofs.Lemmas.Writing.EntryWriterLemmas.{lent_kind}

@@ -1,5 +1,5 @@
-use Rattle.canon3.proofs.Common.{Ok, Err, subst, sym, items_of, WriterStands, Meets}
-use Rattle.canon3.proofs.Lemmas.Comparison.ComparisonLemmas.{compared_meets, Hands, hands, not_ended, refused_meets, told_second, with_second}
+use Rattle.canon3.proofs.Common.{Ok, Err, items_of, WriterStands}
+use Rattle.canon3.proofs.Lemmas.Comparison.ComparisonLemmas.{compared_meets, hands, not_ended, refused_meets, told_second, with_second}
 use Rattle.canon3.proofs.comparison.Comparison.compare_second_entry.Goals as goal
 
 pub returns-in_ok-compare-in-Some-clause-meets : goal.returns-in_ok-compare-in-Some-clause-meets

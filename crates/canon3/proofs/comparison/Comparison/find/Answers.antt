@@ -1,4 +1,3 @@
-use Rattle.canon3.proofs.Common.{Ok, subst, StepsOn}
 use Rattle.canon3.proofs.comparison.Comparison.find.Goals as goal
 
 pub returns-in-Some-clause-found : goal.returns-in-Some-clause-found

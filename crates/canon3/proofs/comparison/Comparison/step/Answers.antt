@@ -1,5 +1,5 @@
-use Rattle.canon3.proofs.Common.{Ok, Err, subst, source_of, items_of, WriterStands}
-use Rattle.canon3.proofs.Lemmas.Comparison.ComparisonLemmas.{first_stops, Hands, hands, stepped, told_first}
+use Rattle.canon3.proofs.Common.{Ok, Err, source_of, items_of, WriterStands}
+use Rattle.canon3.proofs.Lemmas.Comparison.ComparisonLemmas.{first_stops, hands, stepped, told_first}
 use Rattle.canon3.proofs.comparison.Comparison.step.Goals as goal
 
 pub returns-in-Some-clause-steps : goal.returns-in-Some-clause-steps

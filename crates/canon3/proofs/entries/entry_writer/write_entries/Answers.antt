@@ -4,10 +4,18 @@ use Rattle.canon3.proofs.entries.entry_writer.write_entries.Goals as goal
 
 pub returns-clause-writes : goal.returns-clause-writes
 returns-clause-writes g c =
-    let w = c.in_ok-counts.ensures.ends in
-    (w.given, w.ended.consumed, (w.handed, w.ended.ended, w.ended.typed,
-            c.summary.ensures w.given w.handed w.ended.typed w.writes.came
-        (c.handles.ensures w.handed w.writes.goes w.writes.stands_for), w.writes.written))
+    let w = c.in_ok-counts.ensures.ends in (
+      w.given,
+      w.ended.consumed,
+      (
+        w.handed,
+        w.ended.ended,
+        w.ended.typed,
+        c.summary.ensures w.given w.handed w.ended.typed w.writes.came
+            (c.handles.ensures w.handed w.writes.goes w.writes.stands_for),
+        w.writes.written,
+      ),
+    )
 
 pub returns-clause-whole : goal.returns-clause-whole
 returns-clause-whole g c bytes gave =
@@ -22,6 +30,6 @@ returns-in_err-counts-clause-whole g c bytes gave =
     let told = g.R.Source.told c.write_whole.new.source in
     let s = c.in_err-counts.ensures.ends in
     rw (error_is _ _ c.from_residual.ensures)
-        (all_written _ c.requires.prefixes IsSummary bytes first told _ _
+    (all_written _ c.requires.prefixes IsSummary bytes first told _ _
     (Err c.in_err-counts.field-0.0) (λ given. prefix_of_kept first told given bytes gave)
     (s.given, s.consumed, s.stopped))

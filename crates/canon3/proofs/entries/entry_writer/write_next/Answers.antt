@@ -1,5 +1,4 @@
-use Rattle.canon3.proofs.Common.{Ok, [], ◌∷◌, ◌++◌, length, arith, subst, sym, ◌<◌, ◌^◌, gave_both, Adds, source_of, error_is, HandsOut}
-use Rattle.canon3.specs.machinery.WritingSteps.{HasWritten}
+use Rattle.canon3.proofs.Common.{[], ◌∷◌, ◌++◌, length, arith, ◌<◌, ◌^◌, gave_both, Adds, source_of, error_is}
 use Rattle.canon3.proofs.Lemmas.Writing.EntryWriterLemmas.{met_stops, written_goes_on}
 use Rattle.canon3.proofs.Lemmas.Order.Reaching.{first_reached}
 use Rattle.canon3.proofs.entries.entry_writer.write_next.Goals as goal

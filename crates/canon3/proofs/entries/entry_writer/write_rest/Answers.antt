@@ -1,4 +1,3 @@
-use Rattle.canon3.proofs.Common.{Ok, subst, WritesOn}
 use Rattle.canon3.proofs.entries.entry_writer.write_rest.Goals as goal
 
 pub returns-clause-over : goal.returns-clause-over

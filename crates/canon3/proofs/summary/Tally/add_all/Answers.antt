@@ -1,5 +1,4 @@
-use Rattle.canon3.proofs.Common.{Ok, subst, error_is}
-use Rattle.canon3.specs.machinery.Tally.{TalliesOn}
+use Rattle.canon3.proofs.Common.{error_is}
 use Rattle.canon3.proofs.summary.Tally.add_all.Goals as goal
 
 pub returns-clause-over : goal.returns-clause-over

@@ -1,4 +1,4 @@
-use Rattle.canon3.proofs.Common.{List, Ok, [], ◌∷◌, ◌++◌, subst, sym, gave_both, Item, Adds, source_of, error_is, all_items, Gathers, HandsOut}
+use Rattle.canon3.proofs.Common.{List, [], ◌∷◌, ◌++◌, subst, sym, gave_both, Item, Adds, source_of, error_is, all_items, Gathers}
 use Rattle.canon3.proofs.Lemmas.Progress.SummaryLemmas.{items_with_last}
 use Rattle.canon3.proofs.summary.Tally.add_next.Goals as goal
 
