@@ -15,7 +15,7 @@ use crate::canonical_form::message_writer::MessageWriter;
 use crate::canonical_form::spelling::Spelling;
 use crate::entries::entry_counts::EntryCounts;
 use crate::sink::Sink;
-use crate::sink::whole_writes::{write_all, write_both, write_record};
+use crate::sink::whole_writes::{chunk_head, write_all, write_both};
 use capture3::{Error, pack_chunk, pack_header};
 use record_mark::BODY_LIMIT;
 use std::hash::BuildHasher;
@@ -113,5 +113,5 @@ pub fn write_message<W: Sink>(sink: &mut W, message: &[u8]) -> Result<(), Error>
     if message.len() > BODY_LIMIT as usize {
         return Err(Error::Memory);
     }
-    write_record(sink, message)
+    write_both(sink, &chunk_head(message.len() as u32), message)
 }

@@ -2,9 +2,7 @@
 
 ghost use Rattle.std.specs.Prelude.{◌≡◌, ◌≤◌, ◌+◌, ◌^◌, ◌++◌, length, IfErr, OnErr, OnOk};
 ghost use Rattle.std.specs.Io.KnownBytes.{Appends};
-ghost use Rattle.record_mark.specs.RecordMark.{max_body};
 ghost use Rattle.xdr3.specs.Item.{word_bytes};
-ghost use Rattle.canon3.specs.Bytes.{chunk_bytes, record_bytes};
 ghost use Rattle.canon3.specs.SinkWrites.{AppendsFront};
 ghost use Rattle.canon3.specs.WriteErrors.{CountsWriting};
 
@@ -53,20 +51,6 @@ pub fn write_both<W: Sink>(sink: &mut W, first: &[u8], second: &[u8]) -> Result<
 {
     write_all(sink, first)?;
     write_all(sink, second)
-}
-
-/// Writes a record's body, of at most 16,777,216 bytes, as one chunk that is one last fragment. After
-/// an error a prefix of the chunk was written.
-pub(crate) fn write_record<W: Sink>(sink: &mut W, body: &[u8]) -> Result<(), Error>
-    requires { length body.now ≤ max_body }
-    ensures ok { OnOk result (Appends (W.written sink.old) (W.written sink.new)
-        (chunk_bytes (record_bytes body.now))) }
-    ensures err { OnErr result (AppendsFront (W.written sink.old) (W.written sink.new)
-        (chunk_bytes (record_bytes body.now))) }
-    ensures count { CountsWriting (W.failures sink.old) (W.failures sink.new) result }
-    ensures error { IfErr result (λ error. error ≡ Error.Write) }
-{
-    write_both(sink, &chunk_head(body.len() as u32), body)
 }
 
 /// Returns the length of the chunk of a body of `len` bytes, and the body's header.

@@ -88,5 +88,6 @@ pub entries_after-append : (a b : List Entry) (hs vs : List (List ℕ)) (xs : Li
     ≡ entries_after hs vs xs a
     ++ entries_after (hs ++ handles a) (vs ++ verifiers a) (open_xids xs a) b
 entries_after-append [] b hs vs xs = simp append-nil
-entries_after-append (Begin ∷ a) b hs vs xs = simp (entries_after-append a b)
-entries_after-append (_ ∷ a) b hs vs xs = simp (entries_after-append a b, append_assoc)
+entries_after-append (Call m ∷ a) b hs vs xs = simp (entries_after-append a b, append_assoc)
+entries_after-append (Reply id m ∷ a) b hs vs xs = simp (entries_after-append a b, append_assoc)
+entries_after-append (_ ∷ a) b hs vs xs = simp (entries_after-append a b)

@@ -1,4 +1,4 @@
-use Rattle.canon3.proofs.Common.{[], ap, ◌∙◌, append-nil, handles, HoldsHandles, min, subst, values_of, number_limit}
+use Rattle.canon3.proofs.Common.{[], ap, ◌∙◌, append-nil, min, values_of, number_limit}
 use Rattle.canon3.proofs.Lemmas.Numbers.HandleTableLemmas.{distinct_held}
 use Rattle.canon3.proofs.Lemmas.Writing.Opening.{is_under_way}
 use Rattle.canon3.proofs.canonical_form.MessageWriterCountingWriter.handles.Goals as goal
@@ -6,6 +6,5 @@ use Rattle.canon3.proofs.canonical_form.MessageWriterCountingWriter.handles.Goal
 pub returns : goal.returns
 returns g c entries going stands =
     let (given, table, are) =
-    subst (HoldsHandles c.args.self.now.handles) (append-nil (handles entries))
-    (is_under_way c.args.self.now (values_of entries) [] going stands).handles in
+    rw append-nil at (is_under_way c.args.self.now (values_of entries) [] going stands).handles in
     c.len.ensures given table ∙ ap (λ n. min n number_limit) (distinct_held given are)

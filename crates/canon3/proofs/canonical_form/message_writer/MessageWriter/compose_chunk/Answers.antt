@@ -19,39 +19,27 @@ returns-clause-chunk g c =
     let headed : slice ≡ head ++ drop 8 room =
     c.set_head.ensures ∙ ap (λ (l : List ℕ). head ++ drop 8 l) c.deref_mut.ensures.value in
     let same : length slice ≡ length room =
-    omega (
+    rw (headed, length-append) (simp length-drop (omega (
       arith,
-      ap length headed,
-      length-append head (drop 8 room),
-      length-drop 8 room,
       ap length c.chunk_head.ensures,
       within,
       c.in_ok-end.ensures.from,
-    ) in
+    ))) in
     let left : length (slice ++ drop (length slice) room) ≤ size =
-    omega (
-      arith,
-      length-append slice (drop (length slice) room),
-      length-drop (length slice) room,
-      same,
-      whole,
-    ) in
+    simp (length-append, length-drop) (omega (arith, same, whole)) in
     let fits : end ≤ length slice = omega (arith, same, within) in
     let kept : take end (take size (slice ++ drop (length slice) room))
     ≡ take end (head ++ drop 8 room) =
     ap (take end) (take_all size (slice ++ drop (length slice) room) left)
     ∙ take-append-le end slice (drop (length slice) room) fits ∙ ap (take end) headed in
     let counted : c.saturating_add-len.result ≡ length message =
-    omega (
+    simp (length-drop, length-append, length-take) (omega (
       arith,
-      length-drop 8 (take end room ++ rest),
-      length-append (take end room) rest,
-      length-take end room,
       c.in_ok-end.ensures.from,
       within,
       c.saturating_add-len.ensures,
       c.if-len.false,
-    ) in
+    )) in
     let spelled =
     c.chunk_head.ensures ∙ ap (λ (n : ℕ). word_bytes (4 + n) ++ word_bytes (2 ^ 31 + n)) counted in
     ap (λ (l : List ℕ). l ++ rest) kept

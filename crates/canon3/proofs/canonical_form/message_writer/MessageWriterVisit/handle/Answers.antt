@@ -1,5 +1,4 @@
-use Rattle.canon3.proofs.Common.{[], ◌∷◌, Handle, Opaque, Adds, WriterStands}
-use Rattle.canon3.proofs.Lemmas.Writing.Visiting.{adds_empty_handle, is_none, settled}
+use Rattle.canon3.proofs.Lemmas.Writing.Visiting.{adds_empty_handle, adds_settled, is_none}
 use Rattle.canon3.proofs.canonical_form.message_writer.MessageWriterVisit.handle.Goals as goal
 
 pub returns-then-is_empty-clause-ok : goal.returns-then-is_empty-clause-ok
@@ -10,10 +9,5 @@ returns-then-is_empty-clause-ok g c =
 
 pub returns-clause-ok : goal.returns-clause-ok
 returns-clause-ok g c =
-    settled
-    (λ n.
-    Adds (WriterStands {S = g.row.S.Denot} {H = g.row.S-Hasher.Denot}) c.args.self.now n
-    (Opaque Handle c.args._name.now c.args.bytes.now ∷ [])) c.note_handle-noted.result
-    c.fail_for_good.result c.note_handle-noted.new.self c.fail_for_good.new.self
-    c.fail_for_good.ensures.result c.fail_for_good.ensures.ok
+    adds_settled _ _ _ _ c.fail_for_good.ensures.result c.fail_for_good.ensures.ok
     (c.note_handle-noted.ensures.ok c.args._name.now)

@@ -1,13 +1,8 @@
-use Rattle.canon3.proofs.Common.{[], ◌∷◌, refl, Opaque, Var, Adds, WriterStands}
-use Rattle.canon3.proofs.Lemmas.Writing.Visiting.{settled}
+use Rattle.canon3.proofs.Common.{refl, Var}
+use Rattle.canon3.proofs.Lemmas.Writing.Visiting.{adds_settled}
 use Rattle.canon3.proofs.canonical_form.message_writer.MessageWriterVisit.var.Goals as goal
 
 pub returns-clause-ok : goal.returns-clause-ok
 returns-clause-ok g c =
-    settled
-    (λ n.
-    Adds (WriterStands {S = g.row.S.Denot} {H = g.row.S-Hasher.Denot}) c.args.self.now n
-    (Opaque Var c.args._name.now c.args.bytes.now ∷ [])) c.note_run-noted.result
-    c.fail_for_good.result c.note_run-noted.new.self c.fail_for_good.new.self
-    c.fail_for_good.ensures.result c.fail_for_good.ensures.ok
+    adds_settled _ _ _ _ c.fail_for_good.ensures.result c.fail_for_good.ensures.ok
     (c.note_run-noted.ensures Var c.args._name.now c.args.bytes.now tt refl)
