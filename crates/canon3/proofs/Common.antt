@@ -1,7 +1,6 @@
 -- The names that most proofs of the crate cite, passed on from one place. Declares nothing.
 pub use Rattle.byteorder.specs.Endian.{big_bytes, big_number}
-pub use Rattle.byteorder.specs.Numbers.{length-bytes_high_first}
-pub use Rattle.capture3.proofs.Lemmas.Container.BytesOf.{AreBytes-append, AreBytes-nil, all_bytes, checked}
+pub use Rattle.capture3.proofs.Lemmas.Container.BytesOf.{AreBytes-append, AreBytes-nil, checked}
 pub use Rattle.capture3.proofs.Lemmas.Reached.EmittedEntries.{reached_by_machine}
 pub use Rattle.capture3.proofs.Lemmas.Reader.PassedOn.{error_is}
 pub use Rattle.capture3.proofs.Lemmas.Reader.ToldLemmas.{IsPrefixOf, gave_both, gave_none, prefix_of_kept, prefix_of_told, shown_of_all}
@@ -10,8 +9,7 @@ pub use Rattle.capture3.specs.Capture.{One, magic}
 pub use Rattle.capture3.specs.Chunks.{max_bytes}
 pub use Rattle.capture3.specs.Entries.{IsMetBy, failure_of, loan_of, source_of}
 pub use Rattle.capture3.specs.Entry.{Begin, Call, Close, End, Entry, Reply, Turn, items_of}
-pub use Rattle.capture3.specs.Handing.{HandsOut}
-pub use Rattle.capture3.specs.Kept.{IsLent, IsOfKind}
+pub use Rattle.capture3.specs.Kept.{IsOfKind}
 pub use Rattle.capture3.specs.Laws.{most_entries}
 pub use Rattle.capture3.specs.Reached.{AreFirstReached, Reached}
 pub use Rattle.capture3.specs.SidedChunks.{Streams, size}
@@ -31,11 +29,10 @@ unfoldable pub use Rattle.procs3.specs.Table.{arguments_of, results_of}
 pub use Rattle.record_mark.proofs.Steps.{IsWord-big_bytes}
 pub use Rattle.record_mark.specs.RecordMark.{max_body}
 pub use Rattle.record_mark.specs.Word.{Joins}
-pub use Rattle.rpc_head.specs.Messages.{procedure_in}
 unfoldable pub use Rattle.rpc_head.specs.Messages.{call_layout, call_start, reply_layout, reply_start}
 unfoldable pub use Rattle.rpc_head.specs.Shapes.{call_head, reply_head}
 pub use Rattle.rpc_head.specs.declared.values.call.ProcId.{ProcId}
-pub use Rattle.std.proofs.Common.{Bool, Err, List, None, Ok, Option, Result, Some, [], ap, append-nil, append_assoc, ap₂, arith, cond, drop, false, inl, inr, length, length-append, length-drop, length-take, map, min, not, refl, replicate, rules, subst, suc, sym, take, take-append-drop, true, zero, ℕ, ⊎_elim, ◌++◌, ◌+◌, ◌-◌, ◌<◌, ◌^◌, ◌||◌, ◌↔◌, ◌∙◌, ◌∷◌, ◌≡◌, ◌≢◌, ◌≤◌, ◌⊎◌}
+pub use Rattle.std.proofs.Common.{Bool, Err, List, None, Ok, Option, Result, Some, [], ap, append-nil, append_assoc, ap₂, arith, cond, drop, false, inl, inr, length, length-append, length-drop, length-take, map, min, refl, replicate, rules, subst, suc, sym, take, take-append-drop, true, zero, ℕ, ⊎_elim, ◌++◌, ◌+◌, ◌-◌, ◌<◌, ◌^◌, ◌||◌, ◌↔◌, ◌∙◌, ◌∷◌, ◌≡◌, ◌≢◌, ◌≤◌, ◌⊎◌}
 pub use Rattle.std.proofs.KnownBytes.{Appends-nil, Appends-trans}
 pub use Rattle.std.proofs.lemmas.Bool.{cases_lt}
 pub use Rattle.std.proofs.lemmas.Bool.Decides.{Decides-eqb}
@@ -62,10 +59,10 @@ pub use Rattle.canon3.specs.EntryWriter.{IsLentAfter}
 pub use Rattle.canon3.specs.Examples.{p, q}
 pub use Rattle.canon3.specs.HandleTable.{Gathers, HoldsHandles, same_handle}
 pub use Rattle.canon3.specs.Laws.{AreFirst}
-pub use Rattle.canon3.specs.OneToOne.{IsHandle, IsVerifier, IsXid, Member, OneToOne, Pairs, here, there}
+pub use Rattle.canon3.specs.OneToOne.{IsHandle, IsVerifier, IsXid, Member, Pairs, here, there}
 pub use Rattle.canon3.specs.Parting.{IsMessageOf, IsPlaceOf, Parting, PartsAt, connections, first_ends, first_message, next_record, second_ends, second_message}
 pub use Rattle.canon3.specs.Progress.{HasPassed, steps_of}
-pub use Rattle.capture3.specs.Rank.{HoldsDistinct, before, distinct, number_limit, rank, with_key, with_keys}
+pub use Rattle.capture3.specs.Rank.{HoldsDistinct, distinct, number_limit, rank, with_key}
 pub use Rattle.canon3.specs.Renaming.{IsPlain, Pairwise, Renames, RenamesItem, RenamesMessage, Same, begins, calls, closes, ended, ends, handle, message, more, none, plain, replies, turns, verifier}
 pub use Rattle.canon3.specs.SinkWrites.{AppendsFront}
 pub use Rattle.canon3.specs.Summary.{AreMessageCounts, IsSummary}
@@ -78,7 +75,7 @@ pub use Rattle.canon3.specs.declared.comparison.verdict.SameError.{SameError}
 pub use Rattle.canon3.specs.declared.entries.entry_counts.EntryCounts.{EntryCounts}
 pub use Rattle.canon3.specs.declared.entries.progress.Progress.{Progress}
 pub use Rattle.canon3.specs.declared.summary.Summary.{Summary}
-pub use Rattle.canon3.specs.machinery.ComparisonSteps.{Agree, HasGivenOn, IsFound, Meets, PartWith, ReadsOn, StepsOn}
+pub use Rattle.canon3.specs.machinery.ComparisonSteps.{Agree, HasGivenOn, PartWith}
 pub use Rattle.canon3.specs.machinery.FormSteps.{are_some, magic_unless}
 pub use Rattle.canon3.specs.machinery.MessageWriter.{AreFew, Before, HoldsBefore, IsGoing, IsNotedAs, IsWithinMessage, Notes, WriterStands, told_after, values_of}
 pub use Rattle.capture3.specs.OpenXids.{open_xids}
@@ -86,4 +83,3 @@ pub use Rattle.canon3.specs.machinery.PartialWrites.{TookUpTo}
 pub use Rattle.canon3.specs.machinery.ProgressSteps.{place_from, side_in}
 pub use Rattle.canon3.specs.machinery.Spelling.{HasSpelled, bytes_after, spelling_of}
 pub use Rattle.canon3.specs.machinery.Sums.{all_items}
-pub use Rattle.canon3.specs.machinery.WritingSteps.{WritesOn}

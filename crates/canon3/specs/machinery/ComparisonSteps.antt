@@ -65,9 +65,7 @@ met_second errors.Memory = Err (record { which = Second; error = errors.Memory }
 -- the refusal that waits
 abbrev pub refusal_in : Option Finding → Option Error
 refusal_in (Some (findings.Refused fault)) = Some (errors.Refused fault)
-refusal_in (Some findings.Ended) = None
-refusal_in (Some (findings.Parted place)) = None
-refusal_in None = None
+refusal_in _ = None
 
 -- the failed reads of this one's source, between two states of its reader
 abbrev pub CountsReadsOf : {R S H X : Type 0} {builds : BuildHasher.Ghosts S H}
@@ -79,9 +77,7 @@ CountsReadsOf which failures old new result =
 -- what an error of a reader says of what its source gave
 abbrev pub SaysOfGiven : (start now : Told) → Error → Type 0
 SaysOfGiven start now (errors.Refused fault) = GaveFault start now fault
-SaysOfGiven start now errors.Read = Unit {0}
-SaysOfGiven start now errors.Write = Unit {0}
-SaysOfGiven start now errors.Memory = Unit {0}
+SaysOfGiven start now _ = Unit {0}
 
 -- the source gave all that it had, after these entries
 abbrev pub IsReadOut : {X : Type 0} → (start now : Told) → List Entry → Result X Error → Type 0

@@ -51,28 +51,23 @@ xid_graphs [] = []
 xid_graphs (Begin ∷ es) = graph (xid_number (call_xids es)) (call_xids es) ∷ xid_graphs es
 xid_graphs (_ ∷ es) = xid_graphs es
 
+agree-numbers : {IsPart : List ℕ → Type 0} (n : ℕ) (l : List (List ℕ))
+    → ((x : List ℕ) → Member x l → IsPart x × IsPart (big_bytes n (rank bytes_eq x l)))
+    → length l < 256 ^ n → Agree bytes_eq IsPart (graph (λ x. big_bytes n (rank bytes_eq x l)) l)
+agree-numbers n l fit few =
+    agree-graph bytes_eq bytes_eq-Decides (λ x. big_bytes n (rank bytes_eq x l)) l fit
+    (λ x y h k e. same_rank bytes_eq bytes_eq-Decides h k (number_back n _ _
+    (omega (arith, few, rank-le-length bytes_eq bytes_eq-Decides h))
+    (omega (arith, few, rank-le-length bytes_eq bytes_eq-Decides k)) e))
+
 agree-handles : (hs : List (List ℕ)) → ((h : List ℕ) → Member h hs → IsHandle h)
     → length hs < 2 ^ 32 → Agree bytes_eq IsHandle (graph (handle_number hs) hs)
 agree-handles hs fit few =
-    agree-graph bytes_eq bytes_eq-Decides (handle_number hs) hs
-    (λ h m. (fit h m, (omega arith, omega arith)))
-    (λ h k m n e.
-    let a : rank bytes_eq h hs < 2 ^ 32 =
-    omega (arith, rank-le-length bytes_eq bytes_eq-Decides m) in
-    let b : rank bytes_eq k hs < 2 ^ 32 =
-    omega (arith, rank-le-length bytes_eq bytes_eq-Decides n) in
-    same_rank bytes_eq bytes_eq-Decides m n (number_back 4 _ _ (omega arith) (omega arith) e))
+    agree-numbers 4 hs (λ h m. (fit h m, (omega arith, omega arith))) (omega arith)
 
 agree-verifiers : (vs : List (List ℕ)) → ((v : List ℕ) → Member v vs → IsVerifier v)
     → length vs < 2 ^ 32 → Agree bytes_eq IsVerifier (graph (verifier_number vs) vs)
-agree-verifiers vs fit few =
-    agree-graph bytes_eq bytes_eq-Decides (verifier_number vs) vs (λ v m. (fit v m, refl))
-    (λ h k m n e.
-    let a : rank bytes_eq h vs < 2 ^ 64 =
-    omega (arith, rank-le-length bytes_eq bytes_eq-Decides m) in
-    let b : rank bytes_eq k vs < 2 ^ 64 =
-    omega (arith, rank-le-length bytes_eq bytes_eq-Decides n) in
-    same_rank bytes_eq bytes_eq-Decides m n (number_back 8 _ _ (omega arith) (omega arith) e))
+agree-verifiers vs fit few = agree-numbers 8 vs (λ v m. (fit v m, refl)) (omega arith)
 
 agree-xids : (l : List ℕ) → Agree nat_eq IsXid (graph (xid_number l) l)
 agree-xids l =

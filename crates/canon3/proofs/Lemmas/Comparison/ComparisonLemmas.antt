@@ -48,12 +48,10 @@ module _ {S H : Type 0} (n m : MessageWriter S H) (form other_form : Spelling) (
 -- ---- a comparison whose numberings are told items
 
 abbrev pub with_first : {S H : Type 0} → Comparison S H → MessageWriter S H → Comparison S H
-with_first comparison n =
-    record { first = n; second = comparison.second; progress = comparison.progress }
+with_first comparison n = record comparison { first = n }
 
 abbrev pub with_second : {S H : Type 0} → Comparison S H → MessageWriter S H → Comparison S H
-with_second comparison n =
-    record { first = comparison.first; second = n; progress = comparison.progress }
+with_second comparison n = record comparison { second = n }
 
 -- the items told stand after the values
 told : {S H : Type 0} (was now : MessageWriter S H) (before : Before) (items : List Item)
@@ -61,8 +59,7 @@ told : {S H : Type 0} (was now : MessageWriter S H) (before : Before) (items : L
     → WriterStands now (told_after before items)
 unfolding Adds
 told was now before items adds stands =
-    subst (WriterStands now) (sym (told_after-append before [] items))
-    (adds (told_after before []) stands)
+    rw (told_after-append before [] items) (adds (told_after before []) stands)
 
 module _ {S H : Type 0} (comparison : Comparison S H) (a b : List Entry)
     (n : MessageWriter S H) where

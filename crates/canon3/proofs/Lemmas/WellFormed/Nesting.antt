@@ -1,5 +1,5 @@
 -- The order of entries pairs each reply with an earlier call of its connection.
-use Rattle.canon3.proofs.Common.{◌≡◌, ℕ, zero, suc, List, [], ◌∷◌, ◌++◌, take, refl, ap, subst, ⊤, Entry, Begin, Call, Turn, Reply, Close, End, xid_of, call_xids}
+use Rattle.canon3.proofs.Common.{◌≡◌, ℕ, zero, suc, List, [], ◌∷◌, ◌++◌, take, refl, ap, subst, ⊤, Entry, Begin, Call, Reply, xid_of, call_xids}
 use Rattle.canon3.proofs.Lemmas.Order.Order.{BeginsWithXid, IsAnswering, Stage, Between, InCalls, InReplies, begin, call, turn, reply, close, end, Runs, stays, steps}
 
 -- xs: the xids of the open connection's calls so far
@@ -7,10 +7,8 @@ abbrev pub Paired : (xs : List ℕ) → List Entry → Type 0
 Paired xs [] = ⊤
 Paired xs (Begin ∷ es) = Paired [] es
 Paired xs (Call items ∷ es) = BeginsWithXid items × Paired (xs ++ xid_of items) es
-Paired xs (Turn ∷ es) = Paired xs es
 Paired xs (Reply id items ∷ es) = IsAnswering xs items × Paired xs es
-Paired xs (Close ∷ es) = Paired xs es
-Paired xs (End ∷ es) = Paired xs es
+Paired xs (_ ∷ es) = Paired xs es
 
 -- the open connection's xids are these
 abbrev pub HasXids : Stage → List ℕ → Type 0
