@@ -49,6 +49,7 @@ pub fn canon<R: Source, W: Sink, S: BuildHasher + Drop>(
     source: &mut R,
     sink: &mut W,
 ) -> Result<Summary, Error>
+    // What is written.
     ensures rewrites { RewritesGiven (R.told source.old) (R.told source.new) (W.written sink.old)
         (W.written sink.new) result }
     ensures whole { (bytes : List ℕ) → GavePrefix (R.told source.old) (R.told source.new) bytes
@@ -57,6 +58,8 @@ pub fn canon<R: Source, W: Sink, S: BuildHasher + Drop>(
         → GavePrefix (R.told source.old) (R.told source.new) bytes
         → WritesNoMore bytes (W.written sink.old) (W.written sink.new) result }
     ensures flushes { OnOk result (IsFlushed (W.written sink.new) (W.flushed sink.new)) }
+
+    // The devices.
     ensures read { CountsReading (R.failures source.old) (R.failures source.new) result }
     ensures write { CountsWriting (W.failures sink.old) (W.failures sink.new) result }
 {

@@ -5,11 +5,11 @@ pub(crate) mod verdict;
 ghost use Rattle.std.specs.Prelude.{◌≡◌, ◌≢◌, ◌<◌, ◌≤◌, ◌+◌, ◌^◌, ◌++◌, ◌∷◌, ℕ, List, [], length, None, Some, IfErr, IfOk, IsTrue, OnOk};
 ghost use Rattle.capture3.specs.Told.{GavePrefix, Told};
 ghost use Rattle.capture3.specs.Entries.{failure_of, source_of};
-ghost use Rattle.capture3.specs.machinery.EntriesHistory.{entries_left, StandsFor};
+ghost use Rattle.capture3.specs.machinery.EntriesHistory.{entries_left};
 ghost use Rattle.capture3.specs.Entry as spec;
 ghost use Rattle.capture3.specs.Laws.{most_entries};
 ghost use Rattle.canon3.specs.Comparison.{CountsReadingOf, DecidesGiven, DecidesSame};
-ghost use Rattle.canon3.specs.machinery.ComparisonSteps.{Compares, FindsOut, HasGiven, HasGivenOn, IsCompared, IsFound, IsReadAfter, IsReadOut, IsTold, IsComparing, Meets, met_second, ReadsOn, refusal_in, StepsOn};
+ghost use Rattle.canon3.specs.machinery.ComparisonSteps.{Compares, FindsOut, HasGiven, HasGivenOn, IsFound, IsReadAfter, IsReadOut, IsTold, IsComparing, Meets, met_second, ReadsOn, refusal_in, StepsOn};
 ghost use Rattle.canon3.specs.machinery.Reading.{ReadsBoth, ReadsOne, ReadsSecond};
 ghost use Rattle.canon3.specs.Laws.{AreFirst};
 ghost use Rattle.canon3.specs.Progress.{steps_of};
@@ -43,6 +43,7 @@ pub fn same<A: Source, B: Source, S: BuildHasher + Drop>(
     first: &mut A,
     second: &mut B,
 ) -> Result<Verdict, SameError>
+    // The verdict.
     ensures decides { (file other : List ℕ) → (A.told first.old).left ≡ Some file
         → (B.told second.old).left ≡ Some other → DecidesSame file other result }
     ensures gave { DecidesGiven (A.told first.old) (A.told first.new)
@@ -50,6 +51,8 @@ pub fn same<A: Source, B: Source, S: BuildHasher + Drop>(
     ensures whole { (file other : List ℕ) → GavePrefix (A.told first.old) (A.told first.new) file
         → GavePrefix (B.told second.old) (B.told second.new) other
         → DecidesSame file other result }
+
+    // The devices.
     ensures read_first { CountsReadingOf Which.First (A.failures first.old)
         (A.failures first.new) result }
     ensures read_second { CountsReadingOf Which.Second (B.failures second.old)
@@ -88,8 +91,12 @@ fn compared<A: Source, B: Source, S: BuildHasher + Drop>(
     requires room { steps_of comparison.progress + entries_left first.old ≤ most_entries }
     requires going_first { failure_of first.old ≡ None }
     requires going_second { failure_of second.old ≡ None }
+
+    // The verdict.
     ensures gave { DecidesGiven (A.told (source_of first.old)) (A.told (source_of first.new))
         (B.told (source_of second.old)) (B.told (source_of second.new)) result }
+
+    // The devices.
     ensures reads { ReadsBoth A.failures B.failures first.old first.new
         second.old second.new result }
 {
@@ -106,12 +113,16 @@ fn found<A: Source, B: Source, S: BuildHasher + Drop>(
     requires going_first { failure_of first.old ≡ None }
     requires going_second { failure_of second.old ≡ None }
     requires room { steps_of comparison.progress + entries_left first.old ≤ most_entries }
+
+    // What is found.
     ensures found { (start other_start : Told)
         → IsComparing A.told B.told start other_start first.old second.old comparison
         → FindsOut A.told B.told start other_start first.new second.new result }
     ensures going_first { OnOk result (failure_of first.new ≡ None) }
     ensures going_second { IfOk result
         (λ finding. failure_of second.new ≡ refusal_in (Some finding)) }
+
+    // The devices.
     ensures reads { ReadsBoth A.failures B.failures first.old first.new
         second.old second.new result }
 {
@@ -226,12 +237,16 @@ impl<S: BuildHasher + Drop> Comparison<S> {
         requires going_first { failure_of first.old ≡ None }
         requires going_second { failure_of second.old ≡ None }
         requires room { steps_of self.old.progress + entries_left first.old ≤ most_entries }
+
+        // What is found.
         ensures found { (start other_start : Told)
             → IsComparing A.told B.told start other_start first.old second.old self.old
             → FindsOut A.told B.told start other_start first.new second.new result }
         ensures going_first { OnOk result (failure_of first.new ≡ None) }
         ensures going_second { IfOk result
             (λ finding. failure_of second.new ≡ refusal_in (Some finding)) }
+
+        // The devices.
         ensures reads { ReadsBoth A.failures B.failures first.old first.new
             second.old second.new result }
     {
@@ -251,9 +266,13 @@ impl<S: BuildHasher + Drop> Comparison<S> {
         requires going_first { failure_of first.old ≡ None }
         requires going_second { failure_of second.old ≡ None }
         requires room { steps_of self.old.progress + entries_left first.old ≤ most_entries }
+
+        // What came of the two entries.
         ensures steps { (start other_start : Told)
             → IsComparing A.told B.told start other_start first.old second.old self.old
             → StepsOn A.told B.told start other_start first.new second.new self.new result }
+
+        // The readers go on.
         ensures fewer { IfOk result (λ next. next ≡ None
             → entries_left first.new < entries_left first.old) }
         ensures going_first { OnOk result (failure_of first.new ≡ None) }
@@ -261,6 +280,8 @@ impl<S: BuildHasher + Drop> Comparison<S> {
         ensures room { IfOk result
             (λ next. next ≡ None → steps_of self.new.progress + entries_left first.new ≤
             most_entries) }
+
+        // The devices.
         ensures reads { ReadsBoth A.failures B.failures first.old first.new
             second.old second.new result }
     {
@@ -286,12 +307,18 @@ impl<S: BuildHasher + Drop> Comparison<S> {
     ) -> Result<Option<Finding>, SameError>
         requires going { failure_of second.old ≡ None }
         requires room { steps_of self.old.progress + 1 < 2 ^ 32 }
+
+        // What came of the two entries.
         ensures meets { (first now start : Told) (a b : List spec.Entry) (e : spec.Entry)
             → IsLentAfter a entry.entry e → AreFirst (a ++ e ∷ [])
             → IsTold self.old a b (items_of e) [] → HasGiven B.told start second.old b
             → Meets B.told first now start second.new self.new a b e result }
+
+        // What stays.
         ensures going { IfOk result (λ next. failure_of second.new ≡ refusal_in next) }
         ensures few { steps_of self.new.progress ≤ steps_of self.old.progress + 1 }
+
+        // The device.
         ensures reads { ReadsSecond B.failures second.old second.new result }
     {
         match second.next(&mut self.second) {

@@ -27,10 +27,14 @@ pub trait Sink {
     /// Writes a prefix of `piece`, and returns how many bytes it has.
     fn write_some(&mut self, piece: &[u8]) -> Result<usize, DeviceFailed>
         requires content { 0 < length piece.now }
+
+        // What is taken.
         ensures some { IfOk result (λ n. 0 < n) }
         ensures within { IfOk result (λ n. n ≤ length piece.now) }
         ensures bytes { WriteAppends (written self.old) (written self.new) result piece.now }
         ensures flushes { Keeps (flushed self.old) (flushed self.new) }
+
+        // The device.
         ensures count { Counts (failures self.old) (failures self.new) result };
 
     /// Flushes all that was written.

@@ -52,6 +52,7 @@ pub fn check<R: Source, S: BuildHasher + Drop>(
     hashers: Hashers<S>,
     source: &mut R,
 ) -> Result<Summary, Error>
+    // What is concluded.
     ensures ok { (bytes : List ℕ) → (R.told source.old).left ≡ Some bytes
         → IfOk result (IsSummary bytes) }
     ensures refused { (bytes : List ℕ) → (R.told source.old).left ≡ Some bytes
@@ -59,6 +60,8 @@ pub fn check<R: Source, S: BuildHasher + Drop>(
     ensures concludes { ConcludesGiven (R.told source.old) (R.told source.new) result }
     ensures whole { (bytes : List ℕ) → GavePrefix (R.told source.old) (R.told source.new) bytes
         → ConcludesAll bytes result }
+
+    // The device.
     ensures read { CountsReading (R.failures source.old) (R.failures source.new) result }
     ensures write { IfErr result (λ error. error ≢ Error.Write) }
 {
@@ -123,13 +126,19 @@ impl<S: BuildHasher + Drop> Tally<S> {
     fn add_next<R: Source>(&mut self, entries: &mut Entries<'_, R, S>) -> Result<bool, Error>
         requires going { failure_of entries.old ≡ None }
         requires room { counted_steps self.old.counts + entries_left entries.old ≤ most_entries }
+
+        // What is counted.
         ensures goes_on { (first : Told) → IsTallying R.told first entries.old self.old
             → TalliesOn R.told first entries.new self.new result }
+
+        // The reader goes on.
         ensures fewer { IfOk result (λ more. IsTrue more
             → entries_left entries.new < entries_left entries.old) }
         ensures going { OnOk result (failure_of entries.new ≡ None) }
         ensures room { IfOk result (λ more. IsTrue more
             → counted_steps self.new.counts + entries_left entries.new ≤ most_entries) }
+
+        // The device.
         ensures reads { ReadsOne R.failures entries.old entries.new result }
     {
         match entries.next(&mut self.handles)? {

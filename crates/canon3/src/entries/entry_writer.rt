@@ -11,7 +11,7 @@ ghost use Rattle.canon3.specs.EntryWriter.{KeepsPrefixes, WritesAll, WritesAllCo
 ghost use Rattle.canon3.specs.Summary.{AreMessageCounts};
 ghost use Rattle.canon3.specs.machinery.Reading.{ReadsAndWrites};
 ghost use Rattle.canon3.specs.machinery.WritingSteps.{BeginsWriting, WritesOn, EndsWriting, WritesToTheEnd, IsWriting, WritesMore};
-ghost use Rattle.canon3.specs.EntryCounts.{AreCounted, counted_steps};
+ghost use Rattle.canon3.specs.EntryCounts.{counted_steps};
 ghost use Rattle.capture3.specs.Rank.{distinct, number_limit};
 ghost use Rattle.canon3.specs.Values as values;
 ghost use Rattle.canon3.specs.WriteErrors.{CountsWriting, IsOfWriting};
@@ -92,11 +92,15 @@ pub fn write_entries<R: Source, W: Sink, E: CountingWriter, S: BuildHasher + Dro
     requires well { E.going writer.old }
     requires empty { E.form [] ≡ [] }
     requires prefixes { KeepsPrefixes E.form }
+
+    // What is written.
     ensures writes { WritesGiven E.form (R.told source.old) (R.told source.new) (W.written sink.old)
         (W.written sink.new) result }
     ensures whole { (bytes : List ℕ) → GavePrefix (R.told source.old) (R.told source.new) bytes
         → WritesAll E.form bytes (W.written sink.old) (W.written sink.new) result }
     ensures flushes { OnOk result (IsFlushed (W.written sink.new) (W.flushed sink.new)) }
+
+    // The devices.
     ensures read { CountsReading (R.failures source.old) (R.failures source.new) result }
     ensures write { CountsWriting (W.failures sink.old) (W.failures sink.new) result }
 {
@@ -127,12 +131,16 @@ pub fn write_form<R: Source, W: Sink, E: EntryWriter, S: BuildHasher + Drop>(
     requires well { E.going writer.old }
     requires empty { E.form [] ≡ [] }
     requires prefixes { KeepsPrefixes E.form }
+
+    // What is written.
     ensures writes { WritesGivenCounted AreMessageCounts E.form (R.told source.old)
         (R.told source.new) (W.written sink.old) (W.written sink.new) result }
     ensures whole { (bytes : List ℕ) → GavePrefix (R.told source.old) (R.told source.new) bytes
         → WritesAllCounted AreMessageCounts E.form bytes (W.written sink.old) (W.written sink.new)
         result }
     ensures flushes { OnOk result (IsFlushed (W.written sink.new) (W.flushed sink.new)) }
+
+    // The devices.
     ensures read { CountsReading (R.failures source.old) (R.failures source.new) result }
     ensures write { CountsWriting (W.failures sink.old) (W.failures sink.new) result }
 {
@@ -152,9 +160,13 @@ fn write_whole<R: Source, W: Sink, E: EntryWriter, S: BuildHasher + Drop>(
     requires well { E.going writer.old }
     requires empty { E.form [] ≡ [] }
     requires prefixes { KeepsPrefixes E.form }
+
+    // What is written.
     ensures ends { EndsWriting E.form E.before E.stands E.going (R.told source.old)
         (W.written sink.old) (R.told source.new) writer.new (W.written sink.new) result }
     ensures flushes { OnOk result (IsFlushed (W.written sink.new) (W.flushed sink.new)) }
+
+    // The devices.
     ensures read { CountsReading (R.failures source.old) (R.failures source.new) result }
     ensures write { CountsWriting (W.failures sink.old) (W.failures sink.new) result }
 {
@@ -178,10 +190,14 @@ fn write_new<R: Source, W: Sink, E: EntryWriter, S: BuildHasher + Drop>(
         (R.told (source_of entries.old)) (W.written sink.old) entries.old writer.old }
     requires going { failure_of entries.old ≡ None }
     requires prefixes { KeepsPrefixes E.form }
+
+    // What is written.
     ensures ends { EndsWriting E.form E.before E.stands E.going (R.told (source_of entries.old))
         (W.written sink.old) (R.told (source_of entries.new)) writer.new (W.written sink.new)
         result }
     ensures flushes { OnOk result (IsFlushed (W.written sink.new) (W.flushed sink.new)) }
+
+    // The devices.
     ensures devices { ReadsAndWrites R.failures entries.old entries.new (W.failures sink.old)
         (W.failures sink.new) result }
 {
@@ -226,18 +242,24 @@ fn write_next<R: Source, W: Sink, E: EntryWriter, S: BuildHasher + Drop>(
     requires going { failure_of entries.old ≡ None }
     requires prefixes { KeepsPrefixes E.form }
     requires room { counted_steps counts.old + entries_left entries.old ≤ most_entries }
+
+    // What is written.
     ensures goes_on { (first : Told) (old : Option (List ℕ))
         → IsWriting E.form E.before E.stands E.going R.told first old entries.old writer.old
         counts.old (W.written sink.old)
         → WritesOn E.form E.before E.stands E.going R.told first old entries.new writer.new
         counts.new
         (W.written sink.new) result }
+
+    // The reader goes on.
     ensures fewer { IfOk result
         (λ more. IsTrue more → entries_left entries.new < entries_left entries.old) }
     ensures going { OnOk result (failure_of entries.new ≡ None) }
     ensures room { IfOk result
         (λ more. IsTrue more
         → counted_steps counts.new + entries_left entries.new ≤ most_entries) }
+
+    // The devices.
     ensures devices { ReadsAndWrites R.failures entries.old entries.new (W.failures sink.old)
         (W.failures sink.new) result }
 {
@@ -259,10 +281,14 @@ fn write_one<W: Sink, E: EntryWriter>(
     entry: EntryRef<'_>,
 ) -> Result<bool, Error>
     requires { counted_steps counts.old + 1 < 2 ^ 32 }
+
+    // What is written.
     ensures more { IfOk result IsTrue }
     ensures few { counted_steps counts.new ≤ counted_steps counts.old + 1 }
     ensures writes { WritesMore E.form E.before E.stands E.going writer.old writer.new counts.old
         counts.new entry.entry (W.written sink.old) (W.written sink.new) result }
+
+    // The sink, and errors.
     ensures count { CountsWriting (W.failures sink.old) (W.failures sink.new) result }
     ensures error { IfErr result IsOfWriting }
 {
