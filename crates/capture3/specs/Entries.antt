@@ -101,7 +101,7 @@ module _ {R S H : Type 0} {builds : BuildHasher.Ghosts S H} {hashes : Hasher.Gho
 
   -- what the entry is that was handed out last
   abbrev pub last_of : Entries R S H builds hashes → Option Kind
-  last_of entries = entries.last
+  last_of entries = entries.pairing.last
 
   -- A call succeeds, or it fails for good: then no entry is lent. After an error the same is
   -- returned, and nothing is read.

@@ -1,6 +1,6 @@
 -- The histories for which a reader of entries stands: what its source gave it, and what it handed
 -- out.
-use Rattle.std.specs.Prelude.{◌≡◌, ℕ, ◌+◌, ◌≤◌, Option, Some, None, Result, Ok, Err, List, [], ◌∷◌, ◌++◌, length, slice_range, ◌≢◌, ◌<◌, Bool, IsTrue, IsFalse, IsSome, IfOk, OnErr, OnOk}
+use Rattle.std.specs.Prelude.{◌≡◌, ℕ, ◌+◌, ◌≤◌, Option, Some, None, Result, Ok, Err, List, [], ◌∷◌, ◌++◌, length, slice_range, ◌≢◌, ◌<◌, Bool, IsTrue, IsFalse, IsSome, OnErr, OnOk}
 use Rattle.capture3.specs.Told.{Told, Gave, IsSpent}
 use Rattle.xdr3.specs.Item.{AreBytes, Item}
 use Rattle.xdr3.specs.Visit.{Adds}
@@ -42,7 +42,7 @@ module _ {R S H : Type 0} {builds : BuildHasher.Ghosts S H} {hashes : Hasher.Gho
 
   -- the record and the number of this entry stand, if it was the last, after the others
   abbrev pub HoldsRecordOf : Entries R S H builds hashes → List Entry → Entry → Type 0
-  HoldsRecordOf entries before entry = (kind : Kind) → entries.last ≡ Some kind
+  HoldsRecordOf entries before entry = (kind : Kind) → last_of entries ≡ Some kind
       → IsHeld kind entries.pairing.container.joiner.taking entry
       × HasNumber entries.pairing.number (open_xids [] (before ++ entry ∷ [])) entry
 
@@ -85,23 +85,21 @@ module _ {R S H : Type 0} {builds : BuildHasher.Ghosts S H} {hashes : Hasher.Gho
     pub consumed : Gave (told old.source.now) (told new.source.now) more
     pub stands : StandsFor told new (given ++ more) handed
 
-  -- an entry is handed out and told; or it goes on, or has failed
+  -- this entry is handed out and told; or none is, and it goes on or has failed
   abbrev pub HandsOutOrGoesOn : {V : Type 0} → (R → Told) → (V → List Item → Type 0)
-      → Entries R S H builds hashes → (was now : V) → List ℕ → List Entry
-      → Result (Option Kind) Noted → Type 0
-  HandsOutOrGoesOn told stands new was now given handed (Ok (Some kind)) =
+      → Entries R S H builds hashes → (was now : V) → List ℕ → List Entry → Option Kind → Type 0
+  HandsOutOrGoesOn told stands new was now given handed (Some kind) =
       (entry : Entry) × IsOfKind kind entry × Adds stands was now (items_of entry)
       × StandsFor told new given (handed ++ entry ∷ [])
-  HandsOutOrGoesOn told stands new was now given handed (Ok None) = StandsFor told new given handed
-  HandsOutOrGoesOn told stands new was now given handed (Err noted) =
-      StandsFor told new given handed
+  HandsOutOrGoesOn told stands new was now given handed None = StandsFor told new given handed
 
   pub record Turns {V : Type 0} (told : R → Told) (stands : V → List Item → Type 0)
-      (old new : Entries R S H builds hashes) (was now : V) (given : List ℕ) (handed : List Entry)
-      (result : Result (Option Kind) Noted) : Type 0 where
+      (old new : Entries R S H builds hashes) (was now : V) (given : List ℕ)
+      (handed : List Entry) : Type 0 where
     pub more : List ℕ
     pub consumed : Gave (told old.source.now) (told new.source.now) more
-    pub goes_on : HandsOutOrGoesOn told stands new was now (given ++ more) handed result
+    pub goes_on :
+        HandsOutOrGoesOn told stands new was now (given ++ more) handed (last_of new)
 
   -- ---- what a call inside the reader leaves
 
@@ -109,20 +107,20 @@ module _ {R S H : Type 0} {builds : BuildHasher.Ghosts S H} {hashes : Hasher.Gho
   abbrev pub IsUsedUp : Entries R S H builds hashes → Type 0
   IsUsedUp entries = (entries.start ≡ entries.end) × (entries.pairing.container.cursor ≡ None)
 
-  -- whether bytes are at hand; if not, the source has none left
+  -- whether bytes are at hand, or kept streams; if not, the source has none left
   pub record FillsOrEnds (told : R → Told) (new : Entries R S H builds hashes) (more : Bool) : Type
       0 where
-    pub some : IsTrue more → new.start < new.end
-    pub none : IsFalse more → new.start ≡ new.end
+    pub some : IsTrue more → new.pairing.container.cursor ≡ None → new.start < new.end
+    pub none : IsFalse more → IsUsedUp new
     pub end : IsFalse more → IsSpent (told (source_of new))
 
   -- if no entry is whole yet: bytes were judged, no visitor was called, and it reads on
-  pub record JudgesOn {V : Type 0} (old new : Entries R S H builds hashes) (was now : V)
-      (next : Option Kind) : Type 0 where
-    pub on : next ≡ None → old.judged < new.judged
-    pub untold : next ≡ None → now ≡ was
-    pub no_more : next ≡ None → entries_left new ≤ entries_left old
-    pub reading : next ≡ None → new.stage ≡ Reading
+  pub record JudgesOn {V : Type 0} (old new : Entries R S H builds hashes) (was now : V) : Type
+      0 where
+    pub on : last_of new ≡ None → old.judged < new.judged
+    pub untold : last_of new ≡ None → now ≡ was
+    pub no_more : last_of new ≡ None → entries_left new ≤ entries_left old
+    pub reading : last_of new ≡ None → new.stage ≡ Reading
 
   -- a failure is noted for good, and no entry is lent
   pub record NotesFailure {X : Type 0} (new : Entries R S H builds hashes)
@@ -130,14 +128,12 @@ module _ {R S H : Type 0} {builds : BuildHasher.Ghosts S H} {hashes : Hasher.Gho
     pub failed : OnErr result (IsSome (failure_of new))
     pub unlent : OnErr result (last_of new ≡ None)
 
-  -- the same, or the entry that is returned is lent, of which there are fewer to come
-  pub record LendsOrFails (old new : Entries R S H builds hashes)
-      (result : Result (Option Kind) Noted) : Type 0 where
-    pub last : IfOk result (λ next. IsSome next → last_of new ≡ next)
-    pub fewer : IfOk result (λ next. IsSome next → entries_left new < entries_left old)
+  -- the same, or an entry is lent, of which there are fewer to come
+  pub record LendsOrFails {X : Type 0} (old new : Entries R S H builds hashes)
+      (result : Result X Noted) : Type 0 where
+    pub fewer : IsSome (last_of new) → entries_left new < entries_left old
     pub going : OnOk result (failure_of new ≡ None)
-    pub failed : OnErr result (IsSome (failure_of new))
-    pub unlent : OnErr result (last_of new ≡ None)
+    pub failure : NotesFailure new result
 
   -- The source is read once at most. The block and the reference to the source stay.
   pub record ReadsOnce {X : Type 0} (failures : R → ℕ) (old new : Entries R S H builds hashes)

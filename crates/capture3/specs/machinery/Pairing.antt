@@ -1,14 +1,12 @@
 -- A capture whose records are judged as they come: where the machine for its file stands.
-use Rattle.std.specs.Prelude.{◌≡◌, ◌≢◌, ◌⊎◌, ℕ, ◌+◌, min, nat_eq, Option, Some, None, Result, Ok, Err, List, [], ◌∷◌, ◌++◌, take, drop}
+use Rattle.std.specs.Prelude.{◌≡◌, ◌≢◌, ◌⊎◌, ℕ, ◌+◌, min, nat_eq, Option, Some, None, List, [], ◌∷◌, ◌++◌, take, drop}
 use Rattle.xdr3.specs.declared.reason.GetError.{GetError}
 use Rattle.xdr3.specs.declared.reason.GetError.TheVariants as gets
-use Rattle.xdr3.specs.declared.reason.Stop.{Stop}
 use Rattle.xdr3.specs.Item.{Item}
 use Rattle.xdr3.specs.Visit.{Adds}
 use Rattle.record_mark.specs.Joining.{Between, Whole, join_next}
 use Rattle.record_mark.specs.Machine.{Ends, Runs, Stops, after}
 use Rattle.record_mark.specs.Taking.{Taking, IsWhole, body_of, released}
-use Rattle.rpc_head.specs.declared.values.call.ProcId.{ProcId}
 use Rattle.rpc_head.specs.Messages.{procedure_in}
 use Rattle.capture3.specs.machinery.Calls.{Known}
 use Rattle.capture3.specs.declared.reader.entry.Kind.{Kind}
@@ -26,12 +24,11 @@ use Rattle.capture3.specs.SidedChunks.{Streams}
 use Rattle.capture3.specs.declared.container.position.Position.{Position}
 use Rattle.capture3.specs.declared.container.Container.{Container}
 use Rattle.capture3.specs.Bodies.{IsCall, IsReply, xid_in}
-use Rattle.capture3.specs.OpenXids.{open_xids, xid_of}
+use Rattle.capture3.specs.OpenXids.{open_xids}
 use Rattle.capture3.specs.Rank.{number_limit, rank}
 use Rattle.capture3.specs.machinery.Container.{stream_of, unpacking_of}
 use Rattle.capture3.specs.Entry.{Entry, items_of}
 use Rattle.capture3.specs.Entry as whole
-use Rattle.capture3.specs.BodyProgram.{judge_call, judge_reply}
 use Rattle.capture3.specs.machinery.Messages.{IsTableOf, xids_in}
 use Rattle.capture3.specs.FileMachine.{Parsing, file_next, parsed, emitted}
 use Rattle.capture3.specs.machinery.Position.{unpacking_at}
@@ -181,38 +178,6 @@ FailsAt bytes entries (errors.Refused fault) = ShowsFirst bytes entries fault
 FailsAt bytes entries errors.Memory = Unit {0}
 FailsAt bytes entries _ = ⊥
 
--- ---- one record
-
--- the body was a call, which is told a visitor and joins the calls of its connection
-pub record JudgesCall {V : Type 0} (stands : V → List Item → Type 0) (was now : V)
-    (calls : List (List Item)) (body : List ℕ) (table : Known) (number : ℕ)
-    (id : ProcId) : Type 0 where
-  pub items : List Item
-  pub judged : judge_call calls body ≡ Ok items
-  pub is_call : IsCall body items
-  pub id_is : id ≡ procedure_in items
-  pub added : IsTableOf table (calls ++ items ∷ [])
-  pub begins : xid_of items ≡ xid_in items ∷ []
-  pub numbered : number
-      ≡ min (rank nat_eq (xid_in items) (xids_in (calls ++ items ∷ []))) number_limit
-  pub adds : Adds stands was now items
-
--- the body was a reply, which is told a visitor
-pub record JudgesReply {V : Type 0} (stands : V → List Item → Type 0) (was now : V)
-    (calls : List (List Item)) (body : List ℕ) (number : ℕ) (id : ProcId) : Type 0 where
-  pub items : List Item
-  pub judged : judge_reply calls body ≡ Ok (record { id = id; items = items })
-  pub is_reply : IsReply body (record { id = id; items = items })
-  pub numbered : number ≡ min (rank nat_eq (xid_in items) (xids_in calls)) number_limit
-  pub adds : Adds stands was now items
-
--- the body was refused, unless memory ran out
-abbrev pub RefusesBody : {X : Type 0} → Position → Side → Result X Stop → Error → Type 0
-RefusesBody position side judged (errors.Refused fault) = (stop : Stop) × (judged ≡ Err stop)
-    × (fault ≡ fault_in_record position.connections side position.records stop.at stop.reason)
-RefusesBody position side judged errors.Memory = Unit {0}
-RefusesBody position side judged _ = ⊥
-
 -- the fault of the record that became whole last, or that memory ran out
 abbrev pub error_at : Position → Side → GetError → Error
 error_at position side (gets.Stop stop) =
@@ -239,7 +204,7 @@ pub record FailsFrom (container : Container) (calls : Known) (piece : List ℕ) 
   pub fault : (bytes : List ℕ) (entries : List Entry) → HasCome container calls bytes entries
       → FailsAt (bytes ++ piece) entries error
 
--- the record of what became whole stands, if it was one; the end of the capture is not among these
-pub record StandsLast (came : Option Kind) (taking : Taking) : Type 0 where
+-- an entry is whole, and not the end of the capture
+pub record IsInside (came : Option Kind) : Type 0 where
+  pub some : came ≢ None
   pub not_end : came ≢ Some kinds.End
-  pub spells : ∥ SpellsLast came taking ∥₁

@@ -11,7 +11,6 @@ ghost use Rattle.capture3.specs.Device.{Counts};
 ghost use Rattle.capture3.specs.Entry as spec;
 ghost use Rattle.capture3.specs.Capture.{Two};
 ghost use Rattle.capture3.specs.machinery.Container.{CanGoOn};
-ghost use Rattle.capture3.specs.machinery.Pairing.{SpellsLast};
 ghost use Rattle.capture3.specs.Laws.{most_bytes};
 
 use crate::container::position::file_fault;
@@ -58,8 +57,6 @@ pub struct Entries<'r, R, S: BuildHasher + Drop> {
     // How many bytes were judged.
     judged: u64,
     pairing: Pairing<CountedCalls<S>>,
-    // What the entry is that was handed out last, whose record stands.
-    last: Option<Kind>,
     stage: Stage,
     ghost ordered: { start ≤ end },
     ghost within: { end ≤ vec_len block },
@@ -67,9 +64,8 @@ pub struct Entries<'r, R, S: BuildHasher + Drop> {
     ghost ready: { stage ≡ stages.Reading
         → ∥ CanGoOn pairing.container.cursor (released pairing.container.joiner.taking)
         pairing.container ∥₁ },
-    ghost spells: { ∥ SpellsLast last pairing.container.joiner.taking ∥₁ },
     ghost never_writes: { stage ≢ stages.Failed errors.Write },
-    ghost unlent: { (error : Error) → stage ≡ stages.Failed error → last ≡ None },
+    ghost unlent: { (error : Error) → stage ≡ stages.Failed error → pairing.last ≡ None },
 }
 
 impl<'r, R: Source, S: BuildHasher + Drop> Entries<'r, R, S> {
@@ -97,7 +93,6 @@ impl<'r, R: Source, S: BuildHasher + Drop> Entries<'r, R, S> {
             end: 0,
             judged: 0,
             pairing: Pairing::new(alloc, CountedCalls::new(alloc, hasher)),
-            last: None,
             stage: Stage::Reading,
         }
     }
@@ -146,7 +141,7 @@ impl<'r, R: Source, S: BuildHasher + Drop> Entries<'r, R, S> {
     {
         match self.stage {
             Stage::Reading => match self.next_entry(visitor) {
-                Ok(kind) => Ok(kind),
+                Ok(()) => Ok(self.pairing.last),
                 Err(Noted) => Err(self.failure()),
             },
             Stage::Over => Ok(None),
@@ -165,7 +160,7 @@ impl<'r, R: Source, S: BuildHasher + Drop> Entries<'r, R, S> {
             → StandsFor R.told self.now given (handed ++ entry ∷ [])
             → IfSome result (λ lent. number_lent lent ≡ number_after handed entry) }
     {
-        match self.last {
+        match self.pairing.last {
             Some(kind) => Some(self.pairing.lend(kind)),
             None => None,
         }
@@ -185,15 +180,15 @@ impl<'r, R: Source, S: BuildHasher + Drop> Entries<'r, R, S> {
     }
 
     /// Reads the next entry of a capture whose end was not returned.
-    fn next_entry<V: Visit>(&mut self, visitor: &mut V) -> Result<Option<Kind>, Noted>
+    fn next_entry<V: Visit>(&mut self, visitor: &mut V) -> Result<(), Noted>
         requires reading { self.old.stage ≡ Stage.Reading }
 
-        // What is returned, and which entry is lent.
+        // Which entry is lent.
         ensures turns { (given : List ℕ) (handed : List spec.Entry)
             → StandsFor R.told self.old given handed
-            → Turns R.told V.stands self.old self.new visitor.old visitor.new given handed result }
-        ensures end { result ≡ Ok (Some Kind.End) → IsOver self.new }
-        ensures some { IfOk result (λ next. IsSome next) }
+            → Turns R.told V.stands self.old self.new visitor.old visitor.new given handed }
+        ensures end { last_of self.new ≡ Some Kind.End → IsOver self.new }
+        ensures some { OnOk result (IsSome (last_of self.new)) }
         ensures lends { LendsOrFails self.old self.new result }
 
         // The device.
@@ -201,48 +196,22 @@ impl<'r, R: Source, S: BuildHasher + Drop> Entries<'r, R, S> {
     {
         while self.judged <= MOST_JUDGED {
             // Written out, since `?` takes more instructions for each message.
-            match self.turn(visitor) {
-                Ok(None) => {}
-                Ok(Some(kind)) => return Ok(Some(kind)),
-                Err(Noted) => return Err(Noted),
-            }
-        }
-        self.last = None;
-        self.stage = Stage::Failed(file_fault(self.judged, Reason::AfterEnd));
-        Err(Noted)
-    }
-
-    /// Reads at most once, checks one piece, and returns the entry that is whole with it, if one
-    /// is. If kept streams are checked, it reads nothing.
-    fn turn<V: Visit>(&mut self, visitor: &mut V) -> Result<Option<Kind>, Noted>
-        requires reading { self.old.stage ≡ Stage.Reading }
-        requires bounded { self.old.judged ≤ most_bytes Two + 1 }
-
-        // What is returned, and which entry is lent.
-        ensures turns { (given : List ℕ) (handed : List spec.Entry)
-            → StandsFor R.told self.old given handed
-            → Turns R.told V.stands self.old self.new visitor.old visitor.new given handed result }
-        ensures end { result ≡ Ok (Some Kind.End) → IsOver self.new }
-        ensures on { IfOk result (JudgesOn self.old self.new visitor.old visitor.new) }
-        ensures lends { LendsOrFails self.old self.new result }
-
-        // The device.
-        ensures device { ReadsOnce R.failures self.old self.new result }
-    {
-        // Written out, since `?` takes more instructions for each message.
-        if self.is_used_up() {
             match self.refill() {
                 Ok(true) => {}
-                Ok(false) => {
-                    return match self.finish() {
-                        Ok(()) => Ok(Some(Kind::End)),
-                        Err(Noted) => Err(Noted),
-                    };
-                }
+                Ok(false) => return self.finish(),
                 Err(Noted) => return Err(Noted),
             }
+            match self.judge(visitor) {
+                Ok(()) => {}
+                Err(Noted) => return Err(Noted),
+            }
+            if self.pairing.last.is_some() {
+                return Ok(());
+            }
         }
-        self.judge(visitor)
+        self.pairing.last = None;
+        self.stage = Stage::Failed(file_fault(self.judged, Reason::AfterEnd));
+        Err(Noted)
     }
 
     /// Returns whether all bytes at hand are checked, and no kept streams are left.
@@ -254,11 +223,10 @@ impl<'r, R: Source, S: BuildHasher + Drop> Entries<'r, R, S> {
         self.start == self.end && !self.pairing.is_recalling()
     }
 
-    /// Reads the next block. Returns `false` at the end of the bytes.
+    /// Reads the next block if nothing is left at hand. Returns `false` at the end of the bytes.
     fn refill(&mut self) -> Result<bool, Noted>
         requires reading { self.old.stage ≡ Stage.Reading }
         requires bounded { self.old.judged ≤ most_bytes Two + 1 }
-        requires used_up { IsUsedUp self.old }
 
         // What was read.
         ensures has_read { (given : List ℕ) (handed : List spec.Entry)
@@ -267,9 +235,8 @@ impl<'r, R: Source, S: BuildHasher + Drop> Entries<'r, R, S> {
         ensures more { IfOk result (FillsOrEnds R.told self.new) }
 
         // What stays.
-        ensures judged { (self.new.pairing ≡ self.old.pairing)
-            × (self.new.judged ≡ self.old.judged) }
-        ensures reading { OnOk result (self.new.stage ≡ Stage.Reading) }
+        ensures stays { OnOk result ((self.new.pairing ≡ self.old.pairing)
+            × (self.new.judged ≡ self.old.judged) × (self.new.stage ≡ Stage.Reading)) }
 
         // Errors.
         ensures failure { NotesFailure self.new result }
@@ -277,6 +244,9 @@ impl<'r, R: Source, S: BuildHasher + Drop> Entries<'r, R, S> {
         // The device.
         ensures device { ReadsOnce R.failures self.old self.new result }
     {
+        if !self.is_used_up() {
+            return Ok(true);
+        }
         self.start = 0;
         self.end = 0;
         match read_block(self.source, &mut self.block) {
@@ -285,7 +255,7 @@ impl<'r, R: Source, S: BuildHasher + Drop> Entries<'r, R, S> {
                 Ok(count > 0)
             }
             Err(_) => {
-                self.last = None;
+                self.pairing.last = None;
                 self.stage = Stage::Failed(Error::Read);
                 Err(Noted)
             }
@@ -293,18 +263,18 @@ impl<'r, R: Source, S: BuildHasher + Drop> Entries<'r, R, S> {
     }
 
     /// Checks what is left up to the next entry: kept streams, or the rest of the block.
-    fn judge<V: Visit>(&mut self, visitor: &mut V) -> Result<Option<Kind>, Noted>
+    fn judge<V: Visit>(&mut self, visitor: &mut V) -> Result<(), Noted>
         requires reading { self.old.stage ≡ Stage.Reading }
         requires bounded { self.old.judged ≤ most_bytes Two + 1 }
         requires some { self.old.pairing.container.cursor ≡ None → self.old.start < self.old.end }
 
-        // What is returned, and which entry is lent.
+        // Which entry is lent.
         ensures goes_on { (given : List ℕ) (handed : List spec.Entry)
             → StandsFor R.told self.old given handed
             → HandsOutOrGoesOn R.told V.stands self.new visitor.old visitor.new given handed
-            result }
-        ensures not_end { result ≢ Ok (Some Kind.End) }
-        ensures on { IfOk result (JudgesOn self.old self.new visitor.old visitor.new) }
+            (last_of self.new) }
+        ensures not_end { last_of self.new ≢ Some Kind.End }
+        ensures on { OnOk result (JudgesOn self.old self.new visitor.old visitor.new) }
         ensures lends { LendsOrFails self.old self.new result }
 
         // The device is not read.
@@ -312,14 +282,13 @@ impl<'r, R: Source, S: BuildHasher + Drop> Entries<'r, R, S> {
     {
         let piece = &self.block[self.start..self.end];
         match self.pairing.next(piece, visitor) {
-            Ok((count, kind)) => {
+            Ok(count) => {
                 self.start += count;
                 self.judged += count as u64;
-                self.last = kind;
-                Ok(kind)
+                Ok(())
             }
             Err(Noted) => {
-                self.last = None;
+                self.pairing.last = None;
                 self.stage = Stage::Failed(self.pairing.error);
                 Err(Noted)
             }
@@ -350,12 +319,12 @@ impl<'r, R: Source, S: BuildHasher + Drop> Entries<'r, R, S> {
     {
         match self.pairing.end(self.judged) {
             Ok(()) => {
-                self.last = Some(Kind::End);
+                self.pairing.last = Some(Kind::End);
                 self.stage = Stage::Over;
                 Ok(())
             }
             Err(error) => {
-                self.last = None;
+                self.pairing.last = None;
                 self.stage = Stage::Failed(error);
                 Err(Noted)
             }

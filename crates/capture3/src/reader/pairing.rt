@@ -5,13 +5,10 @@ ghost use Rattle.record_mark.specs.Taking.{IsRunning, IsWhole, body_of, released
 ghost use Rattle.xdr3.specs.Item.{Item};
 ghost use Rattle.capture3.specs.machinery.Container.{CanGoOn, Leaves, room_in, TakesPiece};
 ghost use Rattle.capture3.specs.Entry as spec;
-ghost use Rattle.capture3.specs.machinery.Pairing.{entry_cost, error_at, FailsAt, FailsFrom, GoesTo, HasCome, IsHeld, IsOfBytes, MeetsEvent, RefusesBody, SpellsKind, StandsLast, JudgesCall, JudgesReply};
+ghost use Rattle.capture3.specs.machinery.Pairing.{entry_cost, error_at, FailsAt, FailsFrom, GoesTo, HasCome, IsHeld, IsInside, IsOfBytes, MeetsEvent, SpellsLast};
 ghost use Rattle.capture3.specs.Kept.{IsLent, kind_of};
 ghost use Rattle.capture3.specs.Numbering.{number_lent};
-ghost use Rattle.capture3.specs.machinery.Spelled.{SpellsCall, SpellsReply};
-ghost use Rattle.capture3.specs.BodyProgram.{judge_call, judge_reply};
 ghost use Rattle.capture3.specs.machinery.Calls.{KnowsNone};
-ghost use Rattle.capture3.specs.machinery.Messages.{IsTableOf};
 ghost use Rattle.capture3.specs.machinery.Position.{IsEndSpot, most_things};
 
 use crate::container::Container;
@@ -21,7 +18,6 @@ use crate::message::calls::CallTable;
 use crate::message::scan::{scan_call, scan_reply};
 use crate::message::stop;
 use crate::reader::entry::{CallRef, EntryRef, Kind, ReplyRef};
-use rpc_head::ProcId;
 use std::alloc::Global;
 use xdr3::{GetError, Reason, Visit};
 
@@ -34,6 +30,9 @@ pub(crate) struct Pairing<C: Drop> {
     pub(crate) number: u32,
     /// Why `next` failed, if it has.
     pub(crate) error: Error,
+    /// What the entry is that `next` took last, whose record stands; `None` if none is whole.
+    pub(crate) last: Option<Kind>,
+    ghost spells: { ∥ SpellsLast last container.joiner.taking ∥₁ },
 }
 
 impl<C: CallTable + Drop> Pairing<C> {
@@ -43,12 +42,14 @@ impl<C: CallTable + Drop> Pairing<C> {
             result.container }
         ensures room { room_in result.container ≤ most_things }
         ensures machine { HasCome result.container (C.known result.calls) [] [] }
+        ensures unlent { result.last ≡ None }
     {
         Pairing {
             container: Container::new(alloc),
             calls,
             number: 0,
             error: Error::Memory,
+            last: None,
         }
     }
 
@@ -56,27 +57,23 @@ impl<C: CallTable + Drop> Pairing<C> {
     /// the next entry is of kept streams. The items of a message are passed to the visitor, and its
     /// record stays until the next call. After an error the contents of the visitor are
     /// unspecified.
-    pub(crate) fn next<V: Visit>(
-        &mut self,
-        piece: &[u8],
-        visitor: &mut V,
-    ) -> Result<(usize, Option<Kind>), Noted>
+    pub(crate) fn next<V: Visit>(&mut self, piece: &[u8], visitor: &mut V) -> Result<usize, Noted>
         requires ready { CanGoOn self.old.container.cursor
             (released self.old.container.joiner.taking) self.old.container }
 
         // How many bytes were taken.
-        ensures taken { IfOk result (TakesPiece piece.now) }
+        ensures taken { IfOk result (λ count. TakesPiece piece.now (count, self.new.last)) }
         ensures recalling { self.old.container.cursor ≢ None → IfOk result
-            (λ r. (r.0 ≡ 0) × (r.1 ≢ None)) }
+            (λ count. (count ≡ 0) × (self.new.last ≢ None)) }
 
         // What is whole with them.
         ensures machine { (bytes : List ℕ) (entries : List spec.Entry)
             → HasCome self.old.container (C.known self.old.calls) bytes entries
             → IfOk result
-            (λ r. GoesTo V.stands visitor.old visitor.new r.1 self.new.number self.new.container
-            (C.known self.new.calls) (bytes ++ take r.0 piece.now) entries) }
-        ensures stands { IfOk result (λ r. StandsLast r.1 self.new.container.joiner.taking) }
-        ensures untold { IfOk result (λ r. r.1 ≡ None → visitor.new ≡ visitor.old) }
+            (λ count. GoesTo V.stands visitor.old visitor.new self.new.last self.new.number
+            self.new.container (C.known self.new.calls) (bytes ++ take count piece.now) entries) }
+        ensures not_end { OnOk result (self.new.last ≢ Some Kind.End) }
+        ensures untold { OnOk result (self.new.last ≡ None → visitor.new ≡ visitor.old) }
 
         // Errors.
         ensures fault { OnErr result
@@ -85,17 +82,18 @@ impl<C: CallTable + Drop> Pairing<C> {
         // The container stays ready for the next bytes.
         ensures ready { OnOk result (CanGoOn self.new.container.cursor
             (released self.new.container.joiner.taking) self.new.container) }
-        ensures room { IfOk result
-            (λ r. room_in self.new.container + entry_cost r.1 ≤ room_in self.old.container) }
+        ensures room { OnOk result (room_in self.new.container + entry_cost self.new.last
+            ≤ room_in self.old.container) }
     {
+        self.last = None;
         self.container.release();
         // Written out, since `?` takes more instructions for each message.
         match self.container.next(piece, &mut self.error) {
             Ok((count, Some(event))) => match self.entry(event, visitor) {
-                Ok(kind) => Ok((count, Some(kind))),
+                Ok(()) => Ok(count),
                 Err(Noted) => Err(Noted),
             },
-            Ok((count, None)) => Ok((count, None)),
+            Ok((count, None)) => Ok(count),
             Err(Noted) => Err(Noted),
         }
     }
@@ -107,9 +105,9 @@ impl<C: CallTable + Drop> Pairing<C> {
         self.container.cursor.is_some()
     }
 
-    /// Borrows the entry of this kind that `next` returned last.
+    /// Borrows the entry that `next` took last, which is of this kind.
     pub(crate) fn lend(&self, kind: Kind) -> EntryRef<'_>
-        requires spells { ∥ SpellsKind kind self.now.container.joiner.taking ∥₁ }
+        requires last { self.now.last ≡ Some kind }
         ensures kind { kind_of result ≡ kind }
         ensures lent { (entry : spec.Entry) → IsHeld kind self.now.container.joiner.taking entry
             → IsLent result entry }
@@ -143,17 +141,15 @@ impl<C: CallTable + Drop> Pairing<C> {
         self.container.end(size)
     }
 
-    /// Returns the entry that is whole.
-    fn entry<V: Visit>(&mut self, event: Event, visitor: &mut V) -> Result<Kind, Noted>
+    /// Takes the entry that is whole.
+    fn entry<V: Visit>(&mut self, event: Event, visitor: &mut V) -> Result<(), Noted>
         requires leaves { Leaves (Some event) self.old.container.joiner.taking }
         requires opened { event ≢ Event.Streams }
         ensures container { self.new.container ≡ self.old.container }
-        ensures not_end { IfOk result (λ kind. kind ≢ Kind.End) }
-        ensures spells { IfOk result (λ kind. SpellsKind kind self.new.container.joiner.taking) }
+        ensures inside { OnOk result (IsInside self.new.last) }
         ensures machine { (bytes : List ℕ) (entries : List spec.Entry)
             → MeetsEvent self.old.container (C.known self.old.calls) event bytes entries
-            → IfOk result
-            (λ kind. GoesTo V.stands visitor.old visitor.new (Some kind) self.new.number
+            → OnOk result (GoesTo V.stands visitor.old visitor.new self.new.last self.new.number
             self.new.container (C.known self.new.calls) bytes entries) }
         ensures fault { (bytes : List ℕ) (entries : List spec.Entry)
             → MeetsEvent self.old.container (C.known self.old.calls) event bytes entries
@@ -163,40 +159,32 @@ impl<C: CallTable + Drop> Pairing<C> {
         match event {
             Event::Begin => {
                 self.calls.clear();
-                Ok(Kind::Begin)
+                self.last = Some(Kind::Begin);
             }
-            // Written out, since `?` takes more instructions for each message.
-            Event::Record(side) => match side {
-                Side::Client => match self.call(visitor) {
-                    Ok(id) => Ok(Kind::Call(id)),
-                    Err(Noted) => Err(Noted),
-                },
-                Side::Server => match self.reply(visitor) {
-                    Ok(id) => Ok(Kind::Reply(id)),
-                    Err(Noted) => Err(Noted),
-                },
-            },
-            Event::Turn => Ok(Kind::Turn),
-            Event::Close => Ok(Kind::Close),
+            Event::Record(Side::Client) => return self.call(visitor),
+            Event::Record(Side::Server) => return self.reply(visitor),
+            Event::Turn => self.last = Some(Kind::Turn),
+            Event::Close => self.last = Some(Kind::Close),
             // The container gives what the streams hold, and not the streams.
             Event::Streams => unreachable!(),
         }
+        Ok(())
     }
 
-    /// Returns the procedure of the call that is whole, which joins the calls of its connection.
-    fn call<V: Visit>(&mut self, visitor: &mut V) -> Result<ProcId, Noted>
+    /// Takes the call that is whole, which joins the calls of its connection.
+    fn call<V: Visit>(&mut self, visitor: &mut V) -> Result<(), Noted>
         requires { IsWhole self.old.container.joiner.taking }
         ensures container { self.new.container ≡ self.old.container }
-        ensures spells { IfOk result
-            (λ id. ∥ SpellsCall id (body_of self.old.container.joiner.taking) ∥₁) }
-        ensures ok { (calls : List (List Item)) → IsTableOf (C.known self.old.calls) calls
-            → IfOk result
-            (JudgesCall V.stands visitor.old visitor.new calls
-            (body_of self.old.container.joiner.taking) (C.known self.new.calls) self.new.number) }
-        ensures err { (calls : List (List Item)) → IsTableOf (C.known self.old.calls) calls
-            → OnErr result
-            (RefusesBody self.old.container.position Side.Client
-            (judge_call calls (body_of self.old.container.joiner.taking)) self.new.error) }
+        ensures inside { OnOk result (IsInside self.new.last) }
+        ensures machine { (bytes : List ℕ) (entries : List spec.Entry)
+            → MeetsEvent self.old.container (C.known self.old.calls) (Event.Record Side.Client)
+            bytes entries
+            → OnOk result (GoesTo V.stands visitor.old visitor.new self.new.last self.new.number
+            self.new.container (C.known self.new.calls) bytes entries) }
+        ensures fault { (bytes : List ℕ) (entries : List spec.Entry)
+            → MeetsEvent self.old.container (C.known self.old.calls) (Event.Record Side.Client)
+            bytes entries
+            → OnErr result (FailsAt bytes entries self.new.error) }
         ensures device { OnErr result (IsOfBytes self.new.error) }
     {
         let call = match scan_call(self.container.body(), visitor) {
@@ -206,44 +194,35 @@ impl<C: CallTable + Drop> Pairing<C> {
         match self.calls.admit(call.xid, call.id) {
             Ok(Some(number)) => {
                 self.number = number;
-                // Written out, so that the words are not moved in two parts, of eight bytes and of four.
-                let ProcId {
-                    prog,
-                    vers,
-                    proc_no,
-                } = call.id;
-                Ok(ProcId {
-                    prog,
-                    vers,
-                    proc_no,
-                })
+                self.last = Some(Kind::Call(call.id));
+                Ok(())
             }
             Ok(None) => Err(self.note(Side::Client, stop(0, Reason::XidConflict))),
             Err(_) => Err(self.note(Side::Client, GetError::Memory)),
         }
     }
 
-    /// Returns the procedure of the reply that is whole.
-    fn reply<V: Visit>(&mut self, visitor: &mut V) -> Result<ProcId, Noted>
+    /// Takes the reply that is whole.
+    fn reply<V: Visit>(&mut self, visitor: &mut V) -> Result<(), Noted>
         requires { IsWhole self.old.container.joiner.taking }
         ensures container { self.new.container ≡ self.old.container }
-        ensures calls { C.known self.new.calls ≡ C.known self.old.calls }
-        ensures spells { IfOk result
-            (λ id. ∥ SpellsReply id (body_of self.old.container.joiner.taking) ∥₁) }
-        ensures ok { (calls : List (List Item)) → IsTableOf (C.known self.old.calls) calls
-            → IfOk result
-            (JudgesReply V.stands visitor.old visitor.new calls
-            (body_of self.old.container.joiner.taking) self.new.number) }
-        ensures err { (calls : List (List Item)) → IsTableOf (C.known self.old.calls) calls
-            → OnErr result
-            (RefusesBody self.old.container.position Side.Server
-            (judge_reply calls (body_of self.old.container.joiner.taking)) self.new.error) }
+        ensures inside { OnOk result (IsInside self.new.last) }
+        ensures machine { (bytes : List ℕ) (entries : List spec.Entry)
+            → MeetsEvent self.old.container (C.known self.old.calls) (Event.Record Side.Server)
+            bytes entries
+            → OnOk result (GoesTo V.stands visitor.old visitor.new self.new.last self.new.number
+            self.new.container (C.known self.new.calls) bytes entries) }
+        ensures fault { (bytes : List ℕ) (entries : List spec.Entry)
+            → MeetsEvent self.old.container (C.known self.old.calls) (Event.Record Side.Server)
+            bytes entries
+            → OnErr result (FailsAt bytes entries self.new.error) }
         ensures device { OnErr result (IsOfBytes self.new.error) }
     {
         match scan_reply(&self.calls, self.container.body(), visitor) {
             Ok(call) => {
                 self.number = call.number;
-                Ok(call.id)
+                self.last = Some(Kind::Reply(call.id));
+                Ok(())
             }
             Err(error) => Err(self.note(Side::Server, error)),
         }

@@ -46,9 +46,9 @@ pub fn parse(alloc: Global, bytes: &[u8]) -> Result<Vec<Entry>, Error>
     let mut taken = 0;
     while taken < bytes.len() || pairing.is_recalling() {
         match pairing.next(&bytes[taken..], &mut Silent) {
-            Ok((count, kind)) => {
+            Ok(count) => {
                 taken += count;
-                if let Some(kind) = kind {
+                if let Some(kind) = pairing.last {
                     let entry = pairing.lend(kind).keep(alloc)?;
                     entries.push(entry)?;
                 }

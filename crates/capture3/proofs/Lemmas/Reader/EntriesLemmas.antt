@@ -1,8 +1,8 @@
 -- What a reader of entries makes of its histories, step by step.
-use Rattle.std.proofs.Common.{◌≡◌, ◌≢◌, inl, inr, ℕ, ◌+◌, ◌-◌, ◌≤◌, ◌<◌, Option, Some, None, Result, Ok, Err, IsSome, List, [], ◌∷◌, ◌++◌, length, take, drop, slice_range, refl, sym, ap, subst, ◌∙◌, append_assoc, append-nil, length-append, arith, take-append-drop, length-take, length-drop, vec_len}
+use Rattle.std.proofs.Common.{◌≡◌, ◌≢◌, inl, inr, ℕ, ◌+◌, ◌-◌, ◌≤◌, ◌<◌, Option, Some, None, Result, Ok, Err, IsSome, OnErr, OnOk, List, [], ◌∷◌, ◌++◌, length, take, drop, slice_range, refl, sym, ap, subst, ◌∙◌, append_assoc, append-nil, length-append, arith, take-append-drop, length-take, length-drop, vec_len}
 use Rattle.capture3.proofs.Common.{CanGoOn, common_steps, Pairing, CountedCalls, known_of, open_xids, ∥∥₁_elim, CaptureCut, AreBytes, Item, Runs, Stops, Stopped, Taking, Led, OutOfMemory, IsRunning, released, Known, Kind, Error, Spot, Container, Cursor, Two, max_connections, Entry, End, FirstFault, IsClean, begins, most_bytes, Parsing, parsed, emitted, AreFirstReached, AreWhole, Reached, parsing_at, Streams, file_fault, IsWellFormed, Typed, props, Told, Gave, IsSpent, AreStored, IsReady, room_in, unpacking_of}
 use Rattle.std.proofs.lemmas.List.{drop-take}
-use Rattle.capture3.proofs.Lemmas.Reader.ToldLemmas.{gave_both, gave_none, gave_none_as}
+use Rattle.capture3.proofs.Lemmas.Reader.ToldLemmas.{gave_both, gave_none}
 use Rattle.std.specs.declared.hash.BuildHasher as BuildHasher
 use Rattle.std.specs.declared.hash.Hasher as Hasher
 use Rattle.std.proofs.lemmas.List.{same_from_push}
@@ -15,7 +15,7 @@ use Rattle.capture3.specs.declared.fault.Noted.{Noted}
 use Rattle.capture3.specs.declared.container.position.Position.{Position}
 use Rattle.capture3.specs.declared.container.position.Spot.TheVariants as spots
 use Rattle.capture3.specs.declared.container.position.WordOf.TheVariants as words
-use Rattle.capture3.specs.Entries.{AreAllBeforeEnd, IsMetBy, failure_in, failure_of}
+use Rattle.capture3.specs.Entries.{AreAllBeforeEnd, IsMetBy, failure_in, failure_of, last_of}
 use Rattle.capture3.specs.machinery.EntriesHistory.{entries_left_in, entries_left, unjudged, IsReading, StandsIn, StandsFor, HoldsLast, HasRead, HandsOutOrGoesOn, Turns}
 use Rattle.capture3.specs.Handing.{HandsOut, HandsOutGiven}
 use Rattle.capture3.specs.machinery.Pairing.{StandsAt, StandsOrRecalls, HasCome, HasNumber, after_side_word, GoesTo, FailsAt, IsHeld, IsOfBytes, entry_cost}
@@ -285,20 +285,22 @@ module _ {R S H : Type 0} {builds : BuildHasher.Ghosts S H} {hashes : Hasher.Gho
 
   -- ---- the entry that was handed out last
 
-  none_last : (e : Entries R S H builds hashes) (handed : List Entry) → e.last ≡ None
-      → HoldsLast e handed
+  none_last : (e : Entries R S H builds hashes) (handed : List Entry)
+      → last_of e ≡ None → HoldsLast e handed
   none_last e handed none front entry ends kind is = absurd (cc)
 
-  same_last : (old new : Entries R S H builds hashes) (handed : List Entry) → new.last ≡ old.last
+  same_last : (old new : Entries R S H builds hashes) (handed : List Entry)
       → new.pairing ≡ old.pairing → HoldsLast old handed → HoldsLast new handed
-  same_last old new handed last same h front entry ends kind is =
+  same_last old new handed same h front entry ends kind is =
       subst (λ (c : Pairing (CountedCalls S H builds hashes)).
       IsHeld kind c.container.joiner.taking entry
       × HasNumber c.number (open_xids [] (front ++ entry ∷ [])) entry)
-      (sym same) (h front entry ends kind (sym last ∙ is))
+      (sym same)
+      (h front entry ends kind
+      (ap (λ (c : Pairing (CountedCalls S H builds hashes)). c.last) (sym same) ∙ is))
 
   now_last : (e : Entries R S H builds hashes) (handed : List Entry) (came : Kind) (entry : Entry)
-      → e.last ≡ Some came → IsHeld came e.pairing.container.joiner.taking entry
+      → last_of e ≡ Some came → IsHeld came e.pairing.container.joiner.taking entry
       → HasNumber e.pairing.number (open_xids [] (handed ++ entry ∷ [])) entry
       → HoldsLast e (handed ++ entry ∷ [])
   now_last e handed came entry last held has front other ends kind is =
@@ -341,7 +343,7 @@ module _ {R S H : Type 0} {builds : BuildHasher.Ghosts S H} {hashes : Hasher.Gho
 
   -- it has failed
   pub stands_failed : (old new : Entries R S H builds hashes) (error : Error) (given : List ℕ)
-      (handed : List Entry) → new.stage ≡ Failed error → new.last ≡ None
+      (handed : List Entry) → new.stage ≡ Failed error → last_of new ≡ None
       → vec_len new.block ≡ vec_len old.block → StandsFor told old given handed
       → IsMetBy error (told new.source.now) given handed → StandsFor told new given handed
   stands_failed old new error given handed is none block s met = record {
@@ -399,12 +401,12 @@ module _ {R S H : Type 0} {builds : BuildHasher.Ghosts S H} {hashes : Hasher.Gho
 
   pub has_read : (old new : Entries R S H builds hashes) (given more : List ℕ) (handed : List Entry)
       → old.stage ≡ Reading → new.stage ≡ Reading → old.start ≡ old.end
-      → old.pairing.container.cursor ≡ None → new.pairing ≡ old.pairing → new.last ≡ old.last
+      → old.pairing.container.cursor ≡ None → new.pairing ≡ old.pairing
       → new.judged ≡ old.judged → unjudged new ≡ more → AreBytes more
       → length more ≤ vec_len new.block
       → Gave (told old.source.now) (told new.source.now) more → StandsFor told old given handed
       → HasRead told old new given handed
-  has_read old new given more handed is goes empty none same last count block are within consumed
+  has_read old new given more handed is goes empty none same count block are within consumed
       s =
       let r = reading_of old given handed is s in
       let at = machine_at old given handed empty none r in
@@ -423,7 +425,7 @@ module _ {R S H : Type 0} {builds : BuildHasher.Ghosts S H} {hashes : Hasher.Gho
               ap (λ (c : Pairing (CountedCalls S H builds hashes)). room_in c.container) same,
             ))
             (omega (arith, length-append given more, bounded, within))
-            (same_last old new handed last same s.holds)
+            (same_last old new handed same s.holds)
             (record {
               judged = r.judged;
               split = split;
@@ -436,7 +438,7 @@ module _ {R S H : Type 0} {builds : BuildHasher.Ghosts S H} {hashes : Hasher.Gho
       }
 
   pub has_failed : (old new : Entries R S H builds hashes) (given : List ℕ) (handed : List Entry)
-      → old.stage ≡ Reading → new.stage ≡ Failed errors.Read → new.last ≡ None
+      → old.stage ≡ Reading → new.stage ≡ Failed errors.Read → last_of new ≡ None
       → vec_len new.block ≡ vec_len old.block → old.start ≡ old.end
       → old.pairing.container.cursor ≡ None
       → Gave (told old.source.now) (told new.source.now) [] → StandsFor told old given handed
@@ -492,7 +494,7 @@ module _ {R S H : Type 0} {builds : BuildHasher.Ghosts S H} {hashes : Hasher.Gho
   -- with the entry that is whole, if one is
   pub judged_on : {V : Type 0} (stands : V → List Item → Type 0) (was now : V)
       (old new : Entries R S H builds hashes) (count : ℕ) (given : List ℕ) (handed : List Entry)
-      (came : Option Kind) → old.stage ≡ Reading → new.stage ≡ Reading → new.last ≡ came
+      (came : Option Kind) → old.stage ≡ Reading → new.stage ≡ Reading → last_of new ≡ came
       → vec_len new.block ≡ vec_len old.block
       → new.judged ≡ old.judged + count
       → unjudged new ≡ slice_range old.block.items (old.start + count) old.end
@@ -504,7 +506,7 @@ module _ {R S H : Type 0} {builds : BuildHasher.Ghosts S H} {hashes : Hasher.Gho
       → GoesTo stands was now came new.pairing.number new.pairing.container
       (known_of new.pairing.calls)
       (judged ++ take count (unjudged old)) handed)
-      → HandsOutOrGoesOn told stands new was now given handed (Ok came)
+      → HandsOutOrGoesOn told stands new was now given handed came
   judged_on stands was now old new count given handed None is goes last size judged block fits
       within room s leads =
       let r = reading_of old given handed is s in
@@ -537,7 +539,7 @@ module _ {R S H : Type 0} {builds : BuildHasher.Ghosts S H} {hashes : Hasher.Gho
   fails_by e errors.Memory given handed known are r f = first_in e given handed are r
 
   pub judged_failed : (old new : Entries R S H builds hashes) (error : Error) (given : List ℕ)
-      (handed : List Entry) → old.stage ≡ Reading → new.stage ≡ Failed error → new.last ≡ None
+      (handed : List Entry) → old.stage ≡ Reading → new.stage ≡ Failed error → last_of new ≡ None
       → vec_len new.block ≡ vec_len old.block → (s : StandsFor told old given handed)
       → ((judged : List ℕ)
       → HasCome old.pairing.container (known_of old.pairing.calls) judged handed
@@ -551,7 +553,7 @@ module _ {R S H : Type 0} {builds : BuildHasher.Ghosts S H} {hashes : Hasher.Gho
   -- ---- the end
 
   pub finished : (old new : Entries R S H builds hashes) (given : List ℕ) (handed : List Entry)
-      → old.stage ≡ Reading → new.stage ≡ Over → new.last ≡ Some kinds.End
+      → old.stage ≡ Reading → new.stage ≡ Over → last_of new ≡ Some kinds.End
       → vec_len new.block ≡ vec_len old.block → old.start ≡ old.end
       → old.pairing.container.cursor ≡ None → IsEndSpot old.pairing.container.position.spot
       → IsSpent (told new.source.now)
@@ -583,7 +585,7 @@ module _ {R S H : Type 0} {builds : BuildHasher.Ghosts S H} {hashes : Hasher.Gho
       }
 
   pub cut_short : (old new : Entries R S H builds hashes) (error : Error) (given : List ℕ)
-      (handed : List Entry) → old.stage ≡ Reading → new.stage ≡ Failed error → new.last ≡ None
+      (handed : List Entry) → old.stage ≡ Reading → new.stage ≡ Failed error → last_of new ≡ None
       → vec_len new.block ≡ vec_len old.block → old.start ≡ old.end
       → old.pairing.container.cursor ≡ None → (IsEndSpot old.pairing.container.position.spot → ⊥)
       → error ≡ errors.Refused (file_fault old.judged CaptureCut) → IsSpent (told new.source.now)
@@ -611,72 +613,72 @@ module _ {R S H : Type 0} {builds : BuildHasher.Ghosts S H} {hashes : Hasher.Gho
     stands = subst (λ (b : List ℕ). StandsFor told e b handed) (sym (append-nil given)) s;
   }
 
-  -- the end is handed out, of which a visitor is told nothing
-  pub ended_on : {V : Type 0} (stands : V → List Item → Type 0) (v : V)
+  -- none is handed out
+  pub none_on : {V : Type 0} (stands : V → List Item → Type 0) (was now : V)
       (new : Entries R S H builds hashes) (given : List ℕ) (handed : List Entry)
-      → StandsFor told new given (handed ++ End ∷ [])
-      → HandsOutOrGoesOn told stands new v v given handed (Ok (Some kinds.End))
-  ended_on stands v new given handed s = (End, refl, untold stands v, s)
+      → last_of new ≡ None → StandsFor told new given handed
+      → HandsOutOrGoesOn told stands new was now given handed (last_of new)
+  none_on stands was now new given handed none s =
+      subst (HandsOutOrGoesOn told stands new was now given handed) (sym none) s
 
-  abbrev pub Goes : {V : Type 0} → (V → List Item → Type 0) → Entries R S H builds hashes
-      → Entries R S H builds hashes → (was now : V) → Result (Option Kind) Noted → Type 0
-  Goes stands mid new was now result = (given : List ℕ) (handed : List Entry)
-      → StandsFor told mid given handed
-      → HandsOutOrGoesOn told stands new was now given handed result
+  -- the end is handed out, of which a visitor is told nothing; or none is
+  pub ended_on : {V X : Type 0} (stands : V → List Item → Type 0) (v : V)
+      (new : Entries R S H builds hashes) (given : List ℕ) (handed : List Entry)
+      (result : Result X Noted)
+      → OnOk result (StandsFor told new given (handed ++ End ∷ []))
+      → OnErr result (StandsFor told new given handed)
+      → OnOk result (last_of new ≡ Some kinds.End) → OnErr result (last_of new ≡ None)
+      → HandsOutOrGoesOn told stands new v v given handed (last_of new)
+  ended_on stands v new given handed (Ok done) ok err last unlent =
+      subst (HandsOutOrGoesOn told stands new v v given handed) (sym last)
+      (End, refl, untold stands v, ok)
+  ended_on stands v new given handed (Err noted) ok err last unlent =
+      none_on stands v v new given handed unlent err
 
-  -- a read, and then the block is judged
-  pub turned : {V : Type 0} (stands : V → List Item → Type 0) (was now : V)
-      (old mid new : Entries R S H builds hashes) (given : List ℕ) (handed : List Entry)
-      (result : Result (Option Kind) Noted) → HasRead told old mid given handed
-      → Goes stands mid new was now result
-      → new.source.now ≡ mid.source.now → Turns told stands old new was now given handed result
-  turned stands was now old mid new given handed result read goes same = record {
-    more = read.more;
-    consumed =
-        subst (λ (b : List ℕ). Gave (told old.source.now) (told new.source.now) b)
-        (append-nil read.more) (gave_both (told old.source.now) (told mid.source.now)
-        (told new.source.now) read.more [] read.consumed
-        (gave_none_as (told mid.source.now) (told new.source.now) (ap told same)));
-    goes_on = goes (given ++ read.more) handed read.stands;
-  }
-
-  pub turned_more : {V : Type 0} (stands : V → List Item → Type 0) (was now : V)
-      (old mid new : Entries R S H builds hashes) (given : List ℕ) (handed : List Entry)
-      (result : Result (Option Kind) Noted) → HasRead told old mid given handed
+  -- after the turns so far, the block is read, and then it is judged
+  pub turned : {V : Type 0} (stands : V → List Item → Type 0) (was v now : V)
+      (old so_far mid new : Entries R S H builds hashes) (given : List ℕ) (handed : List Entry)
+      → HasRead told old so_far given handed → v ≡ was
+      → ((given : List ℕ) (handed : List Entry) → StandsFor told so_far given handed
+      → HasRead told so_far mid given handed)
       → ((given : List ℕ) (handed : List Entry) → StandsFor told mid given handed
-      → Turns told stands mid new was now given handed result)
-      → Turns told stands old new was now given handed result
-  turned_more stands was now old mid new given handed result read turns =
-      let t = turns (given ++ read.more) handed read.stands in
+      → HandsOutOrGoesOn told stands new v now given handed (last_of new))
+      → new.source.now ≡ mid.source.now → Turns told stands old new was now given handed
+  turned stands was v now old so_far mid new given handed first unchanged reads goes same =
+      let next = reads (given ++ first.more) handed first.stands in
       record {
-        more = read.more ++ t.more;
+        more = first.more ++ next.more;
         consumed =
-            gave_both (told old.source.now) (told mid.source.now) (told new.source.now) read.more
-            t.more read.consumed t.consumed;
+            subst (λ (r : R). Gave (told old.source.now) (told r) (first.more ++ next.more))
+            (sym same) (gave_both (told old.source.now) (told so_far.source.now)
+            (told mid.source.now) first.more next.more first.consumed next.consumed);
         goes_on =
-            subst (λ (b : List ℕ). HandsOutOrGoesOn told stands new was now b handed result)
-            (append_assoc given read.more t.more) t.goes_on;
+            subst (λ w.
+            HandsOutOrGoesOn told stands new w now (given ++ (first.more ++ next.more)) handed
+            (last_of new)) unchanged
+            (subst (λ (b : List ℕ). HandsOutOrGoesOn told stands new v now b handed (last_of new))
+            (append_assoc given first.more next.more)
+            (goes ((given ++ first.more) ++ next.more) handed next.stands));
       }
 
-  pub read_more : {V : Type 0} (stands : V → List Item → Type 0) (was now : V)
-      (old mid new : Entries R S H builds hashes) (given : List ℕ) (handed : List Entry)
-      (result : Result (Option Kind) Noted) → result ≡ Ok None
-      → HasRead told old mid given handed
-      → ((given : List ℕ) (handed : List Entry) → StandsFor told mid given handed
-      → Turns told stands mid new was now given handed result) → HasRead told old new given handed
-  read_more stands was now old mid new given handed result is read turns =
-      let t =
-      subst (λ (r : Result (Option Kind) Noted). Turns told stands old new was now given handed r)
-      is (turned_more stands was now old mid new given handed result read turns) in
-      record { more = t.more; consumed = t.consumed; stands = t.goes_on }
+  -- no entry is whole yet
+  pub read_on : {V : Type 0} (stands : V → List Item → Type 0) (was now : V)
+      (old new : Entries R S H builds hashes) (given : List ℕ) (handed : List Entry)
+      → last_of new ≡ None → Turns told stands old new was now given handed
+      → HasRead told old new given handed
+  read_on stands was now old new given handed none t = record {
+    more = t.more;
+    consumed = t.consumed;
+    stands =
+        subst (HandsOutOrGoesOn told stands new was now (given ++ t.more) handed) none t.goes_on;
+  }
 
   -- no capture is so long
   pub too_long : {V : Type 0} (stands : V → List Item → Type 0) (was now : V)
       (old mid new : Entries R S H builds hashes) (given : List ℕ) (handed : List Entry)
-      (result : Result (Option Kind) Noted) → HasRead told old mid given handed
-      → mid.stage ≡ Reading
-      → most_bytes Two + 1 < mid.judged → Turns told stands old new was now given handed result
-  too_long stands was now old mid new given handed result read is far =
+      → HasRead told old mid given handed → mid.stage ≡ Reading
+      → most_bytes Two + 1 < mid.judged → Turns told stands old new was now given handed
+  too_long stands was now old mid new given handed read is far =
       let r = reading_of mid (given ++ read.more) handed is read.stands in
       absurd (omega (
         arith,
@@ -697,37 +699,35 @@ module _ {R S H : Type 0} {builds : BuildHasher.Ghosts S H} {hashes : Hasher.Gho
 
   pub answers_kind : {V : Type 0} (stands : V → List Item → Type 0) (was now : V)
       (old new : Entries R S H builds hashes) (given : List ℕ) (handed : List Entry)
-      (next : Option Kind) → IsSome next → failure_of new ≡ None
-      → Turns told stands old new was now given handed (Ok next)
-      → HandsOutGiven told stands old new was now given handed (Ok next)
-  answers_kind stands was now old new given handed None some goes t = absurd (cc)
-  answers_kind stands was now old new given handed (Some kind) some goes t =
-      let (entry, is, adds, s) = t.goes_on in
-      record {
-        more = t.more;
-        consumed = t.consumed;
-        hands_out = (
-          entry,
-          is,
-          stands_first new (given ++ t.more) (handed ++ entry ∷ []) goes s,
-          adds,
-          s,
-        );
-      }
+      → IsSome (last_of new) → failure_of new ≡ None
+      → Turns told stands old new was now given handed
+      → HandsOutGiven told stands old new was now given handed (Ok (last_of new))
+  answers_kind stands was now old new given handed some goes t = record {
+    more = t.more;
+    consumed = t.consumed;
+    hands_out = by_last (last_of new) some t.goes_on;
+  }
+    where
+      by_last : (last : Option Kind) → IsSome last
+          → HandsOutOrGoesOn told stands new was now (given ++ t.more) handed last
+          → HandsOut told stands new was now (given ++ t.more) handed (Ok last)
+      by_last None none h = absurd (cc)
+      by_last (Some kind) some (entry, is, adds, s) =
+          (entry, is, stands_first new (given ++ t.more) (handed ++ entry ∷ []) goes s, adds, s)
 
   pub answers_failure : {V : Type 0} (stands : V → List Item → Type 0) (was now : V)
       (old new : Entries R S H builds hashes) (given : List ℕ) (handed : List Entry)
-      (noted : Noted) (error : Error) → failure_of new ≡ Some error
-      → Turns told stands old new was now given handed (Err noted)
+      (error : Error) → failure_of new ≡ Some error → last_of new ≡ None
+      → Turns told stands old new was now given handed
       → HandsOutGiven told stands old new was now given handed (Err error)
-  answers_failure stands was now old new given handed noted error failed t =
+  answers_failure stands was now old new given handed error failed none t =
+      let r = read_on stands was now old new given handed none t in
       record {
-        more = t.more;
-        consumed = t.consumed;
+        more = r.more;
+        consumed = r.consumed;
         hands_out = (
-          met_by new error (given ++ t.more) handed
-              (failed_stage new.stage error failed) t.goes_on,
-          t.goes_on,
+          met_by new error (given ++ r.more) handed (failed_stage new.stage error failed) r.stands,
+          r.stands,
         );
       }
 

@@ -1,5 +1,8 @@
 -- A capture whose records are judged as they come: step after step.
-use Rattle.capture3.proofs.Common.{open_xids, ap₂, ◌≡◌, inl, inr, suc, ◌+◌, length, arith, append-nil, ℕ, Option, Some, None, List, [], ◌∷◌, ◌++◌, take, drop, refl, sym, ap, ◌∙◌, subst, append_assoc, take-append-drop, Item, RecordCut, RecordTooLong, Joining, Between, Header, Bytes, Whole, TooLong, join_next, Ends, Runs, Stops, Stopped, after, landed, ProcId, Known, Container, Error, Fault, Side, Client, Server, Event, Spot, ReplyItems, refusal, Entry, fault_at, Streams, Cursor, after-append, judge_call, judge_reply, Parsing, file_next, file_start, parsed, emitted, IsBeforeMark, opened_at, unpacking_at, StoredWith, Two, Adds, KnowsNone, Recalls, ShowsFirst, IsTableOf, xids_in, Judged, parsing_at, resumed, call_judged, reply_judged, emitted_at, connection_begun, turned, connection_closed, unpacking_with, fault_in_record, xid_in}
+use Rattle.capture3.proofs.Common.{open_xids, ap₂, ◌≡◌, inl, inr, suc, ◌+◌, length, arith, append-nil, ℕ, Option, Some, None, List, [], ◌∷◌, ◌++◌, take, drop, refl, sym, ap, ◌∙◌, subst, append_assoc, take-append-drop, Item, RecordCut, RecordTooLong, Joining, Between, Header, Bytes, Whole, TooLong, join_next, Ends, Runs, Stops, Stopped, after, landed, ProcId, Known, Container, Error, Fault, Side, Client, Server, Event, Spot, ReplyItems, refusal, Entry, fault_at, Streams, Cursor, after-append, judge_call, judge_reply, Parsing, file_next, file_start, parsed, emitted, IsBeforeMark, opened_at, unpacking_at, StoredWith, Two, Adds, KnowsNone, Recalls, ShowsFirst, IsTableOf, xids_in, Judged, parsing_at, resumed, call_judged, reply_judged, emitted_at, connection_begun, turned, connection_closed, unpacking_with, fault_in_record, xid_in, Ok, nat_eq, IsCall, IsReply, Stop, procedure_in}
+use Rattle.std.specs.Prelude.{min}
+use Rattle.capture3.specs.OpenXids.{xid_of}
+use Rattle.capture3.specs.Rank.{number_limit, rank}
 use Rattle.record_mark.specs.Taking.{Taking, Led, OutOfMemory, IsRunning, IsWhole, body_of, joined_body, released, unbegun}
 use Rattle.capture3.specs.declared.reader.entry.Kind.TheVariants as kinds
 use Rattle.capture3.specs.declared.fault.Error.TheVariants as errors
@@ -7,7 +10,10 @@ use Rattle.capture3.specs.declared.container.position.Event.TheVariants.{Begin, 
 use Rattle.capture3.specs.declared.container.position.Position.{Position}
 use Rattle.capture3.specs.machinery.Container.{AreStored, Comes, ComesToFault, FirstKept, FromFile, InFile, InFirstKept, InNextKept, IsStored, Leaves, NextKept, Recalled, first_cursor, RecallFails, stream_of, unpacking_of, arrived, Arrives, ShowsError}
 use Rattle.capture3.specs.Entry as entries
-use Rattle.capture3.specs.machinery.Pairing.{StandsAt, StandsOrRecalls, HasCome, after_side_word, HasMet, MeetsEvent, met, met_in, GoesTo, FailsAt, IsOfBytes, JudgesCall, JudgesReply, RefusesBody}
+use Rattle.capture3.specs.machinery.Pairing.{StandsAt, StandsOrRecalls, HasCome, after_side_word, HasMet, HasRecalled, MeetsEvent, met, met_in, GoesTo, FailsAt, IsOfBytes, error_at}
+use Rattle.capture3.specs.machinery.ScannedMessages.{StopsMessage}
+use Rattle.xdr3.specs.declared.reason.GetError.{GetError}
+use Rattle.xdr3.specs.declared.reason.GetError.TheVariants as gets
 use Rattle.capture3.specs.StreamMachine as reading
 use Rattle.capture3.specs.declared.container.position.Event.TheVariants as events
 use Rattle.capture3.proofs.Lemmas.Container.KeptStreamsLemmas.{call_cut, call_recalled, call_refused, close_recalled, reply_cut, reply_recalled, reply_refused, shows_at_last, turn_recalled}
@@ -239,6 +245,31 @@ come_at_start c table none runs at empty =
     come_at_rest c table [] [] none runs
     (stands_at_start c.position c.joiner.taking c.streams.kept table at empty)
 
+-- ---- one record
+
+-- the body was a call, which is told a visitor and joins the calls of its connection
+pub record JudgesCall {V : Type 0} (stands : V → List Item → Type 0) (was now : V)
+    (calls : List (List Item)) (body : List ℕ) (table : Known) (number : ℕ)
+    (id : ProcId) : Type 0 where
+  pub items : List Item
+  pub judged : judge_call calls body ≡ Ok items
+  pub is_call : IsCall body items
+  pub id_is : id ≡ procedure_in items
+  pub added : IsTableOf table (calls ++ items ∷ [])
+  pub begins : xid_of items ≡ xid_in items ∷ []
+  pub numbered : number
+      ≡ min (rank nat_eq (xid_in items) (xids_in (calls ++ items ∷ []))) number_limit
+  pub adds : Adds stands was now items
+
+-- the body was a reply, which is told a visitor
+pub record JudgesReply {V : Type 0} (stands : V → List Item → Type 0) (was now : V)
+    (calls : List (List Item)) (body : List ℕ) (number : ℕ) (id : ProcId) : Type 0 where
+  pub items : List Item
+  pub judged : judge_reply calls body ≡ Ok (record { id = id; items = items })
+  pub is_reply : IsReply body (record { id = id; items = items })
+  pub numbered : number ≡ min (rank nat_eq (xid_in items) (xids_in calls)) number_limit
+  pub adds : Adds stands was now items
+
 module _ {V : Type 0} (stands : V → List Item → Type 0) where
   pub begin_goes : (v : V) (number : ℕ) (c : Container) (table none : Known) (bytes : List ℕ)
       (all : List Entry) → KnowsNone none → IsRunning c.joiner.taking
@@ -304,7 +335,7 @@ module _ {V : Type 0} (stands : V → List Item → Type 0) where
 
   -- ---- a call, from the file or from streams
 
-  call_goes : (was now : V) (c : Container) (table new : Known) (bytes : List ℕ)
+  pub call_goes : (was now : V) (c : Container) (table new : Known) (bytes : List ℕ)
       (all : List Entry) (number : ℕ) (id : ProcId) → IsWhole c.joiner.taking
       → MeetsEvent c table (Record Client) bytes all
       → ((calls : List (List Item)) → IsTableOf table calls
@@ -361,7 +392,7 @@ module _ {V : Type 0} (stands : V → List Item → Type 0) where
 
   -- ---- a reply
 
-  reply_goes : (was now : V) (c : Container) (table : Known) (bytes : List ℕ)
+  pub reply_goes : (was now : V) (c : Container) (table : Known) (bytes : List ℕ)
       (all : List Entry) (number : ℕ) (id : ProcId) → IsWhole c.joiner.taking
       → MeetsEvent c table (Record Server) bytes all
       → ((calls : List (List Item)) → IsTableOf table calls
@@ -421,114 +452,63 @@ module _ {V : Type 0} (stands : V → List Item → Type 0) where
             (body_of c.joiner.taking) answer m.joins k.judged)),
       )
 
--- the same with the event and the container as the code has them
-module _ {V : Type 0} (stands : V → List Item → Type 0) (was now : V) (old new : Container)
-    (table after_it : Known) (bytes : List ℕ) (all : List Entry) (number : ℕ) (id : ProcId) where
-  pub call_goes_at : {event : Event} → event ≡ Record Client → new ≡ old
-      → Leaves (Some event) old.joiner.taking → MeetsEvent old table event bytes all
-      → ((calls : List (List Item)) → IsTableOf table calls
-      → JudgesCall stands was now calls (body_of old.joiner.taking) after_it number id)
-      → GoesTo stands was now (Some (kinds.Call id)) number new after_it bytes all
-  call_goes_at {event} is same leaves m tells =
-      subst (λ (c : Container).
-      GoesTo stands was now (Some (kinds.Call id)) number c after_it bytes all)
-      (sym same)
-      (call_goes stands was now old table after_it bytes all number id
-      (subst (λ (e : Event). Leaves (Some e) old.joiner.taking) is leaves)
-      (subst (λ (e : Event). MeetsEvent old table e bytes all) is m) tells)
-
-  pub reply_goes_at : {event : Event} → event ≡ Record Server → new ≡ old → after_it ≡ table
-      → Leaves (Some event) old.joiner.taking → MeetsEvent old table event bytes all
-      → ((calls : List (List Item)) → IsTableOf table calls
-      → JudgesReply stands was now calls (body_of old.joiner.taking) number id)
-      → GoesTo stands was now (Some (kinds.Reply id)) number new after_it bytes all
-  reply_goes_at {event} is same kept leaves m tells =
-      subst (λ (c : Container).
-      GoesTo stands was now (Some (kinds.Reply id)) number c after_it bytes all)
-      (sym same)
-      (subst
-      (λ (l : Known). GoesTo stands was now (Some (kinds.Reply id)) number old l bytes all)
-      (sym kept)
-      (reply_goes stands was now old table bytes all number id
-      (subst (λ (e : Event). Leaves (Some e) old.joiner.taking) is leaves)
-      (subst (λ (e : Event). MeetsEvent old table e bytes all) is m) tells))
-
 -- ---- a message that is refused
 
-module _ (c : Container) (table : Known) (bytes : List ℕ) (all : List Entry) where
-  call_fails : (error : Error) → MeetsEvent c table (Record Client) bytes all
-      → ((calls : List (List Item)) → IsTableOf table calls
-      → RefusesBody c.position Client (judge_call calls (body_of c.joiner.taking)) error)
-      → FailsAt bytes all error
-  call_fails (errors.Refused fault) (inl (none, m)) refuses =
-      let (stop, judged, is) = refuses m.so_far.calls m.calls in
-      shows_at_last m.front m.byte m.state (refusal fault) m.split m.runs
-      (m.ends ∙ ap (call_judged (unpacking_at c.position c.streams.kept Between) m.so_far) judged
-      ∙ ap (λ (f : Fault). Ends (refusal f))
-      (ap (λ (n : ℕ). fault_in_record c.position.connections Client n stop.at stop.reason)
-      (sym m.agrees.1) ∙ sym is))
-      (sym m.before ∙ sym (append-nil (emitted m.state)))
-  call_fails (errors.Refused fault) (inr m) refuses =
-      let (stop, judged, is) = refuses m.stood.so_far.calls m.stood.calls in
-      let same : suc (length m.stood.so_far.calls) ≡ c.position.records =
+-- this error stops the body, after these calls
+abbrev pub StopsBody : Side → GetError → List (List Item) → List ℕ → Type 0
+StopsBody Client error calls body = StopsMessage error (judge_call calls body)
+StopsBody Server error calls body = StopsMessage error (judge_reply calls body)
+
+module _ (c : Container) (table : Known) (bytes : List ℕ) (all : List Entry) (stop : Stop) where
+  fault_here : Side → ℕ → Fault
+  fault_here side number =
+      fault_in_record c.position.connections side number stop.at stop.reason
+
+  file_stops : (side : Side) → (m : HasMet c table (Record side) bytes all)
+      → StopsBody side (gets.Stop stop) m.so_far.calls (body_of c.joiner.taking)
+      → file_next m.state m.byte ≡ Ends (refusal (fault_here side c.position.records))
+  unfolding fault_here
+  file_stops Client m stops =
+      m.ends ∙ ap (call_judged (unpacking_at c.position c.streams.kept Between) m.so_far)
+      (stops stop refl) ∙ ap (λ (n : ℕ). Ends (refusal (fault_here Client n))) (sym m.agrees.1)
+  file_stops Server m stops =
+      m.ends ∙ ap (reply_judged (unpacking_at c.position c.streams.kept Between) m.so_far)
+      (stops stop refl) ∙ ap (λ (n : ℕ). Ends (refusal (fault_here Server n))) (sym m.agrees.1)
+
+  streams_stop : (side : Side) → (m : HasRecalled c table side bytes all)
+      → StopsBody side (gets.Stop stop) m.stood.so_far.calls (body_of c.joiner.taking)
+      → ShowsFirst bytes all (fault_here side c.position.records)
+  unfolding fault_here
+  streams_stop Client m stops =
+      let j : Judged = m.stood.so_far in
+      let same : suc (length j.calls) ≡ c.position.records =
       omega (arith, m.records_are, m.stood.here.1) in
-      subst (ShowsFirst bytes all) (ap
-      (λ (n : ℕ). fault_in_record c.position.connections Client n stop.at stop.reason)
-      same ∙ sym is)
+      subst (λ (n : ℕ). ShowsFirst bytes all (fault_here Client n)) same
       (call_refused (after_side_word c.position) c.streams.kept m.taken m.records table bytes all
-      m.stood m.count (Whole (body_of c.joiner.taking))
-      (fault_at m.stood.so_far.calls stop.at stop.reason) m.joins
-      (ap (reading.judged m.stood.so_far.calls) judged))
-  call_fails errors.Read (inl (none, m)) h = h m.so_far.calls m.calls
-  call_fails errors.Read (inr m) h = h m.stood.so_far.calls m.stood.calls
-  call_fails errors.Write (inl (none, m)) h = h m.so_far.calls m.calls
-  call_fails errors.Write (inr m) h = h m.stood.so_far.calls m.stood.calls
-  call_fails errors.Memory m h = tt
-
-  reply_fails : (error : Error) → MeetsEvent c table (Record Server) bytes all
-      → ((calls : List (List Item)) → IsTableOf table calls
-      → RefusesBody c.position Server (judge_reply calls (body_of c.joiner.taking)) error)
-      → FailsAt bytes all error
-  reply_fails (errors.Refused fault) (inl (none, m)) refuses =
-      let (stop, judged, is) = refuses m.so_far.calls m.calls in
-      shows_at_last m.front m.byte m.state (refusal fault) m.split m.runs
-      (m.ends ∙ ap (reply_judged (unpacking_at c.position c.streams.kept Between) m.so_far) judged
-      ∙ ap (λ (f : Fault). Ends (refusal f))
-      (ap (λ (n : ℕ). fault_in_record c.position.connections Server n stop.at stop.reason)
-      (sym m.agrees.1) ∙ sym is))
-      (sym m.before ∙ sym (append-nil (emitted m.state)))
-  reply_fails (errors.Refused fault) (inr m) refuses =
-      let (stop, judged, is) = refuses m.stood.so_far.calls m.stood.calls in
-      let same : suc (length m.stood.so_far.replies) ≡ c.position.records =
+      m.stood m.count (Whole (body_of c.joiner.taking)) (fault_at j.calls stop.at stop.reason)
+      m.joins (ap (reading.judged j.calls) (stops stop refl)))
+  streams_stop Server m stops =
+      let j : Judged = m.stood.so_far in
+      let same : suc (length j.replies) ≡ c.position.records =
       omega (arith, m.records_are, m.stood.here.2) in
-      subst (ShowsFirst bytes all) (ap
-      (λ (n : ℕ). fault_in_record c.position.connections Server n stop.at stop.reason)
-      same ∙ sym is)
+      subst (λ (n : ℕ). ShowsFirst bytes all (fault_here Server n)) same
       (reply_refused (after_side_word c.position) c.streams.kept m.taken m.records table bytes all
-      m.stood m.count (Whole (body_of c.joiner.taking))
-      (fault_at m.stood.so_far.replies stop.at stop.reason) m.joins
-      (ap (reading.judged m.stood.so_far.replies) judged))
-  reply_fails errors.Read (inl (none, m)) h = h m.so_far.calls m.calls
-  reply_fails errors.Read (inr m) h = h m.stood.so_far.calls m.stood.calls
-  reply_fails errors.Write (inl (none, m)) h = h m.so_far.calls m.calls
-  reply_fails errors.Write (inr m) h = h m.stood.so_far.calls m.stood.calls
-  reply_fails errors.Memory m h = tt
+      m.stood m.count (Whole (body_of c.joiner.taking)) (fault_at j.replies stop.at stop.reason)
+      m.joins (ap (reading.judged j.replies) (stops stop refl)))
 
-  pub call_fails_at : (error : Error) {event : Event} → event ≡ Record Client
-      → MeetsEvent c table event bytes all
-      → ((calls : List (List Item)) → IsTableOf table calls
-      → RefusesBody c.position Client (judge_call calls (body_of c.joiner.taking)) error)
-      → FailsAt bytes all error
-  call_fails_at error is m refuses =
-      call_fails error (subst (λ (e : Event). MeetsEvent c table e bytes all) is m) refuses
-
-  pub reply_fails_at : (error : Error) {event : Event} → event ≡ Record Server
-      → MeetsEvent c table event bytes all
-      → ((calls : List (List Item)) → IsTableOf table calls
-      → RefusesBody c.position Server (judge_reply calls (body_of c.joiner.taking)) error)
-      → FailsAt bytes all error
-  reply_fails_at error is m refuses =
-      reply_fails error (subst (λ (e : Event). MeetsEvent c table e bytes all) is m) refuses
+pub record_fails : (c : Container) (table : Known) (bytes : List ℕ) (all : List Entry)
+    (side : Side) (error : GetError) → MeetsEvent c table (Record side) bytes all
+    → ((calls : List (List Item)) → IsTableOf table calls
+    → StopsBody side error calls (body_of c.joiner.taking))
+    → FailsAt bytes all (error_at c.position side error)
+unfolding fault_here
+record_fails c table bytes all side (gets.Stop stop) (inl (none, m)) stops =
+    shows_at_last m.front m.byte m.state (refusal _) m.split m.runs
+    (file_stops c table bytes all stop side m (stops m.so_far.calls m.calls))
+    (sym m.before ∙ sym (append-nil (emitted m.state)))
+record_fails c table bytes all side (gets.Stop stop) (inr m) stops =
+    streams_stop c table bytes all stop side m (stops m.stood.so_far.calls m.stood.calls)
+record_fails c table bytes all side gets.Memory m stops = tt
 
 -- ---- streams that were kept
 

@@ -151,10 +151,10 @@ come_more : (c : Container) (bytes : List ℕ) (n m : ℕ) (table : Known)
 come_more c bytes n m table model h =
     subst (λ (b : List ℕ). HasCome c table b model) (sym (taken_more bytes n m)) h
 
-pub not_recalling : (cursor : Option Cursor) (answer : Bool) → answer ≡ is_some cursor
-    → answer ≡ false → cursor ≡ None
-not_recalling None answer is untrue = refl
-not_recalling (Some one) answer is untrue = absurd (cc)
+pub not_some : {X : Type 0} (o : Option X) (answer : Bool) → answer ≡ is_some o
+    → answer ≡ false → o ≡ None
+not_some None answer is untrue = refl
+not_some (Some one) answer is untrue = absurd (cc)
 
 -- all bytes are taken, and no streams are judged
 pub judged_all : (c : Container) (table : Known) (bytes all : List ℕ)

@@ -1,5 +1,5 @@
-use Rattle.capture3.proofs.Common.{Err, ℕ, List, Option, arith, ap, subst, ◌≡◌, ◌∙◌, ◌++◌, ◌-◌, [], ◌∷◌, take, take_all, drop, length, length-take, length-drop, refl, End, Kind}
-use Rattle.capture3.specs.machinery.Pairing.{entry_cost, SpellsLast}
+use Rattle.capture3.proofs.Common.{Err, ℕ, List, arith, ap, ◌≡◌, ◌∙◌, ◌++◌, ◌-◌, [], ◌∷◌, take, take_all, drop, length, length-take, length-drop, refl, End}
+use Rattle.capture3.specs.machinery.Pairing.{entry_cost}
 use Rattle.capture3.proofs.Lemmas.Reached.Limits.{typed_within}
 use Rattle.capture3.proofs.Lemmas.Reader.PassedOn.{error_is}
 use Rattle.capture3.specs.declared.reader.entry.Entry.TheVariants as variants
@@ -8,7 +8,7 @@ use Rattle.std.proofs.Common.{map}
 use Rattle.capture3.specs.Numbering.{number_kept, numbers_after}
 use Rattle.capture3.proofs.Lemmas.Connections.NumberingLemmas.{copy_number, lent_number, numbered_more}
 use Rattle.capture3.proofs.Lemmas.Files.Verdicts.{typed_once}
-use Rattle.capture3.proofs.Lemmas.Reader.WholeFiles.{begun_is, kept_length, cut_at, first_fault, judged_all, kept_snoc, keeps_more, keeps_on, not_recalling, typed_at}
+use Rattle.capture3.proofs.Lemmas.Reader.WholeFiles.{begun_is, kept_length, cut_at, first_fault, judged_all, kept_snoc, keeps_more, keeps_on, not_some, typed_at}
 use Rattle.capture3.proofs.reader.whole.parse.Goals as goal
 
 pub loop-taken-preserved-in-Continue-branch-2 : goal.loop-taken-preserved-in-Continue-branch-2
@@ -82,7 +82,7 @@ returns-clause-entries c =
       invariant.machine.0 ++ End ∷ [],
       typed_at c.args.bytes.now _ _ _ _ invariant.machine.0 (λ i. omega (arith, c.type_inv.bytes i))
           (judged_all c.loop-taken.pairing.container _ _ _ _ all
-          (not_recalling _ _ c.is_recalling.ensures c.if-is_recalling.false)
+          (not_some _ _ c.is_recalling.ensures c.if-is_recalling.false)
           invariant.machine.1) c.in_ok-end.ensures.ok,
       rw c.in_ok-push.ensures.items
           (kept_snoc c.loop-taken.entries.items invariant.machine.0 _ End invariant.machine.2 refl),
@@ -114,15 +114,6 @@ returns-in_err-end-clause-fault c =
     let met =
     cut_at c.args.bytes.now _ _ _ _ invariant.machine.0 (λ i. omega (arith, c.type_inv.bytes i))
     (judged_all c.loop-taken.pairing.container _ _ _ _ all
-    (not_recalling _ _ c.is_recalling.ensures c.if-is_recalling.false) invariant.machine.1)
+    (not_some _ _ c.is_recalling.ensures c.if-is_recalling.false) invariant.machine.1)
     c.in_err-end.ensures.err.0 in
     rw (error_is _ _ c.from_residual-in_err-end.ensures ∙ ap Err c.in_err-end.ensures.err.1) met
-
-pub lend-requires : goal.lend-requires
-lend-requires c =
-    record {
-      spells =
-          subst
-          (λ (came : Option Kind). ∥ SpellsLast came c.next.new.self.container.joiner.taking ∥₁)
-          c.in-Some.is c.in-Ok.ensures.stands.spells;
-    }

@@ -1,5 +1,5 @@
 use Rattle.capture3.proofs.Common.{ap, arith, refl, subst, List, ℕ, ◌-◌, ◌+◌, ◌++◌, ◌≤◌, take, drop, slice_range, length, length-take, FailsAt, GoesTo}
-use Rattle.capture3.proofs.Lemmas.Reader.EntriesLemmas.{failed_not_read, failed_not_write, judged_failed, judged_on, can_go_on}
+use Rattle.capture3.proofs.Lemmas.Reader.EntriesLemmas.{failed_not_read, judged_failed, judged_on, can_go_on}
 use Rattle.capture3.specs.machinery.CountedCalls.{known_of}
 use Rattle.capture3.proofs.reader.entries.Entries.judge.Goals as goal
 
@@ -11,10 +11,6 @@ next-requires g c =
           _ c.args.self.now.pairing.container (c.args.self.now.ready c.requires.reading);
     }
 
-pub invariant_of-self-in-Err-clause-never_writes : goal.invariant_of-self-in-Err-clause-never_writes
-invariant_of-self-in-Err-clause-never_writes g c =
-    failed_not_write c.next.new.self.error c.in-Err.ensures.fault.device
-
 pub returns-in-Ok-clause-goes_on : goal.returns-in-Ok-clause-goes_on
 returns-in-Ok-clause-goes_on g c given handed s =
     let inner =
@@ -25,11 +21,11 @@ returns-in-Ok-clause-goes_on g c given handed s =
     let within : c.args.self.now.end ≤ length c.args.self.now.block.items =
     omega (arith, c.args.self.now.within, c.deref.ensures.len, ap length c.deref.ensures.value) in
     judged_on g.R.Source.told g.V.Visit.stands c.args.visitor.now c.next.new.visitor c.args.self.now
-    _ c.in-Ok.count given handed c.in-Ok.kind c.requires.reading c.requires.reading refl refl
-    refl refl fits within c.in-Ok.ensures.room s
+    _ c.in-Ok.count given handed c.next.new.self.last c.requires.reading c.requires.reading refl
+    refl refl refl fits within c.in-Ok.ensures.room s
     (λ judged at. subst
     (λ (items : List ℕ).
-    GoesTo g.V.Visit.stands c.args.visitor.now c.next.new.visitor c.in-Ok.kind
+    GoesTo g.V.Visit.stands c.args.visitor.now c.next.new.visitor c.next.new.self.last
     c.next.new.self.number c.next.new.self.container (known_of c.next.new.self.calls)
     (judged
     ++ take c.in-Ok.count (slice_range items c.args.self.now.start c.args.self.now.end))

@@ -1,4 +1,3 @@
-use Rattle.capture3.proofs.Common.{subst, Turns}
 use Rattle.capture3.proofs.Lemmas.Reader.EntriesLemmas.{answers_again, answers_failure, answers_kind, answers_none}
 use Rattle.capture3.proofs.reader.entries.Entries.next.Goals as goal
 
@@ -11,23 +10,14 @@ pub returns-in-Ok-clause-answers : goal.returns-in-Ok-clause-answers
 returns-in-Ok-clause-answers g c given handed s =
     let read = c.in-Ok.ensures in
     answers_kind g.R.Source.told g.V.Visit.stands c.args.visitor.now c.next_entry.new.visitor
-    c.args.self.now c.next_entry.new.self given handed c.in-Ok.kind read.some read.lends.going
-    (subst
-    (λ r.
-    Turns g.R.Source.told g.V.Visit.stands c.args.self.now c.next_entry.new.self
-    c.args.visitor.now c.next_entry.new.visitor given handed r) c.in-Ok.is
-    (c.next_entry.ensures.turns given handed s))
+    c.args.self.now c.next_entry.new.self given handed read.some read.lends.going
+    (read.turns given handed s)
 
 pub returns-in-Err-clause-answers : goal.returns-in-Err-clause-answers
 returns-in-Err-clause-answers g c given handed s =
     answers_failure g.R.Source.told g.V.Visit.stands c.args.visitor.now c.next_entry.new.visitor
-    c.args.self.now c.next_entry.new.self given handed c.in-Err.field-0 c.failure.result
-    c.failure.ensures
-    (subst
-    (λ r.
-    Turns g.R.Source.told g.V.Visit.stands c.args.self.now c.next_entry.new.self
-    c.args.visitor.now c.next_entry.new.visitor given handed r) c.in-Err.is
-    (c.next_entry.ensures.turns given handed s))
+    c.args.self.now c.next_entry.new.self given handed c.failure.result c.failure.ensures
+    c.in-Err.ensures.lends.failure.unlent (c.in-Err.ensures.turns given handed s)
 
 pub returns-in-Failed-clause-answers : goal.returns-in-Failed-clause-answers
 returns-in-Failed-clause-answers g c given handed s =
