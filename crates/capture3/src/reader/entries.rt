@@ -13,10 +13,9 @@ ghost use Rattle.capture3.specs.Capture.{Two};
 ghost use Rattle.capture3.specs.machinery.Container.{CanGoOn};
 ghost use Rattle.capture3.specs.Laws.{most_bytes};
 
-use crate::container::position::file_fault;
 use crate::device::DeviceFailed;
 use crate::device::source::Source;
-use crate::fault::{Error, Noted};
+use crate::fault::{Error, Fault, Noted, Place};
 use crate::message::counted_calls::CountedCalls;
 use crate::reader::entry::{EntryRef, Kind};
 use crate::reader::pairing::Pairing;
@@ -167,8 +166,7 @@ impl<'r, R: Source, S: BuildHasher + Drop> Entries<'r, R, S> {
     }
 
     /// Returns the error for good.
-    #[cold]
-    #[inline(never)]
+    #[inline(always)]
     fn failure(&self) -> Error
         requires { IsSome (failure_of self.now) }
         ensures { failure_of self.now ≡ Some result }
@@ -210,7 +208,11 @@ impl<'r, R: Source, S: BuildHasher + Drop> Entries<'r, R, S> {
             }
         }
         self.pairing.last = None;
-        self.stage = Stage::Failed(file_fault(self.judged, Reason::AfterEnd));
+        // Written out, since a call's result takes instructions for each message.
+        self.stage = Stage::Failed(Error::Refused(Fault {
+            place: Place::File { at: self.judged },
+            reason: Reason::AfterEnd,
+        }));
         Err(Noted)
     }
 
