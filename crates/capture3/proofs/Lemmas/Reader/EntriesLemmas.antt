@@ -1,6 +1,6 @@
 -- What a reader of entries makes of its histories, step by step.
 use Rattle.std.proofs.Common.{◌≡◌, ◌≢◌, inl, inr, ℕ, ◌+◌, ◌-◌, ◌≤◌, ◌<◌, Option, Some, None, Result, Ok, Err, IsSome, OnErr, OnOk, List, [], ◌∷◌, ◌++◌, length, take, drop, slice_range, refl, sym, ap, subst, ◌∙◌, append_assoc, append-nil, length-append, arith, take-append-drop, length-take, length-drop, vec_len}
-use Rattle.capture3.proofs.Common.{CanGoOn, common_steps, Pairing, CountedCalls, known_of, open_xids, ∥∥₁_elim, CaptureCut, AreBytes, Item, Runs, Stops, Stopped, Taking, Led, OutOfMemory, IsRunning, released, Known, Kind, Error, Spot, Container, Cursor, Two, max_connections, Entry, End, FirstFault, IsClean, begins, most_bytes, Parsing, parsed, emitted, AreFirstReached, AreWhole, Reached, parsing_at, Streams, file_fault, IsWellFormed, Typed, props, Told, Gave, IsSpent, AreStored, IsReady, room_in, unpacking_of}
+use Rattle.capture3.proofs.Common.{CanGoOn, common_steps, Pairing, CountedCalls, known_of, open_xids, ∥∥₁_elim, CaptureCut, AreBytes, Item, Runs, Stops, Stopped, Taking, Led, OutOfMemory, IsRunning, released, Known, Kind, Error, Spot, Container, Cursor, Two, max_connections, Entry, End, FirstFault, IsClean, begins, most_bytes, Parsing, parsed, emitted, AreFirstReached, AreWhole, Reached, parsing_at, Streams, file_fault, IsWellFormed, props, Told, Gave, IsSpent, AreStored, IsReady, room_in, unpacking_of}
 use Rattle.std.proofs.lemmas.List.{drop-take}
 use Rattle.capture3.proofs.Lemmas.Reader.ToldLemmas.{gave_both, gave_none}
 use Rattle.std.specs.declared.hash.BuildHasher as BuildHasher
@@ -158,16 +158,6 @@ come_first c table bytes rest handed are h = by_cursor c.cursor h
         recalled_first (after_side_word c.position) c.streams.kept cursor.side cursor.taken
         c.position.records table bytes rest handed are r
 
--- no streams are judged
-stands_unopened : (c : Container) (table : Known) (bytes : List ℕ) (handed : List Entry)
-    → c.cursor ≡ None → HasCome c table bytes handed
-    → StandsAt c.position (released c.joiner.taking) c.streams.kept table bytes handed
-stands_unopened c table bytes handed none h =
-    subst
-    (λ (cursor : Option Cursor).
-    StandsOrRecalls cursor c.position (released c.joiner.taking) c.streams.kept table bytes
-    handed) none h
-
 few_first : (bytes : List ℕ) (handed : List Entry) → AreFirstReached bytes handed
     → begins handed ≤ max_connections
 few_first bytes handed (more, reached) =
@@ -200,18 +190,6 @@ split_range block start end count fits =
 
 -- ---- the end, and a fault
 
-pub typed_here : (bytes : List ℕ) (p : Position) (t : Taking) (streams : Streams)
-    (table : Known) (model : List Entry) → AreBytes bytes
-    → StandsAt p t streams table bytes model → IsEndSpot p.spot → Typed bytes (model ++ End ∷ [])
-typed_here bytes p t streams table model are s ended =
-    typed_at bytes p t streams table model are s ended
-
-pub cut_here : (bytes : List ℕ) (p : Position) (t : Taking) (streams : Streams)
-    (table : Known) (model : List Entry) → AreBytes bytes
-    → StandsAt p t streams table bytes model → (IsEndSpot p.spot → ⊥)
-    → FirstFault bytes (file_fault (length bytes) CaptureCut)
-cut_here bytes p t streams table model are s not = cut_at bytes p t streams table model are s not
-
 -- short of the end, what was emitted is what the bytes reach
 pub not_ended : (bytes : List ℕ) (p : Position) (t : Taking) (streams : Streams)
     (table : Known) (model : List Entry) → AreBytes bytes
@@ -220,7 +198,7 @@ pub not_ended : (bytes : List ℕ) (p : Position) (t : Taking) (streams : Stream
 not_ended bytes p t streams table model are s not =
     let cut =
     verdict_from_fault bytes (file_fault (length bytes) CaptureCut) are
-    (cut_here bytes p t streams table model are s not) in
+    (cut_at bytes p t streams table model are s not) in
     let bad : IsWellFormed bytes → ⊥ = λ w. let typed = verdict_from_typed bytes w.0 w.1 in cc in (
       bad,
       inr (
@@ -256,7 +234,7 @@ all_before_end bytes p t streams table model are s = by_spot p.spot refl
     by_spot (spots.SideChunk side left) is =
         inr (not_ended bytes p t streams table model are s (λ e. subst IsEndSpot is e))
     by_spot (spots.Ended version) is =
-        inl (typed_here bytes p t streams table model are s (subst IsEndSpot (sym is) tt))
+        inl (typed_at bytes p t streams table model are s (subst IsEndSpot (sym is) tt))
 
 -- ---- the reader
 
@@ -395,8 +373,8 @@ module _ {R S H : Type 0} {builds : BuildHasher.Ghosts S H} {hashes : Hasher.Gho
       → StandsAt e.pairing.container.position (released e.pairing.container.joiner.taking)
       e.pairing.container.streams.kept (known_of e.pairing.calls) given handed
   machine_at e given handed empty none r =
-      stands_unopened e.pairing.container (known_of e.pairing.calls) given handed none (subst
-      (λ (b : List ℕ). HasCome e.pairing.container (known_of e.pairing.calls) b handed)
+      rw none at (subst (λ (b : List ℕ).
+      HasCome e.pairing.container (known_of e.pairing.calls) b handed)
       (sym (all_judged e given handed empty r)) r.machine)
 
   pub has_read : (old new : Entries R S H builds hashes) (given more : List ℕ) (handed : List Entry)
@@ -560,7 +538,7 @@ module _ {R S H : Type 0} {builds : BuildHasher.Ghosts S H} {hashes : Hasher.Gho
       → StandsFor told old given handed → StandsFor told new given (handed ++ End ∷ [])
   finished old new given handed is over last block empty none ended end s =
       let typed =
-      typed_here given _ _ _ _ handed s.bytes
+      typed_at given _ _ _ _ handed s.bytes
       (machine_at old given handed empty none (reading_of old given handed is s)) ended in
       record {
         bytes = s.bytes;
@@ -597,7 +575,7 @@ module _ {R S H : Type 0} {builds : BuildHasher.Ghosts S H} {hashes : Hasher.Gho
       let at = machine_at old given handed empty unopened r in
       let first : FirstFault given (file_fault old.judged CaptureCut) =
       subst (λ (n : ℕ). FirstFault given (file_fault n CaptureCut)) (sym size)
-      (cut_here given _ _ _ _ handed s.bytes at not) in
+      (cut_at given _ _ _ _ handed s.bytes at not) in
       let reached = (not_ended given _ _ _ _ handed s.bytes at not).1 in
       stands_failed old new error given handed fails none block s
       (subst (λ (e : Error). IsMetBy e (told new.source.now) given handed) (sym cut)
@@ -767,12 +745,3 @@ not_read errors.Memory h = λ e. cc
 
 pub failed_not_read : (error : Error) → IsOfBytes error → Some error ≢ Some errors.Read
 failed_not_read error h = λ e. not_read error h cc
-
-pub not_write : (error : Error) → IsOfBytes error → error ≢ errors.Write
-not_write (errors.Refused fault) h = λ e. cc
-not_write errors.Read h = absurd h
-not_write errors.Write h = absurd h
-not_write errors.Memory h = λ e. cc
-
-pub failed_not_write : (error : Error) → IsOfBytes error → Failed error ≢ Failed errors.Write
-failed_not_write error h = λ e. not_write error h cc

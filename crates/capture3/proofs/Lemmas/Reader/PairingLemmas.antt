@@ -1,17 +1,20 @@
 -- A capture whose records are judged as they come: step after step.
-use Rattle.capture3.proofs.Common.{open_xids, ap₂, ◌≡◌, inl, inr, suc, ◌+◌, length, arith, append-nil, ℕ, Option, Some, None, List, [], ◌∷◌, ◌++◌, take, drop, refl, sym, ap, ◌∙◌, subst, append_assoc, take-append-drop, Item, RecordCut, RecordTooLong, Joining, Between, Header, Bytes, Whole, TooLong, join_next, Ends, Runs, Stops, Stopped, after, landed, ProcId, Known, Container, Error, Fault, Side, Client, Server, Event, Spot, ReplyItems, refusal, Entry, fault_at, Streams, Cursor, after-append, judge_call, judge_reply, Parsing, file_next, file_start, parsed, emitted, IsBeforeMark, opened_at, unpacking_at, StoredWith, Two, Adds, KnowsNone, Recalls, ShowsFirst, IsTableOf, xids_in, Judged, parsing_at, resumed, call_judged, reply_judged, emitted_at, connection_begun, turned, connection_closed, unpacking_with, fault_in_record, xid_in, Ok, nat_eq, IsCall, IsReply, Stop, procedure_in}
-use Rattle.std.specs.Prelude.{min}
-use Rattle.capture3.specs.OpenXids.{xid_of}
+use Rattle.capture3.proofs.Common.{open_xids, ap₂, ◌≡◌, ◌<◌, inl, inr, suc, ◌+◌, length, arith, append-nil, ℕ, Option, Some, None, List, [], ◌∷◌, ◌++◌, take, drop, refl, sym, ap, ◌∙◌, subst, append_assoc, take-append-drop, Item, RecordCut, RecordTooLong, Joining, Between, Header, Bytes, Whole, TooLong, Ends, Runs, Stops, Stopped, after, landed, Known, Container, Error, Fault, Side, Client, Server, Event, Spot, ReplyItems, refusal, Entry, fault_at, Streams, Cursor, after-append, judge_call, judge_reply, Parsing, file_next, file_start, parsed, emitted, IsBeforeMark, opened_at, unpacking_at, StoredWith, Two, Adds, KnowsNone, Recalls, ShowsFirst, IsTableOf, xids_in, Judged, parsing_at, resumed, call_judged, reply_judged, emitted_at, connection_begun, turned, connection_closed, unpacking_with, fault_in_record, xid_in, Ok, nat_eq, Stop}
+use Rattle.std.specs.Prelude.{min, ◌^◌}
 use Rattle.capture3.specs.Rank.{number_limit, rank}
 use Rattle.record_mark.specs.Taking.{Taking, Led, OutOfMemory, IsRunning, IsWhole, body_of, joined_body, released, unbegun}
 use Rattle.capture3.specs.declared.reader.entry.Kind.TheVariants as kinds
 use Rattle.capture3.specs.declared.fault.Error.TheVariants as errors
 use Rattle.capture3.specs.declared.container.position.Event.TheVariants.{Begin, Record, Turn, Close}
 use Rattle.capture3.specs.declared.container.position.Position.{Position}
-use Rattle.capture3.specs.machinery.Container.{AreStored, Comes, ComesToFault, FirstKept, FromFile, InFile, InFirstKept, InNextKept, IsStored, Leaves, NextKept, Recalled, first_cursor, RecallFails, stream_of, unpacking_of, arrived, Arrives, ShowsError}
+use Rattle.capture3.specs.machinery.Container.{AreStored, Comes, ComesToFault, FirstKept, FromFile, InFile, InFirstKept, InNextKept, IsStored, Leaves, NextKept, Recalled, first_cursor, RecallFails, unpacking_of, arrived, Arrives, ShowsError}
 use Rattle.capture3.specs.Entry as entries
 use Rattle.capture3.specs.machinery.Pairing.{StandsAt, StandsOrRecalls, HasCome, after_side_word, HasMet, HasRecalled, MeetsEvent, met, met_in, GoesTo, FailsAt, IsOfBytes, error_at}
-use Rattle.capture3.specs.machinery.ScannedMessages.{StopsMessage}
+use Rattle.capture3.specs.machinery.ScannedMessages.{ScansCall, ScansReply, StopsMessage}
+use Rattle.capture3.specs.declared.message.scan.CallHead.{CallHead}
+use Rattle.capture3.specs.machinery.Calls.{Gains, number_for}
+use Rattle.capture3.proofs.Lemmas.Messages.MessageScanLemmas.{call_agrees}
+use Rattle.capture3.specs.declared.message.calls.NumberedCall.{NumberedCall}
 use Rattle.xdr3.specs.declared.reason.GetError.{GetError}
 use Rattle.xdr3.specs.declared.reason.GetError.TheVariants as gets
 use Rattle.capture3.specs.StreamMachine as reading
@@ -23,7 +26,7 @@ use Rattle.capture3.specs.machinery.ContainerMachine.{Mark, Unpacking, Refuses, 
 use Rattle.capture3.proofs.Lemmas.Reader.FileStandingLemmas.{whole_connections, runs_follow, stops_follow}
 use Rattle.capture3.proofs.Lemmas.Reader.WholeEntries.{runs_emit, stops_emit}
 use Rattle.capture3.proofs.Lemmas.Reached.Growing.{stops_at_last}
-use Rattle.capture3.proofs.Lemmas.Connections.KnownLemmas.{table_empty}
+use Rattle.capture3.proofs.Lemmas.Connections.KnownLemmas.{admits_agree, admits_number, number_added, table_added, table_empty}
 use Rattle.capture3.proofs.Lemmas.Connections.NumberingLemmas.{numbered_in, open-append, opened_more, opened_still}
 
 -- ---- the first byte
@@ -57,8 +60,7 @@ pub stands_on : (p q : Position) (t u : Taking) (old new : Streams) (table : Kno
     → Arrives (unpacking_of p t old) piece event q u new
     → StandsAt q u new table (bytes ++ piece) all
 stands_on p q t u old new table bytes all piece event s is came =
-    let arrives =
-    subst (λ (e : Option Event). Arrives (unpacking_of p t old) piece e q u new) is came in
+    let arrives = rw is at came in
     let next =
     runs_follow piece (unpacking_of p t old) (unpacking_of q u new) s.so_far s.agrees arrives in
     record {
@@ -88,11 +90,7 @@ pub stands_met : (p : Position) (t : Taking) (old : Streams) (new : Container)
     → Arrives (unpacking_of p t old) piece came new.position new.joiner.taking new.streams.kept
     → HasMet new table event (bytes ++ piece) all
 stands_met p t old new table bytes all piece event came s is arrives_at =
-    let arrives =
-    subst
-    (λ (e : Option Event).
-    Arrives (unpacking_of p t old) piece e new.position new.joiner.taking new.streams.kept)
-    is arrives_at in
+    let arrives = rw is at arrives_at in
     let stops : after unpack_next (Runs (unpacking_of p t old)) piece ≡ Stops (met_in event new) =
     arrives ∙ met_is event new.position new.joiner.taking new.streams.kept in
     let next =
@@ -179,19 +177,6 @@ fails_longer bytes piece n all errors.Read f = f
 fails_longer bytes piece n all errors.Write f = f
 fails_longer bytes piece n all errors.Memory f = tt
 
--- a whole record was let go
-pub let_released : (old new : Container) (table : Known) (bytes : List ℕ)
-    (all : List Entry) → new.position ≡ old.position
-    → new.joiner.taking ≡ released old.joiner.taking → new.streams.kept ≡ old.streams.kept
-    → new.cursor ≡ old.cursor
-    → HasCome old table bytes all
-    → StandsOrRecalls new.cursor new.position new.joiner.taking new.streams.kept table bytes all
-let_released old new table bytes all same is kept here s = rw (same, is, kept, here) s
-
-pub stored_still : (old new : Container) → new.position ≡ old.position
-    → new.streams.kept ≡ old.streams.kept → new.cursor ≡ old.cursor → IsStored old → IsStored new
-stored_still old new same kept here stored = rw (same, kept, here) stored
-
 -- ---- what is whole
 
 -- a visitor that was not called
@@ -205,9 +190,6 @@ at_rest (Led (Stops end)) h = absurd h
 at_rest (Led (Stopped end)) h = absurd h
 at_rest OutOfMemory h = absurd h
 
-at_rest_runs : (t : Taking) → IsRunning t → IsRunning (released t)
-at_rest_runs t h = subst IsRunning (sym (at_rest t h)) h
-
 pub let_go : (t : Taking) → IsWhole t → released t ≡ unbegun
 let_go (Led (Stops (Whole body))) h = refl
 let_go (Led (Stops (TooLong at))) h = absurd h
@@ -215,27 +197,11 @@ let_go (Led (Runs s)) h = absurd h
 let_go (Led (Stopped end)) h = absurd h
 let_go OutOfMemory h = absurd h
 
-let_go_runs : (t : Taking) → IsWhole t → IsRunning (released t)
-let_go_runs t h = subst IsRunning (sym (let_go t h)) tt
-
-pub leaves_running : (event : Option Event) (t : Taking) → Leaves event t → IsRunning (released t)
-leaves_running (Some (Record side)) t h = let_go_runs t h
-leaves_running (Some Begin) t h = at_rest_runs t h
-leaves_running (Some Turn) t h = at_rest_runs t h
-leaves_running (Some Close) t h = at_rest_runs t h
-leaves_running (Some events.Streams) t h = at_rest_runs t h
-leaves_running None t h = at_rest_runs t h
-
 come_at_rest : (c : Container) (table : Known) (bytes : List ℕ) (all : List Entry)
     → c.cursor ≡ None → IsRunning c.joiner.taking
     → StandsAt c.position c.joiner.taking c.streams.kept table bytes all → HasCome c table bytes all
 come_at_rest c table bytes all none runs s =
-    subst
-    (λ (n : Option Cursor).
-    StandsOrRecalls n c.position (released c.joiner.taking) c.streams.kept table bytes all)
-    (sym none)
-    (subst (λ (u : Taking). StandsAt c.position u c.streams.kept table bytes all)
-    (sym (at_rest c.joiner.taking runs)) s)
+    rw (none, at_rest c.joiner.taking runs) s
 
 pub come_at_start : (c : Container) (table : Known) → c.cursor ≡ None
     → IsRunning c.joiner.taking
@@ -244,31 +210,6 @@ pub come_at_start : (c : Container) (table : Known) → c.cursor ≡ None
 come_at_start c table none runs at empty =
     come_at_rest c table [] [] none runs
     (stands_at_start c.position c.joiner.taking c.streams.kept table at empty)
-
--- ---- one record
-
--- the body was a call, which is told a visitor and joins the calls of its connection
-pub record JudgesCall {V : Type 0} (stands : V → List Item → Type 0) (was now : V)
-    (calls : List (List Item)) (body : List ℕ) (table : Known) (number : ℕ)
-    (id : ProcId) : Type 0 where
-  pub items : List Item
-  pub judged : judge_call calls body ≡ Ok items
-  pub is_call : IsCall body items
-  pub id_is : id ≡ procedure_in items
-  pub added : IsTableOf table (calls ++ items ∷ [])
-  pub begins : xid_of items ≡ xid_in items ∷ []
-  pub numbered : number
-      ≡ min (rank nat_eq (xid_in items) (xids_in (calls ++ items ∷ []))) number_limit
-  pub adds : Adds stands was now items
-
--- the body was a reply, which is told a visitor
-pub record JudgesReply {V : Type 0} (stands : V → List Item → Type 0) (was now : V)
-    (calls : List (List Item)) (body : List ℕ) (number : ℕ) (id : ProcId) : Type 0 where
-  pub items : List Item
-  pub judged : judge_reply calls body ≡ Ok (record { id = id; items = items })
-  pub is_reply : IsReply body (record { id = id; items = items })
-  pub numbered : number ≡ min (rank nat_eq (xid_in items) (xids_in calls)) number_limit
-  pub adds : Adds stands was now items
 
 module _ {V : Type 0} (stands : V → List Item → Type 0) where
   pub begin_goes : (v : V) (number : ℕ) (c : Container) (table none : Known) (bytes : List ℕ)
@@ -335,14 +276,37 @@ module _ {V : Type 0} (stands : V → List Item → Type 0) where
 
   -- ---- a call, from the file or from streams
 
+  -- a call that is admitted joins the calls of its connection
+  call_joins : (was now : V) (table new : Known) (body : List ℕ) (call : CallHead) (number : ℕ)
+      → (k : ScansCall stands body call was now) → call.xid < 2 ^ 32
+      → Some number ≡ number_for table call.xid call.id → Gains table call.xid call.id new
+      → (calls : List (List Item)) → IsTableOf table calls
+      → (judge_call calls body ≡ Ok k.items) × IsTableOf new (calls ++ k.items ∷ [])
+      × (number
+      ≡ min (rank nat_eq (xid_in k.items) (xids_in (calls ++ k.items ∷ []))) number_limit)
+  call_joins was now table new body call number k fits is gains calls at =
+      let agree =
+      admits_agree table calls call.xid call.id fits at (Some number) number refl is in (
+        call_agrees stands calls body call was now k agree,
+        table_added table new calls k.items call.xid call.id k.xid_is k.procedure_is fits at agree
+            gains,
+        admits_number table calls call.xid call.id fits at (Some number) number refl is
+            ∙ number_added table new calls k.items call.xid call.id k.xid_is k.procedure_is fits at
+            agree gains
+            ∙ ap (λ (x : ℕ). min (rank nat_eq x (xids_in (calls ++ k.items ∷ []))) number_limit)
+            (sym k.xid_is),
+      )
+
   pub call_goes : (was now : V) (c : Container) (table new : Known) (bytes : List ℕ)
-      (all : List Entry) (number : ℕ) (id : ProcId) → IsWhole c.joiner.taking
+      (all : List Entry) (call : CallHead) (number : ℕ) → IsWhole c.joiner.taking
       → MeetsEvent c table (Record Client) bytes all
-      → ((calls : List (List Item)) → IsTableOf table calls
-      → JudgesCall stands was now calls (body_of c.joiner.taking) new number id)
-      → GoesTo stands was now (Some (kinds.Call id)) number c new bytes all
-  call_goes was now c table new bytes all number id whole (inl (none, m)) tells =
-      let k = tells m.so_far.calls m.calls in
+      → ScansCall stands (body_of c.joiner.taking) call was now → call.xid < 2 ^ 32
+      → Some number ≡ number_for table call.xid call.id → Gains table call.xid call.id new
+      → GoesTo stands was now (Some (kinds.Call call.id)) number c new bytes all
+  call_goes was now c table new bytes all call number whole (inl (none, m)) k fits is gains =
+      let joins =
+      call_joins was now table new (body_of c.joiner.taking) call number k fits is gains
+      m.so_far.calls m.calls in
       let v : Unpacking = unpacking_at c.position c.streams.kept Between in
       let at : unpacking_of c.position (released c.joiner.taking) c.streams.kept ≡ v =
       ap (λ (t : Taking). unpacking_of c.position t c.streams.kept) (let_go c.joiner.taking whole)
@@ -350,106 +314,89 @@ module _ {V : Type 0} (stands : V → List Item → Type 0) where
       let j : Judged = resuming.with_call m.so_far k.items in
       let opened = opened_more all m.so_far.calls k.items k.begins m.opened in (
         entries.Call k.items,
-        (k.items, whole, k.is_call, k.id_is, refl),
-        numbered_in number (xid_in k.items) _ _ opened k.numbered,
+        (k.items, whole, k.is_call, sym k.procedure_is, refl),
+        numbered_in number (xid_in k.items) _ _ opened joins.2,
         k.adds,
-        subst
-            (λ (n : Option Cursor).
-            StandsOrRecalls n c.position (released c.joiner.taking) c.streams.kept new bytes
-            (all ++ entries.Call k.items ∷ [])) (sym none)
-            (record {
-              so_far = j;
-              agrees = subst (λ (w : Unpacking). resuming.Agrees w j) (sym at) (m.agrees.0 k.items);
-              calls = k.added;
-              opened = opened;
-              stands =
-                  met_leads c table (Record Client) bytes all m
-                  ∙ ap (λ r. landed (call_judged v m.so_far r)) k.judged
-                  ∙ ap (λ (w : Unpacking). Runs (parsing_at w j)) (sym at);
-              emitted =
-                  sym (m.emits k.items) ∙ ap (λ (w : Unpacking). emitted_at w.opened j) (sym at);
-            }),
+        rw none (record {
+          so_far = j;
+          agrees = subst (λ (w : Unpacking). resuming.Agrees w j) (sym at) (m.agrees.0 k.items);
+          calls = joins.1;
+          opened = opened;
+          stands =
+              met_leads c table (Record Client) bytes all m
+              ∙ ap (λ r. landed (call_judged v m.so_far r)) joins.0
+              ∙ ap (λ (w : Unpacking). Runs (parsing_at w j)) (sym at);
+          emitted =
+              sym (m.emits k.items) ∙ ap (λ (w : Unpacking). emitted_at w.opened j) (sym at);
+        }),
       )
-  call_goes was now c table new bytes all number id whole (inr m) tells =
-      let k = tells m.stood.so_far.calls m.stood.calls in
+  call_goes was now c table new bytes all call number whole (inr m) k fits is gains =
+      let joins =
+      call_joins was now table new (body_of c.joiner.taking) call number k fits is gains
+      m.stood.so_far.calls m.stood.calls in
       let u : Unpacking = after_side_word c.position in (
         entries.Call k.items,
-        (k.items, whole, k.is_call, k.id_is, refl),
+        (k.items, whole, k.is_call, sym k.procedure_is, refl),
         numbered_in number (xid_in k.items) _ _
-            (opened_more all m.stood.so_far.calls k.items k.begins m.stood.opened) k.numbered,
+            (opened_more all m.stood.so_far.calls k.items k.begins m.stood.opened) joins.2,
         k.adds,
-        subst
-            (λ (n : Option Cursor).
-            StandsOrRecalls n c.position (released c.joiner.taking) c.streams.kept new bytes
-            (all ++ entries.Call k.items ∷ [])) (sym m.next_is)
-            (subst
-            (λ (n : ℕ).
-            Recalls u c.streams.kept Client (m.taken + m.count) n new bytes
-            (all ++ entries.Call k.items ∷ [])) (sym m.records_are)
+        rw (m.next_is, m.records_are)
             (call_recalled u c.streams.kept m.taken m.records table bytes all m.stood m.count
-            (body_of c.joiner.taking) k.items new m.joins k.judged k.added k.begins)),
+            (body_of c.joiner.taking) k.items new m.joins joins.0 joins.1 k.begins),
       )
 
   -- ---- a reply
 
   pub reply_goes : (was now : V) (c : Container) (table : Known) (bytes : List ℕ)
-      (all : List Entry) (number : ℕ) (id : ProcId) → IsWhole c.joiner.taking
+      (all : List Entry) (call : NumberedCall) → IsWhole c.joiner.taking
       → MeetsEvent c table (Record Server) bytes all
-      → ((calls : List (List Item)) → IsTableOf table calls
-      → JudgesReply stands was now calls (body_of c.joiner.taking) number id)
-      → GoesTo stands was now (Some (kinds.Reply id)) number c table bytes all
-  reply_goes was now c table bytes all number id whole (inl (none, m)) tells =
-      let k = tells m.so_far.calls m.calls in
+      → ScansReply stands table (body_of c.joiner.taking) call was now
+      → GoesTo stands was now (Some (kinds.Reply call.id)) call.number c table bytes all
+  reply_goes was now c table bytes all call whole (inl (none, m)) k =
       let v : Unpacking = unpacking_at c.position c.streams.kept Between in
       let at : unpacking_of c.position (released c.joiner.taking) c.streams.kept ≡ v =
       ap (λ (t : Taking). unpacking_of c.position t c.streams.kept) (let_go c.joiner.taking whole)
       in
-      let answer : ReplyItems = record { id = id; items = k.items } in
+      let answer : ReplyItems = record { id = call.id; items = k.items } in
       let j : Judged = resuming.with_reply m.so_far answer in
-      let opened : open_xids [] (all ++ entries.Reply id k.items ∷ []) ≡ xids_in m.so_far.calls =
-      opened_still all (entries.Reply id k.items) (xids_in m.so_far.calls) (λ xs. refl) m.opened
+      let opened : open_xids [] (all ++ entries.Reply call.id k.items ∷ [])
+      ≡ xids_in m.so_far.calls =
+      opened_still all (entries.Reply call.id k.items) (xids_in m.so_far.calls) (λ xs. refl)
+          m.opened
       in (
-        entries.Reply id k.items,
+        entries.Reply call.id k.items,
         (k.items, whole, k.is_reply, refl),
-        numbered_in number (xid_in k.items) _ _ opened k.numbered,
+        numbered_in call.number (xid_in k.items) _ _ opened
+            (m.calls.numbers (xid_in k.items) k.is_xid call k.asked),
         k.adds,
-        subst
-            (λ (n : Option Cursor).
-            StandsOrRecalls n c.position (released c.joiner.taking) c.streams.kept table bytes
-            (all ++ entries.Reply id k.items ∷ [])) (sym none)
-            (record {
-              so_far = j;
-              agrees = subst (λ (w : Unpacking). resuming.Agrees w j) (sym at) (m.agrees.0 answer);
-              calls = m.calls;
-              opened = opened;
-              stands =
-                  met_leads c table (Record Server) bytes all m
-                  ∙ ap (λ r. landed (reply_judged v m.so_far r)) k.judged
-                  ∙ ap (λ (w : Unpacking). Runs (parsing_at w j)) (sym at);
-              emitted =
-                  sym (m.emits answer) ∙ ap (λ (w : Unpacking). emitted_at w.opened j) (sym at);
-            }),
+        rw none (record {
+          so_far = j;
+          agrees = subst (λ (w : Unpacking). resuming.Agrees w j) (sym at) (m.agrees.0 answer);
+          calls = m.calls;
+          opened = opened;
+          stands =
+              met_leads c table (Record Server) bytes all m
+              ∙ ap (λ r. landed (reply_judged v m.so_far r))
+                  (k.accepted m.so_far.calls m.calls.procedures)
+              ∙ ap (λ (w : Unpacking). Runs (parsing_at w j)) (sym at);
+          emitted =
+              sym (m.emits answer) ∙ ap (λ (w : Unpacking). emitted_at w.opened j) (sym at);
+        }),
       )
-  reply_goes was now c table bytes all number id whole (inr m) tells =
-      let k = tells m.stood.so_far.calls m.stood.calls in
-      let answer : ReplyItems = record { id = id; items = k.items } in
+  reply_goes was now c table bytes all call whole (inr m) k =
+      let answer : ReplyItems = record { id = call.id; items = k.items } in
       let u : Unpacking = after_side_word c.position in (
-        entries.Reply id k.items,
+        entries.Reply call.id k.items,
         (k.items, whole, k.is_reply, refl),
-        numbered_in number (xid_in k.items) _ _
-            (opened_still all (entries.Reply id k.items) (xids_in m.stood.so_far.calls) (λ xs. refl)
-            m.stood.opened) k.numbered,
+        numbered_in call.number (xid_in k.items) _ _
+            (opened_still all (entries.Reply call.id k.items) (xids_in m.stood.so_far.calls)
+                (λ xs. refl)
+            m.stood.opened) (m.stood.calls.numbers (xid_in k.items) k.is_xid call k.asked),
         k.adds,
-        subst
-            (λ (n : Option Cursor).
-            StandsOrRecalls n c.position (released c.joiner.taking) c.streams.kept table bytes
-            (all ++ entries.Reply id k.items ∷ [])) (sym m.next_is)
-            (subst
-            (λ (n : ℕ).
-            Recalls u c.streams.kept Server (m.taken + m.count) n table bytes
-            (all ++ entries.Reply id k.items ∷ [])) (sym m.records_are)
+        rw (m.next_is, m.records_are)
             (reply_recalled u c.streams.kept m.taken m.records table bytes all m.stood m.count
-            (body_of c.joiner.taking) answer m.joins k.judged)),
+            (body_of c.joiner.taking) answer m.joins
+                (k.accepted m.stood.so_far.calls m.stood.calls.procedures)),
       )
 
 -- ---- a message that is refused
@@ -564,19 +511,8 @@ module _ (cursor : Cursor) (old new : Container) (table : Known) (bytes : List �
       new.joiner.taking new.cursor Turn → HasCome new table bytes (all ++ entries.Turn ∷ [])
   recalled_turn (side_is, streams_are, position_is, next_is, between, runs) =
       let u : Unpacking = after_side_word old.position in
-      let at : Recalls u old.streams.kept Client cursor.taken old.position.records table bytes all =
-      subst
-      (λ (side : Side).
-      Recalls u old.streams.kept side cursor.taken old.position.records table bytes all)
-      side_is s in
-      let rest : after join_next (Runs Between) (drop cursor.taken old.streams.kept.client)
-      ≡ Runs Between =
-      subst
-      (λ (side : Side).
-      after join_next (Runs Between) (drop cursor.taken (stream_of side old.streams.kept))
-      ≡ Runs Between) side_is runs in
       rw (streams_are, position_is, next_is) (turn_recalled u old.streams.kept cursor.taken
-      old.position.records table bytes all at rest)
+      old.position.records table bytes all (rw side_is at s) (rw side_is at runs))
 
   recalled_close : IsRunning new.joiner.taking
       → AreStored old.position (Some cursor) old.streams.kept
@@ -586,17 +522,10 @@ module _ (cursor : Cursor) (old new : Container) (table : Known) (bytes : List �
       let p : Position = old.position in
       let u : Unpacking = after_side_word p in
       let at : Recalls u old.streams.kept Server cursor.taken p.records table bytes all =
-      subst
-      (λ (side : Side). Recalls u old.streams.kept side cursor.taken p.records table bytes all)
-      side_is s in
-      let rest : after join_next (Runs Between) (drop cursor.taken old.streams.kept.server)
-      ≡ Runs Between =
-      subst
-      (λ (side : Side).
-      after join_next (Runs Between) (drop cursor.taken (stream_of side old.streams.kept))
-      ≡ Runs Between) side_is runs in
+      rw side_is at s in
       let closes =
-      close_recalled u old.streams.kept cursor.taken p.records table bytes all at rest in
+      close_recalled u old.streams.kept cursor.taken p.records table bytes all at
+      (rw side_is at runs) in
       let opened_is : opened_at new.streams.kept p.spot p.at ≡ Mark Two [] =
       before_mark new.streams.kept p.spot p.at stored.3 in
       let w : Unpacking =
@@ -685,24 +614,6 @@ recall_fails cursor p t streams table bytes all errors.Memory s f = tt
 
 -- ---- what comes next, from the file or from streams that were kept
 
-unopened_at : (c : Container) (table : Known) (bytes : List ℕ) (all : List Entry)
-    → c.cursor ≡ None
-    → StandsOrRecalls c.cursor c.position c.joiner.taking c.streams.kept table bytes all
-    → StandsAt c.position c.joiner.taking c.streams.kept table bytes all
-unopened_at c table bytes all none s =
-    subst
-    (λ (n : Option Cursor).
-    StandsOrRecalls n c.position c.joiner.taking c.streams.kept table bytes all) none s
-
-opened_with : (c : Container) (cursor : Cursor) (table : Known) (bytes : List ℕ)
-    (all : List Entry) → c.cursor ≡ Some cursor
-    → StandsOrRecalls c.cursor c.position c.joiner.taking c.streams.kept table bytes all
-    → StandsOrRecalls (Some cursor) c.position c.joiner.taking c.streams.kept table bytes all
-opened_with c cursor table bytes all some s =
-    subst
-    (λ (n : Option Cursor).
-    StandsOrRecalls n c.position c.joiner.taking c.streams.kept table bytes all) some s
-
 -- the streams of a connection are whole with these bytes
 first_kept : (old mid : Container) (table : Known) (bytes : List ℕ) (all : List Entry)
     (piece : List ℕ) → old.cursor ≡ None
@@ -714,7 +625,7 @@ first_kept : (old mid : Container) (table : Known) (bytes : List ℕ) (all : Lis
 first_kept old mid table bytes all piece none s arrives =
     streams_open mid table (bytes ++ piece) all (stands_met old.position old.joiner.taking
     old.streams.kept mid table bytes all piece events.Streams (Some events.Streams)
-    (unopened_at old table bytes all none s) refl arrives)
+    (rw none at s) refl arrives)
 
 one_event : (came : Option Event) (event one : Event) → came ≡ Some event → came ≡ Some one
     → one ≡ event
@@ -727,9 +638,9 @@ module _ (old new : Container) (table : Known) (bytes : List ℕ) (all : List En
       → HasCome new table (bytes ++ piece) all
   comes_on is leaves (FromFile none unopened arrives) =
       come_at_rest new table (bytes ++ piece) all unopened
-      (subst (λ (e : Option Event). Leaves e new.joiner.taking) is leaves)
+      (rw is at leaves)
       (stands_on old.position new.position old.joiner.taking new.joiner.taking old.streams.kept
-      new.streams.kept table bytes all piece came (unopened_at old table bytes all none s) is
+      new.streams.kept table bytes all piece came (rw none at s) is
       arrives)
   comes_on is leaves (FirstKept mid one none arrives stored also recalled) = absurd (cc)
   comes_on is leaves (NextKept cursor one some nothing also recalled) = absurd (cc)
@@ -740,14 +651,14 @@ module _ (old new : Container) (table : Known) (bytes : List ℕ) (all : List En
       inl (
         unopened,
         stands_met old.position old.joiner.taking old.streams.kept new table bytes all piece
-            event came (unopened_at old table bytes all none s) is arrives,
+            event came (rw none at s) is arrives,
       )
   comes_meets event is leaves stored (FirstKept mid one none arrives whole also recalled) =
       subst (λ (e : Event). MeetsEvent new table e (bytes ++ piece) all)
       (one_event came event one is also)
       (recalled_meets first_cursor mid new table (bytes ++ piece) all
       (first_kept old mid table bytes all piece none s arrives) one
-      (subst (λ (e : Option Event). Leaves e new.joiner.taking) also leaves)
+      (rw also at leaves)
       (stored_first mid.position mid.streams.kept whole) recalled)
   comes_meets event is leaves stored (NextKept cursor one some nothing also recalled) =
       let same : bytes ++ piece ≡ bytes =
@@ -755,9 +666,9 @@ module _ (old new : Container) (table : Known) (bytes : List ℕ) (all : List En
       subst (λ (e : Event). MeetsEvent new table e (bytes ++ piece) all)
       (one_event came event one is also)
       (subst (λ (b : List ℕ). MeetsEvent new table one b all) (sym same)
-      (recalled_meets cursor old new table bytes all (opened_with old cursor table bytes all some s)
-      one (subst (λ (e : Option Event). Leaves e new.joiner.taking) also leaves)
-      (subst (λ (n : Option Cursor). AreStored old.position n old.streams.kept) some stored)
+      (recalled_meets cursor old new table bytes all (rw some at s)
+      one (rw also at leaves)
+      (rw some at stored)
       recalled))
 
 pub comes_to_fault : (old : Container) (table : Known) (bytes : List ℕ)
@@ -766,7 +677,7 @@ pub comes_to_fault : (old : Container) (table : Known) (bytes : List ℕ)
     → ComesToFault old piece error → FailsAt (bytes ++ piece) all error
 comes_to_fault old table bytes all piece error s (InFile none fails) =
     stands_fails old.position old.joiner.taking old.streams.kept table bytes all piece error
-    (unopened_at old table bytes all none s) fails
+    (rw none at s) fails
 comes_to_fault old table bytes all piece error s (InFirstKept mid n none arrives fails) =
     fails_longer bytes piece n all error
     (recall_fails first_cursor mid.position mid.joiner.taking mid.streams.kept table
@@ -776,7 +687,7 @@ comes_to_fault old table bytes all piece error s (InNextKept cursor some fails) 
     fails_longer bytes piece 0 all error (subst (λ (b : List ℕ). FailsAt b all error)
     (sym (append-nil bytes)) (recall_fails cursor old.position old.joiner.taking
     old.streams.kept table bytes all error
-    (opened_with old cursor table bytes all some s) fails))
+    (rw some at s) fails))
 
 -- no device failed
 pub comes_of_bytes : (old : Container) (bytes : List ℕ) (error : Error)

@@ -8,9 +8,6 @@ use Rattle.capture3.specs.Told.{Told, Gave, GavePrefix, IsSpent}
 pub gave_none : (told : Told) → Gave told told []
 gave_none told = (Consumes-nil told.left, Appends-nil told.given)
 
-pub gave_none_as : (old new : Told) → new ≡ old → Gave old new []
-gave_none_as old new same = subst (λ (t : Told). Gave old t []) (sym same) (gave_none old)
-
 pub gave_both : (a b c : Told) (xs ys : List ℕ) → Gave a b xs → Gave b c ys → Gave a c (xs ++ ys)
 gave_both a b c xs ys p q = (
   Consumes-trans a.left b.left c.left xs ys p.0 q.0,

@@ -1,28 +1,23 @@
 use Rattle.std.proofs.Common.{take}
-use Rattle.capture3.proofs.Lemmas.Reader.PairingLemmas.{comes_meets, comes_of_bytes, comes_on, comes_to_fault, fails_longer, let_released, stored_still}
+use Rattle.capture3.proofs.Lemmas.Reader.PairingLemmas.{comes_meets, comes_of_bytes, comes_on, comes_to_fault, fails_longer}
 use Rattle.capture3.proofs.reader.pairing.Pairing.next.Goals as goal
 
 pub returns-in-Ok-default-None-clause-machine : goal.returns-in-Ok-default-None-clause-machine
 returns-in-Ok-default-None-clause-machine g c bytes all s =
     let r = c.release.ensures in
     let came = c.in-Ok-default-None in
-    let stands =
-    let_released c.args.self.now.container c.release.new.self _ bytes all r.position r.joiner
-    r.streams r.cursor s in
     comes_on c.release.new.self c.next.new.self _ bytes all (take came.count c.args.piece.now)
-    _ stands came.field-0-1-is came.ensures.joiner came.ensures.comes
+    _ (rw (r.position, r.joiner, r.streams, r.cursor) s) came.field-0-1-is came.ensures.joiner
+    came.ensures.comes
 
 pub returns-in-Ok-clause-machine : goal.returns-in-Ok-clause-machine
 returns-in-Ok-clause-machine g c bytes all s =
     let r = c.release.ensures in
     let came = c.in-Ok-default-Some in
-    let stands =
-    let_released c.args.self.now.container c.release.new.self _ bytes all r.position r.joiner
-    r.streams r.cursor s in
     c.in-Ok.ensures.machine _ all (comes_meets c.release.new.self c.next.new.self _ bytes all
-    (take came.count c.args.piece.now) _ stands _ came.field-0-1-is came.ensures.joiner
-    (stored_still c.args.self.now.container c.release.new.self r.position r.streams r.cursor
-    c.requires.ready.stored) came.ensures.comes)
+    (take came.count c.args.piece.now) _ (rw (r.position, r.joiner, r.streams, r.cursor) s) _
+    came.field-0-1-is came.ensures.joiner
+    (rw (r.position, r.streams, r.cursor) c.requires.ready.stored) came.ensures.comes)
 
 pub returns-in-Err-entry-clause-fault : goal.returns-in-Err-entry-clause-fault
 returns-in-Err-entry-clause-fault g c =
@@ -32,15 +27,12 @@ returns-in-Err-entry-clause-fault g c =
       device = c.in-Err-entry.ensures.device;
       fault =
           λ bytes all s.
-          let stands =
-          let_released c.args.self.now.container c.release.new.self _ bytes all r.position r.joiner
-          r.streams r.cursor s in
           fails_longer bytes c.args.piece.now came.count all c.entry.new.self.error
-          (c.in-Err-entry.ensures.fault _ all
-          (comes_meets c.release.new.self c.next.new.self _ bytes all
-          (take came.count c.args.piece.now) _ stands _ came.field-0-1-is came.ensures.joiner
-          (stored_still c.args.self.now.container c.release.new.self r.position r.streams r.cursor
-          c.requires.ready.stored) came.ensures.comes));
+          (c.in-Err-entry.ensures.fault _ all (comes_meets c.release.new.self c.next.new.self _
+          bytes all (take came.count c.args.piece.now) _
+          (rw (r.position, r.joiner, r.streams, r.cursor) s) _ came.field-0-1-is
+          came.ensures.joiner (rw (r.position, r.streams, r.cursor) c.requires.ready.stored)
+          came.ensures.comes));
     }
 
 pub returns-in-Err-clause-fault : goal.returns-in-Err-clause-fault
@@ -52,9 +44,7 @@ returns-in-Err-clause-fault g c =
           c.in-Err.ensures.fault;
       fault =
           λ bytes all s.
-          let stands =
-          let_released c.args.self.now.container c.release.new.self _ bytes all r.position r.joiner
-          r.streams r.cursor s in
-          comes_to_fault c.release.new.self _ bytes all c.args.piece.now c.next.new.error stands
-          c.in-Err.ensures.fault;
+          comes_to_fault c.release.new.self (g.C.KnownCalls.known c.args.self.now.calls) bytes all
+          c.args.piece.now c.next.new.error (rw (r.position, r.joiner, r.streams, r.cursor) s)
+              c.in-Err.ensures.fault;
     }
