@@ -166,7 +166,8 @@ impl<'r, R: Source, S: BuildHasher + Drop> Entries<'r, R, S> {
     }
 
     /// Returns the error for good.
-    #[inline(always)]
+    #[cold]
+    #[inline(never)]
     fn failure(&self) -> Error
         requires { IsSome (failure_of self.now) }
         ensures { failure_of self.now ≡ Some result }

@@ -1,5 +1,5 @@
 -- What a reader of entries makes of its histories, step by step.
-use Rattle.std.proofs.Common.{◌≡◌, ◌≢◌, inl, inr, ℕ, ◌+◌, ◌-◌, ◌≤◌, ◌<◌, Option, Some, None, Result, Ok, Err, IsSome, OnErr, OnOk, List, [], ◌∷◌, ◌++◌, length, take, drop, slice_range, refl, sym, ap, subst, ◌∙◌, append_assoc, append-nil, length-append, arith, take-append-drop, length-take, length-drop, vec_len}
+use Rattle.std.proofs.Common.{◌≡◌, ◌≢◌, ◌⊎◌, inl, inr, ℕ, ◌+◌, ◌-◌, ◌≤◌, ◌<◌, Option, Some, None, Result, Ok, Err, IsSome, OnErr, OnOk, List, [], ◌∷◌, ◌++◌, length, take, drop, slice_range, refl, sym, ap, subst, ◌∙◌, append_assoc, append-nil, length-append, arith, take-append-drop, length-take, length-drop, vec_len}
 use Rattle.capture3.proofs.Common.{CanGoOn, common_steps, Pairing, CountedCalls, known_of, open_xids, ∥∥₁_elim, CaptureCut, AreBytes, Item, Runs, Stops, Stopped, Taking, Led, OutOfMemory, IsRunning, released, Known, Kind, Error, Spot, Container, Cursor, Two, max_connections, Entry, End, FirstFault, IsClean, begins, most_bytes, Parsing, parsed, emitted, AreFirstReached, AreWhole, Reached, parsing_at, Streams, file_fault, IsWellFormed, props, Told, Gave, IsSpent, AreStored, IsReady, room_in, unpacking_of}
 use Rattle.std.proofs.lemmas.List.{drop-take}
 use Rattle.capture3.proofs.Lemmas.Reader.ToldLemmas.{gave_both, gave_none}
@@ -217,24 +217,22 @@ not_ended bytes p t streams table model are s not =
       ),
     )
 
+end_or_not : (spot : Spot) → IsEndSpot spot ⊎ (IsEndSpot spot → ⊥)
+end_or_not (spots.Ended version) = inl tt
+end_or_not spots.Magic = inr (λ e. e)
+end_or_not spots.Digit = inr (λ e. e)
+end_or_not (spots.Word word part) = inr (λ e. e)
+end_or_not (spots.Chunk side left) = inr (λ e. e)
+end_or_not (spots.SideChunk side left) = inr (λ e. e)
+
 pub all_before_end : (bytes : List ℕ) (p : Position) (t : Taking) (streams : Streams)
     (table : Known) (model : List Entry) → AreBytes bytes
     → StandsAt p t streams table bytes model → AreAllBeforeEnd bytes model
-all_before_end bytes p t streams table model are s = by_spot p.spot refl
-  where
-    by_spot : (spot : Spot) → p.spot ≡ spot → AreAllBeforeEnd bytes model
-    by_spot spots.Magic is =
-        inr (not_ended bytes p t streams table model are s (λ e. subst IsEndSpot is e))
-    by_spot spots.Digit is =
-        inr (not_ended bytes p t streams table model are s (λ e. subst IsEndSpot is e))
-    by_spot (spots.Word word part) is =
-        inr (not_ended bytes p t streams table model are s (λ e. subst IsEndSpot is e))
-    by_spot (spots.Chunk side left) is =
-        inr (not_ended bytes p t streams table model are s (λ e. subst IsEndSpot is e))
-    by_spot (spots.SideChunk side left) is =
-        inr (not_ended bytes p t streams table model are s (λ e. subst IsEndSpot is e))
-    by_spot (spots.Ended version) is =
-        inl (typed_at bytes p t streams table model are s (subst IsEndSpot (sym is) tt))
+all_before_end bytes p t streams table model are s =
+    elim (end_or_not p.spot) [
+      | inl ended ↦ inl (typed_at bytes p t streams table model are s ended)
+      | inr not ↦ inr (not_ended bytes p t streams table model are s not)
+    ]
 
 -- ---- the reader
 
@@ -247,15 +245,15 @@ failed_stage (Failed other) error is =
 
 module _ {R S H : Type 0} {builds : BuildHasher.Ghosts S H} {hashes : Hasher.Ghosts H}
     (told : R → Told) where
+  here_at : (e : Entries R S H builds hashes) (stage : Stage) (given : List ℕ) (handed : List Entry)
+      → e.stage ≡ stage → StandsFor told e given handed
+      → StandsIn stage (told e.source.now) e given handed
+  here_at e stage given handed is s =
+      subst (λ (stage : Stage). StandsIn stage (told e.source.now) e given handed) is s.here
+
   pub reading_of : (e : Entries R S H builds hashes) (given : List ℕ) (handed : List Entry)
       → e.stage ≡ Reading → StandsFor told e given handed → IsReading e given handed
-  reading_of e given handed is s = by_stage e.stage is s.here
-    where
-      by_stage : (stage : Stage) → stage ≡ Reading
-          → StandsIn stage (told e.source.now) e given handed → IsReading e given handed
-      by_stage Reading is h = h
-      by_stage Over is h = absurd (cc)
-      by_stage (Failed error) is h = absurd (cc)
+  reading_of e given handed is s = here_at e Reading given handed is s
 
   left_is : (e : Entries R S H builds hashes) → e.stage ≡ Reading
       → entries_left e ≡ room_in e.pairing.container + 1
@@ -270,10 +268,7 @@ module _ {R S H : Type 0} {builds : BuildHasher.Ghosts S H} {hashes : Hasher.Gho
   same_last : (old new : Entries R S H builds hashes) (handed : List Entry)
       → new.pairing ≡ old.pairing → HoldsLast old handed → HoldsLast new handed
   same_last old new handed same h front entry ends kind is =
-      subst (λ (c : Pairing (CountedCalls S H builds hashes)).
-      IsHeld kind c.container.joiner.taking entry
-      × HasNumber c.number (open_xids [] (front ++ entry ∷ [])) entry)
-      (sym same)
+      rw same
       (h front entry ends kind
       (ap (λ (c : Pairing (CountedCalls S H builds hashes)). c.last) (sym same) ∙ is))
 
@@ -284,12 +279,8 @@ module _ {R S H : Type 0} {builds : BuildHasher.Ghosts S H} {hashes : Hasher.Gho
   now_last e handed came entry last held has front other ends kind is =
       let entries : entry ≡ other = (same_from_push handed front entry other ends).1 in
       let kinds : came ≡ kind = cc in (
-        subst (λ (one : Entry). IsHeld kind e.pairing.container.joiner.taking one) entries
-            (subst (λ (k : Kind). IsHeld k e.pairing.container.joiner.taking entry) kinds held),
-        subst (λ (one : Entry). HasNumber e.pairing.number (open_xids [] (front ++ other ∷ [])) one)
-            entries
-            (subst (λ (all : List Entry). HasNumber e.pairing.number (open_xids [] all) entry) ends
-            has),
+        rw (← entries, ← kinds) held,
+        rw (← ends, ← entries) has,
       )
 
   -- what was handed out are the first entries that the bytes reach
@@ -409,9 +400,7 @@ module _ {R S H : Type 0} {builds : BuildHasher.Ghosts S H} {hashes : Hasher.Gho
               split = split;
               counted = count ∙ r.counted;
               machine =
-                  subst
-                  (λ (c : Pairing (CountedCalls S H builds hashes)).
-                  HasCome c.container (known_of c.calls) r.judged handed) (sym same) r.machine;
+                  rw same r.machine;
             });
       }
 
@@ -669,12 +658,6 @@ module _ {R S H : Type 0} {builds : BuildHasher.Ghosts S H} {hashes : Hasher.Gho
 
   -- ---- the answers
 
-  met_by : (e : Entries R S H builds hashes) (error : Error) (given : List ℕ) (handed : List Entry)
-      → e.stage ≡ Failed error → StandsFor told e given handed
-      → IsMetBy error (told e.source.now) given handed
-  met_by e error given handed is s =
-      subst (λ (stage : Stage). StandsIn stage (told e.source.now) e given handed) is s.here
-
   pub answers_kind : {V : Type 0} (stands : V → List Item → Type 0) (was now : V)
       (old new : Entries R S H builds hashes) (given : List ℕ) (handed : List Entry)
       → IsSome (last_of new) → failure_of new ≡ None
@@ -704,7 +687,8 @@ module _ {R S H : Type 0} {builds : BuildHasher.Ghosts S H} {hashes : Hasher.Gho
         more = r.more;
         consumed = r.consumed;
         hands_out = (
-          met_by new error (given ++ r.more) handed (failed_stage new.stage error failed) r.stands,
+          here_at new (Failed error) (given ++ r.more) handed
+              (failed_stage new.stage error failed) r.stands,
           r.stands,
         );
       }
@@ -713,8 +697,7 @@ module _ {R S H : Type 0} {builds : BuildHasher.Ghosts S H} {hashes : Hasher.Gho
       (e : Entries R S H builds hashes) (given : List ℕ) (handed : List Entry) → e.stage ≡ Over
       → StandsFor told e given handed → HandsOutGiven told stands e e v v given handed (Ok None)
   answers_none stands v e given handed is s =
-      let here : StandsIn Over (told e.source.now) e given handed =
-      subst (λ (stage : Stage). StandsIn stage (told e.source.now) e given handed) is s.here in
+      let here = here_at e Over given handed is s in
       record {
         more = [];
         consumed = gave_none (told e.source.now);
@@ -732,7 +715,7 @@ module _ {R S H : Type 0} {builds : BuildHasher.Ghosts S H} {hashes : Hasher.Gho
     consumed = gave_none (told e.source.now);
     hands_out =
         subst (λ (b : List ℕ). HandsOut told stands e v v b handed (Err error))
-        (sym (append-nil given)) (met_by e error given handed is s, s);
+        (sym (append-nil given)) (here_at e (Failed error) given handed is s, s);
   }
 
 -- ---- no device failed

@@ -1,10 +1,10 @@
 -- The machine for a capture file goes as the one that takes the capture apart, with its records
 -- judged.
-use Rattle.capture3.proofs.Common.{Entry, parsing_in, ◌≡◌, ℕ, zero, suc, ◌+◌, Bool, true, false, cond, nat_eq, nat_lt, List, [], ◌∷◌, ◌++◌, length, Result, Ok, Err, refl, sym, ap, subst, ◌∙◌, add-one, arith, length-append, Stop, BadMagic, TooManyConnections, TooManyBytes, RecordCut, RecordTooLong, Item, Joining, Between, Header, Bytes, Joined, Whole, TooLong, join_next, Next, Goes, Ends, Runs, Stops, after, landed, within, word_next, not_runs, only_stops, Side, Client, Server, Begin, ReplyItems, ShownFault, refusal, judge_call, judge_reply, Version, One, Two, Mixing, MixedEnd, MixedCloses, MixedRefuses, mixed_step, InClient, InServer, InMixed, conversing, ending, judge_replies, opened, turning, judged, recorded, Siding, SideEnd, SideRefuses, Reason, Parsing, file_next, Fault, file_fault, place_at, unpacking_with, siding_in, fault_in_record, reading_with}
+use Rattle.capture3.proofs.Common.{Entry, parsing_in, ◌≡◌, ℕ, zero, suc, ◌+◌, Bool, true, false, cond, nat_eq, nat_lt, List, [], ◌∷◌, ◌++◌, length, Result, Ok, Err, refl, sym, ap, subst, ◌∙◌, add-one, arith, length-append, Stop, RecordCut, RecordTooLong, Item, Joining, Between, Header, Bytes, Joined, Whole, TooLong, join_next, Next, Goes, Ends, Runs, Stops, after, landed, within, word_next, not_runs, only_stops, Side, Client, Server, ReplyItems, ShownFault, refusal, judge_call, judge_reply, Version, One, Two, Mixing, MixedEnd, MixedCloses, MixedRefuses, mixed_step, InClient, InServer, InMixed, conversing, ending, judge_replies, opened, turning, judged, recorded, Siding, SideEnd, SideRefuses, Reason, Parsing, file_next, Fault, place_at, unpacking_with, siding_in, fault_in_record, reading_with}
 use Rattle.capture3.specs.SideMachine as siding
 use Rattle.capture3.specs.FileMachine as parsing
 use Rattle.capture3.specs.machinery.FileStanding.{Judged, siding_at, parsing_at, resumed, call_judged, reply_judged, Agrees, AgreesAt, AgreesOn}
-use Rattle.capture3.specs.machinery.ContainerMachine.{Opened, Magic, Digit, Mark, Length, Chunk, Mixed, Ended, Unpacking, Unpacked, Has, Refuses, at_byte, left_of_magic, begun_at, connection_marked, chunk_counted, record_joined, in_chunk, mixed_at, mixed_ended, unpack_next}
+use Rattle.capture3.specs.machinery.ContainerMachine.{Opened, Magic, Digit, Mark, Length, Chunk, Mixed, Ended, Unpacking, Unpacked, connection_marked, chunk_counted, record_joined, in_chunk, mixed_at, mixed_ended, unpack_next}
 
 -- after whole connections alone
 abbrev pub whole_connections : List Entry → Judged
@@ -17,39 +17,31 @@ Follows at total connections records joining opened j byte =
     let u = unpacking_with at total connections records opened joining in
     file_next (parsing_at u j) byte ≡ resumed j (unpack_next u byte)
 
--- a choice by a test
-chosen_follows : (b : Bool) (x : Parsing) (u : Unpacking) (shown : ShownFault) (fault : Fault)
-    (j : Judged) → x ≡ parsing_at u j → shown ≡ refusal fault
-    → cond b (Goes x) (Ends shown) ≡ resumed j (cond b (Goes u) (Ends (Refuses fault)))
-chosen_follows true x u shown fault j goes ends = ap (λ (p : Parsing). Goes p) goes
-chosen_follows false x u shown fault j goes ends = ap (λ (s : ShownFault). Ends s) ends
+-- what holds either way of a test
+pub either_way : {X : Type 0} (P : X → Type 0) (b : Bool) (x y : X) → P x → P y → P (cond b x y)
+either_way P true x y h k = h
+either_way P false x y h k = k
+
+-- the same of two choices by one test
+both_ways : {X Y : Type 0} (R : X → Y → Type 0) (b : Bool) (x u : X) (y v : Y) → R x y → R u v
+    → R (cond b x u) (cond b y v)
+both_ways R true x u y v h k = h
+both_ways R false x u y v h k = k
 
 -- ---- the magic
 
 magic_follows : (at total connections records due : ℕ) (more : List ℕ) (j : Judged) (byte : ℕ)
     → Follows at total connections records Between (Magic due more) j byte
 magic_follows at total connections records due [] j byte =
-    chosen_follows (nat_eq byte due) _ _ _ _ j refl refl
+    both_ways (λ n m. n ≡ resumed j m) (nat_eq byte due) _ _ _ _ refl refl
 magic_follows at total connections records due (next ∷ more) j byte =
-    chosen_follows (nat_eq byte due) _ _ _ _ j refl refl
+    both_ways (λ n m. n ≡ resumed j m) (nat_eq byte due) _ _ _ _ refl refl
 
 digit_follows : (at total connections records : ℕ) (joining : Joining) (j : Judged) (byte : ℕ)
     → Follows at total connections records joining Digit j byte
 digit_follows at total connections records joining j byte =
-    by_test (nat_eq byte 49) (nat_eq byte 50)
-  where
-    by_test : (b c : Bool)
-        → cond b (Goes (parsing_in One (at + 1) total connections j.entries (parsing.Mark [])))
-        (cond c (Goes (parsing_in Two (at + 1) total connections j.entries (parsing.Mark [])))
-        (Ends (refusal (file_fault at BadMagic))))
-        ≡ resumed j (cond b
-        (Goes (unpacking_with (at + 1) total connections records (Mark One []) joining))
-        (cond c
-        (Goes (unpacking_with (at + 1) total connections records (Mark Two []) joining))
-        (Ends (at_byte at BadMagic))))
-    by_test true c = refl
-    by_test false true = refl
-    by_test false false = refl
+    both_ways (λ n m. n ≡ resumed j m) (nat_eq byte 49) _ _ _ _ refl
+    (both_ways (λ n m. n ≡ resumed j m) (nat_eq byte 50) _ _ _ _ refl refl)
 
 -- ---- connection words
 
@@ -58,19 +50,12 @@ marked_follows : (version : Version) (at total connections records : ℕ) (joini
     → parsing.marked version at total connections j.entries w
     ≡ resumed j (connection_marked version at total connections records joining w)
 marked_follows version at total connections records joining j zero between = refl
-marked_follows version at total connections records joining j (suc zero) between =
-    by_test (nat_lt connections 65535) version
-  where
-    by_test : (b : Bool) (v : Version)
-        → cond b
-        (Goes (parsing_in v (at + 4) total (suc connections) j.entries
-        (parsing.Inside (opened v (at + 4) total))))
-        (Ends (refusal (file_fault at TooManyConnections)))
-        ≡ resumed j (cond b (Ends (Has Begin [] (begun_at v at total (connections + 1) joining)))
-        (Ends (at_byte at TooManyConnections)))
-    by_test true One = rw (between, add-one connections) refl
-    by_test true Two = rw (add-one connections) refl
-    by_test false v = refl
+marked_follows One at total connections records joining j (suc zero) between =
+    both_ways (λ n m. n ≡ resumed j m) (nat_lt connections 65535) _ _ _ _
+    (rw (between, add-one connections) refl) refl
+marked_follows Two at total connections records joining j (suc zero) between =
+    both_ways (λ n m. n ≡ resumed j m) (nat_lt connections 65535) _ _ _ _
+    (rw (add-one connections) refl) refl
 marked_follows version at total connections records joining j (suc (suc w)) between = refl
 
 mark_next_follows : (version : Version) (at total connections records : ℕ) (joining : Joining)
@@ -128,16 +113,8 @@ client_word_follows at total connections records (Header body part) j zero is =
 client_word_follows at total connections records (Bytes body last left) j zero is =
     cut_follows connections records (length body) Client RecordCut (length j.calls) is
 client_word_follows at total connections records joining j (suc left) is =
-    by_test (nat_lt 1073741824 (total + suc left))
-  where
-    by_test : (b : Bool)
-        → in_client j connections (cond b (Ends (SideRefuses (file_fault at TooManyBytes)))
-        (Goes
-        (siding_at (at + 4 + suc left) (total + suc left) j.calls joining (siding.Chunk left))))
-        ≡ resumed j (cond b (Ends (at_byte at TooManyBytes)) (Goes (in_chunk (at + 4 + suc left)
-        (total + suc left) connections records Client (suc left) joining)))
-    by_test true = refl
-    by_test false = refl
+    both_ways (λ n m. in_client j connections n ≡ resumed j m)
+    (nat_lt 1073741824 (total + suc left)) _ _ _ _ refl refl
 
 client_length_follows : (at total connections records : ℕ) (joining : Joining) (j : Judged)
     (n : Next (List ℕ) ℕ) → records ≡ length j.calls
@@ -192,16 +169,8 @@ server_word_follows at total connections records (Header body part) j zero is =
 server_word_follows at total connections records (Bytes body last left) j zero is =
     cut_follows connections records (length body) Server RecordCut (length j.replies) is
 server_word_follows at total connections records joining j (suc left) is =
-    by_test (nat_lt 1073741824 (total + suc left))
-  where
-    by_test : (b : Bool)
-        → in_server j connections (cond b (Ends (SideRefuses (file_fault at TooManyBytes)))
-        (Goes (siding_at (at + 4 + suc left) (total + suc left) j.replies joining
-        (siding.Chunk left))))
-        ≡ resumed j (cond b (Ends (at_byte at TooManyBytes)) (Goes (in_chunk (at + 4 + suc left)
-        (total + suc left) connections records Server (suc left) joining)))
-    by_test true = refl
-    by_test false = refl
+    both_ways (λ n m. in_server j connections n ≡ resumed j m)
+    (nat_lt 1073741824 (total + suc left)) _ _ _ _ refl refl
 
 server_length_follows : (at total connections records : ℕ) (joining : Joining) (j : Judged)
     (n : Next (List ℕ) ℕ) → records ≡ length j.replies
@@ -278,32 +247,17 @@ one_more records messages m is =
 magic_agrees : (at total connections records due : ℕ) (more : List ℕ) (j : Judged) (byte : ℕ)
     → AgreesOn j
     (unpack_next (unpacking_with at total connections records (Magic due more) Between) byte)
-magic_agrees at total connections records due more j byte = by_test (nat_eq byte due) more
-  where
-    by_test : (b : Bool) (more : List ℕ)
-        → AgreesOn j (cond b
-        (Goes
-        (unpacking_with (at + 1) total connections records (left_of_magic more) Between))
-        (Ends (at_byte at BadMagic)))
-    by_test true [] = refl
-    by_test true (next ∷ rest) = refl
-    by_test false more = tt
+magic_agrees at total connections records due [] j byte =
+    either_way (AgreesOn j) (nat_eq byte due) _ _ refl tt
+magic_agrees at total connections records due (next ∷ more) j byte =
+    either_way (AgreesOn j) (nat_eq byte due) _ _ refl tt
 
 digit_agrees : (at total connections records : ℕ) (joining : Joining) (j : Judged) (byte : ℕ)
     → joining ≡ Between
     → AgreesOn j (unpack_next (unpacking_with at total connections records Digit joining) byte)
 digit_agrees at total connections records joining j byte between =
-    by_test (nat_eq byte 49) (nat_eq byte 50)
-  where
-    by_test : (b c : Bool)
-        → AgreesOn j (cond b
-        (Goes (unpacking_with (at + 1) total connections records (Mark One []) joining))
-        (cond c
-        (Goes (unpacking_with (at + 1) total connections records (Mark Two []) joining))
-        (Ends (at_byte at BadMagic))))
-    by_test true c = between
-    by_test false true = between
-    by_test false false = tt
+    either_way (AgreesOn j) (nat_eq byte 49) _ _ between
+    (either_way (AgreesOn j) (nat_eq byte 50) _ _ between tt)
 
 mark_agrees : (version : Version) (at total connections records : ℕ) (joining : Joining)
     (j : Judged) (n : Next (List ℕ) ℕ) → joining ≡ Between
@@ -311,15 +265,10 @@ mark_agrees : (version : Version) (at total connections records : ℕ) (joining 
     (connection_marked version at total connections records joining) n)
 mark_agrees version at total connections records joining j (Goes p) between = between
 mark_agrees version at total connections records joining j (Ends zero) between = tt
-mark_agrees version at total connections records joining j (Ends (suc zero)) between =
-    by_test (nat_lt connections 65535) version
-  where
-    by_test : (b : Bool) (v : Version)
-        → AgreesOn j (cond b (Ends (Has Begin [] (begun_at v at total (connections + 1) joining)))
-        (Ends (at_byte at TooManyConnections)))
-    by_test true One = refl
-    by_test true Two = (between, refl)
-    by_test false v = tt
+mark_agrees One at total connections records joining j (Ends (suc zero)) between =
+    either_way (AgreesOn j) (nat_lt connections 65535) _ _ refl tt
+mark_agrees Two at total connections records joining j (Ends (suc zero)) between =
+    either_way (AgreesOn j) (nat_lt connections 65535) _ _ (between, refl) tt
 mark_agrees version at total connections records joining j (Ends (suc (suc w))) between = tt
 
 mixed_agrees : (connections records : ℕ) (joining : Joining) (j : Judged) (n : Next Mixing MixedEnd)
@@ -345,15 +294,10 @@ length_agrees at total connections records Client Between j (Ends zero) is = ref
 length_agrees at total connections records Server Between j (Ends zero) is = refl
 length_agrees at total connections records side (Header body part) j (Ends zero) is = tt
 length_agrees at total connections records side (Bytes body last left) j (Ends zero) is = tt
-length_agrees at total connections records side joining j (Ends (suc left)) is =
-    by_test (nat_lt 1073741824 (total + suc left)) side is
-  where
-    by_test : (b : Bool) (side : Side) → IsCounted side records j
-        → AgreesOn j (cond b (Ends (at_byte at TooManyBytes)) (Goes (in_chunk (at + 4 + suc left)
-        (total + suc left) connections records side (suc left) joining)))
-    by_test true side is = tt
-    by_test false Client is = is
-    by_test false Server is = is
+length_agrees at total connections records Client joining j (Ends (suc left)) is =
+    either_way (AgreesOn j) (nat_lt 1073741824 (total + suc left)) _ _ tt is
+length_agrees at total connections records Server joining j (Ends (suc left)) is =
+    either_way (AgreesOn j) (nat_lt 1073741824 (total + suc left)) _ _ tt is
 
 chunk_agrees : (at total connections records left : ℕ) (side : Side) (j : Judged)
     (n : Next Joining Joined) → IsCounted side records j

@@ -362,7 +362,7 @@ module _ {V : Type 0} (stands : V → List Item → Type 0) where
       let opened : open_xids [] (all ++ entries.Reply call.id k.items ∷ [])
       ≡ xids_in m.so_far.calls =
       opened_still all (entries.Reply call.id k.items) (xids_in m.so_far.calls) (λ xs. refl)
-          m.opened
+      m.opened
       in (
         entries.Reply call.id k.items,
         (k.items, whole, k.is_reply, refl),
@@ -377,7 +377,7 @@ module _ {V : Type 0} (stands : V → List Item → Type 0) where
           stands =
               met_leads c table (Record Server) bytes all m
               ∙ ap (λ r. landed (reply_judged v m.so_far r))
-                  (k.accepted m.so_far.calls m.calls.procedures)
+              (k.accepted m.so_far.calls m.calls.procedures)
               ∙ ap (λ (w : Unpacking). Runs (parsing_at w j)) (sym at);
           emitted =
               sym (m.emits answer) ∙ ap (λ (w : Unpacking). emitted_at w.opened j) (sym at);
@@ -390,13 +390,13 @@ module _ {V : Type 0} (stands : V → List Item → Type 0) where
         (k.items, whole, k.is_reply, refl),
         numbered_in call.number (xid_in k.items) _ _
             (opened_still all (entries.Reply call.id k.items) (xids_in m.stood.so_far.calls)
-                (λ xs. refl)
+            (λ xs. refl)
             m.stood.opened) (m.stood.calls.numbers (xid_in k.items) k.is_xid call k.asked),
         k.adds,
         rw (m.next_is, m.records_are)
             (reply_recalled u c.streams.kept m.taken m.records table bytes all m.stood m.count
             (body_of c.joiner.taking) answer m.joins
-                (k.accepted m.stood.so_far.calls m.stood.calls.procedures)),
+            (k.accepted m.stood.so_far.calls m.stood.calls.procedures)),
       )
 
 -- ---- a message that is refused

@@ -1,7 +1,8 @@
 -- Which entries are whole, as the container is taken apart and its records are judged.
-use Rattle.capture3.proofs.Common.{unpacking_with, ◌≡◌, ℕ, zero, suc, ◌+◌, Bool, true, false, cond, nat_eq, nat_lt, List, [], ◌∷◌, ◌++◌, map, refl, sym, ap, ◌∙◌, subst, append_assoc, BadMagic, TooManyConnections, TooManyBytes, Item, Joining, Between, Header, Bytes, Joined, Whole, TooLong, join_next, Next, Goes, Ends, Runs, Stops, after, landed, within, word_next, not_runs, only_stops, Side, Client, Server, Begin, ReplyItems, Entry, reply_entry, Version, One, Two, Mixing, MixedEnd, MixedCloses, MixedRefuses, mixed_step, Judged, client_entries, server_entries, emitted_at, EmitsOn}
+use Rattle.capture3.proofs.Common.{unpacking_with, ◌≡◌, ℕ, zero, suc, ◌+◌, nat_eq, nat_lt, List, [], ◌∷◌, ◌++◌, map, refl, sym, ap, ◌∙◌, subst, append_assoc, Item, Joining, Between, Header, Bytes, Joined, Whole, TooLong, join_next, Next, Goes, Ends, Runs, Stops, after, landed, within, word_next, not_runs, only_stops, Side, Client, Server, ReplyItems, Entry, reply_entry, Version, One, Two, Mixing, MixedEnd, MixedCloses, MixedRefuses, mixed_step, Judged, client_entries, server_entries, emitted_at, EmitsOn}
 use Rattle.capture3.specs.Entry as entries
-use Rattle.capture3.specs.machinery.ContainerMachine.{Opened, Magic, Digit, Mark, Length, Chunk, Mixed, Ended, Unpacking, Unpacked, Has, at_byte, left_of_magic, begun_at, mixed_at, mixed_ended, connection_marked, chunk_counted, record_joined, in_chunk, unpack_next}
+use Rattle.capture3.proofs.Lemmas.Reader.FileStandingLemmas.{either_way}
+use Rattle.capture3.specs.machinery.ContainerMachine.{Opened, Magic, Digit, Mark, Length, Chunk, Mixed, Ended, Unpacking, Unpacked, mixed_at, mixed_ended, connection_marked, chunk_counted, record_joined, in_chunk, unpack_next}
 
 map_one_more : {X Y : Type 0} (f : X → Y) (xs : List X) (x : X)
     → map f (xs ++ x ∷ []) ≡ map f xs ++ f x ∷ []
@@ -31,31 +32,17 @@ magic_emits : (at total connections records : ℕ) (joining : Joining) (due : �
     (j : Judged) (byte : ℕ)
     → EmitsOn j j.entries
     (unpack_next (unpacking_with at total connections records (Magic due more) joining) byte)
-magic_emits at total connections records joining due more j byte = by_test (nat_eq byte due) more
-  where
-    by_test : (b : Bool) (more : List ℕ)
-        → EmitsOn j j.entries (cond b
-        (Goes
-        (unpacking_with (at + 1) total connections records (left_of_magic more) joining))
-        (Ends (at_byte at BadMagic)))
-    by_test true [] = refl
-    by_test true (next ∷ rest) = refl
-    by_test false more = tt
+magic_emits at total connections records joining due [] j byte =
+    either_way (EmitsOn j j.entries) (nat_eq byte due) _ _ refl tt
+magic_emits at total connections records joining due (next ∷ more) j byte =
+    either_way (EmitsOn j j.entries) (nat_eq byte due) _ _ refl tt
 
 digit_emits : (at total connections records : ℕ) (joining : Joining) (j : Judged) (byte : ℕ)
     → EmitsOn j j.entries
     (unpack_next (unpacking_with at total connections records Digit joining) byte)
-digit_emits at total connections records joining j byte = by_test (nat_eq byte 49) (nat_eq byte 50)
-  where
-    by_test : (b c : Bool)
-        → EmitsOn j j.entries (cond b
-        (Goes (unpacking_with (at + 1) total connections records (Mark One []) joining))
-        (cond c
-        (Goes (unpacking_with (at + 1) total connections records (Mark Two []) joining))
-        (Ends (at_byte at BadMagic))))
-    by_test true c = refl
-    by_test false true = refl
-    by_test false false = tt
+digit_emits at total connections records joining j byte =
+    either_way (EmitsOn j j.entries) (nat_eq byte 49) _ _ refl
+    (either_way (EmitsOn j j.entries) (nat_eq byte 50) _ _ refl tt)
 
 mark_emits : (version : Version) (at total connections records : ℕ) (joining : Joining) (j : Judged)
     (n : Next (List ℕ) ℕ)
@@ -64,16 +51,10 @@ mark_emits : (version : Version) (at total connections records : ℕ) (joining :
     (connection_marked version at total connections records joining) n)
 mark_emits version at total connections records joining j (Goes p) = refl
 mark_emits version at total connections records joining j (Ends zero) = refl
-mark_emits version at total connections records joining j (Ends (suc zero)) =
-    by_test (nat_lt connections 65535) version
-  where
-    by_test : (b : Bool) (v : Version)
-        → EmitsOn j j.entries (cond b
-        (Ends (Has Begin [] (begun_at v at total (connections + 1) joining)))
-        (Ends (at_byte at TooManyConnections)))
-    by_test true One = refl
-    by_test true Two = refl
-    by_test false v = tt
+mark_emits One at total connections records joining j (Ends (suc zero)) =
+    either_way (EmitsOn j j.entries) (nat_lt connections 65535) _ _ refl tt
+mark_emits Two at total connections records joining j (Ends (suc zero)) =
+    either_way (EmitsOn j j.entries) (nat_lt connections 65535) _ _ refl tt
 mark_emits version at total connections records joining j (Ends (suc (suc w))) = tt
 
 mixed_emits : (connections records : ℕ) (joining : Joining) (j : Judged) (n : Next Mixing MixedEnd)
@@ -97,16 +78,12 @@ length_emits at total connections records Server Between part j (Ends zero) =
     (entries.Close ∷ []))
 length_emits at total connections records side (Header body header) part j (Ends zero) = tt
 length_emits at total connections records side (Bytes body last left) part j (Ends zero) = tt
-length_emits at total connections records side joining part j (Ends (suc left)) =
-    by_test (nat_lt 1073741824 (total + suc left)) side
-  where
-    by_test : (b : Bool) (side : Side)
-        → EmitsOn j (emitted_at (Length side part) j) (cond b (Ends (at_byte at TooManyBytes))
-        (Goes (in_chunk (at + 4 + suc left) (total + suc left) connections records side
-        (suc left) joining)))
-    by_test true side = tt
-    by_test false Client = refl
-    by_test false Server = refl
+length_emits at total connections records Client joining part j (Ends (suc left)) =
+    either_way (EmitsOn j (emitted_at (Length Client part) j))
+    (nat_lt 1073741824 (total + suc left)) _ _ tt refl
+length_emits at total connections records Server joining part j (Ends (suc left)) =
+    either_way (EmitsOn j (emitted_at (Length Server part) j))
+    (nat_lt 1073741824 (total + suc left)) _ _ tt refl
 
 chunk_emits : (at total connections records left : ℕ) (side : Side) (j : Judged)
     (n : Next Joining Joined)

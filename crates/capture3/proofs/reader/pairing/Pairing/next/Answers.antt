@@ -46,5 +46,5 @@ returns-in-Err-clause-fault g c =
           λ bytes all s.
           comes_to_fault c.release.new.self (g.C.KnownCalls.known c.args.self.now.calls) bytes all
           c.args.piece.now c.next.new.error (rw (r.position, r.joiner, r.streams, r.cursor) s)
-              c.in-Err.ensures.fault;
+          c.in-Err.ensures.fault;
     }
