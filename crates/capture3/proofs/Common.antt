@@ -94,7 +94,6 @@ pub use Rattle.capture3.specs.machinery.FileStanding.{Agrees, EmitsOn, Judged, c
 pub use Rattle.capture3.specs.machinery.KeptStreams.{Recalls, ShowsFirst}
 pub use Rattle.capture3.specs.machinery.Messages.{HasProcedures, IsTableOf, results_after, xids_in}
 pub use Rattle.capture3.specs.machinery.Position.{AreEmpty, IsBeforeMark, IsEndSpot, StoredWith, opened_at, unpacking_at, version_of}
-pub use Rattle.capture3.specs.machinery.SideStart.{side_start}
 pub use Rattle.capture3.specs.machinery.Spelled.{SpellsCall, SpellsReply}
 pub use Rattle.capture3.specs.declared.message.counted_calls.CountedCalls.{CountedCalls}
 pub use Rattle.capture3.specs.declared.reader.pairing.Pairing.{Pairing}

@@ -13,6 +13,5 @@ pub mod Position
 pub mod KeptStreams
 pub mod StreamsInMemory
 pub mod FileStanding
-pub mod SideStart
 pub mod Spelled
 pub mod ContainerMachine

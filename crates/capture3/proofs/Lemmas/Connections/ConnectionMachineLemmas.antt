@@ -1,11 +1,12 @@
 -- The machine for a connection against its two sides.
-use Rattle.std.proofs.Common.{◌≡◌, inl, inr, ℕ, ◌+◌, ◌≤◌, List, [], ◌∷◌, ◌++◌, length, refl, sym, ap, subst₂, ◌∙◌, append_assoc, append-nil, arith, length-append}
-use Rattle.capture3.proofs.Common.{Runs, Stops, landed, after, Leads, leads_within, after-append, nested_runs, nested_stops, Item, AreBytes, Client, Server, ReplyItems, Version, One, Two, AreStreams, Streams, size, max_bytes, IsStream, Context, client_position, server_position, calls_in_turn, replies_to, ConnectionShows, InClientStream, InServerStream, Entry, judge_call, MixedEnd, MixedCloses, MixedRefuses, mixed_next, mixing_from, judge_replies, Opening, InClient, InServer, InMixed, Closing, Closes, Refuses, turning, ending, server_said, client_said, conversing, opening_next, opened, StreamEnd, Held, Faulty, stream_end, Holds, place_at, Converses, connection_entries, Siding, SideEnd, SideCloses, SideRefuses, side_next, siding_from}
+use Rattle.std.proofs.Common.{◌≡◌, inl, inr, ℕ, ◌+◌, ◌≤◌, List, [], ◌∷◌, ◌++◌, length, refl, sym, ap, ◌∙◌, append_assoc, append-nil, arith, length-append}
+use Rattle.capture3.proofs.Common.{Ends, Run, Runs, Stops, after, Leads, leads_within, Item, AreBytes, Client, Server, ReplyItems, Version, One, Two, AreStreams, Streams, size, max_bytes, IsStream, Context, client_position, server_position, calls_in_turn, refusal, replies_to, ConnectionShows, InClientStream, InServerStream, Entry, judge_call, MixedEnd, MixedCloses, MixedRefuses, mixed_next, mixing_from, judge_replies, Opening, InClient, InServer, InMixed, Closing, Closes, Refuses, turning, ending, server_said, client_said, conversing, opening_next, opened, StreamEnd, Held, Faulty, stream_end, Holds, place_at, Converses, connection_entries, Siding, SideEnd, SideCloses, SideRefuses, side_next, siding_from}
 use Rattle.capture3.proofs.Lemmas.Messages.BodiesLemmas.{the_calls, the_replies}
 use Rattle.capture3.proofs.Lemmas.Container.BytesOf.{split_bytes, mixed_bytes}
 use Rattle.capture3.proofs.Lemmas.Connections.JudgedInTurn.{conversed, calls_hold, replies_hold}
-use Rattle.capture3.proofs.Lemmas.Container.SidedChunksMachineLemmas.{HasMixed, ClosesMixed, EndsMixed, mixed_leads, mixed_runs, mixed_closes, nothing_gathered}
-use Rattle.capture3.proofs.Lemmas.Sides.SideMachineLemmas.{HasSide, EndsSide, side_leads, nothing_taken, side_runs, side_closes}
+use Rattle.capture3.proofs.Lemmas.Container.SidedChunksMachineLemmas.{HasMixed, ClosesMixed, EndsMixed, RefusedMixed, mixed_leads, mixed_runs, mixed_closes, nothing_gathered}
+use Rattle.capture3.proofs.Lemmas.Files.EndedMachines.{Nested, after_two, runs_inside, stops_inside}
+use Rattle.capture3.proofs.Lemmas.Sides.SideMachineLemmas.{HasSide, EndsSide, RefusedSide, side_leads, nothing_taken, side_runs, side_closes}
 use Rattle.capture3.proofs.Lemmas.Sides.StreamEnds.{EndsStream, ends_stream, stream_ends}
 
 -- after the client side
@@ -47,279 +48,261 @@ EndsConnection version context bytes (Closes at total entries) =
     ClosesConnection version context bytes at total entries
 EndsConnection version context bytes (Refuses shown) = ConnectionShows version context bytes shown
 
-turning_leads : (context : Context) (bytes : List ℕ) (x : SideEnd (List Item))
-    → EndsSide calls_in_turn (client_position context) bytes x
-    → Leads (HasOpening One context) (EndsConnection One context) bytes (turning x)
-turning_leads context bytes (SideCloses at total calls) h =
-    record {
-      front = bytes;
-      last = [];
-      client = h.stream;
-      split = sym (append-nil bytes);
-      first = h.closed;
-      holds = h.holds;
-      fits = omega (arith, h.fits, h.total_is);
-      rest =
-          subst₂
-          (λ n m.
-          HasSide (replies_to calls) (server_position context bytes h.stream) []
-          (siding_from n m)) (sym h.at_is) (sym h.total_is)
-          (nothing_taken (the_replies calls) (server_position context bytes h.stream)
-          (omega (arith, h.fits, h.total_is)));
-    }
-turning_leads context bytes (SideRefuses fault) h = (refl, inl h)
+-- ---- the machines inside
 
-ending_leads : (context : Context) (bytes front last client : List ℕ) (calls : List (List Item))
-    → bytes ≡ front ++ last → IsStream front client → Holds calls_in_turn client calls
-    → (x : SideEnd ReplyItems)
-    → EndsSide (replies_to calls) (server_position context front client) last x
-    → Leads (HasOpening One context) (EndsConnection One context) bytes (ending calls x)
-ending_leads context bytes front last client calls split first holds (SideCloses at total replies)
-    h =
-    record {
-      streams = record { client = client; server = h.stream };
+abbrev pub RefusedClosing : Closing → Type 0
+RefusedClosing (Closes at total entries) = ⊥
+RefusedClosing (Refuses shown) = Unit {0}
+
+module _ (number : ℕ) where
+  pub in_client : Nested (side_next judge_call (place_at number Client)) (opening_next number)
+      (λ n. InClient) (λ n. turning) RefusedSide RefusedClosing
+  in_client = record { commutes = λ n s byte. refl; ends = λ n. refused }
+    where
+      refused : (x : SideEnd (List Item)) → RefusedSide x
+          → (y : Closing) × RefusedClosing y × (turning x ≡ Ends y)
+      refused (SideCloses at total messages) h = absurd h
+      refused (SideRefuses fault) h = (Refuses (refusal fault), tt, refl)
+
+  pub in_server : (calls : List (List Item))
+      → Nested (side_next (judge_replies calls) (place_at number Server)) (opening_next number)
+      (λ n. InServer calls) (λ n. ending calls) RefusedSide RefusedClosing
+  in_server calls = record { commutes = λ n s byte. refl; ends = λ n. refused }
+    where
+      refused : (x : SideEnd ReplyItems) → RefusedSide x
+          → (y : Closing) × RefusedClosing y × (ending calls x ≡ Ends y)
+      refused (SideCloses at total messages) h = absurd h
+      refused (SideRefuses fault) h = (Refuses (refusal fault), tt, refl)
+
+  pub in_mixed : Nested mixed_next (opening_next number) (λ n. InMixed) (λ n. conversing number)
+      RefusedMixed RefusedClosing
+  in_mixed = record { commutes = λ n s byte. refl; ends = λ n. refused }
+    where
+      refused : (x : MixedEnd) → RefusedMixed x
+          → (y : Closing) × RefusedClosing y × (conversing number x ≡ Ends y)
+      refused (MixedCloses at total streams) h = absurd h
+      refused (MixedRefuses fault) h = (Refuses (refusal fault), tt, refl)
+
+-- the machine for a connection, from its start
+abbrev pub opening_taken : Version → Context → List ℕ → Run Opening Closing
+opening_taken version context =
+    after (opening_next context.number) (Runs (opened version context.start context.before))
+
+module _ (context : Context) where
+  -- ---- version 1
+
+  turning_leads : (bytes : List ℕ) (x : SideEnd (List Item))
+      → EndsSide calls_in_turn (client_position context) bytes x
+      → Leads (HasOpening One context) (EndsConnection One context) bytes (turning x)
+  turning_leads bytes (SideCloses at total calls) h =
+      record {
+        front = bytes;
+        last = [];
+        client = h.stream;
+        split = sym (append-nil bytes);
+        first = h.closed;
+        holds = h.holds;
+        fits = omega (arith, h.fits, h.total_is);
+        rest =
+            rw (h.at_is, h.total_is) (nothing_taken (the_replies calls)
+            (server_position context bytes h.stream) (omega (arith, h.fits, h.total_is)));
+      }
+  turning_leads bytes (SideRefuses fault) h = (refl, inl h)
+
+  ending_leads : (bytes front last client : List ℕ) (calls : List (List Item))
+      → bytes ≡ front ++ last → IsStream front client → Holds calls_in_turn client calls
+      → (x : SideEnd ReplyItems)
+      → EndsSide (replies_to calls) (server_position context front client) last x
+      → Leads (HasOpening One context) (EndsConnection One context) bytes (ending calls x)
+  ending_leads bytes front last client calls split first holds (SideCloses at total replies) h =
+      let streams : Streams = record { client = client; server = h.stream } in
+      record {
+        streams = streams;
+        calls = calls;
+        replies = replies;
+        whole =
+            record { front = front; last = last; split = split; client = first; server = h.closed };
+        converses = conversed streams calls replies holds h.holds;
+        at_is = omega (arith, h.at_is, ap length split, length-append front last);
+        total_is = omega (arith, h.total_is);
+        fits = h.fits;
+        entries_are = refl;
+      }
+  ending_leads bytes front last client calls split first holds (SideRefuses fault) h = (
+    refl,
+    inr (record {
+      front = front;
+      last = last;
+      client = client;
       calls = calls;
-      replies = replies;
-      whole =
-          record { front = front; last = last; split = split; client = first; server = h.closed };
-      converses =
-          conversed (record { client = client; server = h.stream }) calls replies holds h.holds;
-      at_is = omega (arith, h.at_is, ap length split, length-append front last);
-      total_is = omega (arith, h.total_is);
-      fits = h.fits;
-      entries_are = refl;
-    }
-ending_leads context bytes front last client calls split first holds (SideRefuses fault) h = (
-  refl,
-  inr (record {
-    front = front;
-    last = last;
-    client = client;
-    calls = calls;
-    split = split;
-    first = first;
-    holds = holds;
-    shows = h;
-  }),
-)
-
-in_turn_leads : (context : Context) (bytes : List ℕ) (o : Opening) (byte : ℕ)
-    → AreBytes (bytes ++ byte ∷ []) → HasOpening One context bytes o
-    → Leads (HasOpening One context) (EndsConnection One context) (bytes ++ byte ∷ [])
-    (opening_next context.number o byte)
-in_turn_leads context bytes (InClient s) byte are h =
-    leads_within (HasSide calls_in_turn (client_position context))
-    (EndsSide calls_in_turn (client_position context)) (HasOpening One context)
-    (EndsConnection One context) InClient turning (bytes ++ byte ∷ []) (bytes ++ byte ∷ [])
-    (λ t side. side) (λ x ends. turning_leads context (bytes ++ byte ∷ []) x ends)
-    (side_next judge_call (place_at context.number Client) s byte)
-    (side_leads the_calls (client_position context) bytes s byte are h)
-in_turn_leads context bytes (InServer calls s) byte are h =
-    let split : bytes ++ byte ∷ [] ≡ h.front ++ (h.last ++ byte ∷ []) =
-    ap (λ (b : List ℕ). b ++ byte ∷ []) h.split ∙ append_assoc h.front h.last (byte ∷ []) in
-    leads_within (HasSide (replies_to calls) (server_position context h.front h.client))
-    (EndsSide (replies_to calls) (server_position context h.front h.client))
-    (HasOpening One context) (EndsConnection One context) (InServer calls) (ending calls)
-    (h.last ++ byte ∷ []) (bytes ++ byte ∷ [])
-    (λ t side.
-    record {
-      front = h.front;
-      last = h.last ++ byte ∷ [];
-      client = h.client;
       split = split;
-      first = h.first;
-      holds = h.holds;
-      fits = h.fits;
-      rest = side;
-    })
-    (λ x ends.
-    ending_leads context (bytes ++ byte ∷ []) h.front (h.last ++ byte ∷ []) h.client calls split
-    h.first h.holds x ends)
-    (side_next (judge_replies calls) (place_at context.number Server) s byte) (side_leads
-    (the_replies calls) (server_position context h.front h.client) h.last s byte
-    (split_bytes (bytes ++ byte ∷ []) h.front (h.last ++ byte ∷ []) split are).1 h.rest)
-in_turn_leads context bytes (InMixed s) byte are h = absurd h
-
--- ---- the other way round
-
--- after the client side
-turned : (context : Context) (bytes front last client : List ℕ) (calls : List (List Item))
-    → bytes ≡ front ++ last → IsStream front client → Holds calls_in_turn client calls
-    → context.before + length client ≤ max_bytes
-    → after (opening_next context.number) (Runs (opened One context.start context.before)) bytes
-    ≡ after (opening_next context.number)
-    (Runs (InServer calls
-    (siding_from (context.start + length front) (context.before + length client))))
-    last
-turned context bytes front last client calls split first holds fits =
-    ap (after (opening_next context.number) (Runs (opened One context.start context.before))) split
-    ∙ after-append (opening_next context.number)
-    (Runs (opened One context.start context.before)) front last
-    ∙ ap (λ run. after (opening_next context.number) run last)
-    (nested_stops (side_next judge_call (place_at context.number Client))
-    (opening_next context.number) InClient turning (λ s byte. refl) front
-    (siding_from context.start context.before)
-    (SideCloses (context.start + length front) (context.before + length client) calls)
-    (side_closes the_calls (client_position context) front (context.start + length front)
-    (context.before + length client) calls (record {
-      stream = client;
-      closed = first;
+      first = first;
       holds = holds;
-      at_is = refl;
-      total_is = refl;
-      fits = fits;
-    })))
+      shows = h;
+    }),
+  )
 
-in_turn_runs : (context : Context) (bytes : List ℕ) (o : Opening) → HasOpening One context bytes o
-    → after (opening_next context.number) (Runs (opened One context.start context.before)) bytes
-    ≡ Runs o
-in_turn_runs context bytes (InClient s) h =
-    nested_runs (side_next judge_call (place_at context.number Client))
-    (opening_next context.number) InClient turning (λ s byte. refl) bytes
-    (siding_from context.start context.before) s
-    (side_runs the_calls (client_position context) bytes s h)
-in_turn_runs context bytes (InServer calls s) h =
-    turned context bytes h.front h.last h.client calls h.split h.first h.holds h.fits
-    ∙ nested_runs (side_next (judge_replies calls) (place_at context.number Server))
-    (opening_next context.number) (InServer calls) (ending calls) (λ t byte. refl) h.last
-    (siding_from (context.start + length h.front) (context.before + length h.client)) s
-    (side_runs (the_replies calls) (server_position context h.front h.client) h.last s h.rest)
-in_turn_runs context bytes (InMixed s) h = absurd h
+  -- after the client side
+  turned : (front client : List ℕ) (calls : List (List Item)) → IsStream front client
+      → Holds calls_in_turn client calls → context.before + length client ≤ max_bytes
+      → opening_taken One context front
+      ≡ Runs (InServer calls
+      (siding_from (context.start + length front) (context.before + length client)))
+  turned front client calls first holds fits =
+      stops_inside (in_client context.number) front 0 (siding_from context.start context.before)
+      (side_closes the_calls (client_position context) front (context.start + length front)
+      (context.before + length client) calls
+      (record {
+        stream = client;
+        closed = first;
+        holds = holds;
+        at_is = refl;
+        total_is = refl;
+        fits = fits;
+      }))
 
-in_turn_closes : (context : Context) (bytes : List ℕ) (at total : ℕ) (entries : List Entry)
-    → ClosesConnection One context bytes at total entries
-    → after (opening_next context.number) (Runs (opened One context.start context.before)) bytes
-    ≡ Stops (Closes at total entries)
-in_turn_closes context bytes at total entries h =
-    let w = h.whole in
-    let holds = calls_hold h.streams h.calls h.replies h.converses in
-    turned context bytes w.front w.last h.streams.client h.calls w.split w.client holds
-    (omega (arith, h.fits, h.total_is))
-    ∙ nested_stops (side_next (judge_replies h.calls) (place_at context.number Server))
-    (opening_next context.number) (InServer h.calls) (ending h.calls) (λ s byte. refl) w.last
-    (siding_from (context.start + length w.front) (context.before + length h.streams.client))
-    (SideCloses at total h.replies)
-    (side_closes (the_replies h.calls) (server_position context w.front h.streams.client) w.last at
-    total h.replies
-    (record {
-      stream = h.streams.server;
-      closed = w.server;
-      holds = replies_hold h.streams h.calls h.replies h.converses;
-      fits = h.fits;
-      at_is = omega (arith, h.at_is, ap length w.split, length-append w.front w.last);
-      total_is = omega (arith, h.total_is);
-    }))
-    ∙ ap (λ entries. Stops (Closes at total entries)) (sym h.entries_are)
+  -- ---- version 2
 
--- ---- version 2
+  server_said_ends : (bytes : List ℕ) (at total : ℕ) (streams : Streams)
+      (calls : List (List Item)) → ClosesMixed context bytes at total streams
+      → Holds calls_in_turn streams.client calls
+      → (x : StreamEnd ReplyItems) → EndsStream (replies_to calls) streams.server x
+      → Leads (HasOpening Two context) (EndsConnection Two context) bytes
+      (server_said context.number at total calls x)
+  server_said_ends bytes at total streams calls h holds (Held replies) ends =
+      record {
+        streams = streams;
+        calls = calls;
+        replies = replies;
+        whole = h.mixed;
+        converses = conversed streams calls replies holds ends;
+        at_is = h.at_is;
+        total_is = h.total_is;
+        fits = h.fits;
+        entries_are = refl;
+      }
+  server_said_ends bytes at total streams calls h holds (Faulty replies fault) ends =
+      inr (InServerStream streams calls replies fault h.mixed holds ends refl)
 
-server_said_ends : (context : Context) (bytes : List ℕ) (at total : ℕ) (streams : Streams)
-    (calls : List (List Item)) → ClosesMixed context bytes at total streams
-    → Holds calls_in_turn streams.client calls
-    → (x : StreamEnd ReplyItems) → EndsStream (replies_to calls) streams.server x
-    → Leads (HasOpening Two context) (EndsConnection Two context) bytes
-    (server_said context.number at total calls x)
-server_said_ends context bytes at total streams calls h holds (Held replies) ends =
-    record {
-      streams = streams;
-      calls = calls;
-      replies = replies;
-      whole = h.mixed;
-      converses = conversed streams calls replies holds ends;
-      at_is = h.at_is;
-      total_is = h.total_is;
-      fits = h.fits;
-      entries_are = refl;
-    }
-server_said_ends context bytes at total streams calls h holds (Faulty replies fault) ends =
-    inr (InServerStream streams calls replies fault h.mixed holds ends refl)
+  client_said_ends : (bytes : List ℕ) (at total : ℕ) (streams : Streams)
+      → AreBytes streams.server → ClosesMixed context bytes at total streams
+      → (x : StreamEnd (List Item)) → EndsStream calls_in_turn streams.client x
+      → Leads (HasOpening Two context) (EndsConnection Two context) bytes
+      (client_said context.number at total streams.server x)
+  client_said_ends bytes at total streams are h (Held calls) ends =
+      server_said_ends bytes at total streams calls h ends
+      (stream_end (judge_replies calls) streams.server)
+      (ends_stream (the_replies calls) streams.server are)
+  client_said_ends bytes at total streams are h (Faulty calls fault) ends =
+      inr (InClientStream streams calls fault h.mixed ends refl)
 
-client_said_ends : (context : Context) (bytes : List ℕ) (at total : ℕ) (streams : Streams)
-    → AreBytes streams.server → ClosesMixed context bytes at total streams
-    → (x : StreamEnd (List Item)) → EndsStream calls_in_turn streams.client x
-    → Leads (HasOpening Two context) (EndsConnection Two context) bytes
-    (client_said context.number at total streams.server x)
-client_said_ends context bytes at total streams are h (Held calls) ends =
-    server_said_ends context bytes at total streams calls h ends
-    (stream_end (judge_replies calls) streams.server)
-    (ends_stream (the_replies calls) streams.server are)
-client_said_ends context bytes at total streams are h (Faulty calls fault) ends =
-    inr (InClientStream streams calls fault h.mixed ends refl)
+  conversing_ends : (bytes : List ℕ) (x : MixedEnd) → AreBytes bytes → EndsMixed context bytes x
+      → Leads (HasOpening Two context) (EndsConnection Two context) bytes
+      (conversing context.number x)
+  conversing_ends bytes (MixedCloses at total streams) are h =
+      let both = mixed_bytes bytes streams h.mixed are in
+      client_said_ends bytes at total streams both.1 h (stream_end judge_call streams.client)
+      (ends_stream the_calls streams.client both.0)
+  conversing_ends bytes (MixedRefuses fault) are h = inl (refl, h)
 
-conversing_ends : (context : Context) (bytes : List ℕ) (x : MixedEnd) → AreBytes bytes
-    → EndsMixed context bytes x
-    → Leads (HasOpening Two context) (EndsConnection Two context) bytes
-    (conversing context.number x)
-conversing_ends context bytes (MixedCloses at total streams) are h =
-    let both = mixed_bytes bytes streams h.mixed are in
-    client_said_ends context bytes at total streams both.1 h (stream_end judge_call streams.client)
-    (ends_stream the_calls streams.client both.0)
-conversing_ends context bytes (MixedRefuses fault) are h = inl (refl, h)
+  -- ---- by version
 
-two_leads : (context : Context) (bytes : List ℕ) (o : Opening) (byte : ℕ)
-    → AreBytes (bytes ++ byte ∷ []) → HasOpening Two context bytes o
-    → Leads (HasOpening Two context) (EndsConnection Two context) (bytes ++ byte ∷ [])
-    (opening_next context.number o byte)
-two_leads context bytes (InMixed s) byte are h =
-    leads_within (HasMixed context) (EndsMixed context) (HasOpening Two context)
-    (EndsConnection Two context) InMixed (conversing context.number) (bytes ++ byte ∷ [])
-    (bytes ++ byte ∷ [])
-    (λ t mixed. mixed) (λ x ends. conversing_ends context (bytes ++ byte ∷ []) x are ends)
-    (mixed_next s byte) (mixed_leads context bytes s byte h)
-two_leads context bytes (InClient s) byte are h = absurd h
-two_leads context bytes (InServer calls s) byte are h = absurd h
+  pub opening_leads : (version : Version) (bytes : List ℕ) (o : Opening) (byte : ℕ)
+      → AreBytes (bytes ++ byte ∷ []) → HasOpening version context bytes o
+      → Leads (HasOpening version context) (EndsConnection version context) (bytes ++ byte ∷ [])
+      (opening_next context.number o byte)
+  opening_leads One bytes (InClient s) byte are h =
+      leads_within (HasSide calls_in_turn (client_position context))
+      (EndsSide calls_in_turn (client_position context)) (HasOpening One context)
+      (EndsConnection One context) InClient turning (bytes ++ byte ∷ []) (bytes ++ byte ∷ [])
+      (λ t side. side) (turning_leads (bytes ++ byte ∷ []))
+      (side_next judge_call (place_at context.number Client) s byte)
+      (side_leads the_calls (client_position context) bytes s byte are h)
+  opening_leads One bytes (InServer calls s) byte are h =
+      let split : bytes ++ byte ∷ [] ≡ h.front ++ (h.last ++ byte ∷ []) =
+      rw (h.split, append_assoc) in
+      leads_within (HasSide (replies_to calls) (server_position context h.front h.client))
+      (EndsSide (replies_to calls) (server_position context h.front h.client))
+      (HasOpening One context) (EndsConnection One context) (InServer calls) (ending calls)
+      (h.last ++ byte ∷ []) (bytes ++ byte ∷ [])
+      (λ t side.
+      record {
+        front = h.front;
+        last = h.last ++ byte ∷ [];
+        client = h.client;
+        split = split;
+        first = h.first;
+        holds = h.holds;
+        fits = h.fits;
+        rest = side;
+      })
+      (ending_leads (bytes ++ byte ∷ []) h.front (h.last ++ byte ∷ []) h.client calls split h.first
+      h.holds)
+      (side_next (judge_replies calls) (place_at context.number Server) s byte) (side_leads
+      (the_replies calls) (server_position context h.front h.client) h.last s byte
+      (split_bytes (bytes ++ byte ∷ []) h.front (h.last ++ byte ∷ []) split are).1 h.rest)
+  opening_leads One bytes (InMixed s) byte are h = absurd h
+  opening_leads Two bytes (InMixed s) byte are h =
+      leads_within (HasMixed context) (EndsMixed context) (HasOpening Two context)
+      (EndsConnection Two context) InMixed (conversing context.number) (bytes ++ byte ∷ [])
+      (bytes ++ byte ∷ [])
+      (λ t mixed. mixed) (λ x ends. conversing_ends (bytes ++ byte ∷ []) x are ends)
+      (mixed_next s byte) (mixed_leads context bytes s byte h)
+  opening_leads Two bytes (InClient s) byte are h = absurd h
+  opening_leads Two bytes (InServer calls s) byte are h = absurd h
 
-two_closes : (context : Context) (bytes : List ℕ) (at total : ℕ) (entries : List Entry)
-    → ClosesConnection Two context bytes at total entries
-    → after (opening_next context.number) (Runs (opened Two context.start context.before)) bytes
-    ≡ Stops (Closes at total entries)
-two_closes context bytes at total entries h =
-    nested_stops mixed_next (opening_next context.number) InMixed (conversing context.number)
-    (λ s byte. refl) bytes (mixing_from context.start context.before)
-    (MixedCloses at total h.streams)
-    (mixed_closes context bytes at total h.streams
-    (record { mixed = h.whole; at_is = h.at_is; total_is = h.total_is; fits = h.fits }))
-    ∙ ap (λ e. landed (client_said context.number at total h.streams.server e))
-    (stream_ends the_calls h.streams.client (Held h.calls)
-    (calls_hold h.streams h.calls h.replies h.converses))
-    ∙ ap (λ e. landed (server_said context.number at total h.calls e)) (stream_ends
-    (the_replies h.calls) h.streams.server (Held h.replies)
-    (replies_hold h.streams h.calls h.replies h.converses))
-    ∙ ap (λ entries. Stops (Closes at total entries)) (sym h.entries_are)
+  pub opening_runs : (version : Version) (bytes : List ℕ) (o : Opening)
+      → HasOpening version context bytes o → opening_taken version context bytes ≡ Runs o
+  opening_runs One bytes (InClient s) h =
+      runs_inside (in_client context.number) bytes 0 (siding_from context.start context.before)
+      (side_runs the_calls (client_position context) bytes s h)
+  opening_runs One bytes (InServer calls s) h =
+      after_two (opening_next context.number) (Runs (opened One context.start context.before))
+      h.front h.last h.split (turned h.front h.client calls h.first h.holds h.fits)
+      (runs_inside (in_server context.number calls) h.last 0
+      (siding_from (context.start + length h.front) (context.before + length h.client))
+      (side_runs (the_replies calls) (server_position context h.front h.client) h.last s h.rest))
+  opening_runs One bytes (InMixed s) h = absurd h
+  opening_runs Two bytes (InMixed s) h =
+      runs_inside (in_mixed context.number) bytes 0 (mixing_from context.start context.before)
+      (mixed_runs context bytes s h)
+  opening_runs Two bytes (InClient s) h = absurd h
+  opening_runs Two bytes (InServer calls s) h = absurd h
 
-two_runs : (context : Context) (bytes : List ℕ) (o : Opening) → HasOpening Two context bytes o
-    → after (opening_next context.number) (Runs (opened Two context.start context.before)) bytes
-    ≡ Runs o
-two_runs context bytes (InMixed s) h =
-    nested_runs mixed_next (opening_next context.number) InMixed (conversing context.number)
-    (λ t byte. refl) bytes (mixing_from context.start context.before) s
-    (mixed_runs context bytes s h)
-two_runs context bytes (InClient s) h = absurd h
-two_runs context bytes (InServer calls s) h = absurd h
+  pub opening_closes : (version : Version) (bytes : List ℕ) (at total : ℕ)
+      (entries : List Entry) → ClosesConnection version context bytes at total entries
+      → opening_taken version context bytes ≡ Stops (Closes at total entries)
+  opening_closes One bytes at total entries h =
+      let w = h.whole in
+      let holds = calls_hold h.streams h.calls h.replies h.converses in
+      rw h.entries_are (after_two (opening_next context.number)
+      (Runs (opened One context.start context.before)) w.front w.last w.split
+      (turned w.front h.streams.client h.calls w.client holds (omega (arith, h.fits, h.total_is)))
+      (stops_inside (in_server context.number h.calls) w.last 0
+      (siding_from (context.start + length w.front) (context.before + length h.streams.client))
+      (side_closes (the_replies h.calls) (server_position context w.front h.streams.client) w.last
+      at total h.replies
+      (record {
+        stream = h.streams.server;
+        closed = w.server;
+        holds = replies_hold h.streams h.calls h.replies h.converses;
+        fits = h.fits;
+        at_is = omega (arith, h.at_is, ap length w.split, length-append w.front w.last);
+        total_is = omega (arith, h.total_is);
+      }))))
+  opening_closes Two bytes at total entries h =
+      stops_inside (in_mixed context.number) bytes 0 (mixing_from context.start context.before)
+      (mixed_closes context bytes at total h.streams
+      (record { mixed = h.whole; at_is = h.at_is; total_is = h.total_is; fits = h.fits }))
+      ∙ rw (
+        stream_ends the_calls h.streams.client (Held h.calls)
+            (calls_hold h.streams h.calls h.replies h.converses),
+        stream_ends (the_replies h.calls) h.streams.server (Held h.replies)
+            (replies_hold h.streams h.calls h.replies h.converses),
+        h.entries_are,
+      )
 
--- ---- by version
-pub opening_leads : (version : Version) (context : Context) (bytes : List ℕ) (o : Opening)
-    (byte : ℕ) → AreBytes (bytes ++ byte ∷ []) → HasOpening version context bytes o
-    → Leads (HasOpening version context) (EndsConnection version context) (bytes ++ byte ∷ [])
-    (opening_next context.number o byte)
-opening_leads One = in_turn_leads
-opening_leads Two = two_leads
-
-pub opening_runs : (version : Version) (context : Context) (bytes : List ℕ) (o : Opening)
-    → HasOpening version context bytes o
-    → after (opening_next context.number) (Runs (opened version context.start context.before)) bytes
-    ≡ Runs o
-opening_runs One = in_turn_runs
-opening_runs Two = two_runs
-
-pub opening_closes : (version : Version) (context : Context) (bytes : List ℕ) (at total : ℕ)
-    (entries : List Entry) → ClosesConnection version context bytes at total entries
-    → after (opening_next context.number) (Runs (opened version context.start context.before)) bytes
-    ≡ Stops (Closes at total entries)
-opening_closes One = in_turn_closes
-opening_closes Two = two_closes
-
-pub nothing_opened : (version : Version) (context : Context) → context.before ≤ max_bytes
-    → HasOpening version context [] (opened version context.start context.before)
-nothing_opened One context fits = nothing_taken the_calls (client_position context) fits
-nothing_opened Two context fits = nothing_gathered context fits
+  pub nothing_opened : (version : Version) → context.before ≤ max_bytes
+      → HasOpening version context [] (opened version context.start context.before)
+  nothing_opened One fits = nothing_taken the_calls (client_position context) fits
+  nothing_opened Two fits = nothing_gathered context fits

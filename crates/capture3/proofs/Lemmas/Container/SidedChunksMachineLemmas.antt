@@ -1,61 +1,27 @@
 -- The machine that gathers the chunks of both sides.
-use Rattle.capture3.proofs.Common.{◌≡◌, ℕ, zero, suc, ◌+◌, ◌<◌, ◌≤◌, List, [], ◌∷◌, ◌++◌, length, refl, sym, ap, ap₂, subst, ◌∙◌, append_assoc, append-nil, arith, length-append, Bool, true, false, cond, nat_lt, ltb-true, ltb-false, le-ltb, Goes, Ends, Runs, Stops, landed, after, IsWord, Joins, number, word_next, Leads, leads_within, after-append, nested_runs, nested_stops, IsPart, word_leads, word_runs, word_stops, Joins-snoc, BadMark, TooManyBytes, Side, Client, Server, max_bytes, Context, MixedShows, BadSide, NoLength, TooMuch, file_fault, MixedPoint, SideWord, SideLength, SideChunk, Mixing, MixedEnd, MixedCloses, MixedRefuses, awaiting_side, sided, measured, mixed_step, mixed_next, mixing_from, Streams, size, SidedChunk, IsSidedChunk, side_word, of_side, gathered, carried_by, with_more, AreMixed, mixing_in}
+use Rattle.capture3.proofs.Common.{◌≡◌, inl, inr, ℕ, zero, suc, ◌+◌, ◌<◌, ◌≤◌, List, [], ◌∷◌, ◌++◌, length, refl, sym, ap, ◌∙◌, append_assoc, append-nil, arith, length-append, nat_lt, ltb-true, ltb-false, le-ltb, Run, Runs, Stops, landed, after, IsWord, Joins, word_next, Leads, leads_within, IsPart, word_leads, Joins-snoc, BadMark, Side, Client, Server, max_bytes, Context, MixedShows, BadSide, NoLength, TooMuch, file_fault, SideWord, SideLength, SideChunk, Mixing, MixedEnd, MixedCloses, MixedRefuses, awaiting_side, sided, measured, mixed_next, mixing_from, Streams, size, SidedChunk, IsSidedChunk, side_word, of_side, gathered, carried_by, with_more, AreMixed, BeginsMixed, mixing_in}
+use Rattle.capture3.specs.Connections.{AfterLength}
+use Rattle.capture3.specs.SidedChunks.{WithinSided}
+use Rattle.capture3.proofs.Lemmas.Connections.RankLemmas.{by_test}
+use Rattle.capture3.proofs.Lemmas.Files.EndedMachines.{after_two, word_ends, word_goes}
 
--- after whole chunks, in a side word
-pub record InSideWord (context : Context) (bytes : List ℕ) (at total : ℕ) (streams : Streams)
-    (part : List ℕ) : Type 0 where
-  pub chunks : List SidedChunk
-  pub front : List ℕ
-  pub split : bytes ≡ front ++ part
-  pub short : length part < 4
-  pub joined : Joins IsSidedChunk front chunks
-  pub streams_are : streams ≡ gathered chunks
-  pub at_is : at ≡ context.start + length front
-  pub total_is : total ≡ context.before + size (gathered chunks)
-  pub fits : total ≤ max_bytes
-
--- after a side word, in a length word
-pub record InSideLength (context : Context) (bytes : List ℕ) (at total : ℕ) (streams : Streams)
-    (side : Side) (part : List ℕ) : Type 0 where
-  pub chunks : List SidedChunk
-  pub front : List ℕ
-  pub word : List ℕ
-  pub split : bytes ≡ front ++ word ++ part
-  pub short : length part < 4
-  pub joined : Joins IsSidedChunk front chunks
-  pub sided : IsWord word (side_word side)
-  pub streams_are : streams ≡ gathered chunks
-  pub at_is : at ≡ context.start + length front + 4
-  pub total_is : total ≡ context.before + size (gathered chunks)
-  pub fits : total ≤ max_bytes
-
--- in a chunk, of whose bytes these have come
-pub record InSideChunk (context : Context) (bytes : List ℕ) (at total : ℕ) (streams : Streams)
-    (side : Side) (left : ℕ) : Type 0 where
-  pub chunks : List SidedChunk
-  pub front : List ℕ
-  pub word : List ℕ
-  pub header : List ℕ
-  pub got : List ℕ
-  pub split : bytes ≡ front ++ word ++ header ++ got
-  pub joined : Joins IsSidedChunk front chunks
-  pub sided : IsWord word (side_word side)
-  pub counts : IsWord header (length got + suc left)
-  pub streams_are : streams ≡ with_more (gathered chunks) side got
-  pub at_is : at ≡ context.start + length bytes + suc left
-  pub total_is : total ≡ context.before + size (gathered chunks) + (length got + suc left)
-  pub fits : total ≤ max_bytes
-
-abbrev pub HasMixedPoint : Context → List ℕ → ℕ → ℕ → Streams → MixedPoint → Type 0
-HasMixedPoint context bytes at total streams (SideWord part) =
-    InSideWord context bytes at total streams part
-HasMixedPoint context bytes at total streams (SideLength side part) =
-    InSideLength context bytes at total streams side part
-HasMixedPoint context bytes at total streams (SideChunk side left) =
-    InSideChunk context bytes at total streams side left
+-- the machine after the bytes of a connection that is not whole
+abbrev pub mixed_state : (context : Context) (bytes : List ℕ) → BeginsMixed context.before bytes
+    → Mixing
+mixed_state context bytes (inl b) =
+    mixing_in (context.start + length b.front) (context.before + size (gathered b.chunks))
+    (gathered b.chunks) (SideWord b.part)
+mixed_state context bytes (inr (inl b)) =
+    mixing_in (context.start + length b.front + 4) (context.before + size (gathered b.chunks))
+    (gathered b.chunks) (SideLength b.side b.part)
+mixed_state context bytes (inr (inr b)) =
+    mixing_in (context.start + length bytes + suc b.left)
+    (context.before + size (gathered b.chunks) + (length b.got + suc b.left))
+    (with_more (gathered b.chunks) b.side b.got) (SideChunk b.side b.left)
 
 abbrev pub HasMixed : Context → List ℕ → Mixing → Type 0
-HasMixed context bytes s = HasMixedPoint context bytes s.at s.total s.streams s.point
+HasMixed context bytes s =
+    (b : BeginsMixed context.before bytes) × (s ≡ mixed_state context bytes b)
 
 -- all chunks of a connection are whole
 pub record ClosesMixed (context : Context) (bytes : List ℕ) (at total : ℕ) (streams : Streams) :
@@ -68,6 +34,14 @@ pub record ClosesMixed (context : Context) (bytes : List ℕ) (at total : ℕ) (
 abbrev pub EndsMixed : Context → List ℕ → MixedEnd → Type 0
 EndsMixed context bytes (MixedCloses at total streams) = ClosesMixed context bytes at total streams
 EndsMixed context bytes (MixedRefuses fault) = MixedShows context bytes fault
+
+abbrev pub RefusedMixed : MixedEnd → Type 0
+RefusedMixed (MixedCloses at total streams) = ⊥
+RefusedMixed (MixedRefuses fault) = Unit {0}
+
+same_mixing : (s : Mixing) {n m : ℕ} {streams : Streams} → s.at ≡ n → s.total ≡ m
+    → s.streams ≡ streams → s ≡ mixing_in n m streams s.point
+same_mixing s e f g = λ i. mixing_in (e i) (f i) (g i) s.point
 
 of_side-append : (a b : Side) (x y : List ℕ) → of_side a b (x ++ y) ≡ of_side a b x ++ of_side a b y
 of_side-append Client Client x y = refl
@@ -123,317 +97,290 @@ gathered-snoc chunks chunk =
       server = carried_by-snoc Server chunks chunk i;
     }
 
-goes_sided : (context : Context) (bytes front word : List ℕ) (chunks : List SidedChunk)
-    (at total : ℕ) (streams : Streams) (side : Side) → bytes ≡ front ++ word
-    → Joins IsSidedChunk front chunks → IsWord word (side_word side) → streams ≡ gathered chunks
-    → at ≡ context.start + length front → total ≡ context.before + size (gathered chunks)
-    → total ≤ max_bytes
-    → InSideLength context bytes (at + 4) total streams side []
-goes_sided context bytes front word chunks at total streams side split joined is streams_are at_is
-    total_is fits =
-    record {
+module _ (context : Context) where
+  goes_sided : (bytes front word : List ℕ) (chunks : List SidedChunk) (side : Side)
+      → bytes ≡ front ++ word → Joins IsSidedChunk front chunks → IsWord word (side_word side)
+      → context.before + size (gathered chunks) ≤ max_bytes
+      → HasMixed context bytes
+      (mixing_in (context.start + length front + 4) (context.before + size (gathered chunks))
+      (gathered chunks) (SideLength side []))
+  goes_sided bytes front word chunks side split joined is fits = (
+    inr (inl (record {
       chunks = chunks;
+      side = side;
       front = front;
       word = word;
+      part = [];
       split = split ∙ sym (append-nil (front ++ word));
-      short = omega arith;
       joined = joined;
       sided = is;
-      streams_are = streams_are;
-      at_is = omega arith;
-      total_is = total_is;
-      fits = fits;
-    }
-
-sided_leads : (context : Context) (bytes front word : List ℕ) (chunks : List SidedChunk)
-    (at total n : ℕ) (streams : Streams) → bytes ≡ front ++ word
-    → Joins IsSidedChunk front chunks → IsWord word n → streams ≡ gathered chunks
-    → at ≡ context.start + length front → total ≡ context.before + size (gathered chunks)
-    → total ≤ max_bytes
-    → Leads (HasMixed context) (EndsMixed context) bytes (sided at total streams n)
-sided_leads context bytes front word chunks at total zero streams split joined is streams_are at_is
-    total_is fits =
-    record {
-      mixed =
-          record {
-            chunks = chunks;
-            front = front;
-            last = word;
-            split = split;
-            joined = joined;
-            closes = is;
-            carried = streams_are;
-          };
-      at_is = omega (arith, ap length split, length-append front word, is.0);
-      total_is = total_is ∙ ap (λ s. context.before + size s) (sym streams_are);
-      fits = fits;
-    }
-sided_leads context bytes front word chunks at total (suc zero) streams split joined is streams_are
-    at_is total_is fits =
-    goes_sided context bytes front word chunks at total streams Client split joined is streams_are
-    at_is total_is fits
-sided_leads context bytes front word chunks at total (suc (suc zero)) streams split joined is
-    streams_are at_is total_is fits =
-    goes_sided context bytes front word chunks at total streams Server split joined is streams_are
-    at_is total_is fits
-sided_leads context bytes front word chunks at total (suc (suc (suc other))) streams split joined is
-    streams_are at_is total_is fits =
-    BadSide (record {
-      chunks = chunks;
-      front = front;
-      word = word;
-      count = suc (suc (suc other));
-      split = split;
-      joined = joined;
-      is_word = is;
-      bad = omega arith;
-      is = ap (λ n. file_fault n BadMark) at_is;
-    })
-
-length_leads : (context : Context) (before bytes header : List ℕ) (at total left : ℕ)
-    (streams : Streams) (side : Side) (part : List ℕ)
-    (h : InSideLength context before at total streams side part)
-    → bytes ≡ h.front ++ h.word ++ header → IsWord header (suc left) → (over : Bool)
-    → nat_lt max_bytes (total + suc left) ≡ over
-    → Leads (HasMixed context) (EndsMixed context) bytes (cond over
-    (Ends (MixedRefuses (file_fault at TooManyBytes)))
-    (Goes (mixing_in (at + 4 + suc left) (total + suc left) streams (SideChunk side left))))
-length_leads context before bytes header at total left streams side part h split is true over =
-    let passes = ltb-true _ _ over in
-    TooMuch
-    (record {
-      chunks = h.chunks;
-      side = side;
-      front = h.front;
-      word = h.word;
-      header = header;
-      count = suc left;
-      split = split;
-      joined = h.joined;
-      sided = h.sided;
-      counts = is;
-    })
-    (omega arith) (omega (arith, h.total_is)) (ap (λ n. file_fault n TooManyBytes) h.at_is)
-length_leads context before bytes header at total left streams side part h split is false over =
-    let below : total + suc left ≤ max_bytes = ltb-false _ _ over in
-    record {
-      chunks = h.chunks;
-      front = h.front;
-      word = h.word;
-      header = header;
-      got = [];
-      split = split ∙ sym (append-nil (h.front ++ h.word ++ header));
-      joined = h.joined;
-      sided = h.sided;
-      counts = (is.0, is.1 ∙ omega arith);
-      streams_are = h.streams_are ∙ sym (with_more-nil (gathered h.chunks) side);
-      at_is =
-          omega (
-            arith,
-            h.at_is,
-            ap length split,
-            length-append (h.front ++ h.word) header,
-            length-append h.front h.word,
-            is.0,
-            h.sided.0,
-          );
-      total_is = omega (arith, h.total_is);
-      fits = below;
-    }
-
-measured_leads : (context : Context) (before bytes header : List ℕ) (at total n : ℕ)
-    (streams : Streams) (side : Side) (part : List ℕ)
-    (h : InSideLength context before at total streams side part)
-    → bytes ≡ h.front ++ h.word ++ header → IsWord header n
-    → Leads (HasMixed context) (EndsMixed context) bytes (measured at total streams side n)
-measured_leads context before bytes header at total zero streams side part h split is =
-    NoLength
-    (record {
-      chunks = h.chunks;
-      side = side;
-      front = h.front;
-      word = h.word;
-      header = header;
-      count = 0;
-      split = split;
-      joined = h.joined;
-      sided = h.sided;
-      counts = is;
-    }) refl
-    (ap (λ n. file_fault n BadMark) h.at_is)
-measured_leads context before bytes header at total (suc left) streams side part h split is =
-    length_leads context before bytes header at total left streams side part h split is
-    (nat_lt max_bytes (total + suc left)) refl
-
--- one byte more of a chunk
-more_mixed : (context : Context) (bytes : List ℕ) (byte at total : ℕ) (streams : Streams)
-    (side : Side) (left : ℕ) → (h : InSideChunk context bytes at total streams side left)
-    → HasMixedPoint context (bytes ++ byte ∷ []) at total (with_more streams side (byte ∷ []))
-    (awaiting_side side left)
-more_mixed context bytes byte at total streams side zero h =
-    let chunk : SidedChunk = record { side = side; bytes = h.got ++ byte ∷ [] } in
-    let split : bytes ++ byte ∷ [] ≡ h.front ++ (h.word ++ (h.header ++ (h.got ++ byte ∷ []))) =
-    ap (λ (b : List ℕ). b ++ byte ∷ []) h.split
-    ∙ append_assoc (h.front ++ h.word ++ h.header) h.got (byte ∷ [])
-    ∙ append_assoc (h.front ++ h.word) h.header (h.got ++ byte ∷ [])
-    ∙ append_assoc h.front h.word (h.header ++ (h.got ++ byte ∷ [])) in
-    let size_is =
-    ap size (gathered-snoc h.chunks chunk)
-    ∙ size-with_more (gathered h.chunks) side (h.got ++ byte ∷ []) in
-    record {
-      chunks = h.chunks ++ chunk ∷ [];
-      front = bytes ++ byte ∷ [];
-      split = sym (append-nil (bytes ++ byte ∷ []));
       short = omega arith;
-      joined =
-          subst (λ (b : List ℕ). Joins IsSidedChunk b (h.chunks ++ chunk ∷ [])) (sym split)
-          (Joins-snoc IsSidedChunk h.chunks h.front
-          (h.word ++ (h.header ++ (h.got ++ byte ∷ []))) chunk h.joined
-          (record {
-            word = h.word;
-            rest = h.header ++ (h.got ++ byte ∷ []);
-            split = refl;
-            sided = h.sided;
-            chunked =
-                record {
-                  header = h.header;
-                  split = refl;
-                  word = (
-                    h.counts.0,
-                    h.counts.1 ∙ omega (arith, length-append h.got (byte ∷ [])),
-                  );
-                  some = omega (arith, length-append h.got (byte ∷ []));
-                };
-          }));
-      streams_are =
-          ap (λ s. with_more s side (byte ∷ [])) h.streams_are
-          ∙ with_more-append (gathered h.chunks) side h.got (byte ∷ [])
-          ∙ sym (gathered-snoc h.chunks chunk);
-      at_is = omega (arith, h.at_is, length-append bytes (byte ∷ []));
-      total_is = omega (arith, h.total_is, size_is, length-append h.got (byte ∷ []));
-      fits = h.fits;
-    }
-more_mixed context bytes byte at total streams side (suc left) h =
-    record {
-      chunks = h.chunks;
-      front = h.front;
-      word = h.word;
-      header = h.header;
-      got = h.got ++ byte ∷ [];
-      split =
-          ap (λ (b : List ℕ). b ++ byte ∷ []) h.split
-          ∙ append_assoc (h.front ++ h.word ++ h.header) h.got (byte ∷ []);
-      joined = h.joined;
-      sided = h.sided;
-      counts = (h.counts.0, h.counts.1 ∙ omega (arith, length-append h.got (byte ∷ [])));
-      streams_are =
-          ap (λ s. with_more s side (byte ∷ [])) h.streams_are
-          ∙ with_more-append (gathered h.chunks) side h.got (byte ∷ []);
-      at_is = omega (arith, h.at_is, length-append bytes (byte ∷ []));
-      total_is = omega (arith, h.total_is, length-append h.got (byte ∷ []));
-      fits = h.fits;
-    }
+      fits = fits;
+    })),
+    refl,
+  )
 
-mixed_point_leads : (context : Context) (bytes : List ℕ) (at total : ℕ) (streams : Streams)
-    (point : MixedPoint) (byte : ℕ) → HasMixedPoint context bytes at total streams point
-    → Leads (HasMixed context) (EndsMixed context) (bytes ++ byte ∷ [])
-    (mixed_step at total streams point byte)
-mixed_point_leads context bytes at total streams (SideWord part) byte h =
-    let more : bytes ++ byte ∷ [] ≡ h.front ++ (part ++ byte ∷ []) =
-    ap (λ (b : List ℕ). b ++ byte ∷ []) h.split ∙ append_assoc h.front part (byte ∷ []) in
-    leads_within IsPart IsWord (HasMixed context) (EndsMixed context)
-    (λ p. mixing_in at total streams (SideWord p))
-    (sided at total streams) (part ++ byte ∷ []) (bytes ++ byte ∷ [])
-    (λ p is.
-    record {
-      chunks = h.chunks;
-      front = h.front;
-      split = more ∙ ap (λ (b : List ℕ). h.front ++ b) is.0;
-      short = is.1;
-      joined = h.joined;
-      streams_are = h.streams_are;
-      at_is = h.at_is;
-      total_is = h.total_is;
-      fits = h.fits;
-    })
-    (λ n is.
-    sided_leads context (bytes ++ byte ∷ []) h.front (part ++ byte ∷ []) h.chunks at total n
-    streams more h.joined is h.streams_are h.at_is h.total_is h.fits)
-    (word_next part byte) (word_leads part byte h.short)
-mixed_point_leads context bytes at total streams (SideLength side part) byte h =
-    let more : bytes ++ byte ∷ [] ≡ h.front ++ h.word ++ (part ++ byte ∷ []) =
-    ap (λ (b : List ℕ). b ++ byte ∷ []) h.split
-    ∙ append_assoc (h.front ++ h.word) part (byte ∷ []) in
-    leads_within IsPart IsWord (HasMixed context) (EndsMixed context)
-    (λ p. mixing_in at total streams (SideLength side p))
-    (measured at total streams side) (part ++ byte ∷ []) (bytes ++ byte ∷ [])
-    (λ p is.
-    record {
-      chunks = h.chunks;
-      front = h.front;
-      word = h.word;
-      split = more ∙ ap (λ (b : List ℕ). h.front ++ h.word ++ b) is.0;
-      short = is.1;
-      joined = h.joined;
-      sided = h.sided;
-      streams_are = h.streams_are;
-      at_is = h.at_is;
-      total_is = h.total_is;
-      fits = h.fits;
-    })
-    (λ n is.
-    measured_leads context bytes (bytes ++ byte ∷ []) (part ++ byte ∷ []) at total n streams
-    side part h more is)
-    (word_next part byte) (word_leads part byte h.short)
-mixed_point_leads context bytes at total streams (SideChunk side left) byte h =
-    more_mixed context bytes byte at total streams side left h
+  sided_leads : (bytes front word : List ℕ) (chunks : List SidedChunk) (n : ℕ)
+      → bytes ≡ front ++ word → Joins IsSidedChunk front chunks → IsWord word n
+      → context.before + size (gathered chunks) ≤ max_bytes
+      → Leads (HasMixed context) (EndsMixed context) bytes
+      (sided (context.start + length front) (context.before + size (gathered chunks))
+      (gathered chunks) n)
+  sided_leads bytes front word chunks zero split joined is fits =
+      record {
+        mixed =
+            record {
+              chunks = chunks;
+              front = front;
+              last = word;
+              split = split;
+              joined = joined;
+              closes = is;
+              carried = refl;
+            };
+        at_is = omega (arith, ap length split, length-append front word, is.0);
+        total_is = refl;
+        fits = fits;
+      }
+  sided_leads bytes front word chunks (suc zero) split joined is fits =
+      goes_sided bytes front word chunks Client split joined is fits
+  sided_leads bytes front word chunks (suc (suc zero)) split joined is fits =
+      goes_sided bytes front word chunks Server split joined is fits
+  sided_leads bytes front word chunks (suc (suc (suc other))) split joined is fits =
+      BadSide (record {
+        chunks = chunks;
+        front = front;
+        word = word;
+        count = suc (suc (suc other));
+        split = split;
+        joined = joined;
+        is_word = is;
+        bad = omega arith;
+        is = refl;
+      })
 
-pub mixed_leads : (context : Context) (bytes : List ℕ) (s : Mixing) (byte : ℕ)
-    → HasMixed context bytes s
-    → Leads (HasMixed context) (EndsMixed context) (bytes ++ byte ∷ []) (mixed_next s byte)
-mixed_leads context bytes s byte h =
-    mixed_point_leads context bytes s.at s.total s.streams s.point byte h
+  measured_leads : (bytes : List ℕ) (b : AfterLength bytes)
+      → context.before + size (gathered b.chunks) ≤ max_bytes → (n : ℕ) → b.count ≡ n
+      → Leads (HasMixed context) (EndsMixed context) bytes
+      (measured (context.start + length b.front + 4) (context.before + size (gathered b.chunks))
+      (gathered b.chunks) b.side n)
+  measured_leads bytes b fits zero none = NoLength b none refl
+  measured_leads bytes b fits (suc left) is =
+      let total : ℕ = context.before + size (gathered b.chunks) in
+      by_test (nat_lt max_bytes (total + suc left))
+      (λ over.
+      let passes = ltb-true max_bytes (total + suc left) over in
+      rw over (TooMuch b (omega arith) (omega arith) refl))
+      (λ over. rw over (
+        inr (inr (record {
+          chunks = b.chunks;
+          side = b.side;
+          front = b.front;
+          word = b.word;
+          header = b.header;
+          got = [];
+          left = left;
+          split = b.split ∙ sym (append-nil (b.front ++ b.word ++ b.header));
+          joined = b.joined;
+          sided = b.sided;
+          counts = (b.counts.0, b.counts.1 ∙ is ∙ omega arith);
+          fits = omega (arith, ltb-false max_bytes (total + suc left) over);
+        })),
+        same_mixing _
+            (omega (
+              arith,
+              ap length b.split,
+              length-append (b.front ++ b.word) b.header,
+              length-append b.front b.word,
+              b.counts.0,
+              b.sided.0,
+            ))
+            (omega arith) (sym (with_more-nil (gathered b.chunks) b.side)),
+      ))
 
-pub nothing_gathered : (context : Context) → context.before ≤ max_bytes
-    → HasMixed context [] (mixing_from context.start context.before)
-nothing_gathered context fits =
-    record {
+  -- one byte more of a chunk
+  more_mixed : (bytes : List ℕ) (byte : ℕ) (w : WithinSided context.before bytes) (left : ℕ)
+      → w.left ≡ left
+      → HasMixed context (bytes ++ byte ∷ [])
+      (mixing_in (context.start + length bytes + suc left)
+      (context.before + size (gathered w.chunks) + (length w.got + suc left))
+      (with_more (with_more (gathered w.chunks) w.side w.got) w.side (byte ∷ []))
+      (awaiting_side w.side left))
+  more_mixed bytes byte w zero is =
+      let got : List ℕ = w.got ++ byte ∷ [] in
+      let chunk : SidedChunk = record { side = w.side; bytes = got } in
+      let more = length-append w.got (byte ∷ []) in
+      let all = gathered-snoc w.chunks chunk in
+      let size_is = ap size all ∙ size-with_more (gathered w.chunks) w.side got in
+      let last : IsSidedChunk (w.word ++ (w.header ++ got)) chunk =
+      record {
+        word = w.word;
+        rest = w.header ++ got;
+        split = refl;
+        sided = w.sided;
+        chunked =
+            record {
+              header = w.header;
+              split = refl;
+              word = (w.counts.0, w.counts.1 ∙ omega arith);
+              some = omega arith;
+            };
+      } in
+      let split : bytes ++ byte ∷ [] ≡ w.front ++ (w.word ++ (w.header ++ got)) =
+      simp (w.split, append_assoc) in (
+        inl (record {
+          chunks = w.chunks ++ chunk ∷ [];
+          front = bytes ++ byte ∷ [];
+          part = [];
+          split = sym (append-nil (bytes ++ byte ∷ []));
+          joined =
+              rw split (Joins-snoc IsSidedChunk w.chunks w.front (w.word ++ (w.header ++ got)) chunk
+              w.joined last);
+          short = omega arith;
+          fits = omega (arith, w.fits);
+        }),
+        same_mixing _ (omega (arith, length-append bytes (byte ∷ []))) (omega arith)
+            (with_more-append (gathered w.chunks) w.side w.got (byte ∷ []) ∙ sym all),
+      )
+  more_mixed bytes byte w (suc left) is =
+      let more = length-append w.got (byte ∷ []) in (
+        inr (inr (record {
+          chunks = w.chunks;
+          side = w.side;
+          front = w.front;
+          word = w.word;
+          header = w.header;
+          got = w.got ++ byte ∷ [];
+          left = left;
+          split = simp (w.split, append_assoc);
+          joined = w.joined;
+          sided = w.sided;
+          counts = (w.counts.0, w.counts.1 ∙ omega arith);
+          fits = omega (arith, w.fits);
+        })),
+        same_mixing _ (omega (arith, length-append bytes (byte ∷ []))) (omega arith)
+            (with_more-append (gathered w.chunks) w.side w.got (byte ∷ [])),
+      )
+
+  begun_leads : (bytes : List ℕ) (b : BeginsMixed context.before bytes) (byte : ℕ)
+      → Leads (HasMixed context) (EndsMixed context) (bytes ++ byte ∷ [])
+      (mixed_next (mixed_state context bytes b) byte)
+  begun_leads bytes (inl b) byte =
+      let at : ℕ = context.start + length b.front in
+      let total : ℕ = context.before + size (gathered b.chunks) in
+      let more : bytes ++ byte ∷ [] ≡ b.front ++ (b.part ++ byte ∷ []) =
+      rw (b.split, append_assoc) in
+      leads_within IsPart IsWord (HasMixed context) (EndsMixed context)
+      (λ p. mixing_in at total (gathered b.chunks) (SideWord p))
+      (sided at total (gathered b.chunks))
+      (b.part ++ byte ∷ []) (bytes ++ byte ∷ [])
+      (λ p is. (
+        inl (record {
+          chunks = b.chunks;
+          front = b.front;
+          part = p;
+          split = more ∙ ap (λ (l : List ℕ). b.front ++ l) is.0;
+          joined = b.joined;
+          short = is.1;
+          fits = b.fits;
+        }),
+        refl,
+      ))
+      (λ n is.
+      sided_leads (bytes ++ byte ∷ []) b.front (b.part ++ byte ∷ []) b.chunks n more b.joined is
+      b.fits)
+      (word_next b.part byte) (word_leads b.part byte b.short)
+  begun_leads bytes (inr (inl b)) byte =
+      let at : ℕ = context.start + length b.front + 4 in
+      let total : ℕ = context.before + size (gathered b.chunks) in
+      let more : bytes ++ byte ∷ [] ≡ b.front ++ b.word ++ (b.part ++ byte ∷ []) =
+      simp (b.split, append_assoc) in
+      leads_within IsPart IsWord (HasMixed context) (EndsMixed context)
+      (λ p. mixing_in at total (gathered b.chunks) (SideLength b.side p))
+      (measured at total (gathered b.chunks) b.side) (b.part ++ byte ∷ []) (bytes ++ byte ∷ [])
+      (λ p is. (
+        inr (inl (record {
+          chunks = b.chunks;
+          side = b.side;
+          front = b.front;
+          word = b.word;
+          part = p;
+          split = more ∙ ap (λ (l : List ℕ). b.front ++ b.word ++ l) is.0;
+          joined = b.joined;
+          sided = b.sided;
+          short = is.1;
+          fits = b.fits;
+        })),
+        refl,
+      ))
+      (λ n is.
+      measured_leads (bytes ++ byte ∷ [])
+      (record {
+        chunks = b.chunks;
+        side = b.side;
+        front = b.front;
+        word = b.word;
+        header = b.part ++ byte ∷ [];
+        count = n;
+        split = more;
+        joined = b.joined;
+        sided = b.sided;
+        counts = is;
+      })
+      b.fits n refl)
+      (word_next b.part byte) (word_leads b.part byte b.short)
+  begun_leads bytes (inr (inr w)) byte = more_mixed bytes byte w w.left refl
+
+  pub mixed_leads : (bytes : List ℕ) (s : Mixing) (byte : ℕ) → HasMixed context bytes s
+      → Leads (HasMixed context) (EndsMixed context) (bytes ++ byte ∷ []) (mixed_next s byte)
+  mixed_leads bytes s byte h = rw h.1 (begun_leads bytes h.0 byte)
+
+  pub nothing_gathered : context.before ≤ max_bytes
+      → HasMixed context [] (mixing_from context.start context.before)
+  nothing_gathered fits = (
+    inl (record {
       chunks = [];
       front = [];
+      part = [];
       split = refl;
-      short = omega arith;
       joined = refl;
-      streams_are = refl;
-      at_is = omega arith;
-      total_is = omega arith;
-      fits = fits;
-    }
+      short = omega arith;
+      fits = omega arith;
+    }),
+    same_mixing _ (omega arith) (omega arith) refl,
+  )
 
--- The other way round.
+-- ---- the other way round
+
+-- the machine, from a state and from a connection's start
+abbrev pub mixed_after : Mixing → List ℕ → Run Mixing MixedEnd
+mixed_after s = after mixed_next (Runs s)
+
+abbrev pub mixed_taken : Context → List ℕ → Run Mixing MixedEnd
+mixed_taken context = mixed_after (mixing_from context.start context.before)
+
+-- at a side word
+abbrev pub mixing_at : ℕ → ℕ → Streams → Mixing
+mixing_at at total streams = mixing_in at total streams (SideWord [])
+
 pub chunk_bytes : (at total : ℕ) (streams : Streams) (side : Side) (got : List ℕ) (n m : ℕ)
     → n ≡ length got + m
-    → after mixed_next (Runs (mixing_in at total streams (awaiting_side side n))) got
+    → mixed_after (mixing_in at total streams (awaiting_side side n)) got
     ≡ Runs (mixing_in at total (with_more streams side got) (awaiting_side side m))
 chunk_bytes at total streams side [] n m e =
-    let same : n ≡ m = omega arith in
-    ap₂ (λ k s. Runs (mixing_in at total s (awaiting_side side k)))
-    same (sym (with_more-nil streams side))
+    let same : n ≡ m = omega arith in rw (same, with_more-nil streams side)
 chunk_bytes at total streams side (byte ∷ got) n m e =
     let more : n ≡ suc (length got + m) = omega arith in
-    ap
-    (λ k. after mixed_next (Runs (mixing_in at total streams (awaiting_side side k))) (byte ∷ got))
-    more
-    ∙ chunk_bytes at total (with_more streams side (byte ∷ [])) side got (length got + m) m refl
+    rw more (chunk_bytes at total (with_more streams side (byte ∷ [])) side got (length got + m) m
+    refl
     ∙ ap (λ s. Runs (mixing_in at total s (awaiting_side side m)))
-    (with_more-append streams side (byte ∷ []) got)
+    (with_more-append streams side (byte ∷ []) got))
 
 pub word_lands : (at total n : ℕ) (streams : Streams) (word : List ℕ) → IsWord word n
-    → after mixed_next (Runs (mixing_in at total streams (SideWord []))) word
-    ≡ landed (sided at total streams n)
-word_lands at total n streams word is =
-    nested_stops word_next mixed_next (λ p. mixing_in at total streams (SideWord p))
-    (sided at total streams) (λ s byte. refl) word [] (number word) (word_stops word is.0)
-    ∙ ap (λ m. landed (sided at total streams m)) is.1
+    → mixed_after (mixing_at at total streams) word ≡ landed (sided at total streams n)
+word_lands at total n streams =
+    word_ends mixed_next (λ p. mixing_in at total streams (SideWord p)) (sided at total streams)
+    (λ s byte. refl)
 
 side_lands : (at total : ℕ) (streams : Streams) (side : Side)
     → landed (sided at total streams (side_word side))
@@ -443,49 +390,41 @@ side_lands at total streams Server = refl
 
 pub header_lands : (at total n : ℕ) (streams : Streams) (side : Side) (header : List ℕ)
     → IsWord header n
-    → after mixed_next (Runs (mixing_in at total streams (SideLength side []))) header
+    → mixed_after (mixing_in at total streams (SideLength side [])) header
     ≡ landed (measured at total streams side n)
-header_lands at total n streams side header is =
-    nested_stops word_next mixed_next (λ p. mixing_in at total streams (SideLength side p))
-    (measured at total streams side) (λ s byte. refl) header [] (number header)
-    (word_stops header is.0) ∙ ap (λ m. landed (measured at total streams side m)) is.1
+header_lands at total n streams side =
+    word_ends mixed_next (λ p. mixing_in at total streams (SideLength side p))
+    (measured at total streams side) (λ s byte. refl)
 
 pub after_side : (at total : ℕ) (streams : Streams) (side : Side) (word rest : List ℕ)
     → IsWord word (side_word side)
-    → after mixed_next (Runs (mixing_in at total streams (SideWord []))) (word ++ rest)
-    ≡ after mixed_next (Runs (mixing_in (at + 4) total streams (SideLength side []))) rest
+    → mixed_after (mixing_at at total streams) (word ++ rest)
+    ≡ mixed_after (mixing_in (at + 4) total streams (SideLength side [])) rest
 after_side at total streams side word rest is =
-    after-append mixed_next (Runs (mixing_in at total streams (SideWord []))) word rest
-    ∙ ap (λ r. after mixed_next r rest) (word_lands at total (side_word side) streams word is
-    ∙ side_lands at total streams side)
+    after_two mixed_next (Runs (mixing_at at total streams)) word rest refl
+    (word_lands at total (side_word side) streams word is ∙ side_lands at total streams side) refl
 
 measures : (at total n : ℕ) (streams : Streams) (side : Side) (header : List ℕ) → IsWord header n
     → 0 < n → total + n ≤ max_bytes
-    → after mixed_next (Runs (mixing_in at total streams (SideLength side []))) header
+    → mixed_after (mixing_in at total streams (SideLength side [])) header
     ≡ Runs (mixing_in (at + 4 + n) (total + n) streams (awaiting_side side n))
 measures at total zero streams side header is some fits = absurd (omega arith)
 measures at total (suc left) streams side header is some fits =
     header_lands at total (suc left) streams side header is
-    ∙ ap
-    (λ b.
-    landed (cond b (Ends (MixedRefuses (file_fault at TooManyBytes)))
-    (Goes (mixing_in (at + 4 + suc left) (total + suc left) streams
-    (SideChunk side left))))) (le-ltb max_bytes (total + suc left) fits)
+    ∙ rw (le-ltb max_bytes (total + suc left) fits)
 
 chunk_lands : (at total : ℕ) (streams : Streams) (side : Side) (word header got : List ℕ) (left : ℕ)
     → IsWord word (side_word side) → IsWord header (length got + left) → 0 < length got + left
     → total + (length got + left) ≤ max_bytes
-    → after mixed_next (Runs (mixing_in at total streams (SideWord []))) (word ++ (header ++ got))
+    → mixed_after (mixing_at at total streams) (word ++ (header ++ got))
     ≡ Runs (mixing_in (at + 4 + 4 + (length got + left)) (total + (length got + left))
     (with_more streams side got) (awaiting_side side left))
 chunk_lands at total streams side word header got left is counts some fits =
     after_side at total streams side word (header ++ got) is
-    ∙ after-append mixed_next (Runs (mixing_in (at + 4) total streams (SideLength side [])))
-    header got
-    ∙ ap (λ r. after mixed_next r got)
-    (measures (at + 4) total (length got + left) streams side header counts some fits)
-    ∙ chunk_bytes (at + 4 + 4 + (length got + left)) (total + (length got + left)) streams side
-    got (length got + left) left refl
+    ∙ after_two mixed_next (Runs (mixing_in (at + 4) total streams (SideLength side []))) header got
+    refl (measures (at + 4) total (length got + left) streams side header counts some fits)
+    (chunk_bytes (at + 4 + 4 + (length got + left)) (total + (length got + left)) streams side
+    got (length got + left) left refl)
 
 -- streams with these chunks at their ends
 abbrev pub with_chunks : Streams → List SidedChunk → Streams
@@ -525,14 +464,10 @@ size_of Server bytes = omega arith
 chunks_land : (chunks : List SidedChunk) (at total end sum : ℕ) (streams : Streams) (front : List ℕ)
     → Joins IsSidedChunk front chunks → total + size (gathered chunks) ≤ max_bytes
     → end ≡ at + length front → sum ≡ total + size (gathered chunks)
-    → after mixed_next (Runs (mixing_in at total streams (SideWord []))) front
-    ≡ Runs (mixing_in end sum (with_chunks streams chunks) (SideWord []))
+    → mixed_after (mixing_at at total streams) front
+    ≡ Runs (mixing_at end sum (with_chunks streams chunks))
 chunks_land [] at total end sum streams front h fits end_is sum_is =
-    let at_end : at ≡ end = omega (arith, ap length h) in
-    let all : total ≡ sum = omega arith in
-    ap (after mixed_next (Runs (mixing_in at total streams (SideWord [])))) h
-    ∙ ap₂ (λ n m. Runs (mixing_in n m streams (SideWord [])))
-    at_end all
+    rw h (ap Runs (same_mixing _ (omega (arith, ap length h)) (omega arith) refl))
 chunks_land (chunk ∷ chunks) at total end sum streams front h fits end_is sum_is =
     let c = h.3.chunked in
     let whole : length chunk.bytes ≡ length chunk.bytes + 0 = omega arith in
@@ -541,17 +476,10 @@ chunks_land (chunk ∷ chunks) at total end sum streams front h fits end_is sum_
     let servers =
     length-append (of_side Server chunk.side chunk.bytes) (carried_by Server chunks) in
     let sides = size_of chunk.side chunk.bytes in
-    let some : 0 < length chunk.bytes + 0 = omega (arith, c.some) in
-    let first : total + (length chunk.bytes + 0) ≤ max_bytes = omega arith in
-    ap (after mixed_next (Runs (mixing_in at total streams (SideWord []))))
-    (h.2
-    ∙ ap (λ (b : List ℕ). b ++ h.1)
-    (h.3.split ∙ ap (λ (b : List ℕ). h.3.word ++ b) c.split))
-    ∙ after-append mixed_next (Runs (mixing_in at total streams (SideWord [])))
-    (h.3.word ++ (c.header ++ chunk.bytes)) h.1
-    ∙ ap (λ r. after mixed_next r h.1) (chunk_lands at total streams chunk.side h.3.word c.header
-    chunk.bytes 0 h.3.sided (c.word.0, c.word.1 ∙ whole) some first)
-    ∙ chunks_land chunks (at + 4 + 4 + (length chunk.bytes + 0)) (total + (length chunk.bytes + 0))
+    after_two mixed_next (Runs (mixing_at at total streams)) h.0 h.1 h.2
+    (rw (h.3.split, c.split) (chunk_lands at total streams chunk.side h.3.word c.header chunk.bytes
+    0 h.3.sided (c.word.0, c.word.1 ∙ whole) (omega (arith, c.some)) (omega arith)))
+    (chunks_land chunks (at + 4 + 4 + (length chunk.bytes + 0)) (total + (length chunk.bytes + 0))
     end sum (with_more streams chunk.side chunk.bytes) h.1 h.4
     (omega arith)
     (omega (
@@ -565,70 +493,76 @@ chunks_land (chunk ∷ chunks) at total end sum streams front h fits end_is sum_
       h.3.sided.0,
       c.word.0,
     ))
-    (omega arith)
+    (omega arith))
 
-later : (context : Context) (bytes front back : List ℕ) (chunks : List SidedChunk) (at total : ℕ)
-    → bytes ≡ front ++ back → Joins IsSidedChunk front chunks
-    → context.before + size (gathered chunks) ≤ max_bytes → at ≡ context.start + length front
-    → total ≡ context.before + size (gathered chunks)
-    → after mixed_next (Runs (mixing_from context.start context.before)) bytes
-    ≡ after mixed_next (Runs (mixing_in at total (gathered chunks) (SideWord []))) back
-later context bytes front back chunks at total split joined fits at_is total_is =
-    ap (after mixed_next (Runs (mixing_from context.start context.before))) split
-    ∙ after-append mixed_next (Runs (mixing_from context.start context.before)) front back
-    ∙ ap (λ r. after mixed_next r back) (chunks_land chunks context.start context.before at
-    total (gathered []) front joined fits at_is total_is
-    ∙ ap (λ s. Runs (mixing_in at total s (SideWord []))) (with_chunks_all chunks))
+module _ (context : Context) where
+  -- after whole chunks
+  front_lands : (front : List ℕ) (chunks : List SidedChunk) → Joins IsSidedChunk front chunks
+      → context.before + size (gathered chunks) ≤ max_bytes
+      → mixed_taken context front
+      ≡ Runs (mixing_at (context.start + length front) (context.before + size (gathered chunks))
+      (gathered chunks))
+  front_lands front chunks joined fits =
+      chunks_land chunks context.start context.before (context.start + length front)
+      (context.before + size (gathered chunks)) (gathered []) front joined fits refl refl
+      ∙ rw (with_chunks_all chunks)
 
-mixed_point_runs : (context : Context) (bytes : List ℕ) (at total : ℕ) (streams : Streams)
-    (point : MixedPoint) → HasMixedPoint context bytes at total streams point
-    → after mixed_next (Runs (mixing_from context.start context.before)) bytes
-    ≡ Runs (mixing_in at total streams point)
-mixed_point_runs context bytes at total streams (SideWord part) h =
-    later context bytes h.front part h.chunks at total h.split h.joined
-    (omega (arith, h.fits, h.total_is)) h.at_is h.total_is
-    ∙ nested_runs word_next mixed_next (λ p. mixing_in at total (gathered h.chunks) (SideWord p))
-    (sided at total (gathered h.chunks)) (λ s byte. refl) part [] part
-    (word_runs part h.short)
-    ∙ ap (λ s. Runs (mixing_in at total s (SideWord part))) (sym h.streams_are)
-mixed_point_runs context bytes at total streams (SideLength side part) h =
-    later context bytes h.front (h.word ++ part) h.chunks (context.start + length h.front) total
-    (h.split ∙ append_assoc h.front h.word part) h.joined (omega (arith, h.fits, h.total_is))
-    refl h.total_is
-    ∙ after_side (context.start + length h.front) total (gathered h.chunks) side h.word part h.sided
-    ∙ nested_runs word_next mixed_next
-    (λ p.
-    mixing_in (context.start + length h.front + 4) total (gathered h.chunks) (SideLength side p))
-    (measured (context.start + length h.front + 4) total (gathered h.chunks) side)
-    (λ s byte. refl) part [] part (word_runs part h.short)
-    ∙ ap₂ (λ n s. Runs (mixing_in n total s (SideLength side part)))
-    (sym h.at_is) (sym h.streams_are)
-mixed_point_runs context bytes at total streams (SideChunk side left) h =
-    let at_is : context.start + length h.front + 4 + 4 + (length h.got + suc left) ≡ at =
-    omega (
-      arith,
-      h.at_is,
-      ap length h.split,
-      length-append (h.front ++ h.word ++ h.header) h.got,
-      length-append (h.front ++ h.word) h.header,
-      length-append h.front h.word,
-      h.sided.0,
-      h.counts.0,
-    ) in
-    later context bytes h.front (h.word ++ (h.header ++ h.got)) h.chunks
-    (context.start + length h.front) (context.before + size (gathered h.chunks))
-    (h.split ∙ append_assoc (h.front ++ h.word) h.header h.got
-    ∙ append_assoc h.front h.word (h.header ++ h.got)) h.joined
-    (omega (arith, h.fits, h.total_is)) refl refl
-    ∙ chunk_lands (context.start + length h.front) (context.before + size (gathered h.chunks))
-    (gathered h.chunks) side h.word h.header h.got (suc left) h.sided h.counts (omega arith)
-    (omega (arith, h.fits, h.total_is))
-    ∙ (λ i.
-    Runs (mixing_in (at_is i) (sym h.total_is i) (sym h.streams_are i) (SideChunk side left)))
+  begun_runs : (bytes : List ℕ) (b : BeginsMixed context.before bytes)
+      → mixed_taken context bytes ≡ Runs (mixed_state context bytes b)
+  begun_runs bytes (inl b) =
+      let at : ℕ = context.start + length b.front in
+      let total : ℕ = context.before + size (gathered b.chunks) in
+      after_two mixed_next (Runs (mixing_from context.start context.before)) b.front b.part b.split
+      (front_lands b.front b.chunks b.joined b.fits)
+      (word_goes mixed_next (λ p. mixing_in at total (gathered b.chunks) (SideWord p))
+      (sided at total (gathered b.chunks)) (λ s byte. refl) b.part b.short)
+  begun_runs bytes (inr (inl b)) =
+      let at : ℕ = context.start + length b.front in
+      let total : ℕ = context.before + size (gathered b.chunks) in
+      after_two mixed_next (Runs (mixing_from context.start context.before)) b.front
+      (b.word ++ b.part) (b.split ∙ append_assoc b.front b.word b.part)
+      (front_lands b.front b.chunks b.joined b.fits)
+      (after_side at total (gathered b.chunks) b.side b.word b.part b.sided
+      ∙ word_goes mixed_next
+      (λ p. mixing_in (at + 4) total (gathered b.chunks) (SideLength b.side p))
+      (measured (at + 4) total (gathered b.chunks) b.side) (λ s byte. refl) b.part b.short)
+  begun_runs bytes (inr (inr w)) =
+      let split : bytes ≡ w.front ++ (w.word ++ (w.header ++ w.got)) =
+      simp (w.split, append_assoc) in
+      after_two mixed_next (Runs (mixing_from context.start context.before)) w.front
+      (w.word ++ (w.header ++ w.got)) split
+      (front_lands w.front w.chunks w.joined (omega (arith, w.fits)))
+      (chunk_lands (context.start + length w.front) (context.before + size (gathered w.chunks))
+      (gathered w.chunks) w.side w.word w.header w.got (suc w.left) w.sided w.counts (omega arith)
+      w.fits
+      ∙ ap Runs (same_mixing _
+      (omega (
+        arith,
+        ap length w.split,
+        length-append (w.front ++ w.word ++ w.header) w.got,
+        length-append (w.front ++ w.word) w.header,
+        length-append w.front w.word,
+        w.sided.0,
+        w.counts.0,
+      )) refl refl))
 
-pub mixed_runs : (context : Context) (bytes : List ℕ) (s : Mixing) → HasMixed context bytes s
-    → after mixed_next (Runs (mixing_from context.start context.before)) bytes ≡ Runs s
-mixed_runs context bytes s h = mixed_point_runs context bytes s.at s.total s.streams s.point h
+  pub mixed_runs : (bytes : List ℕ) (s : Mixing) → HasMixed context bytes s
+      → mixed_taken context bytes ≡ Runs s
+  mixed_runs bytes s h = rw h.1 (begun_runs bytes h.0)
+
+  pub mixed_closes : (bytes : List ℕ) (at total : ℕ) (streams : Streams)
+      → ClosesMixed context bytes at total streams
+      → mixed_taken context bytes ≡ Stops (MixedCloses at total streams)
+  mixed_closes bytes at total streams h =
+      let m = h.mixed in
+      let at_is : context.start + length m.front + 4 ≡ at =
+      omega (arith, h.at_is, ap length m.split, length-append m.front m.last, m.closes.0) in
+      let sum = ap (λ s. context.before + size s) m.carried in
+      after_two mixed_next (Runs (mixing_from context.start context.before)) m.front m.last m.split
+      (front_lands m.front m.chunks m.joined (omega (arith, h.fits, h.total_is)))
+      (word_lands (context.start + length m.front) (context.before + size (gathered m.chunks)) 0
+      (gathered m.chunks) m.last m.closes
+      ∙ (λ i. Stops (MixedCloses (at_is i) (sym (h.total_is ∙ sum) i) (sym m.carried i))))
 
 pub bad_side : (at total n : ℕ) (streams : Streams) → 2 < n
     → landed (sided at total streams n) ≡ Stops (MixedRefuses (file_fault at BadMark))
@@ -636,18 +570,3 @@ bad_side at total zero streams h = absurd (omega arith)
 bad_side at total (suc zero) streams h = absurd (omega arith)
 bad_side at total (suc (suc zero)) streams h = absurd (omega arith)
 bad_side at total (suc (suc (suc n))) streams h = refl
-
-pub mixed_closes : (context : Context) (bytes : List ℕ) (at total : ℕ) (streams : Streams)
-    → ClosesMixed context bytes at total streams
-    → after mixed_next (Runs (mixing_from context.start context.before)) bytes
-    ≡ Stops (MixedCloses at total streams)
-mixed_closes context bytes at total streams h =
-    let m = h.mixed in
-    let at_is : context.start + length m.front + 4 ≡ at =
-    omega (arith, h.at_is, ap length m.split, length-append m.front m.last, m.closes.0) in
-    let sum : total ≡ context.before + size (gathered m.chunks) =
-    h.total_is ∙ ap (λ s. context.before + size s) m.carried in
-    later context bytes m.front m.last m.chunks (context.start + length m.front) total m.split
-    m.joined (omega (arith, h.fits)) refl sum
-    ∙ word_lands (context.start + length m.front) total 0 (gathered m.chunks) m.last m.closes
-    ∙ ap₂ (λ n s. Stops (MixedCloses n total s)) at_is (sym m.carried)

@@ -1,5 +1,12 @@
--- Machines that are over: at the last byte, or before it.
-use Rattle.capture3.proofs.Common.{◌≡◌, ◌⊎◌, inl, inr, ℕ, ◌<◌, List, [], ◌∷◌, ◌++◌, length, refl, sym, ap, ◌∙◌, arith, Next, Goes, Ends, Run, Runs, Stops, Stopped, landed, after, within, after-append, after_stopped, nested_stops}
+-- Machines inside others, and machines that are over: at the last byte, or before it.
+use Rattle.capture3.proofs.Common.{◌≡◌, ◌⊎◌, inl, inr, ℕ, suc, ◌+◌, ◌<◌, List, [], ◌∷◌, ◌++◌, length, refl, ap, subst, ◌∙◌, arith, length-append, Next, Goes, Ends, Run, Runs, Stops, Stopped, landed, after, within, Leads, Tells, tells, after-append, after_stopped, counted_runs, counted_stops, nested_runs, nested_stops, IsWord, number, word_next, word_runs, word_stops}
+use Rattle.record_mark.proofs.Machines.{Earlier}
+
+-- bytes in two parts, by where the first leads
+pub after_two : {S X : Type 0} (next : S → ℕ → Next S X) (run : Run S X) {bytes : List ℕ}
+    (front back : List ℕ) → bytes ≡ front ++ back → {here there : Run S X}
+    → after next run front ≡ here → after next here back ≡ there → after next run bytes ≡ there
+after_two next run front back split e f = rw (split, after-append, e) f
 
 -- it stopped with a bad outcome
 abbrev pub Gone : {S X : Type 0} → (X → Type 0) → Run S X → Type 0
@@ -13,14 +20,23 @@ Past {S} {X} Bad run = (y : X) × Bad y × (run ≡ Stopped y)
 abbrev pub Over : {S X : Type 0} → (X → Type 0) → Run S X → X → Type 0
 Over Bad run x = (run ≡ Stops x) ⊎ Past Bad run
 
+-- it comes to one of these, or it stopped with a bad outcome
+pub data Comes {A S X : Type 0} (Bad : X → Type 0) (there : A → Run S X) (run : Run S X) : Type
+    0 where
+  At : (a : A) → run ≡ there a → Comes Bad there run
+  Fails : Gone Bad run → Comes Bad there run
+
+-- where it runs, it has not stopped
+pub runs_not_gone : {S X : Type 0} {Bad : X → Type 0} (run : Run S X) (s : S) → run ≡ Runs s
+    → Gone Bad run → ⊥
+runs_not_gone run s e gone = elim gone.2 [ inl f ↦ cc | inr f ↦ cc ]
+
 pub gone_past : {S X : Type 0} (next : S → ℕ → Next S X) (Bad : X → Type 0) (run : Run S X)
     (bytes : List ℕ) → 0 < length bytes → Gone Bad run → Past Bad (after next run bytes)
 gone_past next Bad run [] some h = absurd (omega arith)
-gone_past {S} {X} next Bad run (byte ∷ bytes) some h = go h.2
-  where
-    go : (run ≡ Stops h.0) ⊎ (run ≡ Stopped h.0) → Past Bad (after next run (byte ∷ bytes))
-    go (inl e) = (h.0, h.1, ap (λ r. after next r (byte ∷ bytes)) e ∙ after_stopped next h.0 bytes)
-    go (inr e) = (h.0, h.1, ap (λ r. after next r (byte ∷ bytes)) e ∙ after_stopped next h.0 bytes)
+gone_past next Bad run (byte ∷ bytes) some h =
+    let stays = after_stopped next h.0 bytes in
+    (h.0, h.1, elim h.2 [ inl e ↦ rw e stays | inr e ↦ rw e stays ])
 
 pub gone_more : {S X : Type 0} (next : S → ℕ → Next S X) (Bad : X → Type 0) (run : Run S X)
     (bytes : List ℕ) → Gone Bad run → Gone Bad (after next run bytes)
@@ -28,89 +44,125 @@ gone_more next Bad run [] h = h
 gone_more next Bad run (byte ∷ bytes) h =
     let p = gone_past next Bad run (byte ∷ bytes) (omega arith) h in (p.0, p.1, inr p.2)
 
+-- bytes in two parts, by what the machine comes to after the first
+module _ {A S X : Type 0} {Bad : X → Type 0} {here : A → Run S X} (next : S → ℕ → Next S X)
+    (run : Run S X) {bytes : List ℕ} (front back : List ℕ) (split : bytes ≡ front ++ back)
+    (comes : Comes Bad here (after next run front)) where
+  pub comes_on : {B : Type 0} {there : B → Run S X}
+      → ((a : A) → Comes Bad there (after next (here a) back))
+      → Comes Bad there (after next run bytes)
+  comes_on on =
+      rw (split, after-append) (elim comes [
+        | At a e ↦ rw e (on a)
+        | Fails gone ↦ Fails (gone_more next Bad (after next run front) back gone)
+      ])
+
+  pub over_on : {x : X} → 0 < length back → ((a : A) → Over Bad (after next (here a) back) x)
+      → Over Bad (after next run bytes) x
+  over_on some on =
+      rw (split, after-append) (elim comes [
+        | At a e ↦ rw e (on a)
+        | Fails gone ↦ inr (gone_past next Bad (after next run front) back some gone)
+      ])
+
 -- where it had stopped, it stopped at an earlier byte
 pub stopped_at : {S X : Type 0} (next : S → ℕ → Next S X) (bytes : List ℕ) (s : S) (x : X)
     → after next (Runs s) bytes ≡ Stopped x
-    → (front : List ℕ) × (byte : ℕ) × (back : List ℕ) × (bytes ≡ front ++ byte ∷ back)
-    × (after next (Runs s) front ≡ Stops x)
-stopped_at next [] s x e = absurd (cc)
-stopped_at {S} {X} next (b ∷ bytes) s x e = go (next s b) refl (λ t. stopped_at next bytes t x)
+    → Earlier X (λ front y. after next (Runs s) front ≡ Stops y) bytes x
+stopped_at {S} {X} next bytes s x e =
+    subst (Tells Standing Ending bytes) e (tells next Standing Ending
+    (λ front t byte h.
+    landed_leads (front ++ byte ∷ []) (next t byte)
+    (after_two next (Runs s) front (byte ∷ []) refl h refl)) s refl bytes)
   where
-    ended : (y : X) (rest : List ℕ) → bytes ≡ rest → after next (Stops y) rest ≡ Stopped x
-        → next s b ≡ Ends y
-        → (front : List ℕ) × (byte : ℕ) × (back : List ℕ) × (b ∷ bytes ≡ front ++ byte ∷ back)
-        × (after next (Runs s) front ≡ Stops x)
-    ended y [] is f n = absurd (cc)
-    ended y (byte ∷ back) is f n =
-        let last = after_stopped next y back in
-        let same : y ≡ x = cc in
-        (b ∷ [], byte, back, ap (λ (l : List ℕ). b ∷ l) is, ap landed n ∙ ap (λ z. Stops z) same)
+    Standing : List ℕ → S → Type 0
+    Standing front t = after next (Runs s) front ≡ Runs t
 
-    go : (n : Next S X) → next s b ≡ n
-        → ((t : S) → after next (Runs t) bytes ≡ Stopped x
-        → (front : List ℕ) × (byte : ℕ) × (back : List ℕ) × (bytes ≡ front ++ byte ∷ back)
-        × (after next (Runs t) front ≡ Stops x))
-        → (front : List ℕ) × (byte : ℕ) × (back : List ℕ) × (b ∷ bytes ≡ front ++ byte ∷ back)
-        × (after next (Runs s) front ≡ Stops x)
-    go (Goes t) n more =
-        let m = more t (ap (λ k. after next (landed k) bytes) (sym n) ∙ e) in (
-          b ∷ m.0,
-          m.1,
-          m.2,
-          ap (λ (l : List ℕ). b ∷ l) m.3,
-          ap (λ k. after next (landed k) m.0) n ∙ m.4,
-        )
-    go (Ends y) n more = ended y bytes refl (ap (λ k. after next (landed k) bytes) (sym n) ∙ e) n
+    Ending : List ℕ → X → Type 0
+    Ending front y = after next (Runs s) front ≡ Stops y
 
--- an outer machine is over as the inner one
-pub nested_past : {S X T Y : Type 0} (inner : S → ℕ → Next S X) (outer : T → ℕ → Next T Y)
-    (inside : S → T) (closing : X → Next T Y) (Bad : X → Type 0) (Worse : Y → Type 0)
-    → ((s : S) (byte : ℕ) → outer (inside s) byte ≡ within inside closing (inner s byte))
-    → ((x : X) → Bad x → (y : Y) × Worse y × (closing x ≡ Ends y))
-    → (bytes : List ℕ) (s : S) → Past Bad (after inner (Runs s) bytes)
-    → Past Worse (after outer (Runs (inside s)) bytes)
-nested_past inner outer inside closing Bad Worse commutes ends bytes s h =
-    let at = stopped_at inner bytes s h.0 h.2 in
-    let y = ends h.0 h.1 in (
-      y.0,
-      y.1,
-      ap (after outer (Runs (inside s))) at.3
-          ∙ after-append outer (Runs (inside s)) at.0 (at.1 ∷ at.2)
-          ∙ ap (λ run. after outer run (at.1 ∷ at.2))
-          (nested_stops inner outer inside closing commutes at.0 s h.0 at.4 ∙ ap landed y.2)
-          ∙ after_stopped outer y.0 at.2,
-    )
+    landed_leads : (front : List ℕ) (n : Next S X) → after next (Runs s) front ≡ landed n
+        → Leads Standing Ending front n
+    landed_leads front (Goes t) h = h
+    landed_leads front (Ends y) h = h
 
-pub nested_gone : {S X T Y : Type 0} (inner : S → ℕ → Next S X) (outer : T → ℕ → Next T Y)
-    (inside : S → T) (closing : X → Next T Y) (Bad : X → Type 0) (Worse : Y → Type 0)
-    → ((s : S) (byte : ℕ) → outer (inside s) byte ≡ within inside closing (inner s byte))
-    → ((x : X) → Bad x → (y : Y) × Worse y × (closing x ≡ Ends y))
-    → (bytes : List ℕ) (s : S) → Gone Bad (after inner (Runs s) bytes)
-    → Gone Worse (after outer (Runs (inside s)) bytes)
-nested_gone {S} {X} {T} {Y} inner outer inside closing Bad Worse commutes ends bytes s h = go h.2
-  where
-    go : (after inner (Runs s) bytes ≡ Stops h.0) ⊎ (after inner (Runs s) bytes ≡ Stopped h.0)
-        → Gone Worse (after outer (Runs (inside s)) bytes)
-    go (inl e) =
-        let y = ends h.0 h.1 in (
-          y.0,
-          y.1,
-          inl (nested_stops inner outer inside closing commutes bytes s h.0 e
-              ∙ ap landed y.2),
-        )
-    go (inr e) =
-        let p =
-        nested_past inner outer inside closing Bad Worse commutes ends bytes s (h.0, h.1, e)
-        in
-        (p.0, p.1, inr p.2)
+-- ---- machines inside others
 
-pub nested_over : {S X T Y : Type 0} (inner : S → ℕ → Next S X) (outer : T → ℕ → Next T Y)
-    (inside : S → T) (closing : X → Next T Y) (Bad : X → Type 0) (Worse : Y → Type 0)
-    → ((s : S) (byte : ℕ) → outer (inside s) byte ≡ within inside closing (inner s byte))
-    → ((x : X) → Bad x → (y : Y) × Worse y × (closing x ≡ Ends y))
-    → (bytes : List ℕ) (s : S) (x : X) (y : Y) → closing x ≡ Ends y
-    → Over Bad (after inner (Runs s) bytes) x → Over Worse (after outer (Runs (inside s)) bytes) y
-nested_over inner outer inside closing Bad Worse commutes ends bytes s x y is (inl e) =
-    inl (nested_stops inner outer inside closing commutes bytes s x e ∙ ap landed is)
-nested_over inner outer inside closing Bad Worse commutes ends bytes s x y is (inr p) =
-    inr (nested_past inner outer inside closing Bad Worse commutes ends bytes s p)
+-- A machine inside another, which may count the bytes that are left. A bad outcome is one outside.
+pub record Nested {S X T Y : Type 0} (inner : S → ℕ → Next S X) (outer : T → ℕ → Next T Y)
+    (inside : ℕ → S → T) (closing : ℕ → X → Next T Y) (Bad : X → Type 0) (Worse : Y → Type 0) :
+    Type 0 where
+  pub commutes : (n : ℕ) (s : S) (byte : ℕ)
+      → outer (inside (suc n) s) byte ≡ within (inside n) (closing n) (inner s byte)
+  pub ends : (n : ℕ) (x : X) → Bad x → (y : Y) × Worse y × (closing n x ≡ Ends y)
+
+module _ {S X T Y : Type 0} {inner : S → ℕ → Next S X} {outer : T → ℕ → Next T Y}
+    {inside : ℕ → S → T} {closing : ℕ → X → Next T Y} {Bad : X → Type 0} {Worse : Y → Type 0}
+    (n : Nested inner outer inside closing Bad Worse) (bytes : List ℕ) (left : ℕ) (s : S) where
+  pub runs_inside : {t : S} → after inner (Runs s) bytes ≡ Runs t
+      → after outer (Runs (inside (length bytes + left) s)) bytes ≡ Runs (inside left t)
+  runs_inside {t} =
+      counted_runs inner outer inside closing n.commutes bytes (length bytes + left) left s t refl
+
+  pub stops_inside : {x : X} → after inner (Runs s) bytes ≡ Stops x
+      → after outer (Runs (inside (length bytes + left) s)) bytes ≡ landed (closing left x)
+  stops_inside {x} =
+      counted_stops inner outer inside closing n.commutes bytes (length bytes + left) left s x refl
+
+  pub past_inside : Past Bad (after inner (Runs s) bytes)
+      → Past Worse (after outer (Runs (inside (length bytes + left) s)) bytes)
+  past_inside h =
+      let at = stopped_at inner bytes s h.0 h.2 in
+      let rest : ℕ = length (at.byte ∷ at.back) + left in
+      let y = n.ends rest h.0 h.1 in
+      let size : length bytes + left ≡ length at.front + rest =
+      omega (arith, ap length at.split, length-append at.front (at.byte ∷ at.back)) in
+      let stops =
+      counted_stops inner outer inside closing n.commutes at.front (length bytes + left) rest s h.0
+      size at.ending in (
+        y.0,
+        y.1,
+        after_two outer (Runs (inside (length bytes + left) s)) at.front (at.byte ∷ at.back)
+            at.split (stops ∙ ap landed y.2) (after_stopped outer y.0 at.back),
+      )
+
+  pub gone_inside : Gone Bad (after inner (Runs s) bytes)
+      → Gone Worse (after outer (Runs (inside (length bytes + left) s)) bytes)
+  gone_inside h =
+      elim h.2 [
+        | inl e ↦
+            let y = n.ends left h.0 h.1 in (y.0, y.1, inl (stops_inside e ∙ ap landed y.2))
+        | inr e ↦ let p = past_inside (h.0, h.1, e) in (p.0, p.1, inr p.2)
+      ]
+
+  pub over_inside : {x : X} {y : Y} → closing left x ≡ Ends y
+      → Over Bad (after inner (Runs s) bytes) x
+      → Over Worse (after outer (Runs (inside (length bytes + left) s)) bytes) y
+  over_inside is (inl e) = inl (stops_inside e ∙ ap landed is)
+  over_inside is (inr p) = inr (past_inside p)
+
+  -- where it stops, the outer machine closes it
+  pub comes_inside : {A B : Type 0} {x : A → X} {there : B → Run T Y}
+      → Comes Bad (λ a. Stops (x a)) (after inner (Runs s) bytes)
+      → ((a : A) → Comes Worse there (landed (closing left (x a))))
+      → Comes Worse there (after outer (Runs (inside (length bytes + left) s)) bytes)
+  comes_inside (At a e) on = rw (stops_inside e) (on a)
+  comes_inside (Fails gone) on = Fails (gone_inside gone)
+
+-- ---- words
+
+module _ {T Y : Type 0} (outer : T → ℕ → Next T Y) (inside : List ℕ → T) (closing : ℕ → Next T Y)
+    (commutes : (s : List ℕ) (byte : ℕ)
+    → outer (inside s) byte ≡ within inside closing (word_next s byte)) where
+  -- a word that is whole, inside another machine
+  pub word_ends : {n : ℕ} (word : List ℕ) → IsWord word n
+      → after outer (Runs (inside [])) word ≡ landed (closing n)
+  word_ends word is =
+      nested_stops word_next outer inside closing commutes word [] (number word)
+      (word_stops word is.0) ∙ ap (λ n. landed (closing n)) is.1
+
+  -- and one that is not
+  pub word_goes : (part : List ℕ) → length part < 4
+      → after outer (Runs (inside [])) part ≡ Runs (inside part)
+  word_goes part short =
+      nested_runs word_next outer inside closing commutes part [] part (word_runs part short)

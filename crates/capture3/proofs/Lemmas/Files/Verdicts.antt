@@ -3,10 +3,10 @@ use Rattle.capture3.proofs.Common.{◌≡◌, inl, inr, ℕ, List, [], ◌∷◌
 use Rattle.record_mark.proofs.Machines.{ran_before, Earlier, Tells, after-append, after_stopped, ran_to, not_runs}
 use Rattle.capture3.specs.Laws.{HasOneVerdict, IsCutShort}
 use Rattle.capture3.specs.FileMachine.{Spot, Magic, Digit, Mark, Inside, Ended, Parsing, file_next, file_start, parsed, concluded, verdict_of, verdict}
-use Rattle.capture3.proofs.Lemmas.Files.FileRules.{AnyRefusal, rule_over}
+use Rattle.capture3.proofs.Lemmas.Files.FileRules.{rule_over}
 use Rattle.capture3.proofs.Lemmas.Container.BytesOf.{split_bytes}
 use Rattle.capture3.proofs.Lemmas.Files.EndedMachines.{Over, stopped_at}
-use Rattle.capture3.proofs.Lemmas.Files.FileMachineLemmas.{HasSpot, Stands, file_tells, file_runs}
+use Rattle.capture3.proofs.Lemmas.Files.FileMachineLemmas.{AnyRefusal, Stands, AtMagic, AtMark, AtInside, AtEnd, file_tells, file_runs}
 
 -- the machine's runs, told of their bytes
 pub told : (bytes : List ℕ) (run : Run Parsing ShownFault) → AreBytes bytes → parsed bytes ≡ run
@@ -36,25 +36,26 @@ shows_from_stops bytes shown are e =
 pub shown_before : (file : List ℕ) (shown : ShownFault) → AreBytes file
     → parsed file ≡ Stopped shown → Earlier ShownFault Shows file shown
 shown_before file shown are e =
-    let (front, byte, back, split, stops) = stopped_at file_next file file_start shown e in
+    let stop = stopped_at file_next file file_start shown e in
+    let bytes = split_bytes file stop.front (stop.byte ∷ stop.back) stop.split are in
     record {
-      front = front;
-      byte = byte;
-      back = back;
-      split = split;
-      ending =
-          shows_from_stops front shown (split_bytes file front (byte ∷ back) split are).0 stops;
+      front = stop.front;
+      byte = stop.byte;
+      back = stop.back;
+      split = stop.split;
+      ending = shows_from_stops stop.front shown bytes.0 stop.ending;
     }
 
 pub stops_from_shows : (bytes : List ℕ) (shown : ShownFault) → AreBytes bytes → Shows bytes shown
     → parsed bytes ≡ Stops shown
-stops_from_shows bytes shown are h = go (rule_over bytes shown h.rule)
-  where
-    go : Over AnyRefusal (parsed bytes) shown → parsed bytes ≡ Stops shown
-    go (inl e) = e
-    go (inr past) =
-        let before = shown_before bytes past.0 are past.2 in
-        absurd (h.first before.front before.back before.byte past.0 before.split before.ending.rule)
+stops_from_shows bytes shown are h =
+    elim (rule_over bytes shown h.rule) [
+      | inl e ↦ e
+      | inr past ↦
+          let before = shown_before bytes past.0 are past.2 in
+          absurd (h.first before.front before.back before.byte past.0 before.split
+          before.ending.rule)
+    ]
 
 -- a prefix of what the machine runs through shows nothing
 pub clean_from_runs : (bytes : List ℕ) (s : Parsing) → parsed bytes ≡ Runs s → IsClean bytes
@@ -63,37 +64,38 @@ clean_from_runs bytes s e front rest fault split shows =
     over_not_runs (parsed front) ran.0 fault ran.1 (rule_over front fault shows.rule)
 
 -- well formed
-typed_from_spot : (version : Version) (file : List ℕ) (at total number size : ℕ)
-    (entries all : List Entry) (spot : Spot) → HasSpot version file at total number entries spot
-    → concluded size entries spot ≡ Ok all → Typed file all
-typed_from_spot version file at total number size entries all (Magic due more) h e = absurd (cc)
-typed_from_spot version file at total number size entries all Digit h e = absurd (cc)
-typed_from_spot version file at total number size entries all (Mark part) h e = absurd (cc)
-typed_from_spot version file at total number size entries all (Inside o) h e = absurd (cc)
-typed_from_spot version file at total number size entries all Ended h e =
+typed_from_stands : (file : List ℕ) (all : List Entry) (s : Parsing) → Stands file s
+    → concluded (length file) s.entries s.spot ≡ Ok all → Typed file all
+typed_from_stands file all s (AtMagic [] begins is) e = absurd (cc)
+typed_from_stands file all s (AtMagic (due ∷ more) begins is) e = absurd (cc)
+typed_from_stands file all s
+    (AtMark version front part connections entries split short opens is) e = absurd (cc)
+typed_from_stands file all s
+    (AtInside version front mark rest connections entries o split opens one few inside is) e =
+    absurd (cc)
+typed_from_stands file all s
+    (AtEnd version front last connections entries split opens closes is) e =
     record {
       version = version;
-      connections = h.connections;
+      connections = connections;
       front = entries;
-      messages = h.opens.messages;
+      messages = opens.messages;
       ends = cc;
       capture =
           record {
-            bytes = h.opens.rest;
-            last = h.last;
-            split = h.split ∙ ap (λ (b : List ℕ). b ++ h.last) h.opens.split;
-            joined = h.opens.joined;
-            closes = h.closes;
-            few = h.opens.few;
-            small = h.opens.small;
+            bytes = opens.rest;
+            last = last;
+            split = split ∙ ap (λ (b : List ℕ). b ++ last) opens.split;
+            joined = opens.joined;
+            closes = closes;
+            few = opens.few;
+            small = opens.small;
           };
     }
 
 typed_from_run : (file : List ℕ) (all : List Entry) (run : Run Parsing ShownFault) → AreBytes file
     → parsed file ≡ run → verdict_of (length file) run ≡ Ok all → Typed file all
-typed_from_run file all (Runs s) are e v =
-    typed_from_spot s.version file s.at s.total s.number (length file) s.entries all s.spot
-    (told file (Runs s) are e) v
+typed_from_run file all (Runs s) are e v = typed_from_stands file all s (told file (Runs s) are e) v
 typed_from_run file all (Stops fault) are e v = absurd (cc)
 typed_from_run file all (Stopped fault) are e v = absurd (cc)
 
@@ -109,25 +111,15 @@ typed_runs file entries h =
     let c = h.capture in
     file_runs file (parsing_in h.version (length file) (total_size h.connections)
     (length h.connections) h.front Ended)
+    (AtEnd h.version (magic h.version ++ c.bytes) c.last h.connections h.front c.split
     (record {
-      front = magic h.version ++ c.bytes;
-      last = c.last;
-      connections = h.connections;
-      split = c.split;
-      closes = c.closes;
-      at_is = refl;
-      total_is = refl;
-      number_is = refl;
-      opens =
-          record {
-            rest = c.bytes;
-            split = refl;
-            joined = c.joined;
-            messages = h.messages;
-            few = c.few;
-            small = c.small;
-          };
-    })
+      rest = c.bytes;
+      split = refl;
+      joined = c.joined;
+      messages = h.messages;
+      few = c.few;
+      small = c.small;
+    }) c.closes refl)
 
 pub verdict_from_typed : (file : List ℕ) (entries : List Entry) → Typed file entries
     → verdict file ≡ Ok entries

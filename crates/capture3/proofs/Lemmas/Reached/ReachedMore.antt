@@ -1,13 +1,14 @@
 -- What the byte of a fault still reaches, in a file of version 2: the entries of the connection
 -- before a record at fault.
-use Rattle.capture3.proofs.Common.{◌≡◌, ◌⊎◌, inl, inr, ℕ, suc, ◌+◌, ◌<◌, ◌≤◌, List, [], ◌∷◌, ◌++◌, length, refl, sym, ap, subst, ◌∙◌, append-nil, arith, length-append, Next, Goes, Ends, Run, Runs, Stops, Stopped, landed, after, Two, total_size, max_bytes, Context, ShownFault, refusal, StreamsShow, InClientStream, InServerStream, Rule, Shows, AfterConnections, MagicDiffers, MarkIsBad, ConnectionIsTooMany, WithinConnection, ByteAfterEnd, Mixing, MixedCloses, mixed_next, mixing_from, InMixed, conversing, opening_next, opened, Parsing, closed, emitted, file_next, file_start, parsed, Streams, size, AreMixed, file_fault, TooManyConnections, Tells, after-append, nested_runs, ran_before, tells, AreWithinLimits, AreWhole, IsLongestClean, Reached}
+use Rattle.capture3.proofs.Common.{◌≡◌, ◌⊎◌, inl, inr, ℕ, suc, ◌+◌, ◌<◌, ◌≤◌, List, [], ◌∷◌, ◌++◌, length, refl, sym, ap, subst, ◌∙◌, append-nil, arith, length-append, Next, Goes, Ends, Run, Runs, landed, after, Two, total_size, max_bytes, max_connections, Context, HaveEntries, ShownFault, StreamsShow, Rule, Shows, AfterConnections, MagicDiffers, MarkIsBad, ConnectionIsTooMany, WithinConnection, ByteAfterEnd, Mixing, MixedCloses, mixed_next, mixing_from, InMixed, Opening, opened, Version, Parsing, emitted, file_next, file_start, parsed, Streams, size, AreMixed, Tells, ran_before, tells, AreWithinLimits, AreWhole, IsLongestClean, Reached}
 use Rattle.capture3.specs.Entry.{Entry, Begin}
-use Rattle.capture3.proofs.Lemmas.Files.FileRules.{AnyRefusal, RefusedClosing, Marked, at_mark, inside_at, begins_or, begun_or, closed_ends, conversing_ends}
-use Rattle.capture3.proofs.Lemmas.Files.FileMachineLemmas.{context_at, InConnection, Stands, file_runs}
+use Rattle.capture3.proofs.Lemmas.Connections.ConnectionMachineLemmas.{in_mixed}
+use Rattle.capture3.proofs.Lemmas.Files.FileRules.{inside_or, shown_mixed, streams_some}
+use Rattle.capture3.proofs.Lemmas.Files.FileMachineLemmas.{AnyRefusal, Stands, AtMagic, AtMark, AtInside, AtEnd, context_at, file_runs, in_file, inside_at}
 use Rattle.capture3.proofs.Lemmas.Reached.Limits.{IsAfter, after_within, refused_more, streams_after, typed_within, whole_within}
-use Rattle.capture3.proofs.Lemmas.Container.SidedChunksRules.{RefusedMixed, closes_over}
-use Rattle.capture3.proofs.Lemmas.Container.SidedChunksMachineLemmas.{HasMixed, EndsMixed, mixed_leads, nothing_gathered}
-use Rattle.capture3.proofs.Lemmas.Files.EndedMachines.{Gone, Past, Over, gone_more, nested_past}
+use Rattle.capture3.proofs.Lemmas.Container.SidedChunksRules.{closes_over}
+use Rattle.capture3.proofs.Lemmas.Container.SidedChunksMachineLemmas.{HasMixed, EndsMixed, RefusedMixed, mixed_leads, mixed_taken, nothing_gathered}
+use Rattle.capture3.proofs.Lemmas.Files.EndedMachines.{Past, At, Fails, after_two, gone_more, past_inside, runs_inside, runs_not_gone}
 use Rattle.capture3.proofs.Lemmas.Reached.ReachedLemmas.{StandsAt, whole_stands}
 
 -- the last byte
@@ -23,28 +24,35 @@ split_last (b ∷ front) (a ∷ x) y byte e some =
     let s = split_last front x y byte rest some in
     (s.0, s.1, ap (λ (n : ℕ). n ∷ front) first ∙ ap (λ (l : List ℕ). a ∷ l) s.2)
 
-mixed_length : (bytes : List ℕ) (streams : Streams) → AreMixed bytes streams → 0 < length bytes
-mixed_length bytes streams h =
-    omega (arith, ap length h.split, length-append h.front h.last, h.closes.0)
-
-shown_mixed : (number : ℕ) (bytes : List ℕ) (shown : ShownFault) → StreamsShow number bytes shown
-    → (streams : Streams) × AreMixed bytes streams
-shown_mixed number bytes shown (InClientStream streams calls fault mixed first same) =
-    (streams, mixed)
-shown_mixed number bytes shown (InServerStream streams calls replies fault mixed holds first same) =
-    (streams, mixed)
-
-gone_runs : (run : Run Parsing ShownFault) (s : Parsing) → run ≡ Runs s → Gone AnyRefusal run → ⊥
-gone_runs run s e gone = by_end gone.2
-  where
-    by_end : (run ≡ Stops gone.0) ⊎ (run ≡ Stopped gone.0) → ⊥
-    by_end (inl f) = cc
-    by_end (inr f) = cc
-
 landed_past : (run : Run Parsing ShownFault) (n : Next Parsing ShownFault) → run ≡ landed n
     → Past AnyRefusal run → ⊥
 landed_past run (Goes t) e past = let f = past.2 in cc
 landed_past run (Ends x) e past = let f = past.2 in cc
+
+-- in a connection, after these
+inside_stands : (bytes : List ℕ) (version : Version) (at total number : ℕ) (entries : List Entry)
+    (o : Opening) → Stands bytes (inside_at version at total number entries o)
+    → (connections : List Streams) × HaveEntries connections entries
+    × (length connections < max_connections) × (total_size connections ≤ max_bytes)
+    × (total ≡ total_size connections)
+inside_stands bytes version at total number entries o (AtMagic [] begins is) =
+    absurd (cc (ap (λ (s : Parsing). s.spot) is))
+inside_stands bytes version at total number entries o (AtMagic (due ∷ more) begins is) =
+    absurd (cc (ap (λ (s : Parsing). s.spot) is))
+inside_stands bytes version at total number entries o
+    (AtMark v front part connections all split short opens is) =
+    absurd (cc (ap (λ (s : Parsing). s.spot) is))
+inside_stands bytes version at total number entries o
+    (AtEnd v front last connections all split opens closes is) =
+    absurd (cc (ap (λ (s : Parsing). s.spot) is))
+inside_stands bytes version at total number entries o
+    (AtInside v front mark rest connections all p split opens one few inside is) = (
+      connections,
+      rw (ap (λ (s : Parsing). s.entries) is) opens.messages,
+      few,
+      opens.small,
+      ap (λ (s : Parsing). s.total) is,
+    )
 
 -- A prefix that the machine runs through, and a byte after it with which the streams of a
 -- connection are whole.
@@ -71,162 +79,91 @@ module _ (front : List ℕ) (byte : ℕ) (state : Parsing) (whole : List Entry)
   cut : (z : List ℕ) × (b.rest ≡ z ++ byte ∷ []) × (front ≡ (b.front ++ b.word) ++ z)
   cut =
       split_last front (b.front ++ b.word) b.rest byte b.split
-      (mixed_length b.rest the_mixed.0 the_mixed.1)
+      (streams_some (suc (length b.connections)) b.rest shown shows)
 
-  one_more : parsed (front ++ byte ∷ []) ≡ landed (file_next state byte)
-  one_more =
-      after-append file_next (Runs file_start) front (byte ∷ [])
-      ∙ ap (λ r. after file_next r (byte ∷ [])) runs
-
-  steps : parsed front ≡ after file_next (after file_next (parsed b.front) b.word) cut.0
+  steps : parsed front ≡ after file_next (parsed (b.front ++ b.word)) cut.0
   unfolding cut
-  steps =
-      ap parsed cut.2 ∙ after-append file_next (Runs file_start) (b.front ++ b.word) cut.0
-      ∙ ap (λ r. after file_next r cut.0) (after-append file_next (Runs file_start) b.front b.word)
-
-  all_steps : parsed (front ++ byte ∷ [])
-      ≡ after file_next (after file_next (parsed b.front) b.word) b.rest
-  all_steps =
-      ap parsed b.split ∙ after-append file_next (Runs file_start) (b.front ++ b.word) b.rest
-      ∙ ap (λ r. after file_next r b.rest) (after-append file_next (Runs file_start) b.front b.word)
+  steps = after_two file_next (Runs file_start) (b.front ++ b.word) cut.0 cut.2 refl refl
 
   -- after the word 1 the machine is in the connection
   inside : (entries : List Entry)
-      × (after file_next (parsed b.front) b.word
+      × (parsed (b.front ++ b.word)
       ≡ Runs (inside_at Two (at + 4) total (suc number) entries (opened Two (at + 4) total)))
   unfolding at total number cut steps
-  inside = by_front (begun_or (front ++ byte ∷ []) b)
-    where
-      gone_here : Gone AnyRefusal (after file_next (parsed b.front) b.word) → ⊥
-      gone_here gone =
-          gone_runs (parsed front) state runs (subst (Gone AnyRefusal) (sym steps)
-          (gone_more file_next AnyRefusal (after file_next (parsed b.front) b.word) cut.0
-          gone))
+  inside =
+      elim (inside_or (front ++ byte ∷ []) b one) [
+        | At entries e ↦ (entries, rw two at e)
+        | Fails gone ↦
+            absurd (runs_not_gone {Bad = AnyRefusal} (parsed front) state runs
+            (rw steps (gone_more file_next AnyRefusal (parsed (b.front ++ b.word)) cut.0 gone)))
+      ]
 
-      by_front : Marked b.version (length b.front) (total_size b.connections) (length b.connections)
-          (parsed b.front)
-          → (entries : List Entry)
-          × (after file_next (parsed b.front) b.word
-          ≡ Runs (inside_at Two (length b.front + 4) (total_size b.connections)
-          (suc (length b.connections)) entries
-          (opened Two (length b.front + 4) (total_size b.connections))))
-      by_front (inl (entries, e)) =
-          by_word (begins_or Two (length b.front) (total_size b.connections) (length b.connections)
-          entries b.word (b.is_word.0, b.is_word.1 ∙ one))
-        where
-          here : parsed b.front
-              ≡ Runs (at_mark Two (length b.front) (total_size b.connections) (length b.connections)
-              entries)
-          here =
-              e
-              ∙ ap
-              (λ v.
-              Runs (at_mark v (length b.front) (total_size b.connections)
-              (length b.connections) entries)) two
+  -- the chunks show no fault
+  not_past : Past RefusedMixed (mixed_taken context b.rest) → ⊥
+  unfolding context
+  not_past past =
+      let one_more : parsed (front ++ byte ∷ []) ≡ landed (file_next state byte) =
+      after_two file_next (Runs file_start) front (byte ∷ []) refl runs refl in
+      let same =
+      after_two file_next (Runs file_start) (b.front ++ b.word) b.rest b.split inside.1 refl in
+      landed_past (parsed (front ++ byte ∷ [])) (file_next state byte) one_more
+      (rw same (past_inside (in_file Two (at + 4) total (suc number) inside.0) b.rest 0
+      (opened Two (at + 4) total)
+      (past_inside (in_mixed (suc number)) b.rest 0 (mixing_from (at + 4) total) past)))
 
-          by_word : (after file_next
-              (Runs (at_mark Two (length b.front) (total_size b.connections)
-              (length b.connections) entries)) b.word
-              ≡ Runs (inside_at Two (length b.front + 4) (total_size b.connections)
-              (suc (length b.connections)) entries
-              (opened Two (length b.front + 4) (total_size b.connections))))
-              ⊎ (after file_next
-              (Runs (at_mark Two (length b.front) (total_size b.connections)
-              (length b.connections) entries)) b.word
-              ≡ Stops (refusal (file_fault (length b.front) TooManyConnections)))
-              → (all : List Entry)
-              × (after file_next (parsed b.front) b.word
-              ≡ Runs (inside_at Two (length b.front + 4) (total_size b.connections)
-              (suc (length b.connections)) all
-              (opened Two (length b.front + 4) (total_size b.connections))))
-          by_word (inl f) = (entries, ap (λ r. after file_next r b.word) here ∙ f)
-          by_word (inr f) =
-              absurd (gone_here (
-                refusal (file_fault (length b.front) TooManyConnections),
-                tt,
-                inl (ap (λ r. after file_next r b.word) here ∙ f),
-              ))
-      by_front (inr gone) =
-          absurd (gone_here (gone_more file_next AnyRefusal (parsed b.front) b.word gone))
-
-  -- up to the last byte the chunks are gathered
-  gathers : (m : Mixing) × (after mixed_next (Runs (mixing_from (at + 4) total)) cut.0 ≡ Runs m)
+  -- up to the last byte they are gathered
+  gathers : (m : Mixing) × (mixed_taken context cut.0 ≡ Runs m)
   unfolding context cut
-  gathers = by_over (closes_over context b.rest the_mixed.0 the_mixed.1)
-    where
-      by_over : Over RefusedMixed (after mixed_next (Runs (mixing_from (at + 4) total)) b.rest)
-          (MixedCloses (at + 4 + length b.rest) (total + size the_mixed.0) the_mixed.0)
-          → (m : Mixing) × (after mixed_next (Runs (mixing_from (at + 4) total)) cut.0 ≡ Runs m)
-      by_over (inl e) =
-          ran_before mixed_next (Runs (mixing_from (at + 4) total)) cut.0 byte []
-          (MixedCloses (at + 4 + length b.rest) (total + size the_mixed.0) the_mixed.0)
-          (ap (after mixed_next (Runs (mixing_from (at + 4) total))) (sym cut.1) ∙ e)
-      by_over (inr past) =
-          absurd (landed_past (parsed (front ++ byte ∷ [])) (file_next state byte) one_more
-          (subst (Past AnyRefusal) (sym (all_steps ∙ ap (λ r. after file_next r b.rest) inside.1))
-          (nested_past (opening_next (suc number)) file_next
-          (inside_at Two (at + 4) total (suc number) inside.0)
-          (closed Two (suc number) inside.0) RefusedClosing AnyRefusal (λ s byte. refl)
-          (closed_ends Two (suc number) inside.0) b.rest (opened Two (at + 4) total)
-          (nested_past mixed_next (opening_next (suc number)) InMixed (conversing (suc number))
-          RefusedMixed RefusedClosing (λ s byte. refl) (conversing_ends (suc number)) b.rest
-          (mixing_from (at + 4) total) past))))
+  gathers =
+      elim (closes_over context b.rest the_mixed.0 the_mixed.1) [
+        | inl e ↦
+            ran_before mixed_next (Runs (mixing_from (at + 4) total)) cut.0 byte []
+            (MixedCloses (at + 4 + length b.rest) (total + size the_mixed.0) the_mixed.0)
+            (ap (mixed_taken context) (sym cut.1) ∙ e)
+        | inr past ↦ absurd (not_past past)
+      ]
 
   state_is : state ≡ inside_at Two (at + 4) total (suc number) inside.0 (InMixed gathers.0)
+  unfolding context
   state_is =
       let stands_in : parsed front
       ≡ Runs (inside_at Two (at + 4) total (suc number) inside.0 (InMixed gathers.0)) =
-      steps ∙ ap (λ r. after file_next r cut.0) inside.1
-      ∙ nested_runs (opening_next (suc number)) file_next
-      (inside_at Two (at + 4) total (suc number) inside.0) (closed Two (suc number) inside.0)
-      (λ s byte. refl) cut.0 (opened Two (at + 4) total) (InMixed gathers.0)
-      (nested_runs mixed_next (opening_next (suc number)) InMixed (conversing (suc number))
-      (λ s byte. refl) cut.0 (mixing_from (at + 4) total) gathers.0 gathers.1) in
+      steps ∙ rw inside.1 (runs_inside (in_file Two (at + 4) total (suc number) inside.0) cut.0 0
+      (opened Two (at + 4) total)
+      (runs_inside (in_mixed (suc number)) cut.0 0 (mixing_from (at + 4) total) gathers.1)) in
       let same = sym runs ∙ stands_in in
       cc
 
   -- what the machine stands for
-  stood : InConnection Two front (at + 4) total (suc number) inside.0 (InMixed gathers.0)
-  stood = subst (Stands front) state_is stands
+  stood : (connections : List Streams) × HaveEntries connections inside.0
+      × (length connections < max_connections) × (total_size connections ≤ max_bytes)
+      × (total ≡ total_size connections)
+  stood =
+      inside_stands front Two (at + 4) total (suc number) inside.0 (InMixed gathers.0)
+      (rw state_is at stands)
 
   fits : (streams : Streams) → AreMixed b.rest streams
-      → total_size stood.connections + size streams ≤ max_bytes
+      → total_size stood.0 + size streams ≤ max_bytes
   unfolding context total
-  fits streams mixed = by_over (closes_over context b.rest streams mixed)
-    where
-      small : total_size b.connections ≤ max_bytes
-      small = omega (arith, stood.total_is, stood.opens.small)
-
-      by_over : Over RefusedMixed
-          (after mixed_next (Runs (mixing_from (at + 4) (total_size b.connections))) b.rest)
-          (MixedCloses (at + 4 + length b.rest) (total_size b.connections + size streams)
-          streams) → total_size stood.connections + size streams ≤ max_bytes
-      by_over (inl e) =
-          let told =
-          tells mixed_next (HasMixed context) (EndsMixed context) (mixed_leads context)
-          (mixing_from (at + 4) (total_size b.connections)) (nothing_gathered context small)
-          b.rest in
-          let closes : EndsMixed context b.rest (MixedCloses (at + 4 + length b.rest)
-          (total_size b.connections + size streams) streams) =
-          subst (Tells (HasMixed context) (EndsMixed context) b.rest) e told in
-          omega (arith, closes.fits, stood.total_is)
-      by_over (inr past) =
-          absurd (landed_past (parsed (front ++ byte ∷ [])) (file_next state byte) one_more
-          (subst (Past AnyRefusal) (sym (all_steps ∙ ap (λ r. after file_next r b.rest) inside.1))
-          (nested_past (opening_next (suc number)) file_next
-          (inside_at Two (at + 4) total (suc number) inside.0)
-          (closed Two (suc number) inside.0) RefusedClosing AnyRefusal (λ s byte. refl)
-          (closed_ends Two (suc number) inside.0) b.rest (opened Two (at + 4) total)
-          (nested_past mixed_next (opening_next (suc number)) InMixed (conversing (suc number))
-          RefusedMixed RefusedClosing (λ s byte. refl) (conversing_ends (suc number)) b.rest
-          (mixing_from (at + 4) total) past))))
+  fits streams mixed =
+      let small : total_size b.connections ≤ max_bytes = omega (arith, stood.3, stood.4) in
+      let told =
+      tells mixed_next (HasMixed context) (EndsMixed context) (mixed_leads context)
+      (mixing_from (at + 4) (total_size b.connections)) (nothing_gathered context small) b.rest in
+      elim (closes_over context b.rest streams mixed) [
+        | inl e ↦
+            let closes : EndsMixed context b.rest (MixedCloses (at + 4 + length b.rest)
+            (total_size b.connections + size streams) streams) =
+            subst (Tells (HasMixed context) (EndsMixed context) b.rest) e told in
+            omega (arith, closes.fits, stood.4)
+        | inr past ↦ absurd (not_past past)
+      ]
 
   pub is_after : IsAfter (whole ++ shown.more)
   is_after =
       let here : whole ≡ inside.0 ++ Begin ∷ [] = sym emits ∙ ap emitted state_is in
       subst (λ (l : List Entry). IsAfter (l ++ shown.more)) (sym here) (streams_after
-      (suc (length b.connections)) stood.connections inside.0 b.rest shown
-      stood.opens.messages stood.few fits shows)
+      (suc (length b.connections)) stood.0 inside.0 b.rest shown stood.1 stood.2 fits shows)
 
 -- what is reached after the longest clean prefix
 pub reached_more : (bytes front : List ℕ) (whole more : List Entry)

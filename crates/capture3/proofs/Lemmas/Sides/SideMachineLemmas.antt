@@ -1,49 +1,32 @@
 -- The machine for one side against chunks, records and messages.
-use Rattle.capture3.proofs.Common.{◌≡◌, inl, inr, ℕ, zero, suc, ◌+◌, ◌<◌, ◌≤◌, List, [], ◌∷◌, ◌++◌, length, refl, sym, ap, ap₂, subst, ◌∙◌, append_assoc, append-nil, arith, length-append, Bool, true, false, cond, nat_lt, ltb-true, ltb-false, le-ltb, concat, Goes, Ends, Runs, Stops, landed, after, IsWord, Joins, number, word_next, Joining, Between, Header, Bytes, IsOpen, AreBytes, RecordCut, TooManyBytes, max_bytes, IsChunk, AreChunks, IsStream, Judgement, Holds, RecordFault, StreamShows, fault_at, Reading, stream_next, unread, Position, file_fault, place_in, SideShows, Leads, leads_within, after-append, nested_runs, nested_stops, counted_runs, counted_stops, ran_to, side_start, siding_in, reading_with}
-use Rattle.record_mark.proofs.Words.{IsPart, word_leads, word_runs, word_stops, Joins-snoc, concat-snoc}
-use Rattle.capture3.specs.SideMachine.{Point, Length, Chunk, Siding, SideEnd, SideCloses, SideRefuses, awaiting, closing, counted, side_next}
+use Rattle.capture3.proofs.Common.{◌≡◌, inl, inr, ℕ, zero, suc, ◌+◌, ◌<◌, ◌≤◌, List, [], ◌∷◌, ◌++◌, length, refl, sym, ap, ap₂, ◌∙◌, append_assoc, append-nil, arith, length-append, nat_lt, ltb-true, ltb-false, le-ltb, concat, Ends, Run, Runs, Stops, landed, after, IsWord, Joins, word_next, Joining, Between, Header, Bytes, IsOpen, AreBytes, RecordCut, max_bytes, IsChunk, AreChunks, BeginsStream, IsStream, Judgement, Holds, RecordFault, SideShows, fault_at, Reading, stream_next, unread, Position, place_in, Leads, leads_within, after-append, ran_to, IsPart, word_leads, Joins-snoc, siding_from, siding_in, reading_with}
+use Rattle.record_mark.proofs.Words.{concat-snoc}
+use Rattle.capture3.specs.Chunks.{WithinChunk}
+use Rattle.capture3.specs.SideMachine.{Length, Chunk, Siding, SideEnd, SideCloses, SideRefuses, awaiting, closing, counted, side_next}
+use Rattle.capture3.proofs.Lemmas.Connections.RankLemmas.{by_test}
 use Rattle.capture3.proofs.Lemmas.Container.BytesOf.{split_bytes, AreBytes-append, chunk_bytes}
+use Rattle.capture3.proofs.Lemmas.Files.EndedMachines.{Nested, after_two, runs_inside, word_ends, word_goes}
 use Rattle.capture3.proofs.Lemmas.Messages.BodyProgramLemmas.{Judged}
-use Rattle.capture3.proofs.Lemmas.Sides.StreamMachineLemmas.{HasRead, ShowsAsFirst, fault_after, stream_leads, between_holds, nothing_read, held_runs, stream_runs}
+use Rattle.capture3.proofs.Lemmas.Sides.StreamMachineLemmas.{HasRead, ShowsAsFirst, fault_after, stream_after, stream_leads, between_holds, nothing_read, held_runs, stream_runs}
 
--- in a length word after whole chunks
-pub record InLength {M : Type 0} (judge : Judgement M) (position : Position) (bytes : List ℕ)
-    (at total : ℕ) (reading : Reading M) (part : List ℕ) : Type 0 where
-  pub front : List ℕ
-  pub stream : List ℕ
-  pub split : bytes ≡ front ++ part
-  pub short : length part < 4
-  pub chunks : AreChunks front stream
-  pub read : HasRead judge stream reading
-  pub at_is : at ≡ position.start + length front
-  pub total_is : total ≡ position.before + length stream
-  pub fits : total ≤ max_bytes
-
--- in a chunk's bytes, after got
-pub record InChunk {M : Type 0} (judge : Judgement M) (position : Position) (bytes : List ℕ)
-    (at total : ℕ) (reading : Reading M) (left : ℕ) : Type 0 where
-  pub front : List ℕ
-  pub stream : List ℕ
-  pub header : List ℕ
-  pub got : List ℕ
-  pub split : bytes ≡ front ++ header ++ got
-  pub chunks : AreChunks front stream
-  pub word : IsWord header (length got + suc left)
-  pub read : HasRead judge (stream ++ got) reading
-  pub at_is : at ≡ position.start + length bytes + suc left
-  pub total_is : total ≡ position.before + length (stream ++ got) + suc left
-  pub fits : total ≤ max_bytes
-
-abbrev pub HasPoint : {M : Type 0} → Judgement M → Position → List ℕ → ℕ → ℕ → Reading M → Point
-    → Type 0
-HasPoint judge position bytes at total reading (Length part) =
-    InLength judge position bytes at total reading part
-HasPoint judge position bytes at total reading (Chunk left) =
-    InChunk judge position bytes at total reading left
+-- the machine after the bytes of a stream that is not whole
+abbrev pub side_state : {M : Type 0} (position : Position) (bytes stream : List ℕ) → Reading M
+    → BeginsStream position.before bytes stream → Siding M
+side_state position bytes stream reading (inl b) =
+    siding_in (position.start + length b.front) (position.before + length stream) reading
+    (Length b.part)
+side_state position bytes stream reading (inr b) =
+    siding_in (position.start + length bytes + suc b.left)
+    (position.before + length stream + suc b.left) reading (Chunk b.left)
 
 -- what has come of a side
-abbrev pub HasSide : {M : Type 0} → Judgement M → Position → List ℕ → Siding M → Type 0
-HasSide judge position bytes s = HasPoint judge position bytes s.at s.total s.reading s.point
+pub record HasSide {M : Type 0} (judge : Judgement M) (position : Position) (bytes : List ℕ)
+    (s : Siding M) : Type 0 where
+  pub stream : List ℕ
+  pub reading : Reading M
+  pub begins : BeginsStream position.before bytes stream
+  pub read : HasRead judge stream reading
+  pub is : s ≡ side_state position bytes stream reading begins
 
 -- a side is whole, with these messages
 pub record ClosesSide {M : Type 0} (judge : Judgement M) (position : Position) (bytes : List ℕ)
@@ -60,476 +43,429 @@ EndsSide judge position bytes (SideCloses at total messages) =
     ClosesSide judge position bytes at total messages
 EndsSide judge position bytes (SideRefuses fault) = SideShows judge position bytes fault
 
+-- a stream's machine ends with faults alone
+abbrev pub AnyFault : RecordFault → Type 0
+AnyFault fault = Unit {0}
+
+abbrev pub RefusedSide : {M : Type 0} → SideEnd M → Type 0
+RefusedSide (SideCloses at total messages) = ⊥
+RefusedSide (SideRefuses fault) = Unit {0}
+
+same_siding : {M : Type 0} (s : Siding M) {n m : ℕ} → s.at ≡ n → s.total ≡ m
+    → s ≡ siding_in n m s.reading s.point
+same_siding s e f = ap₂ (λ x y. siding_in x y s.reading s.point) e f
+
 -- the stream's bytes, with those of the open chunk
-carried_bytes : (bytes front header got stream : List ℕ) (byte : ℕ) → bytes ≡ front ++ header ++ got
-    → AreChunks front stream → AreBytes (bytes ++ byte ∷ [])
-    → AreBytes ((stream ++ got) ++ byte ∷ [])
-carried_bytes bytes front header got stream byte split chunks are =
+carried_bytes : {before : ℕ} (bytes stream : List ℕ) (byte : ℕ) → WithinChunk before bytes stream
+    → AreBytes (bytes ++ byte ∷ []) → AreBytes (stream ++ byte ∷ [])
+carried_bytes bytes stream byte w are =
     let all = split_bytes (bytes ++ byte ∷ []) bytes (byte ∷ []) refl are in
-    let parts = split_bytes bytes (front ++ header) got split all.0 in
-    let whole = split_bytes (front ++ header) front header refl parts.0 in
-    AreBytes-append (stream ++ got) (byte ∷ [])
-    (AreBytes-append stream got (chunk_bytes front stream chunks whole.0) parts.1) all.1
+    let parts = split_bytes bytes (w.front ++ w.header) w.got w.split all.0 in
+    let whole = split_bytes (w.front ++ w.header) w.front w.header refl parts.0 in
+    let carried = chunk_bytes w.front w.carried w.chunks whole.0 in
+    AreBytes-append stream (byte ∷ [])
+    (rw w.stream_is (AreBytes-append w.carried w.got carried parts.1)) all.1
 
--- the word 0 in an open record
-open_cut : {M : Type 0} {messages : List M} {joining : Joining} (judge : Judged M)
-    (position : Position) (bytes stream body : List ℕ) → IsStream bytes stream
-    → (read : HasRead judge.says stream (reading_with messages joining)) → IsOpen read.last body
-    → EndsSide judge.says position bytes
-    (SideRefuses (place_in position (fault_at messages (length body) RecordCut)))
-open_cut {messages = messages} judge position bytes stream body closed read is_open =
-    let same = fault_after judge.says read.front messages (length body) RecordCut read.holds in
-    inr (inl (record {
-      stream = stream;
-      shown = fault_at messages (length body) RecordCut;
-      closed = closed;
-      cut =
-          record {
-            front = read.front;
-            last = read.last;
-            bodies = read.holds.0;
-            body = body;
-            split = read.split;
-            marks = read.holds.1;
-            is_open = is_open;
-            is = same;
-          };
-      is = refl;
-    }))
-
-closing_ends : {M : Type 0} (judge : Judged M) (position : Position) (bytes stream : List ℕ)
-    (at total : ℕ) (messages : List M) (joining : Joining) → IsStream bytes stream
-    → HasRead judge.says stream (reading_with messages joining)
-    → at + 4 ≡ position.start + length bytes → total ≡ position.before + length stream
-    → total ≤ max_bytes
-    → EndsSide judge.says position bytes (closing (place_in position) at total messages joining)
-closing_ends judge position bytes stream at total messages Between closed read at_is total_is fits =
-    record {
-      stream = stream;
-      closed = closed;
-      at_is = at_is;
-      total_is = total_is;
-      fits = fits;
-      holds = between_holds judge.says stream messages read;
-    }
-closing_ends judge position bytes stream at total messages (Header body part) closed read at_is
-    total_is fits =
-    open_cut judge position bytes stream body closed read (inl (part, read.joined))
-closing_ends judge position bytes stream at total messages (Bytes body last left) closed read at_is
-    total_is fits =
-    open_cut judge position bytes stream body closed read (inr (last, left, read.joined))
-
-chunk_leads : {M : Type 0} (judge : Judged M) (position : Position)
-    (bytes front header stream : List ℕ) (at total left : ℕ) (reading : Reading M)
-    → bytes ≡ front ++ header → AreChunks front stream → HasRead judge.says stream reading
-    → IsWord header (suc left)
-    → at ≡ position.start + length front → total ≡ position.before + length stream
-    → total ≤ max_bytes → (over : Bool) → nat_lt max_bytes (total + suc left) ≡ over
-    → Leads (HasSide judge.says position) (EndsSide judge.says position) bytes (cond over
-    (Ends (SideRefuses (file_fault at TooManyBytes)))
-    (Goes (siding_in (at + 4 + suc left) (total + suc left) reading (Chunk left))))
-chunk_leads judge position bytes front header stream at total left reading split chunks read word
-    at_is total_is fits true over =
-    let passes = ltb-true _ _ over in
-    inl (record {
-      front = front;
-      last = header;
-      stream = stream;
-      count = suc left;
-      split = split;
-      chunks = chunks;
-      word = word;
-      some = omega arith;
-      passes = omega arith;
-      is = ap (λ n. file_fault n TooManyBytes) at_is;
-    })
-chunk_leads judge position bytes front header stream at total left reading split chunks read word
-    at_is total_is fits false over =
-    let below : total + suc left ≤ max_bytes = ltb-false _ _ over in
-    record {
-      front = front;
-      stream = stream;
-      header = header;
-      got = [];
-      split = split ∙ sym (append-nil (front ++ header));
-      chunks = chunks;
-      word = (word.0, word.1 ∙ omega arith);
-      read = subst (λ (b : List ℕ). HasRead judge.says b reading) (sym (append-nil stream)) read;
-      at_is = omega (arith, ap length split, length-append front header, word.0);
-      total_is = omega (arith, length-append stream []);
-      fits = below;
-    }
-
-counted_leads : {M : Type 0} (judge : Judged M) (position : Position)
-    (bytes front header stream : List ℕ) (at total : ℕ) (reading : Reading M) (n : ℕ)
-    → bytes ≡ front ++ header → AreChunks front stream → HasRead judge.says stream reading
-    → IsWord header n
-    → at ≡ position.start + length front → total ≡ position.before + length stream
-    → total ≤ max_bytes
-    → Leads (HasSide judge.says position) (EndsSide judge.says position) bytes
-    (counted (place_in position) at total reading n)
-counted_leads judge position bytes front header stream at total reading zero split chunks read word
-    at_is total_is fits =
-    closing_ends judge position bytes stream at total reading.messages reading.joining
-    (record { front = front; last = header; split = split; chunks = chunks; closes = word })
-    read
-    (omega (arith, ap length split, length-append front header, word.0)) total_is fits
-counted_leads judge position bytes front header stream at total reading (suc left) split chunks read
-    word at_is total_is fits =
-    chunk_leads judge position bytes front header stream at total left reading split chunks read
-    word at_is total_is fits (nat_lt max_bytes (total + suc left)) refl
-
-AreChunks-snoc : (front stream bytes chunk : List ℕ) → AreChunks front stream → IsChunk bytes chunk
-    → AreChunks (front ++ bytes) (stream ++ chunk)
-AreChunks-snoc front stream bytes chunk h c =
+-- one chunk more
+AreChunks-snoc : (bytes stream front carried header chunk : List ℕ)
+    → bytes ≡ front ++ (header ++ chunk) → stream ≡ carried ++ chunk → AreChunks front carried
+    → IsWord header (length chunk) → 0 < length chunk → AreChunks bytes stream
+AreChunks-snoc bytes stream front carried header chunk split is h word some =
+    let c : IsChunk (header ++ chunk) chunk =
+    record { header = header; split = refl; word = word; some = some } in
     record {
       chunks = h.chunks ++ chunk ∷ [];
-      joined = Joins-snoc IsChunk h.chunks front bytes chunk h.joined c;
-      carried = ap (λ (b : List ℕ). b ++ chunk) h.carried ∙ sym (concat-snoc h.chunks chunk);
+      joined = rw split (Joins-snoc IsChunk h.chunks front (header ++ chunk) chunk h.joined c);
+      carried = rw (is, h.carried, concat-snoc);
     }
 
--- a byte of a chunk that shows no fault
-more_read : {M : Type 0} (judge : Judged M) (position : Position) (bytes : List ℕ)
-    (byte at total : ℕ) (reading old : Reading M) (left : ℕ)
-    (h : InChunk judge.says position bytes at total old left)
-    → HasRead judge.says ((h.stream ++ h.got) ++ byte ∷ []) reading
-    → HasPoint judge.says position (bytes ++ byte ∷ []) at total reading (awaiting left)
-more_read judge position bytes byte at total reading old zero h read =
-    record {
-      front = bytes ++ byte ∷ [];
-      stream = h.stream ++ (h.got ++ byte ∷ []);
-      split = sym (append-nil (bytes ++ byte ∷ []));
-      short = omega arith;
-      chunks = subst (λ (b : List ℕ). AreChunks b (h.stream ++ (h.got ++ byte ∷ [])))
-          (sym (append_assoc h.front h.header (h.got ++ byte ∷ []))
-          ∙ sym (append_assoc (h.front ++ h.header) h.got (byte ∷ []))
-          ∙ ap (λ (b : List ℕ). b ++ byte ∷ []) (sym h.split))
-          (AreChunks-snoc h.front h.stream (h.header ++ (h.got ++ byte ∷ [])) (h.got ++ byte ∷ [])
-          h.chunks
-          (record {
-            header = h.header;
-            split = refl;
-            word = (h.word.0, h.word.1 ∙ omega (arith, length-append h.got (byte ∷ [])));
-            some = omega (arith, length-append h.got (byte ∷ []));
-          }));
-      read =
-          subst (λ (b : List ℕ). HasRead judge.says b reading)
-          (append_assoc h.stream h.got (byte ∷ [])) read;
-      at_is = omega (arith, h.at_is, length-append bytes (byte ∷ []));
-      total_is =
-          omega (
-            arith,
-            h.total_is,
-            length-append h.stream h.got,
-            length-append h.stream (h.got ++ byte ∷ []),
-            length-append h.got (byte ∷ []),
-          );
-      fits = h.fits;
-    }
-more_read judge position bytes byte at total reading old (suc left) h read =
-    record {
-      front = h.front;
-      stream = h.stream;
-      header = h.header;
-      got = h.got ++ byte ∷ [];
-      split =
-          ap (λ (b : List ℕ). b ++ byte ∷ []) h.split
-          ∙ append_assoc (h.front ++ h.header) h.got (byte ∷ []);
-      chunks = h.chunks;
-      word = (h.word.0, h.word.1 ∙ omega (arith, length-append h.got (byte ∷ [])));
-      read =
-          subst (λ (b : List ℕ). HasRead judge.says b reading)
-          (append_assoc h.stream h.got (byte ∷ [])) read;
-      at_is = omega (arith, h.at_is, length-append bytes (byte ∷ []));
-      total_is =
-          omega (
-            arith,
-            h.total_is,
-            length-append h.stream h.got,
-            length-append h.stream (h.got ++ byte ∷ []),
-            length-append h.got (byte ∷ []),
-          );
-      fits = h.fits;
-    }
+module _ {M : Type 0} (judge : Judged M) (position : Position) where
+  -- the word 0 in an open record
+  open_cut : {messages : List M} {joining : Joining} (bytes stream body : List ℕ)
+      → IsStream bytes stream → (read : HasRead judge.says stream (reading_with messages joining))
+      → IsOpen read.last body
+      → EndsSide judge.says position bytes
+      (SideRefuses (place_in position (fault_at messages (length body) RecordCut)))
+  open_cut {messages} bytes stream body closed read is_open =
+      inr (inl (record {
+        stream = stream;
+        shown = fault_at messages (length body) RecordCut;
+        closed = closed;
+        cut =
+            record {
+              front = read.front;
+              last = read.last;
+              bodies = read.holds.0;
+              body = body;
+              split = read.split;
+              marks = read.holds.1;
+              is_open = is_open;
+              is = fault_after judge.says read.front messages (length body) RecordCut read.holds;
+            };
+        is = refl;
+      }))
 
-point_leads : {M : Type 0} (judge : Judged M) (position : Position) (bytes : List ℕ) (at total : ℕ)
-    (reading : Reading M) (point : Point) (byte : ℕ) → AreBytes (bytes ++ byte ∷ [])
-    → HasPoint judge.says position bytes at total reading point
-    → Leads (HasSide judge.says position) (EndsSide judge.says position) (bytes ++ byte ∷ [])
-    (side_next judge.decide (place_in position) (siding_in at total reading point) byte)
-point_leads judge position bytes at total reading (Length part) byte are h =
-    let more : bytes ++ byte ∷ [] ≡ h.front ++ (part ++ byte ∷ []) =
-    ap (λ (b : List ℕ). b ++ byte ∷ []) h.split ∙ append_assoc h.front part (byte ∷ []) in
-    leads_within IsPart IsWord (HasSide judge.says position) (EndsSide judge.says position)
-    (λ p. siding_in at total reading (Length p))
-    (counted (place_in position) at total reading) (part ++ byte ∷ []) (bytes ++ byte ∷ [])
-    (λ p is.
-    record {
-      front = h.front;
-      stream = h.stream;
-      split = more ∙ ap (λ (b : List ℕ). h.front ++ b) is.0;
-      short = is.1;
-      chunks = h.chunks;
-      read = h.read;
-      at_is = h.at_is;
-      total_is = h.total_is;
-      fits = h.fits;
-    })
-    (λ n word.
-    counted_leads judge position (bytes ++ byte ∷ []) h.front (part ++ byte ∷ []) h.stream at
-    total reading n more h.chunks h.read word h.at_is h.total_is h.fits)
-    (word_next part byte) (word_leads part byte h.short)
-point_leads judge position bytes at total reading (Chunk left) byte are h =
-    let carried = carried_bytes bytes h.front (h.header) h.got h.stream byte h.split h.chunks are in
-    leads_within (HasRead judge.says) (ShowsAsFirst judge.says) (HasSide judge.says position)
-    (EndsSide judge.says position)
-    (λ r. siding_in at total r (awaiting left))
-    (λ shown. Ends (SideRefuses (place_in position shown)))
-    ((h.stream ++ h.got) ++ byte ∷ []) (bytes ++ byte ∷ [])
-    (λ r read. more_read judge position bytes byte at total r reading left h read)
-    (λ shown shows. inr (inr (record {
-      front = h.front;
-      header = h.header;
-      got = h.got ++ byte ∷ [];
-      stream = h.stream;
-      left = left;
-      split =
-          ap (λ (b : List ℕ). b ++ byte ∷ []) h.split
-          ∙ append_assoc (h.front ++ h.header) h.got (byte ∷ []);
-      chunks = h.chunks;
-      word = (h.word.0, h.word.1 ∙ omega (arith, length-append h.got (byte ∷ [])));
-      some = omega (arith, length-append h.got (byte ∷ []));
-      shown = shown;
-      shows =
-          subst (λ (b : List ℕ). StreamShows judge.says b shown)
-          (append_assoc h.stream h.got (byte ∷ [])) shows.0;
-      is = refl;
-    })))
-    (stream_next judge.decide reading byte)
-    (stream_leads judge (h.stream ++ h.got) reading byte carried h.read)
+  closing_ends : (bytes stream : List ℕ) (closed : IsStream bytes stream) (messages : List M)
+      (joining : Joining) → HasRead judge.says stream (reading_with messages joining)
+      → position.before + length stream ≤ max_bytes
+      → EndsSide judge.says position bytes
+      (closing (place_in position) (position.start + length closed.front)
+      (position.before + length stream) messages joining)
+  closing_ends bytes stream closed messages Between read fits =
+      record {
+        stream = stream;
+        closed = closed;
+        holds = between_holds judge.says stream messages read;
+        at_is =
+            omega (
+              arith,
+              ap length closed.split,
+              length-append closed.front closed.last,
+              closed.closes.0,
+            );
+        total_is = refl;
+        fits = fits;
+      }
+  closing_ends bytes stream closed messages (Header body part) read fits =
+      open_cut bytes stream body closed read (inl (part, read.joined))
+  closing_ends bytes stream closed messages (Bytes body last left) read fits =
+      open_cut bytes stream body closed read (inr (last, left, read.joined))
 
-pub side_leads : {M : Type 0} (judge : Judged M) (position : Position) (bytes : List ℕ)
-    (s : Siding M) (byte : ℕ) → AreBytes (bytes ++ byte ∷ [])
-    → HasSide judge.says position bytes s
-    → Leads (HasSide judge.says position) (EndsSide judge.says position) (bytes ++ byte ∷ [])
-    (side_next judge.decide (place_in position) s byte)
-side_leads judge position bytes s byte are h =
-    point_leads judge position bytes s.at s.total s.reading s.point byte are h
+  counted_leads : (bytes front header stream : List ℕ) (reading : Reading M) (n : ℕ)
+      → bytes ≡ front ++ header → AreChunks front stream
+      → position.before + length stream ≤ max_bytes → HasRead judge.says stream reading
+      → IsWord header n
+      → Leads (HasSide judge.says position) (EndsSide judge.says position) bytes
+      (counted (place_in position) (position.start + length front)
+      (position.before + length stream) reading n)
+  counted_leads bytes front header stream reading zero split chunks fits read word =
+      closing_ends bytes stream
+      (record { front = front; last = header; split = split; chunks = chunks; closes = word })
+      reading.messages reading.joining read fits
+  counted_leads bytes front header stream reading (suc left) split chunks fits read word =
+      let at_is : position.start + length front + 4 + suc left
+      ≡ position.start + length bytes + suc left =
+      omega (arith, ap length split, length-append front header, word.0) in
+      by_test (nat_lt max_bytes (position.before + length stream + suc left))
+      (λ over. rw over (inl (record {
+        front = front;
+        last = header;
+        stream = stream;
+        count = suc left;
+        split = split;
+        chunks = chunks;
+        word = word;
+        some = omega arith;
+        passes = ltb-true _ _ over;
+        is = refl;
+      })))
+      (λ over. rw over (record {
+        stream = stream;
+        reading = reading;
+        read = read;
+        begins =
+            inr (record {
+              front = front;
+              header = header;
+              got = [];
+              carried = stream;
+              left = left;
+              split = split ∙ sym (append-nil (front ++ header));
+              chunks = chunks;
+              word = (word.0, word.1 ∙ omega arith);
+              stream_is = sym (append-nil stream);
+              fits = ltb-false _ _ over;
+            });
+        is = same_siding _ at_is refl;
+      }))
 
-pub nothing_taken : {M : Type 0} (judge : Judged M) (position : Position)
-    → position.before ≤ max_bytes → HasSide judge.says position [] (side_start position)
-nothing_taken judge position fits =
-    record {
-      front = [];
-      stream = [];
-      split = refl;
-      short = omega arith;
-      chunks = record { chunks = []; joined = refl; carried = refl };
-      read = nothing_read judge.says;
-      at_is = omega arith;
-      total_is = omega arith;
-      fits = fits;
-    }
+  -- a byte of a chunk that shows no fault
+  more_read : (bytes stream : List ℕ) (byte : ℕ) (w : WithinChunk position.before bytes stream)
+      (reading : Reading M) → HasRead judge.says (stream ++ byte ∷ []) reading → (left : ℕ)
+      → w.left ≡ left
+      → HasSide judge.says position (bytes ++ byte ∷ [])
+      (siding_in (position.start + length bytes + suc left)
+      (position.before + length stream + suc left) reading (awaiting left))
+  more_read bytes stream byte w reading read zero is =
+      let size = length-append w.got (byte ∷ []) in
+      record {
+        stream = stream ++ byte ∷ [];
+        reading = reading;
+        read = read;
+        begins =
+            inl (record {
+              front = bytes ++ byte ∷ [];
+              part = [];
+              split = sym (append-nil (bytes ++ byte ∷ []));
+              short = omega arith;
+              chunks =
+                  AreChunks-snoc (bytes ++ byte ∷ []) (stream ++ byte ∷ []) w.front w.carried
+                  w.header (w.got ++ byte ∷ []) (simp (w.split, append_assoc))
+                  (simp (w.stream_is, append_assoc)) w.chunks
+                  (w.word.0, w.word.1 ∙ omega arith) (omega arith);
+              fits = omega (arith, w.fits, length-append stream (byte ∷ []));
+            });
+        is =
+            same_siding _ (omega (arith, length-append bytes (byte ∷ [])))
+            (omega (arith, length-append stream (byte ∷ [])));
+      }
+  more_read bytes stream byte w reading read (suc left) is =
+      record {
+        stream = stream ++ byte ∷ [];
+        reading = reading;
+        read = read;
+        begins =
+            inr (record {
+              front = w.front;
+              header = w.header;
+              got = w.got ++ byte ∷ [];
+              carried = w.carried;
+              left = left;
+              split = simp (w.split, append_assoc);
+              chunks = w.chunks;
+              word = (w.word.0, w.word.1 ∙ omega (arith, length-append w.got (byte ∷ [])));
+              stream_is = simp (w.stream_is, append_assoc);
+              fits = omega (arith, w.fits, length-append stream (byte ∷ []));
+            });
+        is =
+            same_siding _ (omega (arith, length-append bytes (byte ∷ [])))
+            (omega (arith, length-append stream (byte ∷ [])));
+      }
 
--- ---- the other way round
+  begun_leads : (bytes stream : List ℕ) (b : BeginsStream position.before bytes stream)
+      (reading : Reading M) (byte : ℕ) → AreBytes (bytes ++ byte ∷ [])
+      → HasRead judge.says stream reading
+      → Leads (HasSide judge.says position) (EndsSide judge.says position) (bytes ++ byte ∷ [])
+      (side_next judge.decide (place_in position) (side_state position bytes stream reading b) byte)
+  begun_leads bytes stream (inl b) reading byte are read =
+      let more : bytes ++ byte ∷ [] ≡ b.front ++ (b.part ++ byte ∷ []) =
+      rw (b.split, append_assoc) in
+      leads_within IsPart IsWord (HasSide judge.says position) (EndsSide judge.says position)
+      (λ p.
+      siding_in (position.start + length b.front) (position.before + length stream) reading
+      (Length p))
+      (counted (place_in position) (position.start + length b.front)
+      (position.before + length stream) reading)
+      (b.part ++ byte ∷ []) (bytes ++ byte ∷ [])
+      (λ p is.
+      record {
+        stream = stream;
+        reading = reading;
+        read = read;
+        begins =
+            inl (record {
+              front = b.front;
+              part = p;
+              split = more ∙ ap (λ (l : List ℕ). b.front ++ l) is.0;
+              short = is.1;
+              chunks = b.chunks;
+              fits = b.fits;
+            });
+        is = refl;
+      })
+      (λ n word.
+      counted_leads (bytes ++ byte ∷ []) b.front (b.part ++ byte ∷ []) stream reading n more
+      b.chunks b.fits read word)
+      (word_next b.part byte) (word_leads b.part byte b.short)
+  begun_leads bytes stream (inr w) reading byte are read =
+      let same : stream ++ byte ∷ [] ≡ w.carried ++ (w.got ++ byte ∷ []) =
+      rw (w.stream_is, append_assoc) in
+      let size = length-append w.got (byte ∷ []) in
+      leads_within (HasRead judge.says) (ShowsAsFirst judge.says) (HasSide judge.says position)
+      (EndsSide judge.says position)
+      (λ r.
+      siding_in (position.start + length bytes + suc w.left)
+      (position.before + length stream + suc w.left) r (awaiting w.left))
+      (λ shown. Ends (SideRefuses (place_in position shown)))
+      (stream ++ byte ∷ []) (bytes ++ byte ∷ [])
+      (λ r more. more_read bytes stream byte w r more w.left refl)
+      (λ shown shows. inr (inr (record {
+        front = w.front;
+        header = w.header;
+        got = w.got ++ byte ∷ [];
+        stream = w.carried;
+        left = w.left;
+        split = simp (w.split, append_assoc);
+        chunks = w.chunks;
+        word = (w.word.0, w.word.1 ∙ omega arith);
+        some = omega arith;
+        shown = shown;
+        shows = rw same at shows.0;
+        is = refl;
+      })))
+      (stream_next judge.decide reading byte)
+      (stream_leads judge stream reading byte (carried_bytes bytes stream byte w are) read)
 
-pub length_runs : {M : Type 0} (judge : Judged M) (position : Position) (at total n : ℕ)
-    (reading : Reading M) (header : List ℕ) → IsWord header n
-    → after (side_next judge.decide (place_in position))
-    (Runs (siding_in at total reading (Length []))) header
-    ≡ landed (counted (place_in position) at total reading n)
-length_runs judge position at total n reading header word =
-    nested_stops word_next (side_next judge.decide (place_in position))
-    (λ p. siding_in at total reading (Length p))
-    (counted (place_in position) at total reading) (λ s byte. refl) header []
-    (number header) (word_stops header word.0)
-    ∙ ap (λ m. landed (counted (place_in position) at total reading m)) word.1
+  pub side_leads : (bytes : List ℕ) (s : Siding M) (byte : ℕ) → AreBytes (bytes ++ byte ∷ [])
+      → HasSide judge.says position bytes s
+      → Leads (HasSide judge.says position) (EndsSide judge.says position) (bytes ++ byte ∷ [])
+      (side_next judge.decide (place_in position) s byte)
+  side_leads bytes s byte are h =
+      rw h.is (begun_leads bytes h.stream h.begins h.reading byte are h.read)
 
--- a chunk's length word within the limit
-pub opens : {M : Type 0} (judge : Judged M) (position : Position) (at total n : ℕ)
-    (reading : Reading M) (header : List ℕ) → IsWord header n → 0 < n → total + n ≤ max_bytes
-    → after (side_next judge.decide (place_in position))
-    (Runs (siding_in at total reading (Length []))) header
-    ≡ Runs (siding_in (at + 4 + n) (total + n) reading (awaiting n))
-opens judge position at total zero reading header word some fits = absurd (omega arith)
-opens judge position at total (suc left) reading header word some fits =
-    length_runs judge position at total (suc left) reading header word
-    ∙ ap
-    (λ b.
-    landed (cond b (Ends (SideRefuses (file_fault at TooManyBytes)))
-    (Goes (siding_in (at + 4 + suc left) (total + suc left) reading
-    (Chunk left))))) (le-ltb max_bytes (total + suc left) fits)
+  pub nothing_taken : position.before ≤ max_bytes
+      → HasSide judge.says position [] (siding_from position.start position.before)
+  nothing_taken fits =
+      record {
+        stream = [];
+        reading = unread;
+        read = nothing_read judge.says;
+        begins =
+            inl (record {
+              front = [];
+              part = [];
+              split = refl;
+              short = omega arith;
+              chunks = record { chunks = []; joined = refl; carried = refl };
+              fits = omega arith;
+            });
+        is = same_siding _ (omega arith) (omega arith);
+      }
 
-pub chunk_runs : {M : Type 0} (judge : Judged M) (position : Position) (at total : ℕ)
-    (r t : Reading M) (header got : List ℕ) (left : ℕ) → IsWord header (length got + left)
-    → 0 < length got + left → total + (length got + left) ≤ max_bytes
-    → after (stream_next judge.decide) (Runs r) got ≡ Runs t
-    → after (side_next judge.decide (place_in position)) (Runs (siding_in at total r (Length [])))
-    (header ++ got)
-    ≡ Runs (siding_in (at + 4 + (length got + left)) (total + (length got + left)) t
-    (awaiting left))
-chunk_runs judge position at total r t header got left word some fits e =
-    after-append (side_next judge.decide (place_in position))
-    (Runs (siding_in at total r (Length []))) header got
-    ∙ ap (λ run. after (side_next judge.decide (place_in position)) run got)
-    (opens judge position at total (length got + left) r header word some fits)
-    ∙ counted_runs (stream_next judge.decide) (side_next judge.decide (place_in position))
-    (λ n s. siding_in (at + 4 + (length got + left)) (total + (length got + left)) s
-    (awaiting n)) (λ _ shown. Ends (SideRefuses (place_in position shown)))
-    (λ n s byte. refl) got (length got + left) left r t refl e
+  -- ---- the other way round
 
-pub chunk_stops : {M : Type 0} (judge : Judged M) (position : Position) (at total : ℕ)
-    (r : Reading M) (header got : List ℕ) (left : ℕ) (shown : RecordFault)
-    → IsWord header (length got + left) → 0 < length got + left
-    → total + (length got + left) ≤ max_bytes
-    → after (stream_next judge.decide) (Runs r) got ≡ Stops shown
-    → after (side_next judge.decide (place_in position)) (Runs (siding_in at total r (Length [])))
-    (header ++ got) ≡ Stops (SideRefuses (place_in position shown))
-chunk_stops judge position at total r header got left shown word some fits e =
-    after-append (side_next judge.decide (place_in position))
-    (Runs (siding_in at total r (Length []))) header got
-    ∙ ap (λ run. after (side_next judge.decide (place_in position)) run got)
-    (opens judge position at total (length got + left) r header word some fits)
-    ∙ counted_stops (stream_next judge.decide) (side_next judge.decide (place_in position))
-    (λ n s. siding_in (at + 4 + (length got + left)) (total + (length got + left)) s
-    (awaiting n)) (λ _ shown. Ends (SideRefuses (place_in position shown)))
-    (λ n s byte. refl) got (length got + left) left r shown refl e
+  -- the machine, from a state and from a side's start
+  abbrev pub side_after : Siding M → List ℕ → Run (Siding M) (SideEnd M)
+  side_after s = after (side_next judge.decide (place_in position)) (Runs s)
 
-chunks_run : {M : Type 0} (judge : Judged M) (position : Position) (chunks : List (List ℕ))
-    (at total end sum : ℕ) (r t : Reading M) (front : List ℕ) → Joins IsChunk front chunks
-    → after (stream_next judge.decide) (Runs r) (concat chunks) ≡ Runs t
-    → total + length (concat chunks) ≤ max_bytes → end ≡ at + length front
-    → sum ≡ total + length (concat chunks)
-    → after (side_next judge.decide (place_in position)) (Runs (siding_in at total r (Length [])))
-    front ≡ Runs (siding_in end sum t (Length []))
-chunks_run judge position [] at total end sum r t front h e fits end_is sum_is =
-    let same : r ≡ t = cc in
-    let at_end : at ≡ end = omega (arith, ap length h) in
-    let all : total ≡ sum = omega arith in
-    ap
-    (after (side_next judge.decide (place_in position))
-    (Runs (siding_in at total r (Length [])))) h
-    ∙ ap (λ u. Runs (siding_in at total u (Length []))) same
-    ∙ ap₂ (λ n m. Runs (siding_in n m t (Length []))) at_end all
-chunks_run judge position (chunk ∷ chunks) at total end sum r t front h e fits end_is sum_is =
-    let parts = length-append chunk (concat chunks) in
-    let mid = ran_to (stream_next judge.decide) (Runs r) chunk (concat chunks) t e in
-    let whole : length chunk ≡ length chunk + 0 = omega arith in
-    let some : 0 < length chunk + 0 = omega (arith, h.3.some) in
-    let first : total + (length chunk + 0) ≤ max_bytes = omega arith in
-    ap
-    (after (side_next judge.decide (place_in position))
-    (Runs (siding_in at total r (Length []))))
-    (h.2 ∙ ap (λ (b : List ℕ). b ++ h.1) h.3.split)
-    ∙ after-append (side_next judge.decide (place_in position))
-    (Runs (siding_in at total r (Length [])))
-    (h.3.header ++ chunk) h.1
-    ∙ ap (λ run. after (side_next judge.decide (place_in position)) run h.1) (chunk_runs judge
-    position at total r mid.0 h.3.header chunk 0 (h.3.word.0, h.3.word.1 ∙ whole) some first
-    mid.1)
-    ∙ chunks_run judge position chunks (at + 4 + (length chunk + 0)) (total + (length chunk + 0))
-    end sum mid.0 t h.1 h.4
-    (sym (after-append (stream_next judge.decide) (Runs r) chunk (concat chunks)
-    ∙ ap (λ run. after (stream_next judge.decide) run (concat chunks)) mid.1) ∙ e)
-    (omega arith)
-    (omega (
-      arith,
-      ap length h.2,
-      length-append h.0 h.1,
-      ap length h.3.split,
-      length-append h.3.header chunk,
-      h.3.word.0,
-    )) (omega arith)
+  abbrev pub side_taken : List ℕ → Run (Siding M) (SideEnd M)
+  side_taken = side_after (siding_from position.start position.before)
 
--- after whole chunks
-stream_front : {M : Type 0} (judge : Judged M) (position : Position) (front stream : List ℕ)
-    (reading : Reading M) (at total : ℕ) → AreChunks front stream
-    → after (stream_next judge.decide) (Runs unread) stream ≡ Runs reading
-    → position.before + length stream ≤ max_bytes → at ≡ position.start + length front
-    → total ≡ position.before + length stream
-    → after (side_next judge.decide (place_in position)) (Runs (side_start position)) front
-    ≡ Runs (siding_in at total reading (Length []))
-stream_front judge position front stream reading at total chunks e fits at_is total_is =
-    let size = ap length chunks.carried in
-    chunks_run judge position chunks.chunks position.start position.before at total unread reading
-    front chunks.joined
-    (ap (after (stream_next judge.decide) (Runs unread)) (sym chunks.carried) ∙ e) (omega arith)
-    at_is (omega arith)
+  -- at a length word
+  abbrev pub at_length : ℕ → ℕ → Reading M → Siding M
+  at_length at total reading = siding_in at total reading (Length [])
 
-later : {M : Type 0} (judge : Judged M) (position : Position) (bytes front back stream : List ℕ)
-    (reading : Reading M) (at total : ℕ) → bytes ≡ front ++ back → AreChunks front stream
-    → after (stream_next judge.decide) (Runs unread) stream ≡ Runs reading
-    → position.before + length stream ≤ max_bytes → at ≡ position.start + length front
-    → total ≡ position.before + length stream
-    → after (side_next judge.decide (place_in position)) (Runs (side_start position)) bytes
-    ≡ after (side_next judge.decide (place_in position))
-    (Runs (siding_in at total reading (Length []))) back
-later judge position bytes front back stream reading at total split chunks e fits at_is total_is =
-    ap (after (side_next judge.decide (place_in position)) (Runs (side_start position))) split
-    ∙ after-append (side_next judge.decide (place_in position)) (Runs (side_start position))
-    front back
-    ∙ ap (λ run. after (side_next judge.decide (place_in position)) run back)
-    (stream_front judge position front stream reading at total chunks e fits at_is total_is)
+  pub length_runs : (at total n : ℕ) (reading : Reading M) (header : List ℕ) → IsWord header n
+      → side_after (at_length at total reading) header
+      ≡ landed (counted (place_in position) at total reading n)
+  length_runs at total n reading =
+      word_ends (side_next judge.decide (place_in position))
+      (λ p. siding_in at total reading (Length p)) (counted (place_in position) at total reading)
+      (λ s byte. refl)
 
-point_runs : {M : Type 0} (judge : Judged M) (position : Position) (bytes : List ℕ) (at total : ℕ)
-    (reading : Reading M) (point : Point)
-    → HasPoint judge.says position bytes at total reading point
-    → after (side_next judge.decide (place_in position)) (Runs (side_start position)) bytes
-    ≡ Runs (siding_in at total reading point)
-point_runs judge position bytes at total reading (Length part) h =
-    later judge position bytes h.front part h.stream reading at total h.split h.chunks
-    (stream_runs judge h.stream reading h.read) (omega (arith, h.fits, h.total_is)) h.at_is
-    h.total_is
-    ∙ nested_runs word_next (side_next judge.decide (place_in position))
-    (λ p. siding_in at total reading (Length p))
-    (counted (place_in position) at total reading) (λ s byte. refl) part [] part
-    (word_runs part h.short)
-point_runs judge position bytes at total reading (Chunk left) h =
-    let all = stream_runs judge (h.stream ++ h.got) reading h.read in
-    let mid = ran_to (stream_next judge.decide) (Runs unread) h.stream h.got reading all in
-    let sizes = length-append h.stream h.got in
-    let at_is : position.start + length h.front + 4 + (length h.got + suc left) ≡ at =
-    omega (
-      arith,
-      h.at_is,
-      ap length h.split,
-      length-append (h.front ++ h.header) h.got,
-      length-append h.front h.header,
-      h.word.0,
-    ) in
-    let total_is : position.before + length h.stream + (length h.got + suc left) ≡ total =
-    omega (arith, h.total_is) in
-    later judge position bytes h.front (h.header ++ h.got) h.stream mid.0
-    (position.start + length h.front) (position.before + length h.stream)
-    (h.split ∙ append_assoc h.front h.header h.got) h.chunks mid.1
-    (omega (arith, h.fits, h.total_is)) refl refl
-    ∙ chunk_runs judge position (position.start + length h.front)
-    (position.before + length h.stream) mid.0 reading h.header h.got (suc left) h.word
-    (omega arith) (omega (arith, h.fits))
-    (sym (after-append (stream_next judge.decide) (Runs unread) h.stream h.got
-    ∙ ap (λ run. after (stream_next judge.decide) run h.got) mid.1) ∙ all)
-    ∙ ap₂ (λ n m. Runs (siding_in n m reading (Chunk left))) at_is
-    total_is
+  -- a chunk's length word within the limit
+  opens : (at total n : ℕ) (reading : Reading M) (header : List ℕ) → IsWord header n → 0 < n
+      → total + n ≤ max_bytes
+      → side_after (at_length at total reading) header
+      ≡ Runs (siding_in (at + 4 + n) (total + n) reading (awaiting n))
+  opens at total zero reading header word some fits = absurd (omega arith)
+  opens at total (suc left) reading header word some fits =
+      length_runs at total (suc left) reading header word
+      ∙ rw (le-ltb max_bytes (total + suc left) fits)
 
-pub side_runs : {M : Type 0} (judge : Judged M) (position : Position) (bytes : List ℕ)
-    (s : Siding M) → HasSide judge.says position bytes s
-    → after (side_next judge.decide (place_in position)) (Runs (side_start position)) bytes ≡ Runs s
-side_runs judge position bytes s h =
-    point_runs judge position bytes s.at s.total s.reading s.point h
+  -- a stream's machine in a chunk
+  pub in_chunk : (at total : ℕ)
+      → Nested (stream_next judge.decide) (side_next judge.decide (place_in position))
+      (λ n r. siding_in at total r (awaiting n))
+      (λ n shown. Ends (SideRefuses (place_in position shown))) AnyFault RefusedSide
+  in_chunk at total =
+      record {
+        commutes = λ n r byte. refl;
+        ends = λ n shown any. (SideRefuses (place_in position shown), tt, refl);
+      }
 
--- the stream's word 0
-pub side_closes : {M : Type 0} (judge : Judged M) (position : Position) (bytes : List ℕ)
-    (at total : ℕ) (messages : List M) → ClosesSide judge.says position bytes at total messages
-    → after (side_next judge.decide (place_in position)) (Runs (side_start position)) bytes
-    ≡ Stops (SideCloses at total messages)
-side_closes {M} judge position bytes at total messages h =
-    let c = h.closed in
-    let whole : Reading M = reading_with messages Between in
-    let at_is : position.start + length c.front + 4 ≡ at =
-    omega (arith, h.at_is, ap length c.split, length-append c.front c.last, c.closes.0) in
-    later judge position bytes c.front c.last h.stream whole (position.start + length c.front)
-    (position.before + length h.stream) c.split c.chunks
-    (held_runs judge h.stream messages h.holds) (omega (arith, h.fits, h.total_is)) refl refl
-    ∙ length_runs judge position (position.start + length c.front)
-    (position.before + length h.stream) 0 whole c.last c.closes
-    ∙ ap₂ (λ n m. Stops (SideCloses n m messages)) at_is (sym h.total_is)
+  chunk_runs : (at total : ℕ) (r t : Reading M) (bytes header got : List ℕ) (left : ℕ)
+      → bytes ≡ header ++ got → IsWord header (length got + left) → 0 < length got + left
+      → total + (length got + left) ≤ max_bytes → stream_after judge r got ≡ Runs t
+      → side_after (at_length at total r) bytes
+      ≡ Runs (siding_in (at + 4 + (length got + left)) (total + (length got + left)) t
+      (awaiting left))
+  chunk_runs at total r t bytes header got left split word some fits e =
+      after_two (side_next judge.decide (place_in position)) (Runs (at_length at total r)) header
+      got split (opens at total (length got + left) r header word some fits)
+      (runs_inside (in_chunk (at + 4 + (length got + left)) (total + (length got + left))) got left
+      r e)
+
+  chunks_run : (chunks : List (List ℕ)) (at total end sum : ℕ) (r t : Reading M)
+      (front : List ℕ) → Joins IsChunk front chunks → stream_after judge r (concat chunks) ≡ Runs t
+      → total + length (concat chunks) ≤ max_bytes → end ≡ at + length front
+      → sum ≡ total + length (concat chunks)
+      → side_after (at_length at total r) front ≡ Runs (at_length end sum t)
+  chunks_run [] at total end sum r t front h e fits end_is sum_is =
+      let same : r ≡ t = cc in
+      rw (h, same) (ap Runs (same_siding _ (omega (arith, ap length h)) (omega arith)))
+  chunks_run (chunk ∷ chunks) at total end sum r t front h e fits end_is sum_is =
+      let parts = length-append chunk (concat chunks) in
+      let mid = ran_to (stream_next judge.decide) (Runs r) chunk (concat chunks) t e in
+      let whole : length chunk ≡ length chunk + 0 = omega arith in
+      after_two (side_next judge.decide (place_in position)) (Runs (at_length at total r)) h.0 h.1
+      h.2
+      (chunk_runs at total r mid.0 h.0 h.3.header chunk 0 h.3.split
+      (h.3.word.0, h.3.word.1 ∙ whole) (omega (arith, h.3.some)) (omega arith) mid.1)
+      (chunks_run chunks (at + 4 + (length chunk + 0)) (total + (length chunk + 0)) end sum mid.0 t
+      h.1 h.4 (rw (after-append, mid.1) at e) (omega arith)
+      (omega (
+        arith,
+        ap length h.2,
+        length-append h.0 h.1,
+        ap length h.3.split,
+        length-append h.3.header chunk,
+        h.3.word.0,
+      )) (omega arith))
+
+  -- after whole chunks
+  stream_front : (front stream : List ℕ) (reading : Reading M) → AreChunks front stream
+      → stream_after judge unread stream ≡ Runs reading
+      → position.before + length stream ≤ max_bytes
+      → side_taken front
+      ≡ Runs (at_length (position.start + length front) (position.before + length stream) reading)
+  stream_front front stream reading chunks e fits =
+      let size = ap length chunks.carried in
+      chunks_run chunks.chunks position.start position.before (position.start + length front)
+      (position.before + length stream) unread reading front chunks.joined
+      (rw chunks.carried at e) (omega arith) refl (omega arith)
+
+  begun_runs : (bytes stream : List ℕ) (b : BeginsStream position.before bytes stream)
+      (reading : Reading M) → HasRead judge.says stream reading
+      → side_taken bytes ≡ Runs (side_state position bytes stream reading b)
+  begun_runs bytes stream (inl b) reading read =
+      let at : ℕ = position.start + length b.front in
+      let total : ℕ = position.before + length stream in
+      after_two (side_next judge.decide (place_in position))
+      (Runs (siding_from position.start position.before)) b.front b.part b.split
+      (stream_front b.front stream reading b.chunks (stream_runs judge stream reading read) b.fits)
+      (word_goes (side_next judge.decide (place_in position))
+      (λ p. siding_in at total reading (Length p)) (counted (place_in position) at total reading)
+      (λ s byte. refl) b.part b.short)
+  begun_runs bytes stream (inr w) reading read =
+      let all : stream_after judge unread (w.carried ++ w.got) ≡ Runs reading =
+      rw w.stream_is at (stream_runs judge stream reading read) in
+      let mid = ran_to (stream_next judge.decide) (Runs unread) w.carried w.got reading all in
+      let sizes = length-append w.carried w.got in
+      let total_is = ap length w.stream_is in
+      after_two (side_next judge.decide (place_in position))
+      (Runs (siding_from position.start position.before)) w.front (w.header ++ w.got)
+      (w.split ∙ append_assoc w.front w.header w.got)
+      (stream_front w.front w.carried mid.0 w.chunks mid.1 (omega (arith, w.fits)))
+      (chunk_runs (position.start + length w.front) (position.before + length w.carried) mid.0
+      reading (w.header ++ w.got) w.header w.got (suc w.left) refl w.word (omega arith)
+      (omega (arith, w.fits)) (rw (after-append, mid.1) at all)
+      ∙ ap Runs (same_siding _
+      (omega (
+        arith,
+        ap length w.split,
+        length-append (w.front ++ w.header) w.got,
+        length-append w.front w.header,
+        w.word.0,
+      )) (omega arith)))
+
+  pub side_runs : (bytes : List ℕ) (s : Siding M) → HasSide judge.says position bytes s
+      → side_taken bytes ≡ Runs s
+  side_runs bytes s h = rw h.is (begun_runs bytes h.stream h.begins h.reading h.read)
+
+  -- the stream's word 0
+  pub side_closes : (bytes : List ℕ) (at total : ℕ) (messages : List M)
+      → ClosesSide judge.says position bytes at total messages
+      → side_taken bytes ≡ Stops (SideCloses at total messages)
+  side_closes bytes at total messages h =
+      let c = h.closed in
+      let whole : Reading M = reading_with messages Between in
+      let at_is : position.start + length c.front + 4 ≡ at =
+      omega (arith, h.at_is, ap length c.split, length-append c.front c.last, c.closes.0) in
+      after_two (side_next judge.decide (place_in position))
+      (Runs (siding_from position.start position.before)) c.front c.last c.split
+      (stream_front c.front h.stream whole c.chunks (held_runs judge h.stream messages h.holds)
+      (omega (arith, h.fits, h.total_is)))
+      (length_runs (position.start + length c.front) (position.before + length h.stream) 0 whole
+      c.last c.closes
+      ∙ ap₂ (λ n m. Stops (SideCloses n m messages)) at_is (sym h.total_is))

@@ -1,5 +1,5 @@
 -- The machine for a stream against records and messages.
-use Rattle.capture3.proofs.Common.{◌≡◌, inl, inr, ℕ, suc, List, [], ◌∷◌, ◌++◌, length, refl, sym, ap, subst, ◌∙◌, append_assoc, append-nil, arith, Result, Ok, Err, Runs, Stops, landed, after, Leads, leads_within, after-append, nested_runs, nested_stops, Joins-snoc, AreBytes, Reason, RecordTooLong, Stop, Reading, judged, recorded, stream_next, unread, joined_body, reading_with}
+use Rattle.capture3.proofs.Common.{◌≡◌, inl, inr, ℕ, suc, List, [], ◌∷◌, ◌++◌, length, refl, sym, ap, subst, ◌∙◌, append_assoc, append-nil, arith, Result, Ok, Err, Run, Runs, Stops, landed, after, Leads, leads_within, after-append, nested_runs, nested_stops, Joins-snoc, AreBytes, Reason, RecordTooLong, Stop, Reading, judged, recorded, stream_next, unread, joined_body, reading_with}
 use Rattle.record_mark.specs.RecordMark.{IsRecord, IsUnfinished, Marks}
 use Rattle.record_mark.specs.Joining.{Joining, Between, Header, Bytes, Joined, Whole, TooLong, join_next, HasJoined, EndsRecord}
 use Rattle.record_mark.proofs.Joins.{join_leads, record_stops, joining_runs}
@@ -22,6 +22,10 @@ ShowsAsFirst {M} judge stream fault =
     StreamShows judge stream fault
     × ((rest : List ℕ)
     → (messages : List M) × FirstRecordFault judge (stream ++ rest) messages fault)
+
+-- the machine from a state on
+abbrev pub stream_after : {M : Type 0} → Judged M → Reading M → List ℕ → Run (Reading M) RecordFault
+stream_after judge s = after (stream_next judge.decide) (Runs s)
 
 -- as many messages as bodies
 as_many_messages : {M : Type 0} (judge : Judgement M) (bodies : List (List ℕ))
