@@ -187,14 +187,7 @@ module _ (context : Context) where
           fits = omega (arith, ltb-false max_bytes (total + suc left) over);
         })),
         same_mixing _
-            (omega (
-              arith,
-              ap length b.split,
-              length-append (b.front ++ b.word) b.header,
-              length-append b.front b.word,
-              b.counts.0,
-              b.sided.0,
-            ))
+            (omega (arith, ap length b.split, length-append {A = ℕ}))
             (omega arith) (sym (with_more-nil (gathered b.chunks) b.side)),
       ))
 
@@ -482,17 +475,7 @@ chunks_land (chunk ∷ chunks) at total end sum streams front h fits end_is sum_
     (chunks_land chunks (at + 4 + 4 + (length chunk.bytes + 0)) (total + (length chunk.bytes + 0))
     end sum (with_more streams chunk.side chunk.bytes) h.1 h.4
     (omega arith)
-    (omega (
-      arith,
-      ap length h.2,
-      length-append h.0 h.1,
-      ap length h.3.split,
-      length-append h.3.word h.3.rest,
-      ap length c.split,
-      length-append c.header chunk.bytes,
-      h.3.sided.0,
-      c.word.0,
-    ))
+    (omega (arith, ap length h.2, length-append {A = ℕ}, ap length h.3.split, ap length c.split))
     (omega arith))
 
 module _ (context : Context) where
@@ -536,15 +519,7 @@ module _ (context : Context) where
       (gathered w.chunks) w.side w.word w.header w.got (suc w.left) w.sided w.counts (omega arith)
       w.fits
       ∙ ap Runs (same_mixing _
-      (omega (
-        arith,
-        ap length w.split,
-        length-append (w.front ++ w.word ++ w.header) w.got,
-        length-append (w.front ++ w.word) w.header,
-        length-append w.front w.word,
-        w.sided.0,
-        w.counts.0,
-      )) refl refl))
+      (omega (arith, ap length w.split, length-append {A = ℕ})) refl refl))
 
   pub mixed_runs : (bytes : List ℕ) (s : Mixing) → HasMixed context bytes s
       → mixed_taken context bytes ≡ Runs s

@@ -31,15 +31,7 @@ chunk_or : (at total end sum : ℕ) (streams : Streams) (chunk : SidedChunk) (by
 chunk_or at total end sum streams chunk bytes h end_is sum_is =
     let c = h.chunked in
     let there : at + 4 + 4 + length chunk.bytes ≡ end =
-    omega (
-      arith,
-      ap length h.split,
-      length-append h.word h.rest,
-      h.sided.0,
-      ap length c.split,
-      length-append c.header chunk.bytes,
-      c.word.0,
-    ) in
+    omega (arith, ap length h.split, length-append {A = ℕ}, ap length c.split) in
     let whole : length chunk.bytes ≡ length chunk.bytes + 0 = omega arith in
     rw (h.split, after_side at total streams chunk.side h.word h.rest h.sided)
     (comes_on mixed_next (Runs (mixing_in (at + 4) total streams (SideLength chunk.side [])))
@@ -65,13 +57,7 @@ chunks_or (chunk ∷ chunks) at total end sum streams front h end_is sum_is =
     (λ _. chunks_or chunks (at + length h.0) (total + length chunk.bytes) end sum
     (with_more streams chunk.side chunk.bytes) h.1 h.4
     (omega (arith, end_is, ap length h.2, length-append h.0 h.1))
-    (omega (
-      arith,
-      sum_is,
-      length-append (of_side Client chunk.side chunk.bytes) (carried_by Client chunks),
-      length-append (of_side Server chunk.side chunk.bytes) (carried_by Server chunks),
-      size_of chunk.side chunk.bytes,
-    )))
+    (omega (arith, sum_is, length-append {A = ℕ}, size_of chunk.side chunk.bytes)))
 
 module _ (context : Context) where
   -- after whole chunks comes more

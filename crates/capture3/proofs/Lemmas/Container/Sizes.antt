@@ -15,12 +15,8 @@ chunks_size (chunk ∷ chunks) bytes (front, rest, split, is, joined) =
       arith,
       chunks_size chunks rest joined,
       ap length split,
-      length-append front rest,
+      length-append {A = ℕ},
       ap length is.split,
-      length-append is.header chunk,
-      is.word.0,
-      is.some,
-      length-append chunk (concat chunks),
     )
 
 carried_size : (bytes stream : List ℕ) → AreChunks bytes stream → length bytes ≤ 5 * length stream
@@ -34,7 +30,6 @@ stream_size bytes stream h =
       carried_size h.front stream h.chunks,
       ap length h.split,
       length-append h.front h.last,
-      h.closes.0,
     )
 
 begun_size : (before : ℕ) (bytes stream : List ℕ) → BeginsStream before bytes stream
@@ -45,20 +40,14 @@ begun_size before bytes stream (inl b) =
       carried_size b.front stream b.chunks,
       ap length b.split,
       length-append b.front b.part,
-      b.short,
-      b.fits,
     )
 begun_size before bytes stream (inr b) =
     omega (
       arith,
       carried_size b.front b.carried b.chunks,
       ap length b.split,
-      length-append (b.front ++ b.header) b.got,
-      length-append b.front b.header,
-      b.word.0,
+      length-append {A = ℕ},
       ap length b.stream_is,
-      length-append b.carried b.got,
-      b.fits,
     )
 
 -- each byte of a stream comes with at most four of a side word and four of a length word
@@ -70,16 +59,9 @@ sided_size (chunk ∷ chunks) bytes (front, rest, split, is, joined) =
       arith,
       sided_size chunks rest joined,
       ap length split,
-      length-append front rest,
+      length-append {A = ℕ},
       ap length is.split,
-      length-append is.word is.rest,
-      is.sided.0,
       ap length is.chunked.split,
-      length-append is.chunked.header chunk.bytes,
-      is.chunked.word.0,
-      is.chunked.some,
-      length-append (of_side Client chunk.side chunk.bytes) (carried_by Client chunks),
-      length-append (of_side Server chunk.side chunk.bytes) (carried_by Server chunks),
       size_of chunk.side chunk.bytes,
     )
 
@@ -92,7 +74,6 @@ mixed_size bytes streams h =
       ap size h.carried,
       ap length h.split,
       length-append h.front h.last,
-      h.closes.0,
     )
 
 mixed_begun_size : (before : ℕ) (bytes : List ℕ) → BeginsMixed before bytes
@@ -103,32 +84,11 @@ mixed_begun_size before bytes (inl b) =
       sided_size b.chunks b.front b.joined,
       ap length b.split,
       length-append b.front b.part,
-      b.short,
-      b.fits,
     )
 mixed_begun_size before bytes (inr (inl b)) =
-    omega (
-      arith,
-      sided_size b.chunks b.front b.joined,
-      ap length b.split,
-      length-append (b.front ++ b.word) b.part,
-      length-append b.front b.word,
-      b.sided.0,
-      b.short,
-      b.fits,
-    )
+    omega (arith, sided_size b.chunks b.front b.joined, ap length b.split, length-append {A = ℕ})
 mixed_begun_size before bytes (inr (inr b)) =
-    omega (
-      arith,
-      sided_size b.chunks b.front b.joined,
-      ap length b.split,
-      length-append (b.front ++ b.word ++ b.header) b.got,
-      length-append (b.front ++ b.word) b.header,
-      length-append b.front b.word,
-      b.sided.0,
-      b.counts.0,
-      b.fits,
-    )
+    omega (arith, sided_size b.chunks b.front b.joined, ap length b.split, length-append {A = ℕ})
 
 -- the bytes of a connection's words, beside those of its chunks
 abbrev words_size : Version → ℕ
@@ -148,21 +108,13 @@ connection_size One bytes streams h =
     omega (
       arith,
       ap length h.split,
-      length-append h.mark h.rest,
-      h.one.0,
+      length-append {A = ℕ},
       ap length both.split,
-      length-append both.front both.last,
       stream_size both.front streams.client both.client,
       stream_size both.last streams.server both.server,
     )
 connection_size Two bytes streams h =
-    omega (
-      arith,
-      ap length h.split,
-      length-append h.mark h.rest,
-      h.one.0,
-      mixed_size h.rest streams h.both,
-    )
+    omega (arith, ap length h.split, length-append h.mark h.rest, mixed_size h.rest streams h.both)
 
 connections_size : (version : Version) (connections : List Streams) (bytes : List ℕ)
     → Joins (IsConnection version) bytes connections
@@ -255,8 +207,6 @@ short_size One bytes front part connections entries split opens short =
       ap length split,
       length-append front part,
       short,
-      opens.few,
-      opens.small,
     )
 short_size Two bytes front part connections entries split opens short =
     omega (
@@ -265,8 +215,6 @@ short_size Two bytes front part connections entries split opens short =
       ap length split,
       length-append front part,
       short,
-      opens.few,
-      opens.small,
     )
 
 within_size : (version : Version) (bytes front mark rest : List ℕ) (connections : List Streams)
@@ -279,9 +227,7 @@ within_size One bytes front mark rest connections before more split opens one fe
       opened_size One front opens.rest connections opens.split opens.joined,
       inside_size One (total_size connections) rest more inside,
       ap length split,
-      length-append (front ++ mark) rest,
-      length-append front mark,
-      one.0,
+      length-append {A = ℕ},
       few,
     )
 within_size Two bytes front mark rest connections before more split opens one few inside =
@@ -290,9 +236,7 @@ within_size Two bytes front mark rest connections before more split opens one fe
       opened_size Two front opens.rest connections opens.split opens.joined,
       inside_size Two (total_size connections) rest more inside,
       ap length split,
-      length-append (front ++ mark) rest,
-      length-append front mark,
-      one.0,
+      length-append {A = ℕ},
       few,
     )
 

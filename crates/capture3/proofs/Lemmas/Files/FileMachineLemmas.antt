@@ -221,14 +221,7 @@ module _ (version : Version) (front : List ℕ) (connections : List Streams) (en
   closed_leads bytes mark rest split one few (Closes end sum more) c =
       let all : List Streams = connections ++ c.streams ∷ [] in
       let at_is : end ≡ length bytes =
-      omega (
-        arith,
-        c.at_is,
-        ap length split,
-        length-append (front ++ mark) rest,
-        length-append front mark,
-        one.0,
-      ) in
+      omega (arith, ap length split, length-append {A = ℕ}) in
       let sizes = total_size-snoc connections c.streams in
       let total_is : sum ≡ total_size all = omega (arith, c.total_is) in
       let number_is : suc (length connections) ≡ length all =
@@ -383,14 +376,8 @@ connections_run version (streams ∷ connections) at total number end sum count 
     }))))
     (connections_run version connections (at + 4 + length c.rest) (total + size streams)
     (suc number) end sum count (before ++ more) e.2 h.1 h.4 e.5 (omega arith) (omega arith)
-    (omega (
-      arith,
-      ap length h.2,
-      length-append h.0 h.1,
-      ap length c.split,
-      length-append c.mark c.rest,
-      c.one.0,
-    )) (omega arith) (omega arith)))
+    (omega (arith, ap length h.2, length-append {A = ℕ}, ap length c.split)) (omega arith)
+    (omega arith)))
 
 pub length_magic : (version : Version) → length (magic version) ≡ 8
 length_magic One = refl

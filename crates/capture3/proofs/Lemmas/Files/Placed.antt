@@ -121,25 +121,9 @@ mixed_in_place context file bytes fault within (BadSide s) =
     fault_is file fault _ s.is
     (omega (arith, within, ap length s.split, length-append s.front s.word, s.is_word.0))
 mixed_in_place context file bytes fault within (NoLength b none e) =
-    fault_is file fault _ e (omega (
-      arith,
-      within,
-      ap length b.split,
-      length-append (b.front ++ b.word) b.header,
-      length-append b.front b.word,
-      b.sided.0,
-      b.counts.0,
-    ))
+    fault_is file fault _ e (omega (arith, within, ap length b.split, length-append {A = ℕ}))
 mixed_in_place context file bytes fault within (TooMuch b some passes e) =
-    fault_is file fault _ e (omega (
-      arith,
-      within,
-      ap length b.split,
-      length-append (b.front ++ b.word) b.header,
-      length-append b.front b.word,
-      b.sided.0,
-      b.counts.0,
-    ))
+    fault_is file fault _ e (omega (arith, within, ap length b.split, length-append {A = ℕ}))
 
 first_in_place : {M : Type 0} (judge : Judgement M) (connection : ℕ) (side : Side)
     (file stream : List ℕ) (messages : List M) (fault : RecordFault) → RefusesInPlace judge side
@@ -199,14 +183,7 @@ magic_in_place file bytes fault within d =
 word_within : (file bytes : List ℕ) (b : AfterConnections bytes) → length bytes ≤ length file
     → length b.front + 4 + length b.rest ≤ length file
 word_within file bytes b within =
-    omega (
-      arith,
-      within,
-      ap length b.split,
-      length-append (b.front ++ b.word) b.rest,
-      length-append b.front b.word,
-      b.is_word.0,
-    )
+    omega (arith, within, ap length b.split, length-append {A = ℕ})
 
 rule_in_place : (file bytes : List ℕ) (shown : ShownFault) → length bytes ≤ length file
     → Rule bytes shown → IsInPlace file shown.fault

@@ -35,15 +35,7 @@ carried_size : (last : List (List ℕ)) (bytes : List ℕ) → Joins (IsFragment
     → length (concat last) ≤ length bytes
 carried_size [] bytes h = omega arith
 carried_size (part ∷ parts) bytes h =
-    omega (
-      arith,
-      carried_size parts h.1 h.4,
-      length-append part (concat parts),
-      ap length h.2,
-      length-append h.0 h.1,
-      ap length h.3.1,
-      length-append h.3.0 part,
-    )
+    omega (arith, carried_size parts h.1 h.4, length-append {A = ℕ}, ap length h.2, ap length h.3.1)
 
 pub record_size : (bytes body : List ℕ) → IsRecord bytes body → length body ≤ length bytes
 record_size bytes body h =
@@ -51,11 +43,9 @@ record_size bytes body h =
       arith,
       carried_size h.fragments h.front h.joined,
       ap length h.carried,
-      length-append (concat h.fragments) h.last,
+      length-append {A = ℕ},
       ap length h.split,
-      length-append h.front h.back,
       ap length h.closes.1,
-      length-append h.closes.0 h.last,
     )
 
 -- messages that are no longer than their bodies are together no longer than the stream
@@ -118,8 +108,7 @@ connection_spelled : (streams : Streams) (calls : List (List Item)) (replies : L
 connection_spelled streams calls replies h =
     omega (
       arith,
-      spelled-append ((Begin ∷ map Call calls) ++ (Turn ∷ map reply_entry replies)) (Close ∷ []),
-      spelled-append (Begin ∷ map Call calls) (Turn ∷ map reply_entry replies),
+      spelled-append,
       calls_size streams.client calls (calls_hold streams calls replies h),
       replies_size calls streams.server replies (replies_hold streams calls replies h),
     )
@@ -160,7 +149,6 @@ typed_within file entries h =
             ap begins h.ends,
             begins-append h.front (End ∷ []),
             have_begins h.connections h.front h.messages,
-            h.capture.few,
           );
       small =
           omega (
@@ -168,7 +156,6 @@ typed_within file entries h =
             ap spelled h.ends,
             spelled-append h.front (End ∷ []),
             have_spelled h.connections h.front h.messages,
-            h.capture.small,
           );
     }
 
@@ -249,7 +236,6 @@ whole_within bytes entries
             ap begins are,
             begins-append before more,
             have_begins connections before opens.messages,
-            w.0,
             few,
           );
       small =
@@ -258,7 +244,6 @@ whole_within bytes entries
             ap spelled are,
             spelled-append before more,
             have_spelled connections before opens.messages,
-            w.1,
           );
     }
 
@@ -286,23 +271,19 @@ after_within entries h = record {
       omega (
         arith,
         ap begins h.is,
-        begins-append h.before h.inside,
+        begins-append,
         have_begins h.connections h.before h.messages,
         connection_begins h.calls h.replies,
         ap begins h.split,
-        begins-append h.inside h.rest,
-        h.few,
       );
   small =
       omega (
         arith,
         ap spelled h.is,
-        spelled-append h.before h.inside,
+        spelled-append,
         have_spelled h.connections h.before h.messages,
         connection_spelled h.streams h.calls h.replies h.converses,
         ap spelled h.split,
-        spelled-append h.inside h.rest,
-        h.small,
       );
 }
 

@@ -117,12 +117,7 @@ module _ {M : Type 0} (judge : Judged M) (position : Position) where
         closed = closed;
         holds = between_holds judge.says stream messages read;
         at_is =
-            omega (
-              arith,
-              ap length closed.split,
-              length-append closed.front closed.last,
-              closed.closes.0,
-            );
+            omega (arith, ap length closed.split, length-append closed.front closed.last);
         total_is = refl;
         fits = fits;
       }
@@ -394,14 +389,7 @@ module _ {M : Type 0} (judge : Judged M) (position : Position) where
       (h.3.word.0, h.3.word.1 ∙ whole) (omega (arith, h.3.some)) (omega arith) mid.1)
       (chunks_run chunks (at + 4 + (length chunk + 0)) (total + (length chunk + 0)) end sum mid.0 t
       h.1 h.4 (rw (after-append, mid.1) at e) (omega arith)
-      (omega (
-        arith,
-        ap length h.2,
-        length-append h.0 h.1,
-        ap length h.3.split,
-        length-append h.3.header chunk,
-        h.3.word.0,
-      )) (omega arith))
+      (omega (arith, ap length h.2, length-append {A = ℕ}, ap length h.3.split)) (omega arith))
 
   -- after whole chunks
   stream_front : (front stream : List ℕ) (reading : Reading M) → AreChunks front stream
@@ -441,13 +429,7 @@ module _ {M : Type 0} (judge : Judged M) (position : Position) where
       reading (w.header ++ w.got) w.header w.got (suc w.left) refl w.word (omega arith)
       (omega (arith, w.fits)) (rw (after-append, mid.1) at all)
       ∙ ap Runs (same_siding _
-      (omega (
-        arith,
-        ap length w.split,
-        length-append (w.front ++ w.header) w.got,
-        length-append w.front w.header,
-        w.word.0,
-      )) (omega arith)))
+      (omega (arith, ap length w.split, length-append {A = ℕ})) (omega arith)))
 
   pub side_runs : (bytes : List ℕ) (s : Siding M) → HasSide judge.says position bytes s
       → side_taken bytes ≡ Runs s

@@ -156,14 +156,7 @@ module _ {M : Type 0} (judge : Judged M) (position : Position) where
       (λ t.
       elim (chunks_or chunks h.1 (at + 4 + (length chunk + 0)) (total + (length chunk + 0)) end sum
       t.0 h.4
-      (omega (
-        arith,
-        ap length h.2,
-        length-append h.0 h.1,
-        ap length h.3.split,
-        length-append h.3.header chunk,
-        h.3.word.0,
-      ))
+      (omega (arith, ap length h.2, length-append {A = ℕ}, ap length h.3.split))
       (omega (arith, length-append chunk (concat chunks)))) [
         | At u e ↦
             At (

@@ -16,13 +16,7 @@ with_next_record-self-requires-clause-fits c =
     let taken : c.args.cursor.taken + c.in-Ok-default-Record.count
     ≤ length (stream_of c.args.cursor.side c.args.self.now.streams.kept) =
     grind (arith, common_steps, pushed.within, ready.stored.0, c.of_side.ensures) in
-    omega (
-      arith,
-      ready.stored.1,
-      ready.stored.2,
-      taken,
-      stream_within c.args.cursor.side c.args.self.now.streams.kept,
-    )
+    omega (arith, taken, stream_within c.args.cursor.side c.args.self.now.streams.kept)
 
 pub returns-in-Ok-default-Record-clause-ready : goal.returns-in-Ok-default-Record-clause-ready
 returns-in-Ok-default-Record-clause-ready c =

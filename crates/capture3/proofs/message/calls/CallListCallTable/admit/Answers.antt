@@ -17,9 +17,4 @@ returns c =
     (omega (arith, c.number_after-number.ensures, c.args.self.now.calls.ok.0))
     puts
     (ap (λ (l : List (ℕ × NumberedCall)). min (length l) number_limit) c.in_ok-push.ensures.items
-    ∙ omega (
-      arith,
-      c.number_after-number.ensures,
-      c.args.self.now.calls.ok.0,
-      length-append pairs ((c.args.xid, call) ∷ []),
-    ))
+    ∙ omega (arith, c.number_after-number.ensures, length-append pairs ((c.args.xid, call) ∷ [])))
