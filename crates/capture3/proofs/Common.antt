@@ -1,4 +1,4 @@
--- The names that most proofs of the crate cite, passed on from one place. Declares nothing.
+-- The names that most proofs of the crate cite, passed on from one place.
 unfoldable pub use Rattle.procs3.specs.Table.{arguments_of, results_of}
 pub use Rattle.record_mark.proofs.Joins.{joining_runs, record_stops, too_long_stops}
 pub use Rattle.record_mark.proofs.Machines.{Leads, Tells, after-append, after_stopped, counted_runs, counted_stops, last_running-append, leads_within, nested_runs, nested_stops, not_runs, only_stops, ran_before, ran_to, tells}
@@ -97,3 +97,9 @@ pub use Rattle.capture3.specs.machinery.Position.{AreEmpty, IsBeforeMark, IsEndS
 pub use Rattle.capture3.specs.machinery.Spelled.{SpellsCall, SpellsReply}
 pub use Rattle.capture3.specs.declared.message.counted_calls.CountedCalls.{CountedCalls}
 pub use Rattle.capture3.specs.declared.reader.pairing.Pairing.{Pairing}
+
+-- the length of bytes in parts, for `omega`
+pub joined_length : (front back : List ℕ) → length (front ++ back) ≡ length front + length back
+joined_length = length-append
+
+pub ruleset lengths = (arith, joined_length)

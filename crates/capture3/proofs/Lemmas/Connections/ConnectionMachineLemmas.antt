@@ -1,6 +1,6 @@
 -- The machine for a connection against its two sides.
 use Rattle.std.proofs.Common.{◌≡◌, inl, inr, ℕ, ◌+◌, ◌≤◌, List, [], ◌∷◌, ◌++◌, length, refl, sym, ap, ◌∙◌, append_assoc, append-nil, arith, length-append}
-use Rattle.capture3.proofs.Common.{Ends, Run, Runs, Stops, after, Leads, leads_within, Item, AreBytes, Client, Server, ReplyItems, Version, One, Two, AreStreams, Streams, size, max_bytes, IsStream, Context, client_position, server_position, calls_in_turn, refusal, replies_to, ConnectionShows, InClientStream, InServerStream, Entry, judge_call, MixedEnd, MixedCloses, MixedRefuses, mixed_next, mixing_from, judge_replies, Opening, InClient, InServer, InMixed, Closing, Closes, Refuses, turning, ending, server_said, client_said, conversing, opening_next, opened, StreamEnd, Held, Faulty, stream_end, Holds, place_at, Converses, connection_entries, Siding, SideEnd, SideCloses, SideRefuses, side_next, siding_from}
+use Rattle.capture3.proofs.Common.{lengths, Ends, Run, Runs, Stops, after, Leads, leads_within, Item, AreBytes, Client, Server, ReplyItems, Version, One, Two, AreStreams, Streams, size, max_bytes, IsStream, Context, client_position, server_position, calls_in_turn, refusal, replies_to, ConnectionShows, InClientStream, InServerStream, Entry, judge_call, MixedEnd, MixedCloses, MixedRefuses, mixed_next, mixing_from, judge_replies, Opening, InClient, InServer, InMixed, Closing, Closes, Refuses, turning, ending, server_said, client_said, conversing, opening_next, opened, StreamEnd, Held, Faulty, stream_end, Holds, place_at, Converses, connection_entries, Siding, SideEnd, SideCloses, SideRefuses, side_next, siding_from}
 use Rattle.capture3.proofs.Lemmas.Messages.BodiesLemmas.{the_calls, the_replies}
 use Rattle.capture3.proofs.Lemmas.Container.BytesOf.{split_bytes, mixed_bytes}
 use Rattle.capture3.proofs.Lemmas.Connections.JudgedInTurn.{conversed, calls_hold, replies_hold}
@@ -123,7 +123,7 @@ module _ (context : Context) where
         whole =
             record { front = front; last = last; split = split; client = first; server = h.closed };
         converses = conversed streams calls replies holds h.holds;
-        at_is = omega (arith, h.at_is, ap length split, length-append front last);
+        at_is = omega (lengths, ap length split);
         total_is = omega (arith, h.total_is);
         fits = h.fits;
         entries_are = refl;
@@ -287,7 +287,7 @@ module _ (context : Context) where
         closed = w.server;
         holds = replies_hold h.streams h.calls h.replies h.converses;
         fits = h.fits;
-        at_is = omega (arith, h.at_is, ap length w.split, length-append w.front w.last);
+        at_is = omega (lengths, ap length w.split);
         total_is = omega (arith, h.total_is);
       }))))
   opening_closes Two bytes at total entries h =

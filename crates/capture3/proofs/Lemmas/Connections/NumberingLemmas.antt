@@ -1,5 +1,5 @@
 -- The numbers of messages, and the xids that are open after entries.
-use Rattle.capture3.proofs.Common.{◌≡◌, ℕ, ◌+◌, ◌<◌, ◌≤◌, nat_eq, Option, Some, List, [], ◌∷◌, ◌++◌, length, length-append, map, append-nil, append_assoc, refl, sym, ap, subst, ◌∙◌, arith, Item, Word, Entry, xid_in, xids_in}
+use Rattle.capture3.proofs.Common.{lengths, ◌≡◌, ℕ, ◌+◌, ◌<◌, ◌≤◌, nat_eq, Option, Some, List, [], ◌∷◌, ◌++◌, length, length-append, map, append-nil, append_assoc, refl, sym, ap, subst, ◌∙◌, arith, Item, Word, Entry, xid_in, xids_in}
 use Rattle.std.specs.Prelude.{min, IfSome}
 use Rattle.std.proofs.lemmas.List.{map-append}
 use Rattle.capture3.specs.Entry.{Begin, Call, Turn, Reply, Close, End}
@@ -36,7 +36,7 @@ pub few_open : (a : List Entry) (xs : List ℕ) → length (open_xids xs a) ≤ 
 few_open [] xs = omega arith
 few_open (Begin ∷ a) xs = omega (arith, few_open a [])
 few_open (Call m ∷ a) xs =
-    omega (arith, few_open a (xs ++ xid_of m), length-append xs (xid_of m), one_xid m)
+    omega (lengths, few_open a (xs ++ xid_of m), one_xid m)
 few_open (Turn ∷ a) xs = omega (arith, few_open a xs)
 few_open (Reply id m ∷ a) xs = omega (arith, few_open a xs)
 few_open (Close ∷ a) xs = omega (arith, few_open a xs)

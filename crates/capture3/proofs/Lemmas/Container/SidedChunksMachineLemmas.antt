@@ -1,5 +1,5 @@
 -- The machine that gathers the chunks of both sides.
-use Rattle.capture3.proofs.Common.{◌≡◌, inl, inr, ℕ, zero, suc, ◌+◌, ◌<◌, ◌≤◌, List, [], ◌∷◌, ◌++◌, length, refl, sym, ap, ◌∙◌, append_assoc, append-nil, arith, length-append, nat_lt, ltb-true, ltb-false, le-ltb, Run, Runs, Stops, landed, after, IsWord, Joins, word_next, Leads, leads_within, IsPart, word_leads, Joins-snoc, BadMark, Side, Client, Server, max_bytes, Context, MixedShows, BadSide, NoLength, TooMuch, file_fault, SideWord, SideLength, SideChunk, Mixing, MixedEnd, MixedCloses, MixedRefuses, awaiting_side, sided, measured, mixed_next, mixing_from, Streams, size, SidedChunk, IsSidedChunk, side_word, of_side, gathered, carried_by, with_more, AreMixed, BeginsMixed, mixing_in}
+use Rattle.capture3.proofs.Common.{lengths, ◌≡◌, inl, inr, ℕ, zero, suc, ◌+◌, ◌<◌, ◌≤◌, List, [], ◌∷◌, ◌++◌, length, refl, sym, ap, ◌∙◌, append_assoc, append-nil, arith, length-append, nat_lt, ltb-true, ltb-false, le-ltb, Run, Runs, Stops, landed, after, IsWord, Joins, word_next, Leads, leads_within, IsPart, word_leads, Joins-snoc, BadMark, Side, Client, Server, max_bytes, Context, MixedShows, BadSide, NoLength, TooMuch, file_fault, SideWord, SideLength, SideChunk, Mixing, MixedEnd, MixedCloses, MixedRefuses, awaiting_side, sided, measured, mixed_next, mixing_from, Streams, size, SidedChunk, IsSidedChunk, side_word, of_side, gathered, carried_by, with_more, AreMixed, BeginsMixed, mixing_in}
 use Rattle.capture3.specs.Connections.{AfterLength}
 use Rattle.capture3.specs.SidedChunks.{WithinSided}
 use Rattle.capture3.proofs.Lemmas.Connections.RankLemmas.{by_test}
@@ -58,9 +58,9 @@ of_side-nil Server Client = refl
 pub size-with_more : (streams : Streams) (side : Side) (bytes : List ℕ)
     → size (with_more streams side bytes) ≡ size streams + length bytes
 size-with_more streams Client bytes =
-    omega (arith, length-append streams.client bytes, length-append streams.server [])
+    omega lengths
 size-with_more streams Server bytes =
-    omega (arith, length-append streams.client [], length-append streams.server bytes)
+    omega lengths
 
 with_more-append : (streams : Streams) (side : Side) (x y : List ℕ)
     → with_more (with_more streams side x) side y ≡ with_more streams side (x ++ y)
@@ -138,7 +138,7 @@ module _ (context : Context) where
               closes = is;
               carried = refl;
             };
-        at_is = omega (arith, ap length split, length-append front word, is.0);
+        at_is = omega (lengths, ap length split);
         total_is = refl;
         fits = fits;
       }
@@ -187,7 +187,7 @@ module _ (context : Context) where
           fits = omega (arith, ltb-false max_bytes (total + suc left) over);
         })),
         same_mixing _
-            (omega (arith, ap length b.split, length-append {A = ℕ}))
+            (omega (lengths, ap length b.split))
             (omega arith) (sym (with_more-nil (gathered b.chunks) b.side)),
       ))
 
@@ -202,7 +202,6 @@ module _ (context : Context) where
   more_mixed bytes byte w zero is =
       let got : List ℕ = w.got ++ byte ∷ [] in
       let chunk : SidedChunk = record { side = w.side; bytes = got } in
-      let more = length-append w.got (byte ∷ []) in
       let all = gathered-snoc w.chunks chunk in
       let size_is = ap size all ∙ size-with_more (gathered w.chunks) w.side got in
       let last : IsSidedChunk (w.word ++ (w.header ++ got)) chunk =
@@ -215,8 +214,8 @@ module _ (context : Context) where
             record {
               header = w.header;
               split = refl;
-              word = (w.counts.0, w.counts.1 ∙ omega arith);
-              some = omega arith;
+              word = (w.counts.0, w.counts.1 ∙ omega lengths);
+              some = omega lengths;
             };
       } in
       let split : bytes ++ byte ∷ [] ≡ w.front ++ (w.word ++ (w.header ++ got)) =
@@ -229,10 +228,10 @@ module _ (context : Context) where
           joined =
               rw split (Joins-snoc IsSidedChunk w.chunks w.front (w.word ++ (w.header ++ got)) chunk
               w.joined last);
-          short = omega arith;
-          fits = omega (arith, w.fits);
+          short = omega lengths;
+          fits = omega lengths;
         }),
-        same_mixing _ (omega (arith, length-append bytes (byte ∷ []))) (omega arith)
+        same_mixing _ (omega lengths) (omega lengths)
             (with_more-append (gathered w.chunks) w.side w.got (byte ∷ []) ∙ sym all),
       )
   more_mixed bytes byte w (suc left) is =
@@ -248,10 +247,10 @@ module _ (context : Context) where
           split = simp (w.split, append_assoc);
           joined = w.joined;
           sided = w.sided;
-          counts = (w.counts.0, w.counts.1 ∙ omega arith);
-          fits = omega (arith, w.fits);
+          counts = (w.counts.0, w.counts.1 ∙ omega lengths);
+          fits = omega lengths;
         })),
-        same_mixing _ (omega (arith, length-append bytes (byte ∷ []))) (omega arith)
+        same_mixing _ (omega lengths) (omega lengths)
             (with_more-append (gathered w.chunks) w.side w.got (byte ∷ [])),
       )
 
@@ -460,23 +459,21 @@ chunks_land : (chunks : List SidedChunk) (at total end sum : ℕ) (streams : Str
     → mixed_after (mixing_at at total streams) front
     ≡ Runs (mixing_at end sum (with_chunks streams chunks))
 chunks_land [] at total end sum streams front h fits end_is sum_is =
-    rw h (ap Runs (same_mixing _ (omega (arith, ap length h)) (omega arith) refl))
+    rw h (ap Runs (same_mixing _ (omega (lengths, ap length h)) (omega lengths) refl))
 chunks_land (chunk ∷ chunks) at total end sum streams front h fits end_is sum_is =
     let c = h.3.chunked in
-    let whole : length chunk.bytes ≡ length chunk.bytes + 0 = omega arith in
-    let clients =
-    length-append (of_side Client chunk.side chunk.bytes) (carried_by Client chunks) in
+    let whole : length chunk.bytes ≡ length chunk.bytes + 0 = omega lengths in
     let servers =
     length-append (of_side Server chunk.side chunk.bytes) (carried_by Server chunks) in
     let sides = size_of chunk.side chunk.bytes in
     after_two mixed_next (Runs (mixing_at at total streams)) h.0 h.1 h.2
     (rw (h.3.split, c.split) (chunk_lands at total streams chunk.side h.3.word c.header chunk.bytes
-    0 h.3.sided (c.word.0, c.word.1 ∙ whole) (omega (arith, c.some)) (omega arith)))
+    0 h.3.sided (c.word.0, c.word.1 ∙ whole) (omega lengths) (omega lengths)))
     (chunks_land chunks (at + 4 + 4 + (length chunk.bytes + 0)) (total + (length chunk.bytes + 0))
     end sum (with_more streams chunk.side chunk.bytes) h.1 h.4
-    (omega arith)
-    (omega (arith, ap length h.2, length-append {A = ℕ}, ap length h.3.split, ap length c.split))
-    (omega arith))
+    (omega lengths)
+    (omega (lengths, ap length h.2, ap length h.3.split, ap length c.split))
+    (omega lengths))
 
 module _ (context : Context) where
   -- after whole chunks
@@ -519,7 +516,7 @@ module _ (context : Context) where
       (gathered w.chunks) w.side w.word w.header w.got (suc w.left) w.sided w.counts (omega arith)
       w.fits
       ∙ ap Runs (same_mixing _
-      (omega (arith, ap length w.split, length-append {A = ℕ})) refl refl))
+      (omega (lengths, ap length w.split)) refl refl))
 
   pub mixed_runs : (bytes : List ℕ) (s : Mixing) → HasMixed context bytes s
       → mixed_taken context bytes ≡ Runs s
@@ -531,7 +528,7 @@ module _ (context : Context) where
   mixed_closes bytes at total streams h =
       let m = h.mixed in
       let at_is : context.start + length m.front + 4 ≡ at =
-      omega (arith, h.at_is, ap length m.split, length-append m.front m.last, m.closes.0) in
+      omega (lengths, ap length m.split) in
       let sum = ap (λ s. context.before + size s) m.carried in
       after_two mixed_next (Runs (mixing_from context.start context.before)) m.front m.last m.split
       (front_lands m.front m.chunks m.joined (omega (arith, h.fits, h.total_is)))

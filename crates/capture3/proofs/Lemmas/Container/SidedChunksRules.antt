@@ -1,6 +1,6 @@
 -- A rule of the chunks of both sides: where it holds of bytes, the machine stops with its fault, or
 -- had stopped before.
-use Rattle.capture3.proofs.Common.{◌≡◌, ℕ, zero, suc, ◌+◌, ◌<◌, List, [], ◌∷◌, ◌++◌, length, inl, refl, sym, ap, ap₂, ◌∙◌, append_assoc, arith, length-append, nat_lt, lt-ltb, Run, Runs, Stops, landed, IsWord, Joins, TooManyBytes, Fault, Side, Client, Server, max_bytes, Mixing, MixedEnd, MixedCloses, MixedRefuses, SideLength, awaiting_side, measured, mixed_next, mixing_from, Streams, size, SidedChunk, IsSidedChunk, of_side, gathered, carried_by, with_more, AreMixed, file_fault, mixing_in}
+use Rattle.capture3.proofs.Common.{lengths, ◌≡◌, ℕ, zero, suc, ◌+◌, ◌<◌, List, [], ◌∷◌, ◌++◌, length, inl, refl, sym, ap, ap₂, ◌∙◌, append_assoc, arith, length-append, nat_lt, lt-ltb, Run, Runs, Stops, landed, IsWord, Joins, TooManyBytes, Fault, Side, Client, Server, max_bytes, Mixing, MixedEnd, MixedCloses, MixedRefuses, SideLength, awaiting_side, measured, mixed_next, mixing_from, Streams, size, SidedChunk, IsSidedChunk, of_side, gathered, carried_by, with_more, AreMixed, file_fault, mixing_in}
 use Rattle.capture3.specs.Connections.{Context, AfterLength, MixedShows, BadSide, NoLength, TooMuch}
 use Rattle.capture3.proofs.Lemmas.Connections.RankLemmas.{by_test}
 use Rattle.capture3.proofs.Lemmas.Container.SidedChunksMachineLemmas.{RefusedMixed, with_chunks, with_chunks_all, size_of, chunk_bytes, word_lands, header_lands, after_side, bad_side, mixed_after, mixed_taken, mixing_at}
@@ -31,7 +31,7 @@ chunk_or : (at total end sum : ℕ) (streams : Streams) (chunk : SidedChunk) (by
 chunk_or at total end sum streams chunk bytes h end_is sum_is =
     let c = h.chunked in
     let there : at + 4 + 4 + length chunk.bytes ≡ end =
-    omega (arith, ap length h.split, length-append {A = ℕ}, ap length c.split) in
+    omega (lengths, ap length h.split, ap length c.split) in
     let whole : length chunk.bytes ≡ length chunk.bytes + 0 = omega arith in
     rw (h.split, after_side at total streams chunk.side h.word h.rest h.sided)
     (comes_on mixed_next (Runs (mixing_in (at + 4) total streams (SideLength chunk.side [])))
@@ -56,8 +56,8 @@ chunks_or (chunk ∷ chunks) at total end sum streams front h end_is sum_is =
     refl)
     (λ _. chunks_or chunks (at + length h.0) (total + length chunk.bytes) end sum
     (with_more streams chunk.side chunk.bytes) h.1 h.4
-    (omega (arith, end_is, ap length h.2, length-append h.0 h.1))
-    (omega (arith, sum_is, length-append {A = ℕ}, size_of chunk.side chunk.bytes)))
+    (omega (lengths, end_is, ap length h.2))
+    (omega (lengths, sum_is, size_of chunk.side chunk.bytes)))
 
 module _ (context : Context) where
   -- after whole chunks comes more
@@ -79,7 +79,7 @@ module _ (context : Context) where
       (MixedCloses (context.start + length bytes) (context.before + size streams) streams)
   closes_over bytes streams h =
       let at_is : context.start + length h.front + 4 ≡ context.start + length bytes =
-      omega (arith, ap length h.split, length-append h.front h.last, h.closes.0) in
+      omega (lengths, ap length h.split) in
       rw h.carried (after_or h.chunks bytes h.front h.last
       (MixedCloses (context.start + length bytes) (context.before + size (gathered h.chunks))
       (gathered h.chunks)) h.split (omega (arith, h.closes.0)) h.joined
@@ -98,7 +98,7 @@ module _ (context : Context) where
       let total : ℕ = context.before + size (gathered b.chunks) in
       after_or b.chunks bytes b.front (b.word ++ b.header) (MixedRefuses fault)
       (b.split ∙ append_assoc b.front b.word b.header)
-      (omega (arith, length-append b.word b.header, b.sided.0)) b.joined
+      (omega lengths) b.joined
       (after_side at total (gathered b.chunks) b.side b.word b.header b.sided
       ∙ header_lands (at + 4) total b.count (gathered b.chunks) b.side b.header b.counts ∙ stops)
 
@@ -130,8 +130,8 @@ module _ (context : Context) where
   pub mixed_some : (bytes : List ℕ) (fault : Fault) → MixedShows context bytes fault
       → 0 < length bytes
   mixed_some bytes fault (BadSide h) =
-      omega (arith, ap length h.split, length-append h.front h.word, h.is_word.0)
+      omega (lengths, ap length h.split)
   mixed_some bytes fault (NoLength b none is) =
-      omega (arith, ap length b.split, length-append (b.front ++ b.word) b.header, b.counts.0)
+      omega (lengths, ap length b.split)
   mixed_some bytes fault (TooMuch b some passes is) =
-      omega (arith, ap length b.split, length-append (b.front ++ b.word) b.header, b.counts.0)
+      omega (lengths, ap length b.split)

@@ -1,6 +1,6 @@
 -- How long a capture file can be.
 use Rattle.std.proofs.Common.{◌≡◌, ◌⊎◌, inl, inr, ℕ, ◌+◌, ◌*◌, ◌<◌, ◌≤◌, List, [], ◌∷◌, ◌++◌, length, refl, sym, ap, ◌∙◌, append_assoc, append-nil, arith, length-append}
-use Rattle.capture3.proofs.Common.{concat, Run, Runs, Stops, Stopped, IsWord, Joins, AreBytes, Streams, size, SidedChunk, IsSidedChunk, of_side, carried_by, gathered, AreMixed, BeginsMixed, max_bytes, IsChunk, AreChunks, IsStream, BeginsStream, ShownFault, Entry, IsClean, Parsing, parsed, Client, Server, Version, One, Two, max_connections, total_size, magic, IsConnection, IsCapture, Opens, ReachesInside, AreWhole, InMagic, BetweenConnections, InConnection}
+use Rattle.capture3.proofs.Common.{lengths, concat, Run, Runs, Stops, Stopped, IsWord, Joins, AreBytes, Streams, size, SidedChunk, IsSidedChunk, of_side, carried_by, gathered, AreMixed, BeginsMixed, max_bytes, IsChunk, AreChunks, IsStream, BeginsStream, ShownFault, Entry, IsClean, Parsing, parsed, Client, Server, Version, One, Two, max_connections, total_size, magic, IsConnection, IsCapture, Opens, ReachesInside, AreWhole, InMagic, BetweenConnections, InConnection}
 use Rattle.capture3.specs.Laws.{most_bytes, IsWithinVersion}
 use Rattle.capture3.proofs.Lemmas.Container.SidedChunksMachineLemmas.{size_of}
 use Rattle.capture3.proofs.Lemmas.Reached.ReachedLemmas.{stands_whole}
@@ -11,13 +11,7 @@ chunks_size : (chunks : List (List ℕ)) (bytes : List ℕ) → Joins IsChunk by
     → length bytes ≤ 5 * length (concat chunks)
 chunks_size [] bytes h = omega (arith, ap length h)
 chunks_size (chunk ∷ chunks) bytes (front, rest, split, is, joined) =
-    omega (
-      arith,
-      chunks_size chunks rest joined,
-      ap length split,
-      length-append {A = ℕ},
-      ap length is.split,
-    )
+    omega (lengths, chunks_size chunks rest joined, ap length split, ap length is.split)
 
 carried_size : (bytes stream : List ℕ) → AreChunks bytes stream → length bytes ≤ 5 * length stream
 carried_size bytes stream h =
@@ -25,30 +19,15 @@ carried_size bytes stream h =
 
 stream_size : (bytes stream : List ℕ) → IsStream bytes stream → length bytes ≤ 5 * length stream + 4
 stream_size bytes stream h =
-    omega (
-      arith,
-      carried_size h.front stream h.chunks,
-      ap length h.split,
-      length-append h.front h.last,
-    )
+    omega (lengths, carried_size h.front stream h.chunks, ap length h.split)
 
 begun_size : (before : ℕ) (bytes stream : List ℕ) → BeginsStream before bytes stream
     → 5 * before + length bytes ≤ 5 * max_bytes + 4
 begun_size before bytes stream (inl b) =
-    omega (
-      arith,
-      carried_size b.front stream b.chunks,
-      ap length b.split,
-      length-append b.front b.part,
-    )
+    omega (lengths, carried_size b.front stream b.chunks, ap length b.split)
 begun_size before bytes stream (inr b) =
-    omega (
-      arith,
-      carried_size b.front b.carried b.chunks,
-      ap length b.split,
-      length-append {A = ℕ},
-      ap length b.stream_is,
-    )
+    omega
+    (lengths, carried_size b.front b.carried b.chunks, ap length b.split, ap length b.stream_is)
 
 -- each byte of a stream comes with at most four of a side word and four of a length word
 sided_size : (chunks : List SidedChunk) (bytes : List ℕ) → Joins IsSidedChunk bytes chunks
@@ -56,10 +35,9 @@ sided_size : (chunks : List SidedChunk) (bytes : List ℕ) → Joins IsSidedChun
 sided_size [] bytes h = omega (arith, ap length h)
 sided_size (chunk ∷ chunks) bytes (front, rest, split, is, joined) =
     omega (
-      arith,
+      lengths,
       sided_size chunks rest joined,
       ap length split,
-      length-append {A = ℕ},
       ap length is.split,
       ap length is.chunked.split,
       size_of chunk.side chunk.bytes,
@@ -68,27 +46,16 @@ sided_size (chunk ∷ chunks) bytes (front, rest, split, is, joined) =
 mixed_size : (bytes : List ℕ) (streams : Streams) → AreMixed bytes streams
     → length bytes ≤ 9 * size streams + 4
 mixed_size bytes streams h =
-    omega (
-      arith,
-      sided_size h.chunks h.front h.joined,
-      ap size h.carried,
-      ap length h.split,
-      length-append h.front h.last,
-    )
+    omega (lengths, sided_size h.chunks h.front h.joined, ap size h.carried, ap length h.split)
 
 mixed_begun_size : (before : ℕ) (bytes : List ℕ) → BeginsMixed before bytes
     → 9 * before + length bytes ≤ 9 * max_bytes + 8
 mixed_begun_size before bytes (inl b) =
-    omega (
-      arith,
-      sided_size b.chunks b.front b.joined,
-      ap length b.split,
-      length-append b.front b.part,
-    )
+    omega (lengths, sided_size b.chunks b.front b.joined, ap length b.split)
 mixed_begun_size before bytes (inr (inl b)) =
-    omega (arith, sided_size b.chunks b.front b.joined, ap length b.split, length-append {A = ℕ})
+    omega (lengths, sided_size b.chunks b.front b.joined, ap length b.split)
 mixed_begun_size before bytes (inr (inr b)) =
-    omega (arith, sided_size b.chunks b.front b.joined, ap length b.split, length-append {A = ℕ})
+    omega (lengths, sided_size b.chunks b.front b.joined, ap length b.split)
 
 -- the bytes of a connection's words, beside those of its chunks
 abbrev words_size : Version → ℕ
@@ -106,15 +73,14 @@ connection_size : (version : Version) (bytes : List ℕ) (streams : Streams)
 connection_size One bytes streams h =
     let both = h.both in
     omega (
-      arith,
+      lengths,
       ap length h.split,
-      length-append {A = ℕ},
       ap length both.split,
       stream_size both.front streams.client both.client,
       stream_size both.last streams.server both.server,
     )
 connection_size Two bytes streams h =
-    omega (arith, ap length h.split, length-append h.mark h.rest, mixed_size h.rest streams h.both)
+    omega (lengths, ap length h.split, mixed_size h.rest streams h.both)
 
 connections_size : (version : Version) (connections : List Streams) (bytes : List ℕ)
     → Joins (IsConnection version) bytes connections
@@ -124,19 +90,17 @@ connections_size One [] bytes h = omega (arith, ap length h)
 connections_size Two [] bytes h = omega (arith, ap length h)
 connections_size One (streams ∷ connections) bytes (front, rest, split, is, joined) =
     omega (
-      arith,
+      lengths,
       connections_size One connections rest joined,
       connection_size One front streams is,
       ap length split,
-      length-append front rest,
     )
 connections_size Two (streams ∷ connections) bytes (front, rest, split, is, joined) =
     omega (
-      arith,
+      lengths,
       connections_size Two connections rest joined,
       connection_size Two front streams is,
       ap length split,
-      length-append front rest,
     )
 
 magic_size : (version : Version) → length (magic version) ≡ 8
@@ -151,9 +115,8 @@ opened_size : (version : Version) (front rest : List ℕ) (connections : List St
     * total_size connections)
 opened_size version front rest connections split joined =
     omega (
-      arith,
+      lengths,
       ap length split,
-      length-append (magic version) rest,
       magic_size version,
       connections_size version connections rest joined,
     )
@@ -189,11 +152,10 @@ inside_size : (version : Version) (before : ℕ) (bytes : List ℕ) (more : List
 inside_size One before bytes more (inl r) = omega (arith, begun_size before bytes r.stream r.begins)
 inside_size One before bytes more (inr r) =
     omega (
-      arith,
+      lengths,
       stream_size r.front r.client r.first,
       begun_size (before + length r.client) r.last r.server r.begins,
       ap length r.split,
-      length-append r.front r.last,
     )
 inside_size Two before bytes more r = mixed_begun_size before bytes r.0
 
@@ -202,18 +164,16 @@ short_size : (version : Version) (bytes front part : List ℕ) (connections : Li
     → length part ≤ 4 → length bytes ≤ most_bytes version
 short_size One bytes front part connections entries split opens short =
     omega (
-      arith,
+      lengths,
       opened_size One front opens.rest connections opens.split opens.joined,
       ap length split,
-      length-append front part,
       short,
     )
 short_size Two bytes front part connections entries split opens short =
     omega (
-      arith,
+      lengths,
       opened_size Two front opens.rest connections opens.split opens.joined,
       ap length split,
-      length-append front part,
       short,
     )
 
@@ -223,27 +183,25 @@ within_size : (version : Version) (bytes front mark rest : List ℕ) (connection
     → ReachesInside version (total_size connections) rest more → length bytes ≤ most_bytes version
 within_size One bytes front mark rest connections before more split opens one few inside =
     omega (
-      arith,
+      lengths,
       opened_size One front opens.rest connections opens.split opens.joined,
       inside_size One (total_size connections) rest more inside,
       ap length split,
-      length-append {A = ℕ},
       few,
     )
 within_size Two bytes front mark rest connections before more split opens one few inside =
     omega (
-      arith,
+      lengths,
       opened_size Two front opens.rest connections opens.split opens.joined,
       inside_size Two (total_size connections) rest more inside,
       ap length split,
-      length-append {A = ℕ},
       few,
     )
 
 magic_short : (version : Version) (bytes more : List ℕ) → magic version ≡ bytes ++ more
     → length bytes ≤ most_bytes version
-magic_short One bytes more e = omega (arith, ap length e, length-append bytes more)
-magic_short Two bytes more e = omega (arith, ap length e, length-append bytes more)
+magic_short One bytes more e = omega (lengths, ap length e)
+magic_short Two bytes more e = omega (lengths, ap length e)
 
 -- the bytes have the version, and its limit
 whole_size : (bytes : List ℕ) (entries : List Entry) → AreWhole bytes entries

@@ -1,5 +1,5 @@
 -- Machines inside others, and machines that are over: at the last byte, or before it.
-use Rattle.capture3.proofs.Common.{◌≡◌, ◌⊎◌, inl, inr, ℕ, suc, ◌+◌, ◌<◌, List, [], ◌∷◌, ◌++◌, length, refl, ap, subst, ◌∙◌, arith, length-append, Next, Goes, Ends, Run, Runs, Stops, Stopped, landed, after, within, Leads, Tells, tells, after-append, after_stopped, counted_runs, counted_stops, nested_runs, nested_stops, IsWord, number, word_next, word_runs, word_stops}
+use Rattle.capture3.proofs.Common.{lengths, ◌≡◌, ◌⊎◌, inl, inr, ℕ, suc, ◌+◌, ◌<◌, List, [], ◌∷◌, ◌++◌, length, refl, ap, subst, ◌∙◌, arith, length-append, Next, Goes, Ends, Run, Runs, Stops, Stopped, landed, after, within, Leads, Tells, tells, after-append, after_stopped, counted_runs, counted_stops, nested_runs, nested_stops, IsWord, number, word_next, word_runs, word_stops}
 use Rattle.record_mark.proofs.Machines.{Earlier}
 
 -- bytes in two parts, by where the first leads
@@ -116,7 +116,7 @@ module _ {S X T Y : Type 0} {inner : S → ℕ → Next S X} {outer : T → ℕ 
       let rest : ℕ = length (at.byte ∷ at.back) + left in
       let y = n.ends rest h.0 h.1 in
       let size : length bytes + left ≡ length at.front + rest =
-      omega (arith, ap length at.split, length-append at.front (at.byte ∷ at.back)) in
+      omega (lengths, ap length at.split) in
       let stops =
       counted_stops inner outer inside closing n.commutes at.front (length bytes + left) rest s h.0
       size at.ending in (

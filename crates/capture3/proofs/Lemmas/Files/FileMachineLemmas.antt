@@ -1,6 +1,6 @@
 -- The machine for a file against connections, entries and rules.
 use Rattle.std.proofs.Common.{◌≡◌, ◌≢◌, ◌⊎◌, inl, inr, ℕ, zero, suc, ◌+◌, ◌<◌, ◌≤◌, List, [], ◌∷◌, ◌++◌, length, refl, sym, ap, ap₂, ⊎_elim, ◌∙◌, append_assoc, append-nil, arith, length-append, nat_lt, nat_eq, ltb-true, ltb-false, lt-ltb, eqb-true, eq-eqb, ne_eqb, false}
-use Rattle.capture3.proofs.Common.{eqb-false, append_cancel_left, Ends, Runs, Stops, landed, after, IsWord, Joins, word_next, Leads, leads_within, Tells, IsPart, word_leads, Joins-snoc, AreBytes, BadMagic, BadMark, AfterEnd, Fault, Streams, size, max_bytes, Context, ShownFault, refusal, Entry, Opening, Closing, Closes, Refuses, opening_next, opened, file_fault, connection_entries, HaveEntries, Version, One, Two, digit, magic_front, magic, max_connections, total_size, IsConnection, DiffersFromMagic, AfterConnections, Rule, MagicDiffers, MarkIsBad, ConnectionIsTooMany, WithinConnection, ByteAfterEnd, Opens, parsing_in}
+use Rattle.capture3.proofs.Common.{lengths, eqb-false, append_cancel_left, Ends, Runs, Stops, landed, after, IsWord, Joins, word_next, Leads, leads_within, Tells, IsPart, word_leads, Joins-snoc, AreBytes, BadMagic, BadMark, AfterEnd, Fault, Streams, size, max_bytes, Context, ShownFault, refusal, Entry, Opening, Closing, Closes, Refuses, opening_next, opened, file_fault, connection_entries, HaveEntries, Version, One, Two, digit, magic_front, magic, max_connections, total_size, IsConnection, DiffersFromMagic, AfterConnections, Rule, MagicDiffers, MarkIsBad, ConnectionIsTooMany, WithinConnection, ByteAfterEnd, Opens, parsing_in}
 use Rattle.capture3.specs.FileMachine.{Mark, Inside, Ended, Parsing, magic_left, marked, closed, file_next, file_start, parsed}
 use Rattle.capture3.proofs.Lemmas.Connections.RankLemmas.{by_test}
 use Rattle.capture3.proofs.Lemmas.Container.BytesOf.{split_bytes}
@@ -59,7 +59,7 @@ total_size-snoc (s ∷ connections) streams =
 
 module _ (bytes : List ℕ) (byte : ℕ) where
   at_more : length bytes + 1 ≡ length (bytes ++ byte ∷ [])
-  at_more = omega (arith, length-append bytes (byte ∷ []))
+  at_more = omega lengths
 
   -- the last byte of the magic
   whole_magic : (version : Version) → magic_front ≡ bytes ++ [] → byte ≡ digit version
@@ -198,7 +198,7 @@ module _ (version : Version) (front : List ℕ) (connections : List Streams) (en
       (marked version (length front) (total_size connections) (length connections) entries n)
   marked_leads bytes word zero split is =
       let at_is : length front + 4 ≡ length bytes =
-      omega (arith, ap length split, length-append front word, is.0) in
+      omega (lengths, ap length split) in
       AtEnd version front word connections entries split opens is
       (ap
       (λ n. parsing_in version n (total_size connections) (length connections) entries Ended) at_is)
@@ -279,7 +279,7 @@ begun_leads bytes s byte are
     (split_bytes (bytes ++ byte ∷ []) (front ++ mark) (rest ++ byte ∷ []) more are).1 inside))
 begun_leads bytes s byte are (AtEnd version front last connections entries split opens closes is) =
     let at_is : length bytes ≡ length front + 4 =
-    omega (arith, ap length split, length-append front last, closes.0) in
+    omega (lengths, ap length split) in
     rw is (ByteAfterEnd (word_after version front connections entries opens last (byte ∷ []) 0
     (ap (λ (b : List ℕ). b ++ byte ∷ []) split) closes) refl refl
     (ap (λ n. refusal (file_fault n AfterEnd)) at_is))
@@ -376,7 +376,7 @@ connections_run version (streams ∷ connections) at total number end sum count 
     }))))
     (connections_run version connections (at + 4 + length c.rest) (total + size streams)
     (suc number) end sum count (before ++ more) e.2 h.1 h.4 e.5 (omega arith) (omega arith)
-    (omega (arith, ap length h.2, length-append {A = ℕ}, ap length c.split)) (omega arith)
+    (omega (lengths, ap length h.2, ap length c.split)) (omega arith)
     (omega arith)))
 
 pub length_magic : (version : Version) → length (magic version) ≡ 8
@@ -388,13 +388,12 @@ front_runs : (version : Version) (front : List ℕ) (connections : List Streams)
     → parsed front
     ≡ Runs (at_mark version (length front) (total_size connections) (length connections) entries)
 front_runs version front connections entries opens =
-    let sizes = length-append (magic version) opens.rest in
     after_two file_next (Runs file_start) (magic version) opens.rest opens.split
     (magics_run version)
     (connections_run version connections 8 0 0 (length front) (total_size connections)
     (length connections) [] entries opens.rest opens.joined opens.messages
-    (omega (arith, opens.small)) (omega (arith, opens.few))
-    (omega (arith, ap length opens.split, length_magic version)) (omega arith) (omega arith))
+    (omega lengths) (omega lengths)
+    (omega (lengths, ap length opens.split, length_magic version)) (omega lengths) (omega lengths))
 
 pub file_runs : (bytes : List ℕ) (s : Parsing) → Stands bytes s → parsed bytes ≡ Runs s
 file_runs bytes s (AtMagic more begins is) =
@@ -424,7 +423,7 @@ file_runs bytes s
     (opening_runs (context_after front connections) version rest o inside))))
 file_runs bytes s (AtEnd version front last connections entries split opens closes is) =
     let at_is : length front + 4 ≡ length bytes =
-    omega (arith, ap length split, length-append front last, closes.0) in
+    omega (lengths, ap length split) in
     rw is (after_two file_next (Runs file_start) front last split
     (front_runs version front connections entries opens)
     (mark_runs version (length front) (total_size connections) (length connections) entries last 0

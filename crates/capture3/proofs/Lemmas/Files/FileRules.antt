@@ -1,5 +1,5 @@
 -- The same of the rules of connections and of files.
-use Rattle.capture3.proofs.Common.{◌≡◌, ◌⊎◌, inl, inr, ℕ, suc, ◌+◌, ◌<◌, List, [], ◌∷◌, ◌++◌, length, refl, sym, ap, ap₂, ◌∙◌, append_assoc, append-nil, arith, length-append, nat_lt, le-ltb, Run, Runs, Stops, landed, after, Between, IsWord, Joins, Item, TooManyConnections, AfterEnd, Fault, ReplyItems, Version, One, Two, magic, max_connections, total_size, AreStreams, IsConnection, Streams, size, AreMixed, IsStream, Entry, AfterConnections, Rule, MagicDiffers, MarkIsBad, ConnectionIsTooMany, WithinConnection, ByteAfterEnd, judge_call, mixing_from, judge_replies, Opening, InServer, Closing, Closes, Refuses, server_said, client_said, opening_next, opened, Judgement, StreamEnd, Held, Faulty, stream_end, unread, Position, Reading, file_fault, SideShows, connection_entries, siding_from, reading_with}
+use Rattle.capture3.proofs.Common.{lengths, ◌≡◌, ◌⊎◌, inl, inr, ℕ, suc, ◌+◌, ◌<◌, List, [], ◌∷◌, ◌++◌, length, refl, sym, ap, ap₂, ◌∙◌, append_assoc, append-nil, arith, length-append, nat_lt, le-ltb, Run, Runs, Stops, landed, after, Between, IsWord, Joins, Item, TooManyConnections, AfterEnd, Fault, ReplyItems, Version, One, Two, magic, max_connections, total_size, AreStreams, IsConnection, Streams, size, AreMixed, IsStream, Entry, AfterConnections, Rule, MagicDiffers, MarkIsBad, ConnectionIsTooMany, WithinConnection, ByteAfterEnd, judge_call, mixing_from, judge_replies, Opening, InServer, Closing, Closes, Refuses, server_said, client_said, opening_next, opened, Judgement, StreamEnd, Held, Faulty, stream_end, unread, Position, Reading, file_fault, SideShows, connection_entries, siding_from, reading_with}
 use Rattle.capture3.specs.Connections.{Context, ShownFault, refusal, client_refusal, server_refusal, client_position, server_position, calls_in_turn, replies_to, ServerShows, StreamsShow, InClientStream, InServerStream, ConnectionShows}
 use Rattle.capture3.specs.FileMachine.{Parsing, marked, file_next, file_start, parsed}
 use Rattle.capture3.proofs.Lemmas.Connections.ConnectionMachineLemmas.{RefusedClosing, in_client, in_mixed, in_server, opening_taken}
@@ -17,12 +17,12 @@ use Rattle.capture3.proofs.Lemmas.Sides.StreamMachineLemmas.{held_runs, stream_a
 side_some : {M : Type 0} (judge : Judgement M) (position : Position) (bytes : List ℕ)
     (fault : Fault) → SideShows judge position bytes fault → 0 < length bytes
 side_some judge position bytes fault (inl h) =
-    omega (arith, ap length h.split, length-append h.front h.last, h.word.0)
+    omega (lengths, ap length h.split)
 side_some judge position bytes fault (inr (inl h)) =
     let c = h.closed in
-    omega (arith, ap length c.split, length-append c.front c.last, c.closes.0)
+    omega (lengths, ap length c.split)
 side_some judge position bytes fault (inr (inr h)) =
-    omega (arith, ap length h.split, length-append (h.front ++ h.header) h.got, h.some)
+    omega (lengths, ap length h.split)
 
 pub shown_mixed : (number : ℕ) (bytes : List ℕ) (shown : ShownFault)
     → StreamsShow number bytes shown → (streams : Streams) × AreMixed bytes streams
@@ -35,10 +35,10 @@ pub streams_some : (number : ℕ) (bytes : List ℕ) (shown : ShownFault)
     → StreamsShow number bytes shown → 0 < length bytes
 streams_some number bytes shown h =
     let m = (shown_mixed number bytes shown h).1 in
-    omega (arith, ap length m.split, length-append m.front m.last, m.closes.0)
+    omega (lengths, ap length m.split)
 
 words_some : (word rest : List ℕ) (n : ℕ) → IsWord word n → 0 < length (word ++ rest)
-words_some word rest n is = omega (arith, length-append word rest, is.0)
+words_some word rest n is = omega lengths
 
 -- a whole connection
 abbrev ClosedConnection : ℕ → ℕ → Run Opening Closing → Type 0
@@ -144,9 +144,8 @@ module _ (context : Context) where
       side_some calls_in_turn (client_position context) bytes shown.fault h
   connection_some One bytes shown (same, inr h) =
       omega (
-        arith,
+        lengths,
         ap length h.split,
-        length-append h.front h.last,
         side_some (replies_to h.calls) (server_position context h.front h.client) h.last
             shown.fault h.shows,
       )
@@ -159,7 +158,7 @@ module _ (context : Context) where
       (opening_taken version context bytes)
   connection_or One bytes streams h =
       let end_is : context.start + length h.front + length h.last ≡ context.start + length bytes =
-      omega (arith, ap length h.split, length-append h.front h.last) in
+      omega (lengths, ap length h.split) in
       let sum_is : context.before + length streams.client + length streams.server
       ≡ context.before + size streams =
       omega arith in
@@ -207,7 +206,7 @@ one_or : (version : Version) (at total number end sum : ℕ) (entries : List Ent
     (after file_next (Runs (at_mark version at total number entries)) bytes)
 one_or version at total number end sum entries bytes streams h end_is sum_is =
     let there : at + 4 + length h.rest ≡ end =
-    omega (arith, ap length h.split, length-append h.mark h.rest, h.one.0) in
+    omega (lengths, ap length h.split) in
     comes_on file_next (Runs (at_mark version at total number entries)) h.mark h.rest h.split
     (begins_or version at total number entries h.mark h.one)
     (λ _.
@@ -236,7 +235,7 @@ connections_or version (streams ∷ connections) at total number end sum count e
     refl refl)
     (λ more.
     connections_or version connections (at + length h.0) (total + size streams) (suc number) end
-    sum count more h.1 h.4 (omega (arith, ap length h.2, length-append h.0 h.1))
+    sum count more h.1 h.4 (omega (lengths, ap length h.2))
     (omega arith) (omega arith))
 
 -- after the magic and whole connections
@@ -244,12 +243,11 @@ pub begun_or : (bytes : List ℕ) (b : AfterConnections bytes)
     → Marked b.version (length b.front) (total_size b.connections) (length b.connections)
     (parsed b.front)
 begun_or bytes b =
-    let sizes = length-append (magic b.version) b.whole in
     rw (after_two file_next (Runs file_start) (magic b.version) b.whole b.begins
     (magics_run b.version) refl)
     (connections_or b.version b.connections 8 0 0 (length b.front) (total_size b.connections)
     (length b.connections) [] b.whole b.joined
-    (omega (arith, ap length b.begins, length_magic b.version)) (omega arith) (omega arith))
+    (omega (lengths, ap length b.begins, length_magic b.version)) (omega lengths) (omega lengths))
 
 -- and the word 1
 pub inside_or : (bytes : List ℕ) (b : AfterConnections bytes) → b.mark ≡ 1

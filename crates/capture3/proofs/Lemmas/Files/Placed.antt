@@ -1,5 +1,5 @@
 -- The first fault of a file stands where its reason says.
-use Rattle.capture3.proofs.Common.{◌≡◌, ◌⊎◌, ◌+◌, ◌≤◌, inl, inr, ap, arith, ℕ, List, [], ◌∷◌, ◌++◌, length, length-append, refl, sym, subst, Reason, Stop, Item, Fault, Side, Client, Server, Version, One, Two, calls_in_turn, client_position, ConnectionShows, Context, MixedShows, BadSide, NoLength, TooMuch, ShownFault, replies_to, server_position, StreamsShow, InClientStream, InServerStream, FirstRecordFault, Judgement, NextIsCut, NextIsTooLong, RecordFault, RefusesNext, StreamShows, place_at, place_in, Position, SideShows, IsOfItem, AReply, BadCall, LongCall, OtherCall, ACall, Unasked, BadReply, LongReply, AfterConnections, DiffersFromMagic, FirstFault, Rule, MagicDiffers, MarkIsBad, ConnectionIsTooMany, WithinConnection, ByteAfterEnd}
+use Rattle.capture3.proofs.Common.{lengths, ◌≡◌, ◌⊎◌, ◌+◌, ◌≤◌, inl, inr, ap, arith, ℕ, List, [], ◌∷◌, ◌++◌, length, length-append, refl, sym, subst, Reason, Stop, Item, Fault, Side, Client, Server, Version, One, Two, calls_in_turn, client_position, ConnectionShows, Context, MixedShows, BadSide, NoLength, TooMuch, ShownFault, replies_to, server_position, StreamsShow, InClientStream, InServerStream, FirstRecordFault, Judgement, NextIsCut, NextIsTooLong, RecordFault, RefusesNext, StreamShows, place_at, place_in, Position, SideShows, IsOfItem, AReply, BadCall, LongCall, OtherCall, ACall, Unasked, BadReply, LongReply, AfterConnections, DiffersFromMagic, FirstFault, Rule, MagicDiffers, MarkIsBad, ConnectionIsTooMany, WithinConnection, ByteAfterEnd}
 use Rattle.xdr3.specs.declared.reason.Reason.TheVariants.{BadMagic, CaptureCut, BadMark, AfterEnd, TooManyConnections, TooManyBytes, RecordCut, RecordTooLong, Short, Trailing, BadBool, BadEnum, TooLong, RpcVersion, Flavor, AuthLength, WrongSide, NoCall, XidConflict}
 use Rattle.capture3.specs.declared.fault.Place.TheVariants.{Record}
 use Rattle.capture3.specs.Bodies as bodies
@@ -107,7 +107,7 @@ side_in_place : {M : Type 0} (judge : Judgement M) (position : Position) (file b
     → IsInPlace file fault
 side_in_place judge position file bytes fault within h (inl s) =
     fault_is file fault _ s.is
-    (omega (arith, within, ap length s.split, length-append s.front s.last, s.word.0))
+    (omega (lengths, within, ap length s.split))
 side_in_place judge position file bytes fault within h (inr (inl s)) =
     fault_is file fault _ s.is
     (subst (λ (r : RecordFault). IsInPlace file (place_in position r)) (sym s.cut.is) tt)
@@ -119,11 +119,11 @@ mixed_in_place : (context : Context) (file bytes : List ℕ) (fault : Fault)
     → IsInPlace file fault
 mixed_in_place context file bytes fault within (BadSide s) =
     fault_is file fault _ s.is
-    (omega (arith, within, ap length s.split, length-append s.front s.word, s.is_word.0))
+    (omega (lengths, within, ap length s.split))
 mixed_in_place context file bytes fault within (NoLength b none e) =
-    fault_is file fault _ e (omega (arith, within, ap length b.split, length-append {A = ℕ}))
+    fault_is file fault _ e (omega (lengths, within, ap length b.split))
 mixed_in_place context file bytes fault within (TooMuch b some passes e) =
-    fault_is file fault _ e (omega (arith, within, ap length b.split, length-append {A = ℕ}))
+    fault_is file fault _ e (omega (lengths, within, ap length b.split))
 
 first_in_place : {M : Type 0} (judge : Judgement M) (connection : ℕ) (side : Side)
     (file stream : List ℕ) (messages : List M) (fault : RecordFault) → RefusesInPlace judge side
@@ -159,7 +159,7 @@ connection_in_place One context file bytes shown within (same, inl h) =
     calls_in_place h
 connection_in_place One context file bytes shown within (same, inr h) =
     side_in_place (replies_to h.calls) (server_position context h.front h.client) file h.last
-    shown.fault (omega (arith, within, ap length h.split, length-append h.front h.last))
+    shown.fault (omega (lengths, within, ap length h.split))
     (replies_in_place h.calls) h.shows
 connection_in_place Two context file bytes shown within (inl (same, h)) =
     mixed_in_place context file bytes shown.fault within h
@@ -170,20 +170,15 @@ magic_in_place : (file bytes : List ℕ) (fault : Fault) → length bytes ≤ le
     → DiffersFromMagic bytes fault → IsInPlace file fault
 magic_in_place file bytes fault within d =
     fault_is file fault _ d.is (
-      omega (
-        arith,
-        length_magic d.version,
-        ap length d.begins,
-        length-append d.front (d.due ∷ d.more),
-      ),
-      omega (arith, within, ap length d.split, length-append d.front (d.byte ∷ [])),
+      omega (lengths, length_magic d.version, ap length d.begins),
+      omega (lengths, within, ap length d.split),
     )
 
 -- a connection word stands in the file, and what comes after it
 word_within : (file bytes : List ℕ) (b : AfterConnections bytes) → length bytes ≤ length file
     → length b.front + 4 + length b.rest ≤ length file
 word_within file bytes b within =
-    omega (arith, within, ap length b.split, length-append {A = ℕ})
+    omega (lengths, within, ap length b.split)
 
 rule_in_place : (file bytes : List ℕ) (shown : ShownFault) → length bytes ≤ length file
     → Rule bytes shown → IsInPlace file shown.fault
@@ -205,5 +200,5 @@ pub in_its_place : (file : List ℕ) (fault : Fault) → FirstFault file fault
     → HasItsPlace file fault.reason fault.place
 in_its_place file fault (inl (front, rest, shown, split, shows, e)) =
     fault_is file fault shown.fault e (rule_in_place file front shown
-    (omega (arith, ap length split, length-append front rest)) shows.rule)
+    (omega (lengths, ap length split)) shows.rule)
 in_its_place file fault (inr (clean, ill, e)) = fault_is file fault _ e refl

@@ -1,5 +1,5 @@
 -- A whole body by its layout, decided.
-use Rattle.capture3.proofs.Common.{◌≡◌, ◌⊎◌, ℕ, ◌+◌, ◌<◌, ◌≤◌, nat_eq, List, [], length, drop, Ok, Err, refl, sym, ap, subst, ◌∙◌, inl, inr, arith, eqb-true, eq-eqb, ne_eqb, eqb-false, Reason, Trailing, Stop, Item, AreBytes, Spells, refused, complete, all_of_body, read_whole}
+use Rattle.capture3.proofs.Common.{lengths, ◌≡◌, ◌⊎◌, ℕ, ◌+◌, ◌<◌, ◌≤◌, nat_eq, List, [], length, drop, Ok, Err, refl, sym, ap, subst, ◌∙◌, inl, inr, arith, eqb-true, eq-eqb, ne_eqb, eqb-false, Reason, Trailing, Stop, Item, AreBytes, Spells, refused, complete, all_of_body, read_whole}
 use Rattle.std.proofs.lemmas.List.{length-append, length-drop, drop_all}
 use Rattle.xdr3.specs.Layout.{Layout, exactly, rest, after, FitsLayout, ReadsLayout, RefusesLayout, reading_layout}
 use Rattle.xdr3.proofs.Lemmas.Reading.Bytes.{drop_front, front_ends, bind_ok, bind_err, accept_ok, accept_err}
@@ -15,7 +15,7 @@ unfolding reading_layout
 layout_reads (exactly shape) body at items left h r = (
   at + length r.front,
   (complete shape).reads body at items r.front left h r.fits r.spells r.whole,
-  omega (arith, ap length r.whole, length-append r.front left, length-drop at body),
+  omega (lengths, ap length r.whole, length-drop at body),
 )
 layout_reads (rest name) body at items left h r = (
   length body,

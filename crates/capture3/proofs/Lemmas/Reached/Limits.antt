@@ -1,5 +1,5 @@
 -- The entries that bytes reach are within the limits.
-use Rattle.capture3.proofs.Common.{◌≡◌, ◌⊎◌, inl, inr, ℕ, ◌+◌, ◌<◌, ◌≤◌, List, [], ◌∷◌, ◌++◌, length, map, refl, ap, ◌∙◌, append_assoc, arith, length-append, false, concat, Joins, Item, Version, One, Two, max_connections, total_size, Streams, size, AreMixed, BeginsMixed, max_bytes, BeginsStream, Context, ShownFault, calls_in_turn, replies_to, ConnectionShows, StreamsShow, InClientStream, InServerStream, ReachesInside, AreWhole, InMagic, BetweenConnections, InConnection, Judgement, AreMessages, Holds, HoldsSoFar, RecordFault, FirstRecordFault, RefusesNext, NextIsTooLong, NextIsCut, Converses, reply_entry, connection_entries, HaveEntries, Typed, IsFragment, IsRecord, Marks, length_of_spelling, ReplyItems, AcceptsCall, AcceptsReply}
+use Rattle.capture3.proofs.Common.{lengths, ◌≡◌, ◌⊎◌, inl, inr, ℕ, ◌+◌, ◌<◌, ◌≤◌, List, [], ◌∷◌, ◌++◌, length, map, refl, ap, ◌∙◌, append_assoc, arith, length-append, false, concat, Joins, Item, Version, One, Two, max_connections, total_size, Streams, size, AreMixed, BeginsMixed, max_bytes, BeginsStream, Context, ShownFault, calls_in_turn, replies_to, ConnectionShows, StreamsShow, InClientStream, InServerStream, ReachesInside, AreWhole, InMagic, BetweenConnections, InConnection, Judgement, AreMessages, Holds, HoldsSoFar, RecordFault, FirstRecordFault, RefusesNext, NextIsTooLong, NextIsCut, Converses, reply_entry, connection_entries, HaveEntries, Typed, IsFragment, IsRecord, Marks, length_of_spelling, ReplyItems, AcceptsCall, AcceptsReply}
 use Rattle.capture3.specs.Entry.{Entry, Begin, Call, Turn, Reply, Close, End}
 use Rattle.capture3.specs.Laws.{begins, spelled, AreWithinLimits}
 use Rattle.capture3.proofs.Lemmas.Connections.JudgedInTurn.{calls_hold, conversed, replies_hold}
@@ -35,15 +35,14 @@ carried_size : (last : List (List ℕ)) (bytes : List ℕ) → Joins (IsFragment
     → length (concat last) ≤ length bytes
 carried_size [] bytes h = omega arith
 carried_size (part ∷ parts) bytes h =
-    omega (arith, carried_size parts h.1 h.4, length-append {A = ℕ}, ap length h.2, ap length h.3.1)
+    omega (lengths, carried_size parts h.1 h.4, ap length h.2, ap length h.3.1)
 
 pub record_size : (bytes body : List ℕ) → IsRecord bytes body → length body ≤ length bytes
 record_size bytes body h =
     omega (
-      arith,
+      lengths,
       carried_size h.fragments h.front h.joined,
       ap length h.carried,
-      length-append {A = ℕ},
       ap length h.split,
       ap length h.closes.1,
     )
@@ -62,14 +61,13 @@ messages_size judge entry (body ∷ bodies) before messages stream fits marks h 
     let first = fits before body h.0 h.3 in
     let same = ap (λ ms. spelled (map entry ms)) h.2 in
     omega (
-      arith,
+      lengths,
       more,
       first,
       same,
       spelled-append (entry h.0 ∷ []) (map entry h.1),
       record_size marks.0 body marks.3,
       ap length marks.2,
-      length-append marks.0 marks.1,
     )
 
 call_fits : (before : List (List Item)) (body : List ℕ) (items : List Item)
@@ -173,10 +171,9 @@ so_far_size : {M : Type 0} (judge : Judgement M) (entry : M → Entry) (stream :
     → spelled (map entry messages) ≤ length stream
 so_far_size judge entry stream messages fits h =
     omega (
-      arith,
+      lengths,
       messages_size judge entry h.holds.0 [] messages h.front fits h.holds.1 h.holds.2,
       ap length h.split,
-      length-append h.front h.last,
     )
 
 inside_within : (version : Version) (before : ℕ) (bytes : List ℕ) (more : List Entry)
@@ -313,7 +310,7 @@ cut_client streams calls fault (NextIsTooLong front last rest at split holds lon
       (arith, ap length split, length-append (front ++ last) rest, length-append front last),
 )
 cut_client streams calls fault (NextIsCut front last body split holds is_open is) =
-    (front, holds, omega (arith, ap length split, length-append front last))
+    (front, holds, omega (lengths, ap length split))
 
 cut_server : (streams : Streams) (calls : List (List Item)) (replies : List ReplyItems)
     (fault : RecordFault) → FirstRecordFault (replies_to calls) streams.server replies fault
@@ -333,7 +330,7 @@ cut_server streams calls replies fault (NextIsTooLong front last rest at split h
       (arith, ap length split, length-append (front ++ last) rest, length-append front last),
 )
 cut_server streams calls replies fault (NextIsCut front last body split holds is_open is) =
-    (front, holds, omega (arith, ap length split, length-append front last))
+    (front, holds, omega (lengths, ap length split))
 
 pub streams_after : (number : ℕ) (connections : List Streams) (before : List Entry) (bytes : List ℕ)
     (shown : ShownFault) → HaveEntries connections before → length connections < max_connections

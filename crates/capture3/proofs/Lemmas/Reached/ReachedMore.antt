@@ -1,6 +1,6 @@
 -- What the byte of a fault still reaches, in a file of version 2: the entries of the connection
 -- before a record at fault.
-use Rattle.capture3.proofs.Common.{◌≡◌, ◌⊎◌, inl, inr, ℕ, suc, ◌+◌, ◌<◌, ◌≤◌, List, [], ◌∷◌, ◌++◌, length, refl, sym, ap, subst, ◌∙◌, append-nil, arith, length-append, Next, Goes, Ends, Run, Runs, landed, after, Two, total_size, max_bytes, max_connections, Context, HaveEntries, ShownFault, StreamsShow, Rule, Shows, AfterConnections, MagicDiffers, MarkIsBad, ConnectionIsTooMany, WithinConnection, ByteAfterEnd, Mixing, MixedCloses, mixed_next, mixing_from, InMixed, Opening, opened, Version, Parsing, emitted, file_next, file_start, parsed, Streams, size, AreMixed, Tells, ran_before, tells, AreWithinLimits, AreWhole, IsLongestClean, Reached}
+use Rattle.capture3.proofs.Common.{lengths, ◌≡◌, ◌⊎◌, inl, inr, ℕ, suc, ◌+◌, ◌<◌, ◌≤◌, List, [], ◌∷◌, ◌++◌, length, refl, sym, ap, subst, ◌∙◌, append-nil, arith, length-append, Next, Goes, Ends, Run, Runs, landed, after, Two, total_size, max_bytes, max_connections, Context, HaveEntries, ShownFault, StreamsShow, Rule, Shows, AfterConnections, MagicDiffers, MarkIsBad, ConnectionIsTooMany, WithinConnection, ByteAfterEnd, Mixing, MixedCloses, mixed_next, mixing_from, InMixed, Opening, opened, Version, Parsing, emitted, file_next, file_start, parsed, Streams, size, AreMixed, Tells, ran_before, tells, AreWithinLimits, AreWhole, IsLongestClean, Reached}
 use Rattle.capture3.specs.Entry.{Entry, Begin}
 use Rattle.capture3.proofs.Lemmas.Connections.ConnectionMachineLemmas.{in_mixed}
 use Rattle.capture3.proofs.Lemmas.Files.FileRules.{inside_or, shown_mixed, streams_some}
@@ -17,7 +17,7 @@ split_last : (front x y : List ℕ) (byte : ℕ) → front ++ byte ∷ [] ≡ x 
 split_last front [] y byte e some = (front, sym e, refl)
 split_last [] (a ∷ x) y byte e some =
     let none : x ++ y ≡ [] = cc in
-    absurd (omega (arith, ap length none, length-append x y))
+    absurd (omega (lengths, ap length none))
 split_last (b ∷ front) (a ∷ x) y byte e some =
     let first : b ≡ a = cc in
     let rest : front ++ byte ∷ [] ≡ x ++ y = cc in

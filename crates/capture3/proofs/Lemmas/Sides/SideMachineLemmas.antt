@@ -1,5 +1,5 @@
 -- The machine for one side against chunks, records and messages.
-use Rattle.capture3.proofs.Common.{◌≡◌, inl, inr, ℕ, zero, suc, ◌+◌, ◌<◌, ◌≤◌, List, [], ◌∷◌, ◌++◌, length, refl, sym, ap, ap₂, ◌∙◌, append_assoc, append-nil, arith, length-append, nat_lt, ltb-true, ltb-false, le-ltb, concat, Ends, Run, Runs, Stops, landed, after, IsWord, Joins, word_next, Joining, Between, Header, Bytes, IsOpen, AreBytes, RecordCut, max_bytes, IsChunk, AreChunks, BeginsStream, IsStream, Judgement, Holds, RecordFault, SideShows, fault_at, Reading, stream_next, unread, Position, place_in, Leads, leads_within, after-append, ran_to, IsPart, word_leads, Joins-snoc, siding_from, siding_in, reading_with}
+use Rattle.capture3.proofs.Common.{lengths, ◌≡◌, inl, inr, ℕ, zero, suc, ◌+◌, ◌<◌, ◌≤◌, List, [], ◌∷◌, ◌++◌, length, refl, sym, ap, ap₂, ◌∙◌, append_assoc, append-nil, arith, length-append, nat_lt, ltb-true, ltb-false, le-ltb, concat, Ends, Run, Runs, Stops, landed, after, IsWord, Joins, word_next, Joining, Between, Header, Bytes, IsOpen, AreBytes, RecordCut, max_bytes, IsChunk, AreChunks, BeginsStream, IsStream, Judgement, Holds, RecordFault, SideShows, fault_at, Reading, stream_next, unread, Position, place_in, Leads, leads_within, after-append, ran_to, IsPart, word_leads, Joins-snoc, siding_from, siding_in, reading_with}
 use Rattle.record_mark.proofs.Words.{concat-snoc}
 use Rattle.capture3.specs.Chunks.{WithinChunk}
 use Rattle.capture3.specs.SideMachine.{Length, Chunk, Siding, SideEnd, SideCloses, SideRefuses, awaiting, closing, counted, side_next}
@@ -117,7 +117,7 @@ module _ {M : Type 0} (judge : Judged M) (position : Position) where
         closed = closed;
         holds = between_holds judge.says stream messages read;
         at_is =
-            omega (arith, ap length closed.split, length-append closed.front closed.last);
+            omega (lengths, ap length closed.split);
         total_is = refl;
         fits = fits;
       }
@@ -140,7 +140,7 @@ module _ {M : Type 0} (judge : Judged M) (position : Position) where
   counted_leads bytes front header stream reading (suc left) split chunks fits read word =
       let at_is : position.start + length front + 4 + suc left
       ≡ position.start + length bytes + suc left =
-      omega (arith, ap length split, length-append front header, word.0) in
+      omega (lengths, ap length split) in
       by_test (nat_lt max_bytes (position.before + length stream + suc left))
       (λ over. rw over (inl (record {
         front = front;
@@ -182,7 +182,6 @@ module _ {M : Type 0} (judge : Judged M) (position : Position) where
       (siding_in (position.start + length bytes + suc left)
       (position.before + length stream + suc left) reading (awaiting left))
   more_read bytes stream byte w reading read zero is =
-      let size = length-append w.got (byte ∷ []) in
       record {
         stream = stream ++ byte ∷ [];
         reading = reading;
@@ -192,17 +191,17 @@ module _ {M : Type 0} (judge : Judged M) (position : Position) where
               front = bytes ++ byte ∷ [];
               part = [];
               split = sym (append-nil (bytes ++ byte ∷ []));
-              short = omega arith;
+              short = omega lengths;
               chunks =
                   AreChunks-snoc (bytes ++ byte ∷ []) (stream ++ byte ∷ []) w.front w.carried
                   w.header (w.got ++ byte ∷ []) (simp (w.split, append_assoc))
                   (simp (w.stream_is, append_assoc)) w.chunks
-                  (w.word.0, w.word.1 ∙ omega arith) (omega arith);
-              fits = omega (arith, w.fits, length-append stream (byte ∷ []));
+                  (w.word.0, w.word.1 ∙ omega lengths) (omega lengths);
+              fits = omega lengths;
             });
         is =
-            same_siding _ (omega (arith, length-append bytes (byte ∷ [])))
-            (omega (arith, length-append stream (byte ∷ [])));
+            same_siding _ (omega lengths)
+            (omega lengths);
       }
   more_read bytes stream byte w reading read (suc left) is =
       record {
@@ -218,13 +217,13 @@ module _ {M : Type 0} (judge : Judged M) (position : Position) where
               left = left;
               split = simp (w.split, append_assoc);
               chunks = w.chunks;
-              word = (w.word.0, w.word.1 ∙ omega (arith, length-append w.got (byte ∷ [])));
+              word = (w.word.0, w.word.1 ∙ omega lengths);
               stream_is = simp (w.stream_is, append_assoc);
-              fits = omega (arith, w.fits, length-append stream (byte ∷ []));
+              fits = omega lengths;
             });
         is =
-            same_siding _ (omega (arith, length-append bytes (byte ∷ [])))
-            (omega (arith, length-append stream (byte ∷ [])));
+            same_siding _ (omega lengths)
+            (omega lengths);
       }
 
   begun_leads : (bytes stream : List ℕ) (b : BeginsStream position.before bytes stream)
@@ -265,7 +264,6 @@ module _ {M : Type 0} (judge : Judged M) (position : Position) where
   begun_leads bytes stream (inr w) reading byte are read =
       let same : stream ++ byte ∷ [] ≡ w.carried ++ (w.got ++ byte ∷ []) =
       rw (w.stream_is, append_assoc) in
-      let size = length-append w.got (byte ∷ []) in
       leads_within (HasRead judge.says) (ShowsAsFirst judge.says) (HasSide judge.says position)
       (EndsSide judge.says position)
       (λ r.
@@ -282,8 +280,8 @@ module _ {M : Type 0} (judge : Judged M) (position : Position) where
         left = w.left;
         split = simp (w.split, append_assoc);
         chunks = w.chunks;
-        word = (w.word.0, w.word.1 ∙ omega arith);
-        some = omega arith;
+        word = (w.word.0, w.word.1 ∙ omega lengths);
+        some = omega lengths;
         shown = shown;
         shows = rw same at shows.0;
         is = refl;
@@ -378,18 +376,17 @@ module _ {M : Type 0} (judge : Judged M) (position : Position) where
       → side_after (at_length at total r) front ≡ Runs (at_length end sum t)
   chunks_run [] at total end sum r t front h e fits end_is sum_is =
       let same : r ≡ t = cc in
-      rw (h, same) (ap Runs (same_siding _ (omega (arith, ap length h)) (omega arith)))
+      rw (h, same) (ap Runs (same_siding _ (omega (lengths, ap length h)) (omega lengths)))
   chunks_run (chunk ∷ chunks) at total end sum r t front h e fits end_is sum_is =
-      let parts = length-append chunk (concat chunks) in
       let mid = ran_to (stream_next judge.decide) (Runs r) chunk (concat chunks) t e in
-      let whole : length chunk ≡ length chunk + 0 = omega arith in
+      let whole : length chunk ≡ length chunk + 0 = omega lengths in
       after_two (side_next judge.decide (place_in position)) (Runs (at_length at total r)) h.0 h.1
       h.2
       (chunk_runs at total r mid.0 h.0 h.3.header chunk 0 h.3.split
-      (h.3.word.0, h.3.word.1 ∙ whole) (omega (arith, h.3.some)) (omega arith) mid.1)
+      (h.3.word.0, h.3.word.1 ∙ whole) (omega lengths) (omega lengths) mid.1)
       (chunks_run chunks (at + 4 + (length chunk + 0)) (total + (length chunk + 0)) end sum mid.0 t
-      h.1 h.4 (rw (after-append, mid.1) at e) (omega arith)
-      (omega (arith, ap length h.2, length-append {A = ℕ}, ap length h.3.split)) (omega arith))
+      h.1 h.4 (rw (after-append, mid.1) at e) (omega lengths)
+      (omega (lengths, ap length h.2, ap length h.3.split)) (omega lengths))
 
   -- after whole chunks
   stream_front : (front stream : List ℕ) (reading : Reading M) → AreChunks front stream
@@ -419,17 +416,16 @@ module _ {M : Type 0} (judge : Judged M) (position : Position) where
       let all : stream_after judge unread (w.carried ++ w.got) ≡ Runs reading =
       rw w.stream_is at (stream_runs judge stream reading read) in
       let mid = ran_to (stream_next judge.decide) (Runs unread) w.carried w.got reading all in
-      let sizes = length-append w.carried w.got in
       let total_is = ap length w.stream_is in
       after_two (side_next judge.decide (place_in position))
       (Runs (siding_from position.start position.before)) w.front (w.header ++ w.got)
       (w.split ∙ append_assoc w.front w.header w.got)
-      (stream_front w.front w.carried mid.0 w.chunks mid.1 (omega (arith, w.fits)))
+      (stream_front w.front w.carried mid.0 w.chunks mid.1 (omega lengths))
       (chunk_runs (position.start + length w.front) (position.before + length w.carried) mid.0
-      reading (w.header ++ w.got) w.header w.got (suc w.left) refl w.word (omega arith)
-      (omega (arith, w.fits)) (rw (after-append, mid.1) at all)
+      reading (w.header ++ w.got) w.header w.got (suc w.left) refl w.word (omega lengths)
+      (omega lengths) (rw (after-append, mid.1) at all)
       ∙ ap Runs (same_siding _
-      (omega (arith, ap length w.split, length-append {A = ℕ})) (omega arith)))
+      (omega (lengths, ap length w.split)) (omega lengths)))
 
   pub side_runs : (bytes : List ℕ) (s : Siding M) → HasSide judge.says position bytes s
       → side_taken bytes ≡ Runs s
@@ -443,7 +439,7 @@ module _ {M : Type 0} (judge : Judged M) (position : Position) where
       let c = h.closed in
       let whole : Reading M = reading_with messages Between in
       let at_is : position.start + length c.front + 4 ≡ at =
-      omega (arith, h.at_is, ap length c.split, length-append c.front c.last, c.closes.0) in
+      omega (lengths, ap length c.split) in
       after_two (side_next judge.decide (place_in position))
       (Runs (siding_from position.start position.before)) c.front c.last c.split
       (stream_front c.front h.stream whole c.chunks (held_runs judge h.stream messages h.holds)

@@ -1,6 +1,6 @@
 -- A rule of one side: where it holds of bytes, the machine stops with its fault, or had stopped
 -- before.
-use Rattle.capture3.proofs.Common.{◌≡◌, inl, inr, ℕ, zero, suc, ◌+◌, ◌<◌, ◌≤◌, List, [], ◌∷◌, ◌++◌, length, refl, sym, ap, ap₂, ◌∙◌, append_assoc, arith, length-append, Ok, Err, nat_lt, ltb-false, lt-ltb, concat, Run, Runs, Stops, Stopped, landed, after, Joining, Between, Header, Bytes, Whole, TooLong, join_next, IsWord, Joins, after-append, nested_runs, TooManyBytes, RecordTooLong, RecordCut, Fault, max_bytes, IsChunk, AreChunks, IsStream, Reading, judged, recorded, stream_next, unread, record_stops, too_long_stops, joining_runs, siding_from, siding_in, reading_with}
+use Rattle.capture3.proofs.Common.{lengths, ◌≡◌, inl, inr, ℕ, zero, suc, ◌+◌, ◌<◌, ◌≤◌, List, [], ◌∷◌, ◌++◌, length, refl, sym, ap, ap₂, ◌∙◌, append_assoc, arith, length-append, Ok, Err, nat_lt, ltb-false, lt-ltb, concat, Run, Runs, Stops, Stopped, landed, after, Joining, Between, Header, Bytes, Whole, TooLong, join_next, IsWord, Joins, after-append, nested_runs, TooManyBytes, RecordTooLong, RecordCut, Fault, max_bytes, IsChunk, AreChunks, IsStream, Reading, judged, recorded, stream_next, unread, record_stops, too_long_stops, joining_runs, siding_from, siding_in, reading_with}
 use Rattle.record_mark.specs.RecordMark.{Marks, IsOpen, IsRecord, IsTooLong}
 use Rattle.capture3.specs.Records.{RecordFault, fault_at, StreamShows, IsCut}
 use Rattle.capture3.specs.Sides.{Position, file_fault, place_in, CutsRecord, ShowsRecord, SideShows}
@@ -13,7 +13,7 @@ use Rattle.capture3.proofs.Lemmas.Sides.StreamMachineLemmas.{record_closes, refu
 
 too_long_some : (last : List ℕ) (at : ℕ) → IsTooLong last at → 0 < length last
 too_long_some last at h =
-    omega (arith, ap length h.split, length-append h.front h.header, h.heads.word)
+    omega (lengths, ap length h.split)
 
 word_some : (word : List ℕ) (n : ℕ) → IsWord word n → 0 < length word
 word_some word n h = omega (arith, h.0)
@@ -156,8 +156,8 @@ module _ {M : Type 0} (judge : Judged M) (position : Position) where
       (λ t.
       elim (chunks_or chunks h.1 (at + 4 + (length chunk + 0)) (total + (length chunk + 0)) end sum
       t.0 h.4
-      (omega (arith, ap length h.2, length-append {A = ℕ}, ap length h.3.split))
-      (omega (arith, length-append chunk (concat chunks)))) [
+      (omega (lengths, ap length h.2, ap length h.3.split))
+      (omega lengths)) [
         | At u e ↦
             At (
               u.0,
@@ -206,7 +206,7 @@ module _ {M : Type 0} (judge : Judged M) (position : Position) where
       (λ r.
       rw (length_runs judge position at total 0 r.0 h.last h.closes)
       (closing_or stream at total (position.start + length bytes) r.0.messages r.0.joining
-      (omega (arith, ap length h.split, length-append h.front h.last, h.closes.0)) r.1))
+      (omega (lengths, ap length h.split)) r.1))
 
   -- a length word after whole chunks, with which the machine stops
   after_word : (bytes front last stream : List ℕ) (n : ℕ) (fault : Fault) → bytes ≡ front ++ last
@@ -277,7 +277,7 @@ module _ {M : Type 0} (judge : Judged M) (position : Position) where
       over_on (side_next judge.decide (place_in position))
       (Runs (siding_from position.start position.before)) h.front (h.header ++ h.got)
       (h.split ∙ append_assoc h.front h.header h.got) (front_or h.front h.stream h.chunks)
-      (omega (arith, h.some, length-append h.header h.got))
+      (omega lengths)
       (λ r.
       rw h.is (chunk_over (position.start + length h.front) (position.before + length h.stream) r.0
       h.header h.got h.left h.shown h.word h.some
