@@ -25,10 +25,8 @@ pub record InServerSide (context : Context) (bytes : List ℕ) (calls : List (Li
 abbrev pub HasOpening : Version → Context → List ℕ → Opening → Type 0
 HasOpening One context bytes (InClient s) = HasSide calls_in_turn (client_position context) bytes s
 HasOpening One context bytes (InServer calls s) = InServerSide context bytes calls s
-HasOpening One context bytes (InMixed s) = ⊥
 HasOpening Two context bytes (InMixed s) = HasMixed context bytes s
-HasOpening Two context bytes (InClient s) = ⊥
-HasOpening Two context bytes (InServer calls s) = ⊥
+HasOpening version context bytes o = ⊥
 
 -- a connection is whole, with these entries
 pub record ClosesConnection (version : Version) (context : Context) (bytes : List ℕ) (at total : ℕ)
@@ -241,15 +239,13 @@ module _ (context : Context) where
       (side_next (judge_replies calls) (place_at context.number Server) s byte) (side_leads
       (the_replies calls) (server_position context h.front h.client) h.last s byte
       (split_bytes (bytes ++ byte ∷ []) h.front (h.last ++ byte ∷ []) split are).1 h.rest)
-  opening_leads One bytes (InMixed s) byte are h = absurd h
   opening_leads Two bytes (InMixed s) byte are h =
       leads_within (HasMixed context) (EndsMixed context) (HasOpening Two context)
       (EndsConnection Two context) InMixed (conversing context.number) (bytes ++ byte ∷ [])
       (bytes ++ byte ∷ [])
       (λ t mixed. mixed) (λ x ends. conversing_ends (bytes ++ byte ∷ []) x are ends)
       (mixed_next s byte) (mixed_leads context bytes s byte h)
-  opening_leads Two bytes (InClient s) byte are h = absurd h
-  opening_leads Two bytes (InServer calls s) byte are h = absurd h
+  opening_leads version bytes o byte are h = absurd h
 
   pub opening_runs : (version : Version) (bytes : List ℕ) (o : Opening)
       → HasOpening version context bytes o → opening_taken version context bytes ≡ Runs o
@@ -262,12 +258,10 @@ module _ (context : Context) where
       (runs_inside (in_server context.number calls) h.last 0
       (siding_from (context.start + length h.front) (context.before + length h.client))
       (side_runs (the_replies calls) (server_position context h.front h.client) h.last s h.rest))
-  opening_runs One bytes (InMixed s) h = absurd h
   opening_runs Two bytes (InMixed s) h =
       runs_inside (in_mixed context.number) bytes 0 (mixing_from context.start context.before)
       (mixed_runs context bytes s h)
-  opening_runs Two bytes (InClient s) h = absurd h
-  opening_runs Two bytes (InServer calls s) h = absurd h
+  opening_runs version bytes o h = absurd h
 
   pub opening_closes : (version : Version) (bytes : List ℕ) (at total : ℕ)
       (entries : List Entry) → ClosesConnection version context bytes at total entries

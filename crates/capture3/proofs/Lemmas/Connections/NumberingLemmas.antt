@@ -22,25 +22,18 @@ pub open-append : (a b : List Entry) (xs : List ℕ)
 open-append [] b xs = refl
 open-append (Begin ∷ a) b xs = open-append a b []
 open-append (Call m ∷ a) b xs = open-append a b (xs ++ xid_of m)
-open-append (Turn ∷ a) b xs = open-append a b xs
-open-append (Reply id m ∷ a) b xs = open-append a b xs
-open-append (Close ∷ a) b xs = open-append a b xs
-open-append (End ∷ a) b xs = open-append a b xs
+open-append (entry ∷ a) b xs = open-append a b xs
 
 one_xid : (m : List Item) → length (xid_of m) ≤ 1
 one_xid (Word name x ∷ items) = omega arith
-one_xid [] = omega arith
-one_xid (_ ∷ items) = omega arith
+one_xid m = omega arith
 
 pub few_open : (a : List Entry) (xs : List ℕ) → length (open_xids xs a) ≤ length xs + length a
 few_open [] xs = omega arith
 few_open (Begin ∷ a) xs = omega (arith, few_open a [])
 few_open (Call m ∷ a) xs =
     omega (lengths, few_open a (xs ++ xid_of m), one_xid m)
-few_open (Turn ∷ a) xs = omega (arith, few_open a xs)
-few_open (Reply id m ∷ a) xs = omega (arith, few_open a xs)
-few_open (Close ∷ a) xs = omega (arith, few_open a xs)
-few_open (End ∷ a) xs = omega (arith, few_open a xs)
+few_open (entry ∷ a) xs = omega (arith, few_open a xs)
 
 -- an entry that is no call, and begins no connection
 pub opened_still : (all : List Entry) (entry : Entry) (xs : List ℕ)

@@ -29,21 +29,13 @@ moved_to : (from : Unpacking) (bytes : List ℕ) (taking : Taking) (streams : St
     → Moves from bytes streams (joining_of taking)
     (Ok (record { count = count; position = position; event = event }))
     → Arrives from (take count bytes) event position taking streams
-moved_to from bytes taking streams count position None h moves = moves
-moved_to from bytes taking streams count position (Some Begin) h moves = moves
 moved_to from bytes taking streams count position (Some (Record side)) h moves = absurd h
-moved_to from bytes taking streams count position (Some Turn) h moves = moves
-moved_to from bytes taking streams count position (Some Close) h moves = moves
-moved_to from bytes taking streams count position (Some Gathered) h moves = moves
+moved_to from bytes taking streams count position event h moves = moves
 
 still_leaves : (event : Option Event) (taking : Taking) → IsOfContainer event → IsRunning taking
     → Leaves event taking
-still_leaves None taking h running = running
-still_leaves (Some Begin) taking h running = running
 still_leaves (Some (Record side)) taking h running = absurd h
-still_leaves (Some Turn) taking h running = running
-still_leaves (Some Close) taking h running = running
-still_leaves (Some Gathered) taking h running = running
+still_leaves event taking h running = running
 
 step_leads : (c : Container) (bytes : List ℕ) (r : Result Transition Error)
     → CanGoOn None c.joiner.taking c → IfOk r (StepsFrom c.position)
@@ -63,10 +55,8 @@ step_shows : (c : Container) (bytes : List ℕ) (r : Result Transition Error)
     → CanGoOn None c.joiner.taking c → MovesFrom c.position (joining_of c.joiner.taking) bytes r
     → IfErr r (ShowsError (unpacking_in c) bytes)
 step_shows c bytes (Ok t) ready moves = tt
-step_shows c bytes (Err (errors.Refused fault)) ready moves = moves c.streams.kept ready.stored
-step_shows c bytes (Err errors.Read) ready moves = moves c.streams.kept ready.stored
-step_shows c bytes (Err errors.Write) ready moves = moves c.streams.kept ready.stored
 step_shows c bytes (Err errors.Memory) ready moves = tt
+step_shows c bytes (Err error) ready moves = moves c.streams.kept ready.stored
 
 -- the position, with the part that is open there
 pub shown_at : (inside : Inside) (p : Position) (spot : Spot) → position_shown inside ≡ p
@@ -303,9 +293,7 @@ shows_more from bytes n p t before (errors.Refused fault) within first (m, fits,
     let size = length-take (length bytes - n) (drop n bytes) in
     let all : n + m ≤ length bytes = omega arith in
     (n + m, all, runs_more from (unpacking_of p t before) bytes n m first ∙ shown)
-shows_more from bytes n p t before errors.Read within first shown = shown
-shows_more from bytes n p t before errors.Write within first shown = shown
-shows_more from bytes n p t before errors.Memory within first shown = shown
+shows_more from bytes n p t before error within first shown = shown
 
 pub fails_more : (from : Unpacking) (bytes : List ℕ) (n : ℕ) (p : Position) (t : Taking)
     (before : Streams) (error : Error) → n ≤ length bytes
@@ -314,9 +302,8 @@ pub fails_more : (from : Unpacking) (bytes : List ℕ) (n : ℕ) (p : Position) 
     → ShowsError from bytes error
 fails_more from bytes n p t before (errors.Refused fault) within first shown =
     shows_more from bytes n p t before (errors.Refused fault) within first shown
-fails_more from bytes n p t before errors.Read within first shown = shown
-fails_more from bytes n p t before errors.Write within first shown = shown
 fails_more from bytes n p t before errors.Memory within first shown = tt
+fails_more from bytes n p t before error within first shown = shown
 
 -- ---- the streams that are kept
 
@@ -331,14 +318,7 @@ pub mark_is : (version : Version) (spot : Spot) → IsBeforeMark version spot
     → (told : declared.Version) × (part : WordPart) × (spot ≡ spots.Word (words.Mark told) part)
     × (version_of told ≡ version) × (bytes_so_far part ≡ [])
 mark_is version (spots.Word (words.Mark told) part) before = (told, part, refl, before.0, before.1)
-mark_is version spots.Magic before = absurd before
-mark_is version spots.Digit before = absurd before
-mark_is version (spots.Word (words.Length side) part) before = absurd before
-mark_is version (spots.Chunk side left) before = absurd before
-mark_is version (spots.Word words.Side part) before = absurd before
-mark_is version (spots.Word (words.SideLength side) part) before = absurd before
-mark_is version (spots.SideChunk side left) before = absurd before
-mark_is version (spots.Ended told) before = absurd before
+mark_is version spot before = absurd before
 
 -- there no stream byte is kept
 stored_before_mark : (version : Version) (spot : Spot) (total : ℕ) (streams : Streams)
@@ -356,10 +336,7 @@ stream_within sides.Server streams = omega arith
 -- a joiner that is let go begins the next record
 pub released_whole : (t : Taking) → IsWhole t → released t ≡ unbegun
 released_whole (Led (Stops (Whole body))) h = refl
-released_whole (Led (Stops (TooLong at))) h = absurd h
-released_whole (Led (Runs s)) h = absurd h
-released_whole (Led (Stopped end)) h = absurd h
-released_whole OutOfMemory h = absurd h
+released_whole t h = absurd h
 
 between_streams : (t : Taking) → IsRunning t → joining_of t ≡ Between → released t ≡ unbegun
 between_streams t running between = ap released (is_between t running between)

@@ -89,18 +89,15 @@ lands_moves from bytes streams joining count next (Ok t) fits led same lands =
     ap (λ (n : ℕ). after unpack_next (Runs from) (take n bytes)) same ∙ led ∙ lands
 lands_moves from bytes streams joining count next (Err (Refused fault)) fits led same lands =
     (count, fits, led ∙ ap landed lands)
-lands_moves from bytes streams joining count next (Err errors.Read) fits led same lands = lands
-lands_moves from bytes streams joining count next (Err errors.Write) fits led same lands = lands
-lands_moves from bytes streams joining count next (Err errors.Memory) fits led same lands = lands
+lands_moves from bytes streams joining count next (Err error) fits led same lands = lands
 
 -- ---- what whole words lead to
 
 pub marked_bad : (version : Version) (at total connections records : ℕ) (joining : Joining) (n : ℕ)
     → 1 < n
     → connection_marked version at total connections records joining n ≡ Ends (at_byte at BadMark)
-marked_bad version at total connections records joining zero h = absurd (omega arith)
-marked_bad version at total connections records joining (suc zero) h = absurd (omega arith)
 marked_bad version at total connections records joining (suc (suc n)) h = refl
+marked_bad version at total connections records joining n h = absurd (omega arith)
 
 pub marked_one : (version : Version) (at total connections records : ℕ) (joining : Joining)
     → connections < 65535

@@ -46,14 +46,12 @@ same_mixing s e f g = λ i. mixing_in (e i) (f i) (g i) s.point
 of_side-append : (a b : Side) (x y : List ℕ) → of_side a b (x ++ y) ≡ of_side a b x ++ of_side a b y
 of_side-append Client Client x y = refl
 of_side-append Server Server x y = refl
-of_side-append Client Server x y = refl
-of_side-append Server Client x y = refl
+of_side-append a b x y = refl
 
 of_side-nil : (a b : Side) → of_side a b [] ≡ []
 of_side-nil Client Client = refl
 of_side-nil Server Server = refl
-of_side-nil Client Server = refl
-of_side-nil Server Client = refl
+of_side-nil a b = refl
 
 pub size-with_more : (streams : Streams) (side : Side) (bytes : List ℕ)
     → size (with_more streams side bytes) ≡ size streams + length bytes
@@ -538,7 +536,5 @@ module _ (context : Context) where
 
 pub bad_side : (at total n : ℕ) (streams : Streams) → 2 < n
     → landed (sided at total streams n) ≡ Stops (MixedRefuses (file_fault at BadMark))
-bad_side at total zero streams h = absurd (omega arith)
-bad_side at total (suc zero) streams h = absurd (omega arith)
-bad_side at total (suc (suc zero)) streams h = absurd (omega arith)
 bad_side at total (suc (suc (suc n))) streams h = refl
+bad_side at total n streams h = absurd (omega arith)

@@ -434,9 +434,8 @@ file_runs bytes s (AtEnd version front last connections entries split opens clos
 
 pub bad_mark_stops : (version : Version) (at total count : ℕ) (entries : List Entry) (n : ℕ) → 1 < n
     → landed (marked version at total count entries n) ≡ Stops (refusal (file_fault at BadMark))
-bad_mark_stops version at total count entries zero h = absurd (omega arith)
-bad_mark_stops version at total count entries (suc zero) h = absurd (omega arith)
 bad_mark_stops version at total count entries (suc (suc n)) h = refl
+bad_mark_stops version at total count entries n h = absurd (omega arith)
 
 -- where a magic goes on, its front does, or its digit comes
 pub magic_split : (xs front : List ℕ) (y due : ℕ) (more : List ℕ)

@@ -20,19 +20,7 @@ item_in_place BadEnum file connection number byte side h = tt
 item_in_place TooLong file connection number byte side h = tt
 item_in_place Flavor file connection number byte side h = tt
 item_in_place AuthLength file connection number byte side h = tt
-item_in_place BadMagic file connection number byte side h = absurd h
-item_in_place CaptureCut file connection number byte side h = absurd h
-item_in_place BadMark file connection number byte side h = absurd h
-item_in_place AfterEnd file connection number byte side h = absurd h
-item_in_place TooManyConnections file connection number byte side h = absurd h
-item_in_place TooManyBytes file connection number byte side h = absurd h
-item_in_place RecordCut file connection number byte side h = absurd h
-item_in_place RecordTooLong file connection number byte side h = absurd h
-item_in_place Trailing file connection number byte side h = absurd h
-item_in_place RpcVersion file connection number byte side h = absurd h
-item_in_place WrongSide file connection number byte side h = absurd h
-item_in_place NoCall file connection number byte side h = absurd h
-item_in_place XidConflict file connection number byte side h = absurd h
+item_in_place reason file connection number byte side h = absurd h
 
 -- a fault of a body on this side stands where its reason says
 abbrev IsStopInPlace : Side → Stop → Type 0

@@ -134,11 +134,8 @@ typed_once file a b p q =
 -- a first fault
 fault_from_spot : (entries : List Entry) (size : ℕ) (fault : Fault) (spot : Spot)
     → concluded size entries spot ≡ Err fault → fault ≡ file_fault size CaptureCut
-fault_from_spot entries size fault (Magic due more) e = cc
-fault_from_spot entries size fault Digit e = cc
-fault_from_spot entries size fault (Mark part) e = cc
-fault_from_spot entries size fault (Inside o) e = cc
 fault_from_spot entries size fault Ended e = absurd (cc)
+fault_from_spot entries size fault spot e = cc
 
 fault_from_run : (file : List ℕ) (fault : Fault) (run : Run Parsing ShownFault) → AreBytes file
     → parsed file ≡ run → verdict_of (length file) run ≡ Err fault → FirstFault file fault
@@ -169,11 +166,8 @@ stays size shown (byte ∷ rest) = ap (verdict_of size) (after_stopped file_next
 cut_from_spot : (entries : List Entry) (size : ℕ) (spot : Spot)
     → ((all : List Entry) → concluded size entries spot ≡ Ok all → ⊥)
     → concluded size entries spot ≡ Err (file_fault size CaptureCut)
-cut_from_spot entries size (Magic due more) h = refl
-cut_from_spot entries size Digit h = refl
-cut_from_spot entries size (Mark part) h = refl
-cut_from_spot entries size (Inside o) h = refl
 cut_from_spot entries size Ended h = absurd (h (entries ++ End ∷ []) refl)
+cut_from_spot entries size spot h = refl
 
 cut_from_run : (file : List ℕ) (run : Run Parsing ShownFault) → AreBytes file → parsed file ≡ run
     → IsClean file → (IsWellFormed file → ⊥)
@@ -224,17 +218,13 @@ not_ended : (version ending : Version) (front more : List ℕ) (byte at total co
     → parsed front ≡ Runs (parsing_in version at total count entries spot)
     → parsed (front ++ byte ∷ more) ≡ Runs (parsing_in ending n m k others Ended)
     → concluded (length front) entries spot ≡ Err (file_fault (length front) CaptureCut)
-not_ended version ending front more byte at total count n m k entries others (Magic due left) e h =
-    refl
-not_ended version ending front more byte at total count n m k entries others (Mark part) e h = refl
-not_ended version ending front more byte at total count n m k entries others Digit e h = refl
-not_ended version ending front more byte at total count n m k entries others (Inside o) e h = refl
 not_ended version ending front more byte at total count n m k entries others Ended e h =
     let after_end =
     after-append file_next (Runs file_start) front (byte ∷ more)
     ∙ ap (λ r. after file_next r (byte ∷ more)) e in
     absurd (not_runs file_next (refusal (file_fault at AfterEnd))
     (parsing_in ending n m k others Ended) more (sym after_end ∙ h))
+not_ended version ending front more byte at total count n m k entries others spot e h = refl
 
 pub is_cut_short : (file : List ℕ) → AreBytes file → IsCutShort file
 is_cut_short file are entries front more byte typed split =

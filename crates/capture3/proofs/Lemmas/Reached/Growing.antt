@@ -12,15 +12,12 @@ use Rattle.capture3.proofs.Lemmas.Reader.FileStandingLemmas.{whole_connections, 
 
 pub emitted_is : (at total connections : ℕ) (joining : Joining) (o : Opened) (j : Judged)
     → emitted (resumed_at at total connections joining o j) ≡ emitted_at o j
-emitted_is at total connections joining (Magic due more) j = append-nil j.entries
-emitted_is at total connections joining Digit j = append-nil j.entries
-emitted_is at total connections joining (Mark version part) j = append-nil j.entries
 emitted_is at total connections joining (Length Client part) j = refl
 emitted_is at total connections joining (Length Server part) j = refl
 emitted_is at total connections joining (Chunk Client left) j = refl
 emitted_is at total connections joining (Chunk Server left) j = refl
 emitted_is at total connections joining (Mixed streams point) j = refl
-emitted_is at total connections joining (Ended version) j = append-nil j.entries
+emitted_is at total connections joining o j = append-nil j.entries
 
 emitted_here : (u : Unpacking) (j : Judged) → emitted (parsing_at u j) ≡ emitted_at u.opened j
 emitted_here u j = emitted_is u.at u.total u.connections u.joining u.opened j

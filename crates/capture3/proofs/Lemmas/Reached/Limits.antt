@@ -7,20 +7,13 @@ use Rattle.capture3.proofs.Lemmas.Connections.JudgedInTurn.{calls_hold, converse
 pub begins-append : (xs ys : List Entry) → begins (xs ++ ys) ≡ begins xs + begins ys
 begins-append [] ys = omega arith
 begins-append (Begin ∷ xs) ys = omega (arith, begins-append xs ys)
-begins-append (Call items ∷ xs) ys = begins-append xs ys
-begins-append (Turn ∷ xs) ys = begins-append xs ys
-begins-append (Reply id items ∷ xs) ys = begins-append xs ys
-begins-append (Close ∷ xs) ys = begins-append xs ys
-begins-append (End ∷ xs) ys = begins-append xs ys
+begins-append (entry ∷ xs) ys = begins-append xs ys
 
 pub spelled-append : (xs ys : List Entry) → spelled (xs ++ ys) ≡ spelled xs + spelled ys
 spelled-append [] ys = omega arith
-spelled-append (Begin ∷ xs) ys = spelled-append xs ys
 spelled-append (Call items ∷ xs) ys = omega (arith, spelled-append xs ys)
-spelled-append (Turn ∷ xs) ys = spelled-append xs ys
 spelled-append (Reply id items ∷ xs) ys = omega (arith, spelled-append xs ys)
-spelled-append (Close ∷ xs) ys = spelled-append xs ys
-spelled-append (End ∷ xs) ys = spelled-append xs ys
+spelled-append (entry ∷ xs) ys = spelled-append xs ys
 
 no_begins : {M : Type 0} (entry : M → Entry) (messages : List M)
     → ((m : M) → begins (entry m ∷ []) ≡ 0) → begins (map entry messages) ≡ 0

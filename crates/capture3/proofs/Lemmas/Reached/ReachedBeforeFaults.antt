@@ -9,13 +9,10 @@ use Rattle.capture3.proofs.Lemmas.Files.Verdicts.{typed_from_verdict}
 
 ended_after : (entries : List Entry) (size : ℕ) (spot : Spot) (all : List Entry)
     → concluded size entries spot ≡ Ok all → all ≡ (entries ++ spot_entries spot) ++ End ∷ []
-ended_after entries size (Magic due more) all e = absurd (cc)
-ended_after entries size Digit all e = absurd (cc)
-ended_after entries size (Mark part) all e = absurd (cc)
-ended_after entries size (Inside o) all e = absurd (cc)
 ended_after entries size Ended all e =
     let same : entries ++ End ∷ [] ≡ all = cc in
     sym same ∙ ap (λ (l : List Entry). l ++ End ∷ []) (sym (append-nil entries))
+ended_after entries size spot all e = absurd (cc)
 
 last_is : (bytes : List ℕ) (s : Parsing) → parsed bytes ≡ Runs s
     → last_running file_next file_start bytes ≡ s

@@ -103,10 +103,8 @@ begun_opening One context bytes (InServer calls s) h =
       answers = b.2;
       entries_are = refl;
     })
-begun_opening One context bytes (InMixed s) h = absurd h
 begun_opening Two context bytes (InMixed s) h = (h.0, refl)
-begun_opening Two context bytes (InClient s) h = absurd h
-begun_opening Two context bytes (InServer calls s) h = absurd h
+begun_opening version context bytes o h = absurd h
 
 -- ---- a file
 
