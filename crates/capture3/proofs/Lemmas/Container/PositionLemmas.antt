@@ -15,7 +15,7 @@ use Rattle.record_mark.specs.WordPart.{bytes_so_far, TakesWord}
 use Rattle.record_mark.proofs.WordParts.{short_part}
 use Rattle.capture3.specs.machinery.ContainerMachine.{Unpacking, Unpacked, Has, at_byte, before_mark, begun_at, chunk_counted, in_chunk, left_of_magic, connection_marked, unpack_next}
 use Rattle.capture3.specs.machinery.Position.{opened_word, unpacking_at, version_of, word_read, Lands, Moves, ShowsFault}
-use Rattle.capture3.proofs.Lemmas.Container.ContainerMachineLemmas.{mark_goes_on, mark_ends, length_goes_on, length_ends, side_goes_on, side_ends, side_length_goes_on, side_length_ends}
+use Rattle.capture3.proofs.Lemmas.Container.ContainerMachineLemmas.{word_goes_on, word_ends}
 
 -- the position with another spot
 abbrev pub with_spot : Position → Spot → Position
@@ -26,39 +26,6 @@ pub at_spot : (p : Position) (streams : Streams) (joining : Joining) (spot : Spo
 at_spot p streams joining spot is =
     ap (λ (s : Spot). unpacking_at (with_spot p s) streams joining) is
 
--- a part of a word
-word_goes_on : (word : WordOf) (at total connections records : ℕ) (streams : Streams)
-    (joining : Joining) (part bytes longer : List ℕ) → longer ≡ part ++ bytes → length part < 4
-    → length longer < 4
-    → after unpack_next
-    (Runs (unpacking_with at total connections records (opened_word streams word part) joining))
-    bytes
-    ≡ Runs
-    (unpacking_with at total connections records (opened_word streams word longer) joining)
-word_goes_on (words.Mark version) at total connections records streams joining =
-    mark_goes_on (version_of version) at total connections records joining
-word_goes_on (words.Length side) at total connections records streams joining =
-    length_goes_on at total connections records side joining
-word_goes_on words.Side at total connections records streams joining =
-    side_goes_on at total connections records streams joining
-word_goes_on (words.SideLength side) at total connections records streams joining =
-    side_length_goes_on at total connections records streams side joining
-
-word_ends : (word : WordOf) (at total connections records : ℕ) (streams : Streams)
-    (joining : Joining) (part bytes : List ℕ) (n : ℕ) → length part < 4 → IsWord (part ++ bytes) n
-    → after unpack_next
-    (Runs (unpacking_with at total connections records (opened_word streams word part) joining))
-    bytes
-    ≡ landed (word_read word at total connections records streams joining n)
-word_ends (words.Mark version) at total connections records streams joining =
-    mark_ends (version_of version) at total connections records joining
-word_ends (words.Length side) at total connections records streams joining =
-    length_ends at total connections records side joining
-word_ends words.Side at total connections records streams joining =
-    side_ends at total connections records streams joining
-word_ends (words.SideLength side) at total connections records streams joining =
-    side_length_ends at total connections records streams side joining
-
 pub word_part : (counts : Counts) (streams : Streams) (joining : Joining) (word : WordOf)
     (part longer : WordPart) (bytes : List ℕ) (count : ℕ) → TakesWord part bytes count (Part longer)
     → after unpack_next (Runs (unpacking_at (standing_at counts (Word word part)) streams joining))
@@ -66,7 +33,7 @@ pub word_part : (counts : Counts) (streams : Streams) (joining : Joining) (word 
     ≡ Runs (unpacking_at (standing_at counts (Word word longer)) streams joining)
 word_part counts streams joining word part longer bytes count taken =
     word_goes_on word counts.at counts.total counts.connections counts.records streams joining
-    (bytes_so_far part) (take count bytes) (bytes_so_far longer) taken.0 (short_part part)
+    (bytes_so_far part) (take count bytes) (short_part part) (bytes_so_far longer) taken.0
     (short_part longer)
 
 pub word_whole : (counts : Counts) (streams : Streams) (joining : Joining) (word : WordOf)
@@ -77,7 +44,7 @@ pub word_whole : (counts : Counts) (streams : Streams) (joining : Joining) (word
     (word_read word counts.at counts.total counts.connections counts.records streams joining n)
 word_whole counts streams joining word part bytes count n taken =
     word_ends word counts.at counts.total counts.connections counts.records streams joining
-    (bytes_so_far part) (take count bytes) n (short_part part) taken
+    (bytes_so_far part) (take count bytes) (short_part part) n taken
 
 -- what a whole word leads to, the bytes taken lead to
 pub lands_moves : (from : Unpacking) (bytes : List ℕ) (streams : Streams) (joining : Joining)
@@ -104,31 +71,21 @@ pub marked_one : (version : Version) (at total connections records : ℕ) (joini
     → connection_marked version at total connections records joining 1
     ≡ Ends (Has Begin [] (begun_at version at total (connections + 1) joining))
 marked_one version at total connections records joining few =
-    ap
-    (λ b.
-    cond b (Ends (Has Begin [] (begun_at version at total (connections + 1) joining)))
-    (Ends (at_byte at TooManyConnections))) (lt-ltb connections 65535 few)
+    rw (lt-ltb connections 65535 few)
 
 pub marked_many : (version : Version) (at total connections records : ℕ) (joining : Joining)
     → 65535 ≤ connections
     → connection_marked version at total connections records joining 1
     ≡ Ends (at_byte at TooManyConnections)
 marked_many version at total connections records joining many =
-    ap
-    (λ b.
-    cond b (Ends (Has Begin [] (begun_at version at total (connections + 1) joining)))
-    (Ends (at_byte at TooManyConnections))) (le-ltb connections 65535 many)
+    rw (le-ltb connections 65535 many)
 
 pub counted_over : (at total connections records : ℕ) (side : Side) (joining : Joining) (n : ℕ)
     → 0 < n → 1073741824 < total + n
     → chunk_counted at total connections records side joining n ≡ Ends (at_byte at TooManyBytes)
 counted_over at total connections records side joining zero some over = absurd (omega arith)
 counted_over at total connections records side joining (suc left) some over =
-    ap
-    (λ b.
-    cond b (Ends (at_byte at TooManyBytes)) (Goes (in_chunk (at + 4 + suc left)
-    (total + suc left) connections records side (suc left) joining)))
-    (lt-ltb 1073741824 (total + suc left) over)
+    rw (lt-ltb 1073741824 (total + suc left) over)
 
 pub counted_fits : (at total connections records : ℕ) (side : Side) (joining : Joining) (n : ℕ)
     → 0 < n → total + n ≤ 1073741824
@@ -136,11 +93,7 @@ pub counted_fits : (at total connections records : ℕ) (side : Side) (joining :
     ≡ Goes (in_chunk (at + 4 + n) (total + n) connections records side n joining)
 counted_fits at total connections records side joining zero some fits = absurd (omega arith)
 counted_fits at total connections records side joining (suc left) some fits =
-    ap
-    (λ b.
-    cond b (Ends (at_byte at TooManyBytes)) (Goes (in_chunk (at + 4 + suc left)
-    (total + suc left) connections records side (suc left) joining)))
-    (le-ltb 1073741824 (total + suc left) fits)
+    rw (le-ltb 1073741824 (total + suc left) fits)
 
 pub ruleset words_lead = (marked_bad, marked_one, marked_many, counted_over, counted_fits)
 
@@ -159,25 +112,17 @@ magic_due p joining n within =
     ap (λ due. unpacking_with n p.total p.connections p.records (left_of_magic due) joining)
     (drop-cons MAGIC n 0 within)
 
--- the next place, with so many bytes of the magic taken
-abbrev pub moved_on : Counts → Joining → (at n : ℕ) → Unpacking
-moved_on p joining at n =
-    unpacking_with at p.total p.connections p.records (left_of_magic (drop n MAGIC)) joining
-
 magic_byte : (p : Counts) (joining : Joining) (n byte : ℕ) → n < 7 → byte ≡ get_or MAGIC n 0
     → unpack_next (in_magic p joining n) byte ≡ Goes (in_magic p joining (suc n))
 magic_byte p joining n byte within is =
     ap (λ u. unpack_next u byte) (magic_due p joining n within)
-    ∙ ap (λ b. cond b (Goes (moved_on p joining (n + 1) (suc n))) (Ends (at_byte n BadMagic)))
-    (eq-eqb byte (get_or MAGIC n 0) is)
-    ∙ ap (λ at. Goes (moved_on p joining at (suc n))) (add-one n)
+    ∙ rw (eq-eqb byte (get_or MAGIC n 0) is, add-one)
 
 wrong_byte : (p : Counts) (joining : Joining) (n byte : ℕ) → n < 7 → byte ≢ get_or MAGIC n 0
     → unpack_next (in_magic p joining n) byte ≡ Ends (at_byte n BadMagic)
 wrong_byte p joining n byte within other =
     ap (λ u. unpack_next u byte) (magic_due p joining n within)
-    ∙ ap (λ b. cond b (Goes (moved_on p joining (n + 1) (suc n))) (Ends (at_byte n BadMagic)))
-    (ne_eqb byte (get_or MAGIC n 0) other)
+    ∙ rw (ne_eqb byte (get_or MAGIC n 0) other)
 
 -- one byte more of these
 taken_one_more : (from : Unpacking) (bytes : List ℕ) (i : ℕ) (u : Unpacking)
@@ -185,11 +130,7 @@ taken_one_more : (from : Unpacking) (bytes : List ℕ) (i : ℕ) (u : Unpacking)
     → after unpack_next (Runs from) (take i bytes) ≡ Runs u → unpack_next u (get_or bytes i 0) ≡ n
     → after unpack_next (Runs from) (take (i + 1) bytes) ≡ landed n
 taken_one_more from bytes i u n within so_far next =
-    ap (λ (k : ℕ). after unpack_next (Runs from) (take k bytes)) (add-one i)
-    ∙ ap (after unpack_next (Runs from)) (take-suc bytes i 0 within)
-    ∙ after-append unpack_next (Runs from) (take i bytes) (get_or bytes i 0 ∷ [])
-    ∙ ap (λ r. after unpack_next r (get_or bytes i 0 ∷ [])) so_far
-    ∙ ap landed next
+    rw (add-one, take-suc bytes i 0 within, after-append, so_far, next)
 
 -- so far the bytes are those of the magic
 abbrev pub AgreeWithMagic : Counts → List ℕ → ℕ → Type 0

@@ -31,87 +31,72 @@ item_stop : (side : Side) (stop : Stop) → IsOfItem stop.reason → IsStopInPla
 item_stop side stop h file connection number =
     item_in_place stop.reason file connection number stop.at side h
 
-stop_is : (side : Side) (stop other : Stop) → stop ≡ other → IsStopInPlace side other
-    → IsStopInPlace side stop
-stop_is side stop other e h = subst (IsStopInPlace side) (sym e) h
-
 abbrev RefusesInPlace : {M : Type 0} → Judgement M → Side → Type 0
 RefusesInPlace {M} judge side = (before : List M) (body : List ℕ) (stop : Stop)
     → judge.refuses before body stop → IsStopInPlace side stop
 
 left_over : (side : Side) (stop : Stop) → stop.reason ≡ Trailing → IsStopInPlace side stop
-left_over side stop e file connection number =
-    subst (λ (reason : Reason). HasItsPlace file reason (Record connection side number stop.at))
-    (sym e) tt
+left_over side stop e file connection number = rw e tt
 
 item_or_version : (stop : Stop)
     → IsOfItem stop.reason ⊎ ((stop.reason ≡ RpcVersion) × (stop.at ≡ 8))
     → IsStopInPlace Client stop
 item_or_version stop (inl h) file connection number = item_stop Client stop h file connection number
-item_or_version stop (inr (e, at)) file connection number =
-    subst (λ (reason : Reason). HasItsPlace file reason (Record connection Client number stop.at))
-    (sym e) (refl, at)
+item_or_version stop (inr (e, at)) file connection number = rw e (refl, at)
 
 calls_in_place : RefusesInPlace calls_in_turn Client
 calls_in_place before body stop (bodies.RefusesCall.BadStart r) =
     item_stop Client stop (start_refused_for body stop.at stop.reason r)
 calls_in_place before body stop (AReply xid s e) =
-    stop_is Client stop _ e (λ file connection number. refl)
+    rw e (λ file connection number. refl)
 calls_in_place before body stop (BadCall xid s r) =
     item_or_version stop (call_refused_for body stop.at stop.reason r)
 calls_in_place before body stop (LongCall xid s l) = left_over Client stop l.reason_is
 calls_in_place before body stop (OtherCall items id c p d e) =
-    stop_is Client stop _ e (λ file connection number. (refl, refl))
+    rw e (λ file connection number. (refl, refl))
 
 replies_in_place : (calls : List (List Item)) → RefusesInPlace (replies_to calls) Server
 replies_in_place calls before body stop (bodies.RefusesReply.BadStart r) =
     item_stop Server stop (start_refused_for body stop.at stop.reason r)
 replies_in_place calls before body stop (ACall xid s e) =
-    stop_is Server stop _ e (λ file connection number. refl)
+    rw e (λ file connection number. refl)
 replies_in_place calls before body stop (Unasked xid s n e) =
-    stop_is Server stop _ e (λ file connection number. (refl, refl))
+    rw e (λ file connection number. (refl, refl))
 replies_in_place calls before body stop (BadReply xid id s p r) =
     item_stop Server stop (reply_refused_for id body stop.at stop.reason r)
 replies_in_place calls before body stop (LongReply xid id s p l) = left_over Server stop l.reason_is
 
 -- ---- the file
 
-fault_is : (file : List ℕ) (fault other : Fault) → fault ≡ other → IsInPlace file other
-    → IsInPlace file fault
-fault_is file fault other e h = subst (IsInPlace file) (sym e) h
-
 record_in_place : {M : Type 0} (judge : Judgement M) (position : Position) (file stream : List ℕ)
     (shown : RecordFault) → RefusesInPlace judge position.side → StreamShows judge stream shown
     → IsInPlace file (place_in position shown)
 record_in_place judge position file stream shown h (inl r) =
-    subst (λ (s : RecordFault). IsInPlace file (place_in position s)) (sym r.is)
-    (h r.messages r.body r.stop r.refused file position.connection _)
-record_in_place judge position file stream shown h (inr r) =
-    subst (λ (s : RecordFault). IsInPlace file (place_in position s)) (sym r.is) tt
+    rw r.is (h r.messages r.body r.stop r.refused file position.connection _)
+record_in_place judge position file stream shown h (inr r) = rw r.is tt
 
 side_in_place : {M : Type 0} (judge : Judgement M) (position : Position) (file bytes : List ℕ)
     (fault : Fault) → position.start + length bytes ≤ length file
     → RefusesInPlace judge position.side → SideShows judge position bytes fault
     → IsInPlace file fault
 side_in_place judge position file bytes fault within h (inl s) =
-    fault_is file fault _ s.is
+    rw s.is
     (omega (lengths, within, ap length s.split))
 side_in_place judge position file bytes fault within h (inr (inl s)) =
-    fault_is file fault _ s.is
-    (subst (λ (r : RecordFault). IsInPlace file (place_in position r)) (sym s.cut.is) tt)
+    rw (s.is, s.cut.is) tt
 side_in_place judge position file bytes fault within h (inr (inr s)) =
-    fault_is file fault _ s.is (record_in_place judge position file _ s.shown h s.shows)
+    rw s.is (record_in_place judge position file _ s.shown h s.shows)
 
 mixed_in_place : (context : Context) (file bytes : List ℕ) (fault : Fault)
     → context.start + length bytes ≤ length file → MixedShows context bytes fault
     → IsInPlace file fault
 mixed_in_place context file bytes fault within (BadSide s) =
-    fault_is file fault _ s.is
+    rw s.is
     (omega (lengths, within, ap length s.split))
 mixed_in_place context file bytes fault within (NoLength b none e) =
-    fault_is file fault _ e (omega (lengths, within, ap length b.split))
+    rw e (omega (lengths, within, ap length b.split))
 mixed_in_place context file bytes fault within (TooMuch b some passes e) =
-    fault_is file fault _ e (omega (lengths, within, ap length b.split))
+    rw e (omega (lengths, within, ap length b.split))
 
 first_in_place : {M : Type 0} (judge : Judgement M) (connection : ℕ) (side : Side)
     (file stream : List ℕ) (messages : List M) (fault : RecordFault) → RefusesInPlace judge side
@@ -119,23 +104,22 @@ first_in_place : {M : Type 0} (judge : Judgement M) (connection : ℕ) (side : S
     → IsInPlace file (place_at connection side fault)
 first_in_place judge connection side file stream messages fault h
     (RefusesNext front last rest body stop split holds record_is refused is) =
-    subst (λ (f : RecordFault). IsInPlace file (place_at connection side f)) (sym is)
-    (h messages body stop refused file connection _)
+    rw is (h messages body stop refused file connection _)
 first_in_place judge connection side file stream messages fault h
     (NextIsTooLong front last rest at split holds long is) =
-    subst (λ (f : RecordFault). IsInPlace file (place_at connection side f)) (sym is) tt
+    rw is tt
 first_in_place judge connection side file stream messages fault h
     (NextIsCut front last body split holds cut is) =
-    subst (λ (f : RecordFault). IsInPlace file (place_at connection side f)) (sym is) tt
+    rw is tt
 
 streams_in_place : (number : ℕ) (file bytes : List ℕ) (shown : ShownFault)
     → StreamsShow number bytes shown → IsInPlace file shown.fault
 streams_in_place number file bytes shown (InClientStream streams calls fault mixed first same) =
-    fault_is file shown.fault _ (ap (λ (r : ShownFault). r.fault) same) (first_in_place
+    rw same (first_in_place
     calls_in_turn number Client file streams.client calls fault calls_in_place first)
 streams_in_place number file bytes shown
     (InServerStream streams calls replies fault mixed holds first same) =
-    fault_is file shown.fault _ (ap (λ (r : ShownFault). r.fault) same) (first_in_place
+    rw same (first_in_place
     (replies_to calls) number Server file streams.server replies fault
     (replies_in_place calls) first)
 
@@ -157,7 +141,7 @@ connection_in_place Two context file bytes shown within (inr h) =
 magic_in_place : (file bytes : List ℕ) (fault : Fault) → length bytes ≤ length file
     → DiffersFromMagic bytes fault → IsInPlace file fault
 magic_in_place file bytes fault within d =
-    fault_is file fault _ d.is (
+    rw d.is (
       omega (lengths, length_magic d.version, ap length d.begins),
       omega (lengths, within, ap length d.split),
     )
@@ -173,20 +157,20 @@ rule_in_place : (file bytes : List ℕ) (shown : ShownFault) → length bytes �
 rule_in_place file bytes shown within (MagicDiffers d e) =
     magic_in_place file bytes shown.fault within d
 rule_in_place file bytes shown within (MarkIsBad b rest bad e) =
-    fault_is file shown.fault _ (ap (λ (r : ShownFault). r.fault) e)
+    rw e
     (omega (arith, word_within file bytes b within))
 rule_in_place file bytes shown within (ConnectionIsTooMany b rest one many e) =
-    fault_is file shown.fault _ (ap (λ (r : ShownFault). r.fault) e)
+    rw e
     (omega (arith, word_within file bytes b within))
 rule_in_place file bytes shown within (WithinConnection b one h) =
     connection_in_place b.version _ file b.rest shown (word_within file bytes b within) h
 rule_in_place file bytes shown within (ByteAfterEnd b zero one e) =
-    fault_is file shown.fault _ (ap (λ (r : ShownFault). r.fault) e)
+    rw e
     (omega (arith, one, word_within file bytes b within))
 
 pub in_its_place : (file : List ℕ) (fault : Fault) → FirstFault file fault
     → HasItsPlace file fault.reason fault.place
 in_its_place file fault (inl (front, rest, shown, split, shows, e)) =
-    fault_is file fault shown.fault e (rule_in_place file front shown
+    rw e (rule_in_place file front shown
     (omega (lengths, ap length split)) shows.rule)
-in_its_place file fault (inr (clean, ill, e)) = fault_is file fault _ e refl
+in_its_place file fault (inr (clean, ill, e)) = rw e refl
