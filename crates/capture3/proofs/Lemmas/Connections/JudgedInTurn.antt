@@ -133,7 +133,7 @@ calls_have_one : (bodies : List (List ℕ)) (before calls : List (List Item))
 calls_have_one [] before calls one h =
     subst HaveOneProcedure (sym (append-nil before) ∙ ap (λ l. before ++ l) (sym h)) one
 calls_have_one (body ∷ bodies) before calls one h =
-    subst HaveOneProcedure (append_assoc before (h.0 ∷ []) h.1 ∙ ap (λ l. before ++ l) (sym h.2))
+    rw (← (append_assoc before (h.0 ∷ []) h.1 ∙ ap (λ l. before ++ l) (sym h.2)))
     (calls_have_one bodies (before ++ h.0 ∷ []) h.1 (one_more before body h.0 one h.3) h.4)
 
 calls_in_order : (bodies : List (List ℕ)) (before calls : List (List Item))
@@ -173,9 +173,7 @@ replies_answer calls [] before replies h reply member =
     absurd (IsIn-nil reply (subst (IsIn reply) h member))
 replies_answer calls (body ∷ bodies) before replies h reply member =
     elim (IsIn-cases reply h.0 h.1 (subst (IsIn reply) h.2 member)) [
-      | inl same ↦ known_call calls (xid_in reply.items) reply.id (subst
-          (λ (r : ReplyItems). procedure_of calls (xid_in r.items) ≡ Some r.id) (sym same)
-          h.3.1)
+      | inl same ↦ known_call calls (xid_in reply.items) reply.id (rw same h.3.1)
       | inr more ↦ replies_answer calls bodies (before ++ h.0 ∷ []) h.1 h.4 reply more
     ]
 

@@ -71,20 +71,19 @@ pub mixed_bytes : (bytes : List ℕ) (streams : Streams) → AreMixed bytes stre
     → AreBytes streams.client × AreBytes streams.server
 mixed_bytes bytes streams h are =
     let front = (split_bytes bytes h.front h.last h.split are).0 in (
-      subst AreBytes (ap (λ (s : Streams). s.client) (sym h.carried))
+      rw (← (ap (λ (s : Streams). s.client) (sym h.carried)))
           (carried_bytes Client h.chunks h.front h.joined front),
-      subst AreBytes (ap (λ (s : Streams). s.server) (sym h.carried))
+      rw (← (ap (λ (s : Streams). s.server) (sym h.carried)))
           (carried_bytes Server h.chunks h.front h.joined front),
     )
 
 pub record_bytes : (bytes body : List ℕ) → IsRecord bytes body → AreBytes bytes → AreBytes body
 record_bytes bytes body h are =
     let parts = split_bytes bytes h.front h.back h.split are in
-    subst AreBytes (sym h.carried)
-    (AreBytes-append (concat h.fragments) h.last
-    (joined_bytes (IsFragment false) (λ b carried f all. (split_bytes b f.0 carried f.1 all).1)
-    h.fragments h.front h.joined parts.0)
-    (split_bytes h.back h.closes.0 h.last h.closes.1 parts.1).1)
+    rw h.carried (AreBytes-append (concat h.fragments) h.last
+    (joined_bytes (IsFragment false)
+    (λ b carried f all. (split_bytes b f.0 carried f.1 all).1) h.fragments h.front
+    h.joined parts.0) (split_bytes h.back h.closes.0 h.last h.closes.1 parts.1).1)
 
 -- a list of numerals is checked by computing
 unfoldable pub all_bytes : List ℕ → Bool

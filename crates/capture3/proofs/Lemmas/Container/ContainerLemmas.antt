@@ -88,8 +88,7 @@ module _ (c : Container) (inside : Inside) (spot : Spot) (bytes : List ℕ)
       → IfErr r (ShowsError (unpacking_in c) bytes)
   step_fails moves =
       step_shows c bytes r ready
-      (subst (λ (p : Position). MovesFrom p (joining_of c.joiner.taking) bytes r)
-      (shown_at inside c.position spot shown is) moves)
+      (rw (← (shown_at inside c.position spot shown is)) moves)
 
 -- ---- bytes of a chunk
 

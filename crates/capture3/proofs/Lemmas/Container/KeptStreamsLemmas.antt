@@ -402,8 +402,8 @@ module _ (u : Unpacking) (streams : Streams) (side : Side) (taken records : ℕ)
       ∙ ap (λ run. after file_next run (r.byte ∷ [])) r.runs ∙ ap landed ends in
       let first = first_reached_at bytes rest v k are refl runs in (
         more ++ first.0,
-        subst (Reached (bytes ++ rest))
-            (ap (λ (l : List Entry). l ++ first.0) is ∙ append_assoc handed more first.0) first.1,
+        rw (← (ap (λ (l : List Entry). l ++ first.0) is ∙ append_assoc handed more first.0))
+            first.1,
       )
 
   by_server : (calls : List (List Item)) (before : List Entry) (more : List Entry)

@@ -121,31 +121,6 @@ opened_size version front rest connections split joined =
       connections_size version connections rest joined,
     )
 
-pub capture_size : (version : Version) (file : List ℕ) (connections : List Streams)
-    → IsCapture version file connections → length file ≤ most_bytes version
-capture_size One file connections c =
-    omega (
-      arith,
-      ap length c.split,
-      length-append (magic One) (c.bytes ++ c.last),
-      length-append c.bytes c.last,
-      connections_size One connections c.bytes c.joined,
-      c.closes.0,
-      c.few,
-      c.small,
-    )
-capture_size Two file connections c =
-    omega (
-      arith,
-      ap length c.split,
-      length-append (magic Two) (c.bytes ++ c.last),
-      length-append c.bytes c.last,
-      connections_size Two connections c.bytes c.joined,
-      c.closes.0,
-      c.few,
-      c.small,
-    )
-
 inside_size : (version : Version) (before : ℕ) (bytes : List ℕ) (more : List Entry)
     → ReachesInside version before bytes more
     → chunk_size version * before + length bytes ≤ chunk_size version * max_bytes + 8
@@ -159,23 +134,20 @@ inside_size One before bytes more (inr r) =
     )
 inside_size Two before bytes more r = mixed_begun_size before bytes r.0
 
-short_size : (version : Version) (bytes front part : List ℕ) (connections : List Streams)
-    (entries : List Entry) → bytes ≡ front ++ part → Opens version front connections entries
-    → length part ≤ 4 → length bytes ≤ most_bytes version
-short_size One bytes front part connections entries split opens short =
-    omega (
-      lengths,
-      opened_size One front opens.rest connections opens.split opens.joined,
-      ap length split,
-      short,
-    )
-short_size Two bytes front part connections entries split opens short =
-    omega (
-      lengths,
-      opened_size Two front opens.rest connections opens.split opens.joined,
-      ap length split,
-      short,
-    )
+short_size : (version : Version) (bytes front part rest : List ℕ) (connections : List Streams)
+    → bytes ≡ front ++ part → front ≡ magic version ++ rest
+    → Joins (IsConnection version) rest connections → length connections ≤ max_connections
+    → total_size connections ≤ max_bytes → length part ≤ 4 → length bytes ≤ most_bytes version
+short_size One bytes front part rest connections split opens joined few small short =
+    omega (lengths, opened_size One front rest connections opens joined, ap length split, short)
+short_size Two bytes front part rest connections split opens joined few small short =
+    omega (lengths, opened_size Two front rest connections opens joined, ap length split, short)
+
+pub capture_size : (version : Version) (file : List ℕ) (connections : List Streams)
+    → IsCapture version file connections → length file ≤ most_bytes version
+capture_size version file connections c =
+    short_size version file (magic version ++ c.bytes) c.last c.bytes connections c.split refl
+    c.joined c.few c.small (omega (arith, c.closes.0))
 
 within_size : (version : Version) (bytes front mark rest : List ℕ) (connections : List Streams)
     (before more : List Entry) → bytes ≡ front ++ mark ++ rest
@@ -215,7 +187,8 @@ whole_size bytes entries (BetweenConnections version front part connections spli
     split ∙ ap (λ (b : List ℕ). b ++ part) opens.split
         ∙ append_assoc (magic version) opens.rest part,
   ),
-  short_size version bytes front part connections entries split opens (part_size ends),
+  short_size version bytes front part opens.rest connections split opens.split opens.joined
+      opens.few opens.small (part_size ends),
 )
   where
     part_size : (length part < 4) ⊎ IsWord part 0 → length part ≤ 4

@@ -202,9 +202,8 @@ typed_across version other file again connections entries h k typed =
       front = typed.front;
       capture = k;
       messages =
-          subst (λ (c : List Streams). HaveEntries c typed.front)
-          (streams_of typed.version version file typed.connections connections typed.capture h)
-          typed.messages;
+          rw (← (streams_of typed.version version file typed.connections connections typed.capture
+          h)) typed.messages;
       ends = typed.ends;
     }
 

@@ -327,20 +327,18 @@ call_said before body are = go (reading message_start body 0) refl
     go : (r : Result (List Item × ℕ) Stop) → reading message_start body 0 ≡ r
         → SaysOfCall before body (judge_call before body)
     go (Err stop) e =
-        subst (SaysOfCall before body) (sym (judges_bad_start before body stop e))
+        rw (judges_bad_start before body stop e)
         (bodies.RefusesCall.BadStart (is_not_started body stop are e))
     go (Ok x) e =
         let h = is_started body x.0 x.1 are e in
         elim h.listed [
           | inl zero_is ↦
               let s = subst (Starts body h.xid) zero_is h.starts in
-              subst (SaysOfCall before body) (sym (as_call before body h.xid s))
-              (whole_call_said before body h.xid are s)
+              rw (as_call before body h.xid s) (whole_call_said before body h.xid are s)
           | inr one_is ↦
               let s = subst (Starts body h.xid) one_is h.starts in
               let r = start_read body h.xid 1 s in
-              subst (SaysOfCall before body) (sym (judges_reply before body h.xid r.0 r.1))
-              (AReply h.xid s refl)
+              rw (judges_reply before body h.xid r.0 r.1) (AReply h.xid s refl)
         ]
 
 -- a judgement by whose answers are so, and which answers what is so
@@ -450,7 +448,7 @@ reply_said calls body are = go (reading message_start body 0) refl
     go : (r : Result (List Item × ℕ) Stop) → reading message_start body 0 ≡ r
         → SaysOfReply calls body (judge_reply calls body)
     go (Err stop) e =
-        subst (SaysOfReply calls body) (sym (judges_bad_reply_start calls body stop e))
+        rw (judges_bad_reply_start calls body stop e)
         (bodies.RefusesReply.BadStart (is_not_started body stop are e))
     go (Ok x) e =
         let h = is_started body x.0 x.1 are e in
@@ -458,12 +456,10 @@ reply_said calls body are = go (reading message_start body 0) refl
           | inl zero_is ↦
               let s = subst (Starts body h.xid) zero_is h.starts in
               let r = start_read body h.xid 0 s in
-              subst (SaysOfReply calls body) (sym (judges_call calls body h.xid r.0 r.1))
-              (ACall h.xid s refl)
+              rw (judges_call calls body h.xid r.0 r.1) (ACall h.xid s refl)
           | inr one_is ↦
               let s = subst (Starts body h.xid) one_is h.starts in
-              subst (SaysOfReply calls body) (sym (as_reply calls body h.xid s))
-              (known_said h.xid s (procedure_of calls h.xid) refl)
+              rw (as_reply calls body h.xid s) (known_said h.xid s (procedure_of calls h.xid) refl)
         ]
 
 abbrev pub the_replies : List (List Item) → Judged ReplyItems

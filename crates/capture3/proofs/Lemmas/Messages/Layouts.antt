@@ -93,8 +93,7 @@ is_whole layout body items are e =
     let r = (((layout_decides layout body 0 are (omega arith)).reads x.0.0 x.0.1).0 x.1).reads in
     let none : drop x.0.1 body ≡ [] = drop_all x.0.1 body (omega (arith, end)) in
     let all : ReadsLayout layout body x.0.0 [] = subst (ReadsLayout layout body x.0.0) none r in
-    subst (λ (xs : List Item). FitsLayout layout xs × Spells xs body) y.1
-    ((reads_whole layout body x.0.0).0 all)
+    rw (← y.1) ((reads_whole layout body x.0.0).0 all)
 
 pub is_refused : (layout : Layout) (body : List ℕ) (stop : Stop) → AreBytes body
     → read_whole layout body ≡ Err stop

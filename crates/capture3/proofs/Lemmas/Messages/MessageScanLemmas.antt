@@ -77,8 +77,7 @@ pub arguments_stop : {V : Type 0} (stands : V → List Item → Type 0) (before 
 unfolding StopsLayout
 arguments_stop stands before body s id v1 v2 n1 n2 e b h x = λ stop is.
     let c = call_begun stands body s id v1 v2 n1 n2 b h in
-    call_bad_arguments before body s id c.0 v1.at v2.at stop c.1 (subst
-    (λ (l : List ℕ). reading_layout (arguments_of id) l v2.at ≡ Err stop) c.2 (x stop is))
+    call_bad_arguments before body s id c.0 v1.at v2.at stop c.1 (rw (← c.2) (x stop is))
 
 -- a call was read up to the last view, and a visitor was told its items
 pub record CallRead {V : Type 0} (stands : V → List Item → Type 0) (body : List ℕ)
@@ -103,8 +102,7 @@ call_told stands body s id v1 v2 v3 n0 n1 n2 n3 b a h x =
       more = x.0;
       begins = c.1;
       read =
-          subst (λ (l : List ℕ). reading_layout (arguments_of id) l v2.at ≡ Ok (x.0, v3.at)) c.2
-          x.1;
+          rw (← c.2) x.1;
       same_body = x.2.same_body ∙ c.2;
       adds =
           adds_both stands n0 n1 n3 (start_items s) (c.0 ++ x.0) a
@@ -175,9 +173,7 @@ pub results_stop : {V : Type 0} (stands : V → List Item → Type 0) (calls : L
 unfolding StopsLayout
 results_stop stands calls body s id success v1 v2 n1 n2 e b asked h x = λ stop is.
     let c = reply_begun stands calls body s id success v1 v2 n1 n2 b asked h in
-    reply_bad_results calls body s id success c.0 v1.at v2.at stop c.1 (subst
-    (λ (l : List ℕ). reading_layout (results_after success id) l v2.at ≡ Err stop) c.2
-    (x stop is))
+    reply_bad_results calls body s id success c.0 v1.at v2.at stop c.1 (rw (← c.2) (x stop is))
 
 -- a reply was read up to the last view, and a visitor was told its items
 pub record ReplyRead {V : Type 0} (stands : V → List Item → Type 0) (body : List ℕ)
@@ -215,9 +211,7 @@ reply_told stands body s id success v1 v2 v3 n0 n1 n2 n3 b a h x =
         told = h.2;
       };
       read =
-          subst
-          (λ (l : List ℕ). reading_layout (results_after success id) l v2.at ≡ Ok (x.0, v3.at))
-          same x.1;
+          rw (← same) x.1;
       same_body = x.2.same_body ∙ same;
       adds =
           adds_both stands n0 n1 n3 (start_items s) (h.0 ++ x.0) a

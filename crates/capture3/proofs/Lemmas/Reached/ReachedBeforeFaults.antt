@@ -40,9 +40,8 @@ module _ (front back : List ℕ) (u : Unpacking) (j : Judged) (are : AreBytes (f
       → Reached (front ++ back) all → AreFirstReached (front ++ back) (emitted_at u.opened j)
   first_of all tail is reaches = (
     added.0 ++ tail,
-    subst (Reached (front ++ back))
-        (is ∙ ap (λ (l : List Entry). l ++ tail) added.1
-        ∙ append_assoc (emitted_at u.opened j) added.0 tail) reaches,
+    rw (← (is ∙ ap (λ (l : List Entry). l ++ tail) added.1
+        ∙ append_assoc (emitted_at u.opened j) added.0 tail)) reaches,
   )
 
   ended_run : (all : List Entry) (run : Run Parsing ShownFault) → parsed (front ++ back) ≡ run

@@ -188,9 +188,9 @@ reached_more bytes front whole more h is_whole = by_end h.longest
         (context_at (suc (length b.connections)) (length b.front + 4) (total_size b.connections))
         b.rest shown shows) [
           | inl none ↦ inl (is ∙ none)
-          | inr two ↦ inr (subst (λ (l : List Entry). IsAfter (whole ++ l)) (sym is)
-              (is_after front byte state.state whole (file_runs front state.state state.stands)
-              state.stands state.emits b two.0 one shown two.1))
+          | inr two ↦ inr (rw is (is_after front byte state.state whole
+              (file_runs front state.state state.stands) state.stands state.emits b two.0
+              one shown two.1))
         ]
 
     by_end : ((h.rest ≡ []) × (more ≡ []))
@@ -206,8 +206,7 @@ reached_within bytes entries (inl h) = typed_within bytes entries h
 reached_within bytes entries (inr h) =
     let (bad, front, whole, more, longest, is_whole, is) = h in
     elim (reached_more bytes front whole more longest is_whole) [
-      | inl none ↦ subst AreWithinLimits
-          (sym (is ∙ ap (λ (l : List Entry). whole ++ l) none ∙ append-nil whole))
+      | inl none ↦ rw (is ∙ ap (λ (l : List Entry). whole ++ l) none ∙ append-nil whole)
           (whole_within front whole is_whole)
       | inr later ↦ subst AreWithinLimits (sym is) (after_within (whole ++ more) later)
     ]

@@ -61,9 +61,8 @@ AreMessages-snoc judge (b ∷ bodies) before messages body m h e = (
   h.1 ++ m ∷ [],
   ap (λ ms. ms ++ m ∷ []) h.2,
   h.3,
-  AreMessages-snoc judge bodies (before ++ h.0 ∷ []) h.1 body m h.4 (subst
-      (λ ms. judge.accepts ms body m)
-      (ap (λ ms. before ++ ms) h.2 ∙ sym (append_assoc before (h.0 ∷ []) h.1)) e),
+  AreMessages-snoc judge bodies (before ++ h.0 ∷ []) h.1 body m h.4
+      (rw (← (ap (λ ms. before ++ ms) h.2 ∙ sym (append_assoc before (h.0 ∷ []) h.1))) e),
 )
 
 -- one record more
@@ -87,8 +86,7 @@ judged_leads judge stream front last messages body are split holds whole (Ok m) 
       split = sym (append-nil stream);
       joined = refl;
       holds =
-          subst (λ (b : List ℕ). Holds judge.says b (messages ++ m ∷ [])) (sym split)
-          (Holds-snoc judge.says front last messages body m holds whole
+          rw split (Holds-snoc judge.says front last messages body m holds whole
           (judge.accepted messages body m are e));
     }
 judged_leads judge stream front last messages body are split holds whole (Err stop) e =

@@ -113,11 +113,11 @@ returns-clause-call_answered_by_call c =
 pub returns-clause-reached_at_fault : goal.returns-clause-reached_at_fault
 unfolding all_bytes
 returns-clause-reached_at_fault c =
-    subst (Reached call_answered_by_call) (sym examples.reached_at_fault)
+    rw examples.reached_at_fault
     (reached_by_machine call_answered_by_call (checked call_answered_by_call refl))
 
 pub returns-clause-reached_before_side : goal.returns-clause-reached_before_side
 unfolding all_bytes
 returns-clause-reached_before_side c =
-    subst (Reached bad_mtype_mixed_cut) (sym examples.reached_before_side)
+    rw examples.reached_before_side
     (reached_by_machine bad_mtype_mixed_cut (checked bad_mtype_mixed_cut refl))

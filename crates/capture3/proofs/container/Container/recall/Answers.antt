@@ -38,7 +38,7 @@ returns-in-Ok-default-Record-clause-ready c =
 pub returns-in-Ok-default-More-clause-ready : goal.returns-in-Ok-default-More-clause-ready
 returns-in-Ok-default-More-clause-ready c =
     stream_ended_goes_on c.args.cursor c.args.self.now _ c.recall_end.result c.requires.ready
-    (subst IsRunning (sym c.recall_end.ensures.joiner)
+    (rw c.recall_end.ensures.joiner
     (c.in-Ok-default-More.ensures.machine.running.0 c.in-Ok-default-More.field-0-1-is))
     (rw c.recall_end.ensures.joiner c.recall_end.ensures.between) c.recall_end.ensures.client
     c.recall_end.ensures.server

@@ -23,22 +23,12 @@ returns-in-Length-clause-fault c =
 pub returns-in-Chunk-clause-reaches : goal.returns-in-Chunk-clause-reaches
 returns-in-Chunk-clause-reaches c =
     let self = c.args.self.now in
-    subst
-    (λ (p : Position).
-    IfOk c.join.result (λ t.
-    Leads p self.joiner.taking self.streams.kept (take t.count c.args.rest.now) t.event t.position
-    c.join.new.joiner.taking self.streams.kept))
-    (shown_at c.position.inside self.position _ c.position.view_is c.in-Chunk.is)
-    (c.join.ensures.leads self.streams.kept
-    (stored_here c.position.inside self.position _ self.streams.kept c.position.view_is
-    c.in-Chunk.is c.requires.ready.stored))
+    rw (← (shown_at c.position.inside self.position _ c.position.view_is c.in-Chunk.is))
+    (c.join.ensures.leads self.streams.kept (stored_here c.position.inside self.position
+    _ self.streams.kept c.position.view_is c.in-Chunk.is c.requires.ready.stored))
 
 pub returns-in-Chunk-clause-fault : goal.returns-in-Chunk-clause-fault
 returns-in-Chunk-clause-fault c =
     let self = c.args.self.now in
-    subst
-    (λ (p : Position).
-    IfErr c.join.result
-    (ShowsError (unpacking_of p self.joiner.taking self.streams.kept) c.args.rest.now))
-    (shown_at c.position.inside self.position _ c.position.view_is c.in-Chunk.is)
+    rw (← (shown_at c.position.inside self.position _ c.position.view_is c.in-Chunk.is))
     (c.join.ensures.fault self.streams.kept)

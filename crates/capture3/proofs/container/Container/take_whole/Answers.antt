@@ -19,15 +19,10 @@ returns-clause-reaches c =
     ap (λ (p : Position). p.spot) (c.position.view_is ∙ sym c.open.view_is) ∙ c.in-Chunk.is in
     let stored =
     stored_here position self.position _ streams c.position.view_is here c.requires.ready.stored in
-    subst
-    (λ (p : Position).
-    Leads p self.joiner.taking streams (take c.in_ok-count.count c.args.piece.now)
-    (Some (Record c.in-Chunk.side)) c.take_chunk-taken.result.position
-    c.take_whole.new.self.taking streams)
-    (shown_at position self.position _ c.position.view_is here)
-    (record {
+    rw (← (shown_at position self.position _ c.position.view_is here)) (record {
       machine =
-          join_has_record (standing_at position.counts (Chunk c.in-Chunk.side c.in-Chunk.left))
+          join_has_record
+          (standing_at position.counts (Chunk c.in-Chunk.side c.in-Chunk.left))
           c.take_chunk-taken.result.position streams c.in-Chunk.side c.in-Chunk.left
           c.in_ok-count.count c.min.result self.joiner.taking c.take_whole.new.self.taking
           c.args.piece.now refl pushed.within.1 most (pushed.stops c.requires.ready.ready)

@@ -9,8 +9,7 @@ returns c =
     let pairs = c.args.self.now.calls.items in
     let call : NumberedCall = record { number = c.number_after-number.result; id = c.args.id } in
     let puts : Puts (in_list pairs) c.args.xid call (in_list c.push.new.self.items) =
-    subst (λ (l : List (ℕ × NumberedCall)). Puts (in_list pairs) c.args.xid call (in_list l))
-    (sym c.in_ok-push.ensures.items)
+    rw c.in_ok-push.ensures.items
     (puts_listed pairs c.args.xid call (sym c.find.ensures ∙ c.in_default.is)) in
     known_anew (known_in_list pairs) (known_in_list c.push.new.self.items) c.args.xid call
     (sym c.find.ensures ∙ c.in_default.is)

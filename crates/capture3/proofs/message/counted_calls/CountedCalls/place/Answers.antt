@@ -11,10 +11,9 @@ pub returns-clause-puts : goal.returns-clause-puts
 returns-clause-puts g c true_is =
     let counting = c.args.self.now.counting in
     let line = c.args.self.now.line.items in
-    subst (λ (l : List NumberedCall). Puts (lined counting line) c.args.xid c.args.call
-    (lined counting l)) (sym c.in_ok-push.ensures.items)
-    (puts_last counting line c.resize.new.self.items c.args.xid c.args.call (omega arith)
-    c.requires.numbered
-    (λ i. ap (λ (l : List NumberedCall). home_at l i) c.in_ok-resize.ensures.items
-    ∙ filled line c.home-home.result _ _ (omega arith) refl i)
-    (omega (arith, c.resize.new.self.ok.0, c.in_ok-resize.ensures.len, c.home-home.ensures)))
+    rw c.in_ok-push.ensures.items (puts_last counting line c.resize.new.self.items c.args.xid
+    c.args.call (omega arith) c.requires.numbered
+    (λ i.
+    ap (λ (l : List NumberedCall). home_at l i) c.in_ok-resize.ensures.items
+    ∙ filled line c.home-home.result _ _ (omega arith) refl i) (omega
+    (arith, c.resize.new.self.ok.0, c.in_ok-resize.ensures.len, c.home-home.ensures)))

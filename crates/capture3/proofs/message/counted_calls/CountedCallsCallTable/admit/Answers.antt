@@ -11,8 +11,7 @@ returns-then-home-self g c =
     let others = c.args.self.now.others.entries in
     let call : NumberedCall = record { number = c.saturating_add-number.result; id = c.args.id } in
     let puts : Puts (lined counting line) c.args.xid call (lined counting c.push.new.self.items) =
-    subst (λ (l : List NumberedCall). Puts (lined counting line) c.args.xid call
-    (lined counting l)) (sym c.in_ok-push.ensures.items)
+    rw c.in_ok-push.ensures.items
     (puts_last counting line line c.args.xid call (omega arith) (omega arith) (λ i. refl)
     (omega (arith, c.home-home.ensures))) in
     known_anew (known_of c.args.self.now) _ c.args.xid call
