@@ -1,5 +1,6 @@
 -- Judging body by body says the same of a connection as what its messages are together.
 use Rattle.capture3.proofs.Common.{◌≡◌, ◌⊎◌, ℕ, Bool, true, false, cond, nat_eq, List, [], ◌∷◌, ◌++◌, Some, refl, sym, ap, subst, ◌∙◌, append_assoc, append-nil, inl, inr, eqb-true, eq-eqb, Item, ProcId, procedure_in, ReplyItems, IsCall, IsReply, xid_in, procedure_of, AcceptsCall, Streams, calls_in_turn, replies_to, AreMessages, Holds}
+use Rattle.capture3.proofs.Lemmas.Connections.RankLemmas.{by_test}
 use Rattle.capture3.specs.Laws.{IsJudgedInTurn}
 use Rattle.capture3.specs.Typed.{AreEach, IsIn, HaveOneProcedure, AnswerCalls, Converses}
 
@@ -48,52 +49,27 @@ pub known_call : (calls : List (List Item)) (xid : ℕ) (id : ProcId)
     → procedure_of calls xid ≡ Some id
     → (call : List Item) × IsIn call calls × (xid_in call ≡ xid) × (procedure_in call ≡ id)
 known_call [] xid id e = absurd (cc)
-known_call (call ∷ calls) xid id e = go (nat_eq (xid_in call) xid) refl (known_call calls xid id)
-  where
-    go : (b : Bool) → nat_eq (xid_in call) xid ≡ b
-        → (procedure_of calls xid ≡ Some id
-        → (c : List Item) × IsIn c calls × (xid_in c ≡ xid) × (procedure_in c ≡ id))
-        → (c : List Item) × IsIn c (call ∷ calls) × (xid_in c ≡ xid) × (procedure_in c ≡ id)
-    go true h later =
-        let same : procedure_in call ≡ id =
-        let f =
-        ap (λ (b : Bool). cond b (Some (procedure_in call)) (procedure_of calls xid))
-        (sym h) ∙ e in
-        cc in
-        (call, IsIn-here call calls, eqb-true (xid_in call) xid h, same)
-    go false h later =
-        let m =
-        later
-        (ap (λ (b : Bool). cond b (Some (procedure_in call)) (procedure_of calls xid)) (sym h)
-        ∙ e) in
-        (m.0, IsIn-there m.0 call calls m.1, m.2, m.3)
+known_call (call ∷ calls) xid id e =
+    by_test (nat_eq (xid_in call) xid)
+    (λ h.
+    let f = rw h at e in
+    let same : procedure_in call ≡ id = cc in
+    (call, IsIn-here call calls, eqb-true (xid_in call) xid h, same))
+    (λ h.
+    let m = known_call calls xid id (rw h at e) in (m.0, IsIn-there m.0 call calls m.1, m.2, m.3))
 
 -- a call's xid has the procedure of one of the calls
 pub call_is_known : (calls : List (List Item)) (call : List Item) → IsIn call calls
     → (id : ProcId) × (procedure_of calls (xid_in call) ≡ Some id)
 call_is_known [] call h = absurd (IsIn-nil call h)
 call_is_known (first ∷ calls) call h =
-    go (nat_eq (xid_in first) (xid_in call)) refl (IsIn-cases call first calls h)
-    (call_is_known calls call)
-  where
-    go : (b : Bool) → nat_eq (xid_in first) (xid_in call) ≡ b → (call ≡ first) ⊎ IsIn call calls
-        → (IsIn call calls → (id : ProcId) × (procedure_of calls (xid_in call) ≡ Some id))
-        → (id : ProcId) × (procedure_of (first ∷ calls) (xid_in call) ≡ Some id)
-    go true e member later = (
-      procedure_in first,
-      ap (λ (b : Bool). cond b (Some (procedure_in first)) (procedure_of calls (xid_in call)))
-          e,
-    )
-    go false e (inl same) later =
-        let t = eq-eqb (xid_in first) (xid_in call) (ap xid_in (sym same)) in absurd (cc)
-    go false e (inr within) later =
-        let k = later within in (
-          k.0,
-          ap
-              (λ (b : Bool).
-              cond b (Some (procedure_in first)) (procedure_of calls (xid_in call))) e
-              ∙ k.1,
-        )
+    by_test (nat_eq (xid_in first) (xid_in call)) (λ e. (procedure_in first, rw e))
+    (λ e.
+    elim (IsIn-cases call first calls h) [
+      | inl same ↦
+          let t = eq-eqb (xid_in first) (xid_in call) (ap xid_in (sym same)) in absurd (cc)
+      | inr within ↦ let k = call_is_known calls call within in (k.0, rw e k.1)
+    ])
 
 -- where calls with one xid have one procedure, it is that of each
 pub procedure_is : (calls : List (List Item)) (call : List Item) → HaveOneProcedure calls
@@ -131,7 +107,7 @@ calls_have_one : (bodies : List (List ℕ)) (before calls : List (List Item))
     → HaveOneProcedure before → AreMessages calls_in_turn before bodies calls
     → HaveOneProcedure (before ++ calls)
 calls_have_one [] before calls one h =
-    subst HaveOneProcedure (sym (append-nil before) ∙ ap (λ l. before ++ l) (sym h)) one
+    rw (h, append-nil) one
 calls_have_one (body ∷ bodies) before calls one h =
     rw (← (append_assoc before (h.0 ∷ []) h.1 ∙ ap (λ l. before ++ l) (sym h.2)))
     (calls_have_one bodies (before ++ h.0 ∷ []) h.1 (one_more before body h.0 one h.3) h.4)

@@ -33,10 +33,8 @@ known_anew old new xid call absent number puts count = (
       (number_or o (next_number old.count)) else None) absent),
   λ some. record {
     puts = λ q small. puts q small
-        ∙ ap (λ (n : ℕ). if xid == q then Some (record { number = n; id = call.id }) else
-        old.call_of q)
-        (number ∙ sym (ap (λ (o : Option NumberedCall). number_or o (next_number old.count))
-        absent));
+        ∙ rw (number
+        ∙ sym (ap (λ (o : Option NumberedCall). number_or o (next_number old.count)) absent));
     counts = count ∙ number
         ∙ sym (ap (λ (o : Option NumberedCall). if is_some o then old.count else next_number
         old.count) absent);
@@ -238,14 +236,12 @@ module _ (old new : Known) (calls : List (List Item)) (call : List Item) (xid : 
       ap (λ (o : NumberedCall). o.number) (sym (same_Some its_call c (sym (gains.puts q small_q
       ∙ ap (λ b. cond b (Some its_call) (old.call_of q)) t) ∙ is)))
       ∙ its_number
-      ∙ ap (λ (x : ℕ). min (rank nat_eq x (xids_in calls ++ xid ∷ [])) number_limit)
-      (eqb-true xid q t))
+      ∙ rw (eqb-true xid q t))
       (λ f.
       let was : old.call_of q ≡ Some c =
       sym (gains.puts q small_q ∙ ap (λ b. cond b (Some its_call) (old.call_of q)) f) ∙ is in
       table.numbers q small_q c was
-      ∙ ap (λ (l : List ℕ). min (1 + length (distinct nat_eq l)) number_limit)
-      (sym (before-append nat_eq equality q (xids_in calls) (xid ∷ [])
+      ∙ rw (← (before-append nat_eq equality q (xids_in calls) (xid ∷ [])
       (is_known q small_q ∙ ap is_some was))))
 
   count_more : new.count
@@ -276,11 +272,9 @@ module _ (old new : Known) (calls : List (List Item)) (call : List Item) (xid : 
   table_added = record {
     procedures = procedures_more;
     numbers = λ q small_q c is. numbers_more q small_q c is
-        ∙ ap (λ (l : List ℕ). min (rank nat_eq q l) number_limit)
-        (sym (xids_more calls call xid id xid_is id_is));
+        ∙ rw (← (xids_more calls call xid id xid_is id_is));
     count = count_more
-        ∙ ap (λ (l : List ℕ). min (length (distinct nat_eq l)) number_limit)
-        (sym (xids_more calls call xid id xid_is id_is));
+        ∙ rw (← (xids_more calls call xid id xid_is id_is));
   }
 
   -- the number that its call has
@@ -288,8 +282,7 @@ module _ (old new : Known) (calls : List (List Item)) (call : List Item) (xid : 
       ≡ min (rank nat_eq xid (xids_in (calls ++ call ∷ []))) number_limit
   number_added =
       its_number
-      ∙ ap (λ (l : List ℕ). min (rank nat_eq xid l) number_limit)
-      (sym (xids_more calls call xid id xid_is id_is))
+      ∙ rw (← (xids_more calls call xid id xid_is id_is))
 
 -- whether the calls agree with a call that comes
 module _ (old : Known) (calls : List (List Item)) (xid : ℕ) (id : ProcId) (small : xid < 2 ^ 32)

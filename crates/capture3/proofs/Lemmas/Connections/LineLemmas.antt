@@ -103,11 +103,11 @@ pub puts_home : (counting : Counting) (old new : List NumberedCall) (xid : ℕ) 
     → Puts (lined counting old) xid call (lined counting new)
 puts_home counting old new xid call small puts q small_q =
     puts (home_of counting q)
-    ∙ ap (λ b. cond b (Some call) (lined counting old q))
-    (by_test (nat_eq xid q)
-    (λ t. eq-eqb (home_of counting xid) (home_of counting q) (ap (home_of counting)
-    (eqb-true xid q t)) ∙ sym t)
-    (λ f. is_apart (home_of counting xid) (home_of counting q)
+    ∙ rw (by_test (nat_eq xid q)
+    (λ t.
+    eq-eqb (home_of counting xid) (home_of counting q)
+    (ap (home_of counting) (eqb-true xid q t)) ∙ sym t) (λ f.
+    is_apart (home_of counting xid) (home_of counting q)
     (λ e. differ f (one_at_home counting xid q small small_q e)) ∙ sym f))
   where
     differ : nat_eq xid q ≡ false → xid ≡ q → ⊥

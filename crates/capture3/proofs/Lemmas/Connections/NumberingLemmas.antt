@@ -94,9 +94,8 @@ lent_number one front entry number few is own has =
         → number_lent one ≡ rank_among xs entry
     by_kind lent.Begin xs few is own has = ap (rank_among xs) (sym is)
     by_kind (lent.Call call) xs few is own has =
-        ap (λ (n : ℕ). Some n)
-        (own ∙ number_is number (xid_in is.0) xs few (subst (HasNumber number xs) is.3 has))
-        ∙ ap (rank_among xs) (sym is.3)
+        rw (own ∙ number_is number (xid_in is.0) xs few (subst (HasNumber number xs) is.3 has))
+        (ap (rank_among xs) (sym is.3))
     by_kind lent.Turn xs few is own has = ap (rank_among xs) (sym is)
     by_kind (lent.Reply reply) xs few is own has =
         ap (λ (n : ℕ). Some n)
@@ -124,9 +123,7 @@ numbers_push front [] entry =
 numbers_push front (one ∷ entries) entry =
     ap (λ (l : List (Option ℕ)). number_after front one ∷ l)
     (numbers_push (front ++ one ∷ []) entries entry
-    ∙ ap
-    (λ (l : List Entry). numbers_after (front ++ one ∷ []) entries ++ number_after l entry ∷ [])
-    (append_assoc front (one ∷ []) entries))
+    ∙ rw (append_assoc front (one ∷ []) entries))
 
 -- the numbers of kept entries, with one more
 pub numbered_more : (items : List kept.Entry) (model : List Entry) (one : kept.Entry)

@@ -204,10 +204,7 @@ module _ (u : Unpacking) (streams : Streams) (taken records : ℕ) (table : Know
       (r.here.3
       ∙ sym (append_assoc r.so_far.entries (entries.Begin ∷ [])
       (map entries.Call r.so_far.calls ++ server_entries r.so_far.replies))
-      ∙ ap
-      (λ (l : List Entry).
-      l ++ (map entries.Call r.so_far.calls ++ server_entries r.so_far.replies))
-      (sym r.emits))
+      ∙ rw (← r.emits))
 
   pub reply_refused : (count : ℕ) (x : Joined) (fault : RecordFault)
       → after join_next (Runs Between) (take count (drop taken streams.server)) ≡ Stops x
@@ -428,15 +425,13 @@ module _ (u : Unpacking) (streams : Streams) (side : Side) (taken records : ℕ)
   by_client (Held calls) e more is =
       let x = stream_end (judge_replies calls) streams.server in
       by_server calls [] (more ++ server_entries (messages_in x)) x (r.ends
-      ∙ ap (λ y. said u r.so_far (client_said u.connections u.at u.total streams.server y))
-      e)
+      ∙ rw e)
       (sym (append_assoc r.so_far.entries (client_entries calls) (server_entries (messages_in x)))
       ∙ ap (λ (l : List Entry). l ++ server_entries (messages_in x)) is
       ∙ append_assoc handed more (server_entries (messages_in x)))
   by_client (Faulty calls fault) e more is =
       by_refusal (client_refusal u.connections calls fault) more (r.ends
-      ∙ ap (λ y. said u r.so_far (client_said u.connections u.at u.total streams.server y))
-      e)
+      ∙ rw e)
       (ap (λ (l : List Entry). l ++ map entries.Call calls) r.emits
       ∙ append_assoc r.so_far.entries (entries.Begin ∷ []) (map entries.Call calls) ∙ is)
 

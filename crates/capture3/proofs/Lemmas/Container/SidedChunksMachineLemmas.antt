@@ -363,8 +363,7 @@ chunk_bytes at total streams side (byte ∷ got) n m e =
     let more : n ≡ suc (length got + m) = omega arith in
     rw more (chunk_bytes at total (with_more streams side (byte ∷ [])) side got (length got + m) m
     refl
-    ∙ ap (λ s. Runs (mixing_in at total s (awaiting_side side m)))
-    (with_more-append streams side (byte ∷ []) got))
+    ∙ rw (with_more-append streams side (byte ∷ []) got))
 
 pub word_lands : (at total n : ℕ) (streams : Streams) (word : List ℕ) → IsWord word n
     → mixed_after (mixing_at at total streams) word ≡ landed (sided at total streams n)

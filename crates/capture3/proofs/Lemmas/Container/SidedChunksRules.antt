@@ -85,8 +85,7 @@ module _ (context : Context) where
       (gathered h.chunks)) h.split (omega (arith, h.closes.0)) h.joined
       (word_lands (context.start + length h.front) (context.before + size (gathered h.chunks)) 0
       (gathered h.chunks) h.last h.closes
-      ∙ ap (λ n. Stops (MixedCloses n (context.before + size (gathered h.chunks))
-      (gathered h.chunks))) at_is))
+      ∙ rw at_is))
 
   header_over : (bytes : List ℕ) (b : AfterLength bytes) (fault : Fault)
       → landed (measured (context.start + length b.front + 4)

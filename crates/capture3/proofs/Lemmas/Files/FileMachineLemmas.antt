@@ -428,9 +428,7 @@ file_runs bytes s (AtEnd version front last connections entries split opens clos
     (front_runs version front connections entries opens)
     (mark_runs version (length front) (total_size connections) (length connections) entries last 0
     closes
-    ∙ ap
-    (λ n.
-    Runs (parsing_in version n (total_size connections) (length connections) entries Ended)) at_is))
+    ∙ rw at_is))
 
 pub bad_mark_stops : (version : Version) (at total count : ℕ) (entries : List Entry) (n : ℕ) → 1 < n
     → landed (marked version at total count entries n) ≡ Stops (refusal (file_fault at BadMark))

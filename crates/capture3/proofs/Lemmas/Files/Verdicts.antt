@@ -185,8 +185,7 @@ pub verdict_from_fault : (file : List ℕ) (fault : Fault) → AreBytes file →
     → verdict file ≡ Err fault
 verdict_from_fault file fault are (inl h) =
     ap (verdict_of (length file)) (ap parsed h.3 ∙ after-append file_next (Runs file_start) h.0 h.1
-    ∙ ap (λ r. after file_next r h.1)
-    (stops_from_shows h.0 h.2 (split_bytes file h.0 h.1 h.3 are).0 h.4))
+    ∙ rw (stops_from_shows h.0 h.2 (split_bytes file h.0 h.1 h.3 are).0 h.4))
     ∙ stays (length file) h.2 h.1 ∙ ap (λ f. Err f) (sym h.5)
 verdict_from_fault file fault are (inr h) =
     cut_from_run file (parsed file) are refl h.0 h.1 ∙ ap (λ f. Err f) (sym h.2)

@@ -25,8 +25,7 @@ whole_trails : (layout : Layout) (body : List ℕ) (front more : List Item) (end
 unfolding with_front
 whole_trails layout body front more end to read other =
     ap (λ r. r >>= all_of_body body) read
-    ∙ ap (λ b. cond b (Ok (front ++ more)) (refused to Trailing))
-    (ne_eqb to (length body) other)
+    ∙ rw (ne_eqb to (length body) other)
 
 whole_refused : (layout : Layout) (body : List ℕ) (stop : Stop)
     → reading_layout layout body 0 ≡ Err stop → read_whole layout body ≡ Err stop
@@ -69,7 +68,7 @@ pub call_bad_head : (before : List (List Item)) (body : List ℕ) (s : MessageSt
     → reading call_head body head ≡ Err stop → judge_call before body ≡ Err stop
 call_bad_head before body s stop head e is read =
     call_read_on before body s head e is
-    ∙ ap (λ r. r >>= agreed before) (whole_refused (call_layout arguments_of) body stop
+    ∙ rw (whole_refused (call_layout arguments_of) body stop
     (call_head_refused arguments_of body s stop 0 head e is read))
 
 call_laid : (body : List ℕ) (s : MessageStart) (id : ProcId) (front : List Item) (head end : ℕ)
@@ -78,9 +77,7 @@ call_laid : (body : List ℕ) (s : MessageStart) (id : ProcId) (front : List Ite
     ≡ with_front (start_items s ++ front) (reading_layout (arguments_of id) body end)
 call_laid body s id front head end b =
     call_read arguments_of body s front 0 head end b.start b.is_call b.read
-    ∙ ap
-    (λ (p : ProcId).
-    with_front (start_items s ++ front) (reading_layout (arguments_of p) body end)) b.told
+    ∙ rw b.told
 
 pub call_bad_arguments : (before : List (List Item)) (body : List ℕ) (s : MessageStart)
     (id : ProcId) (front : List Item) (head end : ℕ) (stop : Stop)
@@ -88,9 +85,8 @@ pub call_bad_arguments : (before : List (List Item)) (body : List ℕ) (s : Mess
     → reading_layout (arguments_of id) body end ≡ Err stop → judge_call before body ≡ Err stop
 call_bad_arguments before body s id front head end stop b read =
     call_read_on before body s head b.start b.is_call
-    ∙ ap (λ r. r >>= agreed before)
-    (whole_refused (call_layout arguments_of) body stop
-    (call_laid body s id front head end b ∙ ap (with_front (start_items s ++ front)) read
+    ∙ rw (whole_refused (call_layout arguments_of) body stop (call_laid body s id front head end b
+    ∙ ap (with_front (start_items s ++ front)) read
     ∙ front_refused (start_items s ++ front) stop))
 
 pub call_trails : (before : List (List Item)) (body : List ℕ) (s : MessageStart) (id : ProcId)
@@ -100,9 +96,9 @@ pub call_trails : (before : List (List Item)) (body : List ℕ) (s : MessageStar
     → judge_call before body ≡ refused to Trailing
 call_trails before body s id front head end to more b read other =
     call_read_on before body s head b.start b.is_call
-    ∙ ap (λ r. r >>= agreed before)
-    (whole_trails (call_layout arguments_of) body (start_items s ++ front) more end to
-    (call_laid body s id front head end b ∙ ap (with_front (start_items s ++ front)) read) other)
+    ∙ rw (whole_trails (call_layout arguments_of) body (start_items s ++ front) more end to
+    (call_laid body s id front head end b ∙ ap (with_front (start_items s ++ front)) read)
+    other)
 
 -- a whole call's items: its start, its head and its arguments
 abbrev pub whole_call : MessageStart → List Item → List Item → List Item
@@ -140,10 +136,7 @@ call_whole before body s id front head end to more b read is =
     (whole_ends (call_layout arguments_of) body (start_items s ++ front) more end to
     (call_laid body s id front head end b ∙ ap (with_front (start_items s ++ front)) read) is
     ∙ ap (λ (items : List Item). Ok items) (append_assoc (start_items s) front more))
-    ∙ ap
-    (λ (p : ProcId).
-    cond (agrees (procedure_of before s.xid) p) (Ok (whole_call s front more))
-    (refused 0 XidConflict)) (call_procedure body s id front more head end b)
+    ∙ rw (call_procedure body s id front more head end b)
 
 pub call_accepted : (before : List (List Item)) (body : List ℕ) (s : MessageStart) (id : ProcId)
     (front : List Item) (head end to : ℕ) (more : List Item)
@@ -198,8 +191,7 @@ pub reply_bad_head : (calls : List (List Item)) (body : List ℕ) (s : MessageSt
 reply_bad_head calls body s id stop head e is asked read =
     reply_read_on calls body s head e is
     ∙ ap (answering body) asked
-    ∙ ap (λ r. r >>= λ items. Ok (record { id = id; items = items })) (whole_refused
-    (reply_layout (results_of id)) body stop
+    ∙ rw (whole_refused (reply_layout (results_of id)) body stop
     (reply_head_refused (results_of id) body s stop 0 head e is read))
 
 reply_laid : (calls : List (List Item)) (body : List ℕ) (s : MessageStart) (id : ProcId)
@@ -209,10 +201,7 @@ reply_laid : (calls : List (List Item)) (body : List ℕ) (s : MessageStart) (id
     ≡ with_front (start_items s ++ front) (reading_layout (results_after success id) body end)
 reply_laid calls body s id success front head end b =
     reply_read (results_of id) body s front 0 head end b.start b.is_reply b.read
-    ∙ ap
-    (λ (c : Bool).
-    with_front (start_items s ++ front) (reading_layout (results_after c id) body end))
-    b.told
+    ∙ rw b.told
 
 reply_answers : (calls : List (List Item)) (body : List ℕ) (s : MessageStart) (id : ProcId)
     (success : Bool) (front : List Item) (head end : ℕ)
@@ -230,10 +219,8 @@ pub reply_bad_results : (calls : List (List Item)) (body : List ℕ) (s : Messag
     → judge_reply calls body ≡ Err stop
 reply_bad_results calls body s id success front head end stop b read =
     reply_answers calls body s id success front head end b
-    ∙ ap (λ r. r >>= λ items. Ok (record { id = id; items = items }))
-    (whole_refused (reply_layout (results_of id)) body stop
-    (reply_laid calls body s id success front head end b
-    ∙ ap (with_front (start_items s ++ front)) read
+    ∙ rw (whole_refused (reply_layout (results_of id)) body stop (reply_laid calls body s id success
+    front head end b ∙ ap (with_front (start_items s ++ front)) read
     ∙ front_refused (start_items s ++ front) stop))
 
 pub reply_trails : (calls : List (List Item)) (body : List ℕ) (s : MessageStart) (id : ProcId)
@@ -243,8 +230,7 @@ pub reply_trails : (calls : List (List Item)) (body : List ℕ) (s : MessageStar
     → judge_reply calls body ≡ refused to Trailing
 reply_trails calls body s id success front head end to more b read other =
     reply_answers calls body s id success front head end b
-    ∙ ap (λ r. r >>= λ items. Ok (record { id = id; items = items }))
-    (whole_trails (reply_layout (results_of id)) body (start_items s ++ front) more end to
+    ∙ rw (whole_trails (reply_layout (results_of id)) body (start_items s ++ front) more end to
     (reply_laid calls body s id success front head end b
     ∙ ap (with_front (start_items s ++ front)) read) other)
 
@@ -265,8 +251,7 @@ pub reply_accepted : (calls : List (List Item)) (body : List ℕ) (s : MessageSt
 unfolding followed_by
 reply_accepted calls body s id success front head end to more b read is =
     reply_answers calls body s id success front head end b
-    ∙ ap (λ r. r >>= λ items. Ok (record { id = id; items = items }))
-    (whole_ends (reply_layout (results_of id)) body (start_items s ++ front) more end to
+    ∙ rw (whole_ends (reply_layout (results_of id)) body (start_items s ++ front) more end to
     (reply_laid calls body s id success front head end b
     ∙ ap (with_front (start_items s ++ front)) read) is
     ∙ ap (λ (items : List Item). Ok items) (append_assoc (start_items s) front more))

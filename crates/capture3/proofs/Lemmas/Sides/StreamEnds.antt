@@ -1,5 +1,6 @@
 -- A whole stream, with its messages or its first fault.
 use Rattle.capture3.proofs.Common.{◌≡◌, inl, inr, ℕ, List, [], ◌∷◌, ◌++◌, refl, sym, ap, subst, ◌∙◌, append_assoc, append-nil, Ok, Ends, Run, Runs, Stops, Stopped, after, landed, last_running, Joining, Between, Header, Bytes, Joined, Whole, TooLong, join_next, IsOpen, AreBytes, RecordTooLong, Judgement, Holds, RecordFault, fault_at, FirstRecordFault, RefusesNext, NextIsTooLong, NextIsCut, record_stops, too_long_stops, Judge, Reading, judged, recorded, stream_next, unread, StreamEnd, Held, Faulty, left_in, end_of, rest_end, stream_end, reading_with}
+use Rattle.record_mark.specs.Joining.{HasJoined}
 use Rattle.record_mark.proofs.Machines.{Tells, after-append, after_stopped, nested_last, nested_runs, nested_stops, last_running-append, last_stopped}
 use Rattle.capture3.proofs.Lemmas.Messages.BodyProgramLemmas.{Judged}
 use Rattle.capture3.proofs.Lemmas.Sides.StreamMachineLemmas.{HasRead, ShowsAsFirst, stream_leads, between_holds, nothing_read, held_runs, stream_runs}
@@ -11,12 +12,8 @@ use Rattle.capture3.proofs.Lemmas.Files.Telling.{tells_bytes}
 pub rest_after : {M : Type 0} (judge : Judge M) (s t : Reading M) (front rest : List ℕ)
     → after (stream_next judge) (Runs s) front ≡ Runs t
     → rest_end judge s (front ++ rest) ≡ rest_end judge t rest
-rest_after {M} judge s t front rest runs =
-    ap (λ (u : Reading M). end_of u.messages (after (stream_next judge) (Runs s) (front ++ rest)))
-    (last_running-append (stream_next judge) s t front rest runs)
-    ∙ ap (end_of (last_running (stream_next judge) t rest).messages) (after-append
-    (stream_next judge) (Runs s) front rest
-    ∙ ap (λ r. after (stream_next judge) r rest) runs)
+rest_after judge s t front rest runs =
+    rw (last_running-append (stream_next judge) s t front rest runs, after-append, runs)
 
 abbrev pub between : {M : Type 0} → List M → Reading M
 between messages = reading_with messages Between
@@ -39,12 +36,7 @@ pub rest_refuses : {M : Type 0} (judge : Judge M) (messages : List M) (front res
     → recorded judge messages x ≡ Ends fault
     → rest_end judge (between messages) (front ++ rest) ≡ Faulty messages fault
 rest_refuses {M} judge messages front rest x fault stops ends =
-    ap
-    (λ (u : Reading M).
-    end_of u.messages (after (stream_next judge) (Runs (between messages)) (front ++ rest)))
-    last_is
-    ∙ ap (end_of messages) (after-append (stream_next judge) (Runs (between messages)) front rest
-    ∙ ap (λ r. after (stream_next judge) r rest) stop) ∙ stays rest
+    rw (last_is, after-append, stop) (stays rest)
   where
     stop : after (stream_next judge) (Runs (between messages)) front ≡ Stops fault
     stop =
@@ -68,8 +60,7 @@ pub rest_leaves : {M : Type 0} (judge : Judge M) (messages : List M) (rest : Lis
     → after join_next (Runs Between) rest ≡ Runs j
     → rest_end judge (between messages) rest ≡ left_in messages j
 rest_leaves judge messages rest j runs =
-    ap (end_of (last_running (stream_next judge) (between messages) rest).messages)
-    (nested_runs join_next (stream_next judge) (reading_with messages) (recorded judge messages)
+    rw (nested_runs join_next (stream_next judge) (reading_with messages) (recorded judge messages)
     (λ s byte. refl) rest Between j runs)
 
 -- ---- a whole stream
@@ -99,40 +90,28 @@ last_after judge front last rest messages x fault holds stops ends =
 
 pub stream_ends : {M : Type 0} (judge : Judged M) (stream : List ℕ) (x : StreamEnd M)
     → EndsStream judge.says stream x → stream_end judge.decide stream ≡ x
-stream_ends {M} judge stream (Held messages) h =
-    ap (end_of (last_running (stream_next judge.decide) unread stream).messages)
-    (held_runs judge stream messages h)
-stream_ends {M} judge stream (Faulty messages fault)
+stream_ends judge stream (Held messages) h = rw (held_runs judge stream messages h)
+stream_ends judge stream (Faulty messages fault)
     (RefusesNext front last rest body stop split holds whole refused is) =
-    ap (stream_end judge.decide) split
-    ∙ last_after judge front last rest messages (Whole body) (fault_at messages stop.at stop.reason)
-    holds (record_stops last body whole)
-    (ap (judged messages) (judge.refuses messages body stop refused))
-    ∙ ap (Faulty messages) (sym is)
-stream_ends {M} judge stream (Faulty messages fault)
+    rw (split, is) (last_after judge front last rest messages (Whole body)
+    (fault_at messages stop.at stop.reason) holds (record_stops last body whole)
+    (ap (judged messages) (judge.refuses messages body stop refused)))
+stream_ends judge stream (Faulty messages fault)
     (NextIsTooLong front last rest at split holds long is) =
-    ap (stream_end judge.decide) split
-    ∙ last_after judge front last rest messages (TooLong at)
-    (fault_at messages at RecordTooLong) holds (too_long_stops last at long) refl
-    ∙ ap (Faulty messages) (sym is)
+    rw (split, is) (last_after judge front last rest messages (TooLong at)
+    (fault_at messages at RecordTooLong) holds (too_long_stops last at long) refl)
 stream_ends {M} judge stream (Faulty messages fault)
-    (NextIsCut front last body split holds is_open is) = go is_open
+    (NextIsCut front last body split holds is_open is) =
+    elim is_open [
+      | inl o ↦ at_joining (Header body o.0) o.1 ∙ ap (Faulty messages) (sym is)
+      | inr o ↦ at_joining (Bytes body o.0 o.1) o.2 ∙ ap (Faulty messages) (sym is)
+    ]
   where
-    at_joining : (j : Joining) → HasRead judge.says stream (reading_with messages j)
+    at_joining : (j : Joining) → HasJoined last j
         → stream_end judge.decide stream ≡ left_in messages j
-    at_joining j read =
-        ap (end_of (last_running (stream_next judge.decide) unread stream).messages)
-        (stream_runs judge stream (reading_with messages j) read)
-
-    go : IsOpen last body → stream_end judge.decide stream ≡ Faulty messages fault
-    go (inl o) =
-        at_joining (Header body o.0)
-        (record { front = front; last = last; split = split; holds = holds; joined = o.1 })
-        ∙ ap (Faulty messages) (sym is)
-    go (inr o) =
-        at_joining (Bytes body o.0 o.1)
-        (record { front = front; last = last; split = split; holds = holds; joined = o.2 })
-        ∙ ap (Faulty messages) (sym is)
+    at_joining j joined =
+        rw (stream_runs judge stream (reading_with messages j)
+        (record { front = front; last = last; split = split; holds = holds; joined = joined }))
 
 left_ends : {M : Type 0} (judge : Judgement M) (stream : List ℕ) (messages : List M)
     (joining : Joining) → HasRead judge stream (reading_with messages joining)
@@ -144,29 +123,19 @@ left_ends judge stream messages (Bytes body last left) h =
     NextIsCut h.front h.last body h.split h.holds (inr (last, left, h.joined)) refl
 
 -- it ends in one way that holds
-pub ends_somehow : {M : Type 0} (judge : Judged M) (stream : List ℕ) → AreBytes stream
+ends_somehow : {M : Type 0} (judge : Judged M) (stream : List ℕ) (run : Run (Reading M) RecordFault)
+    → Tells (HasRead judge.says) (ShowsAsFirst judge.says) stream run
     → (x : StreamEnd M) × EndsStream judge.says stream x
-ends_somehow {M} judge stream are =
-    go (after (stream_next judge.decide) (Runs unread) stream) (stream_tells judge stream are)
-  where
-    go : (run : Run (Reading M) RecordFault)
-        → Tells (HasRead judge.says) (ShowsAsFirst judge.says) stream run
-        → (x : StreamEnd M) × EndsStream judge.says stream x
-    go (Runs s) h =
-        (left_in s.messages s.joining, left_ends judge.says stream s.messages s.joining h)
-    go (Stops fault) h =
-        let f = h.1 [] in (
-          Faulty f.0 fault,
-          subst (λ (b : List ℕ). FirstRecordFault judge.says b f.0 fault) (append-nil stream) f.1,
-        )
-    go (Stopped fault) h =
-        let f = h.ending.1 (h.byte ∷ h.back) in (
-          Faulty f.0 fault,
-          subst (λ (b : List ℕ). FirstRecordFault judge.says b f.0 fault) (sym h.split) f.1,
-        )
+ends_somehow judge stream (Runs s) h =
+    (left_in s.messages s.joining, left_ends judge.says stream s.messages s.joining h)
+ends_somehow judge stream (Stops fault) h =
+    let f = h.1 [] in (Faulty f.0 fault, rw append-nil at f.1)
+ends_somehow judge stream (Stopped fault) h =
+    let f = h.ending.1 (h.byte ∷ h.back) in (Faulty f.0 fault, rw h.split f.1)
 
 pub ends_stream : {M : Type 0} (judge : Judged M) (stream : List ℕ) → AreBytes stream
     → EndsStream judge.says stream (stream_end judge.decide stream)
 ends_stream judge stream are =
-    let e = ends_somehow judge stream are in
-    subst (EndsStream judge.says stream) (sym (stream_ends judge stream e.0 e.1)) e.1
+    let run = after (stream_next judge.decide) (Runs unread) stream in
+    let e = ends_somehow judge stream run (stream_tells judge stream are) in
+    rw (stream_ends judge stream e.0 e.1) e.1
