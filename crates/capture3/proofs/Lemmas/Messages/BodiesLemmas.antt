@@ -1,5 +1,5 @@
 -- Bodies of calls and of replies, judged from left to right, against what they are.
-use Rattle.std.proofs.Common.{◌≡◌, ◌≢◌, ◌⊎◌, ℕ, ◌+◌, Bool, true, false, cond, nat_eq, IsTrue, List, [], ◌∷◌, ◌++◌, length, drop, Option, Some, None, Result, Ok, Err, refl, sym, ap, subst, ◌∙◌, append_assoc, inl, inr, arith, eqb-true, eq-eqb}
+use Rattle.std.proofs.Common.{◌≡◌, ◌≢◌, ◌⊎◌, ℕ, ◌+◌, Bool, true, false, cond, nat_eq, IsTrue, List, [], ◌∷◌, ◌++◌, length, drop, Option, Some, None, Result, Ok, Err, refl, sym, ap, ap₂, subst, ◌∙◌, append_assoc, inl, inr, arith, eqb-true, eq-eqb}
 use Rattle.std.specs.Prelude.{◌&&◌}
 use Rattle.capture3.proofs.Common.{WrongSide, XidConflict, Stop, reads_whole, ProcId, call_layout, call_start, reply_layout, reply_start, procedure_in, arguments_of, results_of, calls_in_turn, replies_to, judge_replies, Item, Word, AreBytes, Spells, ◌>>=◌, reading, refused, complete, head_names}
 use Rattle.xdr3.specs.Layout.{Layout, ReadsLayout, word_in}
@@ -11,7 +11,8 @@ use Rattle.rpc_head.specs.Shapes.{message_start, message_types}
 use Rattle.capture3.specs.Bodies.{ReplyItems, IsCall, xid_in, procedure_of, Starts, AcceptsCall, RefusesCall, AReply, BadCall, LongCall, OtherCall, AcceptsReply, RefusesReply, ACall, Unasked, BadReply, LongReply}
 use Rattle.capture3.specs.Bodies as bodies
 use Rattle.capture3.specs.BodyProgram.{read_whole, is_same, agrees, agreed, call_after, answering, reply_after, judge_call, judge_reply}
-use Rattle.capture3.proofs.Lemmas.Messages.BodyProgramLemmas.{Judged}
+use Rattle.capture3.proofs.Lemmas.Messages.BodyProgramLemmas.{Judged, by_result}
+use Rattle.capture3.proofs.Lemmas.Connections.RankLemmas.{by_test}
 use Rattle.capture3.proofs.Lemmas.Messages.Layouts.{whole_read, refused_read, more_read, is_whole, is_refused}
 
 -- ---- the first two words
@@ -70,85 +71,50 @@ zero_or_one : (n : ℕ) → IsTrue (is_listed (0 ∷ 1 ∷ []) n) → (n ≡ 0) 
 zero_or_one n h = grind (arith, h)
 
 -- a message that begins with the start has its xid and its mtype
-has_start : (words : List ℕ) (body front back left : List ℕ) (xs ys : List Item)
-    → Fits (word head_names.xid then listed head_names.mtype words) xs → Spells (xs ++ ys) front
-    → body ≡ front ++ left
-    → (xid : ℕ) × (mtype : ℕ) × (rest : List ℕ) × (some : List ℕ) × IsTrue (is_listed words mtype)
-    × (xs ≡ start_of xid mtype) × Spells (start_of xid mtype) some × (body ≡ some ++ rest)
-has_start words body front back left xs ys f s split =
-    let two = two_words words xs f in
-    let p = Spells-split xs ys front s in (
-      two.0,
-      two.1,
+starts_of : (mtype : ℕ) (body front left : List ℕ) (items xs ys zs : List Item)
+    → IsTrue (is_listed message_types mtype)
+    → ((n : ℕ) → IsTrue (is_listed (mtype ∷ []) n) → n ≡ mtype)
+    → Fits (word head_names.xid then listed head_names.mtype (mtype ∷ [])) xs
+    → Spells (xs ++ ys) front → body ≡ front ++ left → items ≡ (xs ++ ys) ++ zs
+    → Starts body (xid_in items) mtype
+unfolding message_start
+starts_of mtype body front left items xs ys zs known only fits spells whole is =
+    let two = two_words (mtype ∷ []) xs fits in
+    let p = Spells-split xs ys front spells in
+    let xid : two.0 ≡ xid_in items =
+    sym (ap xid_in (is ∙ ap (λ (b : List Item). (b ++ ys) ++ zs) two.3)) in (
       p.1 ++ left,
-      p.0,
-      two.2,
-      two.3,
-      subst (λ (items : List Item). Spells items p.0) two.3 p.2,
-      split ∙ ap (λ (b : List ℕ). b ++ left) p.4 ∙ append_assoc p.0 p.1 left,
+      record {
+        front = p.0;
+        fits = (
+          Word head_names.xid (xid_in items) ∷ [],
+          Word head_names.mtype mtype ∷ [],
+          (xid_in items, [], refl, refl, refl),
+          (mtype, [], known, refl, refl),
+          refl,
+        );
+        spells =
+            subst (λ (more : List Item). Spells more p.0)
+            (two.3 ∙ ap₂ start_of xid (only two.1 two.2)) p.2;
+        whole = whole ∙ ap (λ (b : List ℕ). b ++ left) p.4 ∙ append_assoc p.0 p.1 left;
+      },
     )
 
 pub call_starts : (body : List ℕ) (items : List Item) (left : List ℕ)
     → ReadsLayout (call_layout arguments_of) body items left → Starts body (xid_in items) 0
-unfolding call_layout call_start message_start
+unfolding call_layout call_start
 call_starts body items left r =
     let p = r.3.fits in
-    let h =
-    has_start (0 ∷ []) body r.3.front r.3.front r.2 p.0 p.1 p.2
-    (subst (λ (xs : List Item). Spells xs r.3.front) p.4 r.3.spells) r.3.whole in
-    let mtype = only_zero h.1 h.4 in
-    let xid : h.0 ≡ xid_in items =
-    sym
-    (ap xid_in
-    (r.5 ∙ ap (λ (b : List Item). b ++ r.1) (p.4 ∙ ap (λ (b : List Item). b ++ p.1) h.5)))
-    in
-    let same : start_of h.0 h.1 ≡ start_of (xid_in items) 0 =
-    ap (λ (n : ℕ). start_of n h.1) xid ∙ ap (start_of (xid_in items)) mtype in (
-      h.2,
-      record {
-        front = h.3;
-        fits = (
-          Word head_names.xid (xid_in items) ∷ [],
-          Word head_names.mtype 0 ∷ [],
-          (xid_in items, [], refl, refl, refl),
-          (0, [], refl, refl, refl),
-          refl,
-        );
-        spells = subst (λ (xs : List Item). Spells xs h.3) same h.6;
-        whole = h.7;
-      },
-    )
+    starts_of 0 body r.3.front r.2 items p.0 p.1 r.1 refl only_zero p.2 (rw p.4 at r.3.spells)
+    r.3.whole (rw p.4 at r.5)
 
 pub reply_starts : (results : Layout) (body : List ℕ) (items : List Item) (left : List ℕ)
     → ReadsLayout (reply_layout results) body items left → Starts body (xid_in items) 1
-unfolding reply_layout reply_start message_start
+unfolding reply_layout reply_start
 reply_starts results body items left r =
     let p = r.3.fits in
-    let h =
-    has_start (1 ∷ []) body r.3.front r.3.front r.2 p.0 p.1 p.2
-    (subst (λ (xs : List Item). Spells xs r.3.front) p.4 r.3.spells) r.3.whole in
-    let mtype = only_one h.1 h.4 in
-    let xid : h.0 ≡ xid_in items =
-    sym
-    (ap xid_in
-    (r.5 ∙ ap (λ (b : List Item). b ++ r.1) (p.4 ∙ ap (λ (b : List Item). b ++ p.1) h.5)))
-    in
-    let same : start_of h.0 h.1 ≡ start_of (xid_in items) 1 =
-    ap (λ (n : ℕ). start_of n h.1) xid ∙ ap (start_of (xid_in items)) mtype in (
-      h.2,
-      record {
-        front = h.3;
-        fits = (
-          Word head_names.xid (xid_in items) ∷ [],
-          Word head_names.mtype 1 ∷ [],
-          (xid_in items, [], refl, refl, refl),
-          (1, [], refl, refl, refl),
-          refl,
-        );
-        spells = subst (λ (xs : List Item). Spells xs h.3) same h.6;
-        whole = h.7;
-      },
-    )
+    starts_of 1 body r.3.front r.2 items p.0 p.1 r.1 refl only_one p.2 (rw p.4 at r.3.spells)
+    r.3.whole (rw p.4 at r.5)
 
 -- what is read of a start
 pub record IsStarted (body : List ℕ) (start : List Item) : Type 0 where
@@ -207,11 +173,7 @@ same_is a b e =
     go false q r p v n e = absurd (cc)
 
 not_same : (a b : ProcId) → a ≢ b → is_same a b ≡ false
-not_same a b other = go (is_same a b) refl
-  where
-    go : (s : Bool) → is_same a b ≡ s → is_same a b ≡ false
-    go true e = absurd (other (same_is a b e))
-    go false e = e
+not_same a b other = by_test (is_same a b) (λ e. absurd (other (same_is a b e))) (λ e. e)
 
 -- ---- the client stream
 
@@ -289,57 +251,47 @@ SaysOfCall before body (Ok items) = AcceptsCall before body items
 SaysOfCall before body (Err stop) = RefusesCall before body stop
 
 agreed_said : (before : List (List Item)) (body : List ℕ) (items : List Item) → IsCall body items
-    → SaysOfCall before body (agreed before items)
-agreed_said before body items is = known_said (procedure_of before (xid_in items)) refl
-  where
-    same_said : (id : ProcId) → procedure_of before (xid_in items) ≡ Some id → (b : Bool)
-        → is_same id (procedure_in items) ≡ b
-        → SaysOfCall before body (cond b (Ok items) (refused 0 XidConflict))
-    same_said id known true e =
-        (is, λ other some. let one : other ≡ id = cc in one ∙ same_is id (procedure_in items) e)
-    same_said id known false e =
-        OtherCall items id is known
-        (λ equal. let t = is_same_self id in let u = ap (is_same id) equal in cc) refl
-
-    known_said : (known : Option ProcId) → procedure_of before (xid_in items) ≡ known
-        → SaysOfCall before body
-        (cond (agrees known (procedure_in items)) (Ok items) (refused 0 XidConflict))
-    known_said None e = (is, λ id some. absurd (cc))
-    known_said (Some id) e = same_said id e (is_same id (procedure_in items)) refl
+    → (known : Option ProcId) → procedure_of before (xid_in items) ≡ known
+    → SaysOfCall before body
+    (cond (agrees known (procedure_in items)) (Ok items) (refused 0 XidConflict))
+agreed_said before body items is None e = (is, λ id some. absurd (cc))
+agreed_said before body items is (Some id) known =
+    by_test (is_same id (procedure_in items))
+    (λ e. rw e (
+      is,
+      λ other some. let one : other ≡ id = cc in one ∙ same_is id (procedure_in items) e,
+    ))
+    (λ e. rw e (OtherCall items id is known
+    (λ equal. let t = is_same_self id in let u = ap (is_same id) equal in cc) refl))
 
 whole_call_said : (before : List (List Item)) (body : List ℕ) (xid : ℕ) → AreBytes body
     → Starts body xid 0
     → SaysOfCall before body (read_whole (call_layout arguments_of) body >>= agreed before)
-whole_call_said before body xid are s = go (read_whole (call_layout arguments_of) body) refl
-  where
-    go : (r : Result (List Item) Stop) → read_whole (call_layout arguments_of) body ≡ r
-        → SaysOfCall before body (r >>= agreed before)
-    go (Ok items) e =
-        agreed_said before body items (is_whole (call_layout arguments_of) body items are e)
-    go (Err stop) e =
-        elim (is_refused (call_layout arguments_of) body stop are e)
-        [ inl r ↦ BadCall xid s r | inr more ↦ LongCall xid s more ]
+whole_call_said before body xid are s =
+    by_result (read_whole (call_layout arguments_of) body)
+    (λ items e. rw e (agreed_said before body items
+    (is_whole (call_layout arguments_of) body items are e) (procedure_of before (xid_in items))
+    refl))
+    (λ stop e. rw e (elim (is_refused (call_layout arguments_of) body stop are e)
+    [ inl r ↦ BadCall xid s r | inr more ↦ LongCall xid s more ]))
 
 pub call_said : (before : List (List Item)) (body : List ℕ) → AreBytes body
     → SaysOfCall before body (judge_call before body)
-call_said before body are = go (reading message_start body 0) refl
-  where
-    go : (r : Result (List Item × ℕ) Stop) → reading message_start body 0 ≡ r
-        → SaysOfCall before body (judge_call before body)
-    go (Err stop) e =
-        rw (judges_bad_start before body stop e)
-        (bodies.RefusesCall.BadStart (is_not_started body stop are e))
-    go (Ok x) e =
-        let h = is_started body x.0 x.1 are e in
-        elim h.listed [
-          | inl zero_is ↦
-              let s = subst (Starts body h.xid) zero_is h.starts in
-              rw (as_call before body h.xid s) (whole_call_said before body h.xid are s)
-          | inr one_is ↦
-              let s = subst (Starts body h.xid) one_is h.starts in
-              let r = start_read body h.xid 1 s in
-              rw (judges_reply before body h.xid r.0 r.1) (AReply h.xid s refl)
-        ]
+call_said before body are =
+    by_result (reading message_start body 0)
+    (λ x e.
+    let h = is_started body x.0 x.1 are e in
+    elim h.listed [
+      | inl zero_is ↦
+          let s = rw zero_is at h.starts in
+          rw (as_call before body h.xid s) (whole_call_said before body h.xid are s)
+      | inr one_is ↦
+          let s = rw one_is at h.starts in
+          let r = start_read body h.xid 1 s in
+          rw (judges_reply before body h.xid r.0 r.1) (AReply h.xid s refl)
+    ])
+    (λ stop e. rw (judges_bad_start before body stop e)
+    (bodies.RefusesCall.BadStart (is_not_started body stop are e)))
 
 -- a judgement by whose answers are so, and which answers what is so
 abbrev pub the_calls : Judged (List Item)
@@ -416,51 +368,45 @@ whole_reply_said : (calls : List (List Item)) (body : List ℕ) (xid : ℕ) (id 
     → AreBytes body → Starts body xid 1 → procedure_of calls xid ≡ Some id
     → SaysOfReply calls body (replying id (read_whole (reply_layout (results_of id)) body))
 whole_reply_said calls body xid id are s known =
-    go (read_whole (reply_layout (results_of id)) body) refl
-  where
-    go : (r : Result (List Item) Stop) → read_whole (reply_layout (results_of id)) body ≡ r
-        → SaysOfReply calls body (replying id r)
-    go (Ok items) e =
-        let whole = is_whole (reply_layout (results_of id)) body items are e in
-        let starts =
-        reply_starts (results_of id) body items []
-        ((reads_whole (reply_layout (results_of id)) body items).1 whole) in
-        let first = start_read body xid 1 s in
-        let again = start_read body (xid_in items) 1 starts in
-        let same : (start_of xid 1, first.0) ≡ (start_of (xid_in items) 1, again.0) =
-        ok_is (start_of xid 1, first.0) (start_of (xid_in items) 1, again.0) (sym first.1 ∙ again.1)
-        in
-        let xid_is : xid ≡ xid_in items = ap (λ (x : List Item × ℕ). word_in x.0 0) same in
-        (whole, ap (procedure_of calls) (sym xid_is) ∙ known)
-    go (Err stop) e =
-        elim (is_refused (reply_layout (results_of id)) body stop are e)
-        [ inl r ↦ BadReply xid id s known r | inr more ↦ LongReply xid id s known more ]
+    let layout : Layout = reply_layout (results_of id) in
+    by_result (read_whole layout body)
+    (λ items e.
+    let whole = is_whole layout body items are e in
+    let starts =
+    reply_starts (results_of id) body items [] ((reads_whole layout body items).1 whole) in
+    let first = start_read body xid 1 s in
+    let again = start_read body (xid_in items) 1 starts in
+    let same : (start_of xid 1, first.0) ≡ (start_of (xid_in items) 1, again.0) =
+    ok_is (start_of xid 1, first.0) (start_of (xid_in items) 1, again.0) (sym first.1 ∙ again.1) in
+    let xid_is : xid ≡ xid_in items = ap (λ (x : List Item × ℕ). word_in x.0 0) same in
+    rw e (whole, rw xid_is at known))
+    (λ stop e. rw e (elim (is_refused layout body stop are e)
+    [ inl r ↦ BadReply xid id s known r | inr more ↦ LongReply xid id s known more ]))
+
+answered_said : (calls : List (List Item)) (body : List ℕ) (xid : ℕ) → AreBytes body
+    → Starts body xid 1 → (known : Option ProcId) → procedure_of calls xid ≡ known
+    → SaysOfReply calls body (answering body known)
+answered_said calls body xid are s None e = Unasked xid s e refl
+answered_said calls body xid are s (Some id) e = whole_reply_said calls body xid id are s e
 
 pub reply_said : (calls : List (List Item)) (body : List ℕ) → AreBytes body
     → SaysOfReply calls body (judge_reply calls body)
-reply_said calls body are = go (reading message_start body 0) refl
-  where
-    known_said : (xid : ℕ) → Starts body xid 1 → (known : Option ProcId)
-        → procedure_of calls xid ≡ known → SaysOfReply calls body (answering body known)
-    known_said xid s None e = Unasked xid s e refl
-    known_said xid s (Some id) e = whole_reply_said calls body xid id are s e
-
-    go : (r : Result (List Item × ℕ) Stop) → reading message_start body 0 ≡ r
-        → SaysOfReply calls body (judge_reply calls body)
-    go (Err stop) e =
-        rw (judges_bad_reply_start calls body stop e)
-        (bodies.RefusesReply.BadStart (is_not_started body stop are e))
-    go (Ok x) e =
-        let h = is_started body x.0 x.1 are e in
-        elim h.listed [
-          | inl zero_is ↦
-              let s = subst (Starts body h.xid) zero_is h.starts in
-              let r = start_read body h.xid 0 s in
-              rw (judges_call calls body h.xid r.0 r.1) (ACall h.xid s refl)
-          | inr one_is ↦
-              let s = subst (Starts body h.xid) one_is h.starts in
-              rw (as_reply calls body h.xid s) (known_said h.xid s (procedure_of calls h.xid) refl)
-        ]
+reply_said calls body are =
+    by_result (reading message_start body 0)
+    (λ x e.
+    let h = is_started body x.0 x.1 are e in
+    elim h.listed [
+      | inl zero_is ↦
+          let s = rw zero_is at h.starts in
+          let r = start_read body h.xid 0 s in
+          rw (judges_call calls body h.xid r.0 r.1) (ACall h.xid s refl)
+      | inr one_is ↦
+          let s = rw one_is at h.starts in
+          rw (as_reply calls body h.xid s)
+          (answered_said calls body h.xid are s (procedure_of calls h.xid) refl)
+    ])
+    (λ stop e. rw (judges_bad_reply_start calls body stop e)
+    (bodies.RefusesReply.BadStart (is_not_started body stop are e)))
 
 abbrev pub the_replies : List (List Item) → Judged ReplyItems
 the_replies calls = record {

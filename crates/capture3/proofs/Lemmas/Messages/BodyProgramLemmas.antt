@@ -14,11 +14,20 @@ pub record Judged (M : Type 0) : Type 1 where
   pub refused : (before : List M) (body : List ℕ) (stop : Stop) → AreBytes body
       → decide before body ≡ Err stop → says.refuses before body stop
 
+-- by what a result is
+pub by_result : {X E P : Type 0} (r : Result X E) → ((x : X) → r ≡ Ok x → P)
+    → ((e : E) → r ≡ Err e → P) → P
+by_result (Ok x) ok err = ok x refl
+by_result (Err e) ok err = err e refl
+
 -- what is decided by a program is so in one way
 pub is_judged_once : {M : Type 0} (judge : Judged M) (before : List M) (body : List ℕ)
     → AreBytes body → IsJudgedOnce judge.says before body
 is_judged_once {M} judge before body are = record {
-  one = one (judge.decide before body) refl;
+  one =
+      by_result (judge.decide before body)
+      (λ m e. inl (m, judge.accepted before body m are e))
+      (λ stop e. inr (stop, judge.refused before body stop are e));
   not_both =
       λ m stop a r. let x =
       judge.accepts before body m a in let y = judge.refuses before body stop r in cc;
@@ -29,9 +38,3 @@ is_judged_once {M} judge before body are = record {
       λ stop other a b. let x =
       judge.refuses before body stop a in let y = judge.refuses before body other b in cc;
 }
-  where
-    one : (r : Result M Stop) → judge.decide before body ≡ r
-        → ((m : M) × judge.says.accepts before body m)
-        ⊎ ((stop : Stop) × judge.says.refuses before body stop)
-    one (Ok m) e = inl (m, judge.accepted before body m are e)
-    one (Err stop) e = inr (stop, judge.refused before body stop are e)

@@ -285,44 +285,16 @@ refused_more One context bytes shown h = inl (ap (λ (r : ShownFault). r.more) h
 refused_more Two context bytes shown (inl h) = inl (ap (λ (r : ShownFault). r.more) h.0)
 refused_more Two context bytes shown (inr h) = inr (refl, h)
 
--- the streams' messages before the fault, as a conversation
-cut_client : (streams : Streams) (calls : List (List Item)) (fault : RecordFault)
-    → FirstRecordFault calls_in_turn streams.client calls fault
-    → (front : List ℕ) × Holds calls_in_turn front calls × (length front ≤ length streams.client)
-cut_client streams calls fault
-    (RefusesNext front last rest body stop split holds whole refused is) = (
-      front,
-      holds,
-      omega
-          (arith, ap length split, length-append (front ++ last) rest, length-append front last),
-    )
-cut_client streams calls fault (NextIsTooLong front last rest at split holds long is) = (
-  front,
-  holds,
-  omega
-      (arith, ap length split, length-append (front ++ last) rest, length-append front last),
-)
-cut_client streams calls fault (NextIsCut front last body split holds is_open is) =
+-- the messages before the first fault of a stream are those of a front
+cut_front : {M : Type 0} (judge : Judgement M) (stream : List ℕ) (messages : List M)
+    (fault : RecordFault) → FirstRecordFault judge stream messages fault
+    → (front : List ℕ) × Holds judge front messages × (length front ≤ length stream)
+cut_front judge stream messages fault
+    (RefusesNext front last rest body stop split holds whole refused is) =
     (front, holds, omega (lengths, ap length split))
-
-cut_server : (streams : Streams) (calls : List (List Item)) (replies : List ReplyItems)
-    (fault : RecordFault) → FirstRecordFault (replies_to calls) streams.server replies fault
-    → (front : List ℕ) × Holds (replies_to calls) front replies
-    × (length front ≤ length streams.server)
-cut_server streams calls replies fault
-    (RefusesNext front last rest body stop split holds whole refused is) = (
-      front,
-      holds,
-      omega
-          (arith, ap length split, length-append (front ++ last) rest, length-append front last),
-    )
-cut_server streams calls replies fault (NextIsTooLong front last rest at split holds long is) = (
-  front,
-  holds,
-  omega
-      (arith, ap length split, length-append (front ++ last) rest, length-append front last),
-)
-cut_server streams calls replies fault (NextIsCut front last body split holds is_open is) =
+cut_front judge stream messages fault (NextIsTooLong front last rest at split holds long is) =
+    (front, holds, omega (lengths, ap length split))
+cut_front judge stream messages fault (NextIsCut front last body split holds is_open is) =
     (front, holds, omega (lengths, ap length split))
 
 pub streams_after : (number : ℕ) (connections : List Streams) (before : List Entry) (bytes : List ℕ)
@@ -332,7 +304,7 @@ pub streams_after : (number : ℕ) (connections : List Streams) (before : List E
     → IsAfter ((before ++ Begin ∷ []) ++ shown.more)
 streams_after number connections before bytes shown messages few fits
     (InClientStream streams calls fault mixed first same) =
-    let cut = cut_client streams calls fault first in
+    let cut = cut_front calls_in_turn streams.client calls fault first in
     record {
       connections = connections;
       before = before;
@@ -353,7 +325,7 @@ streams_after number connections before bytes shown messages few fits
     }
 streams_after number connections before bytes shown messages few fits
     (InServerStream streams calls replies fault mixed holds first same) =
-    let cut = cut_server streams calls replies fault first in
+    let cut = cut_front (replies_to calls) streams.server replies fault first in
     record {
       connections = connections;
       before = before;
