@@ -1,7 +1,7 @@
 -- Containers, as the machine has them: chunks' bytes at once, and step after step.
 use Rattle.std.proofs.Common.{◌≡◌, subst, [], false, is_some, take_all, ℕ, zero, suc, ◌<◌, ◌+◌, ◌-◌, ◌≤◌, Option, Some, None, Result, Ok, Err, IfOk, IfErr, List, length, take, drop, refl, sym, ap, ◌∙◌, arith, length-take, length-drop, OnOk, ◌++◌}
 use Rattle.std.proofs.Math.Seq.{take-add, take-take}
-use Rattle.capture3.proofs.Common.{RecordTooLong, Joining, Between, Whole, TooLong, join_next, Next, Runs, Stops, Stopped, after, Run, Taking, Led, OutOfMemory, IsRunning, IsWhole, joining_of, body_of, released, Error, Side, Event, Streams, size, with_more, Cursor, Spot, Version, Two, after-append, counted_runs, counted_stops, Transition, AreStored, CanGoOn, Container, Reaches, unpacking_in, unpacking_of, Arrives, ShowsError, Leaves, WordPart, bytes_so_far, fault_in_record}
+use Rattle.capture3.proofs.Common.{RecordTooLong, Joining, Joined, Between, Whole, TooLong, join_next, landed, Next, Runs, Stops, Stopped, after, Run, Taking, Led, OutOfMemory, IsRunning, IsWhole, joining_of, body_of, released, Error, Side, Event, Streams, size, with_more, Cursor, Spot, Version, Two, after-append, counted_runs, counted_stops, Transition, AreStored, CanGoOn, Container, Reaches, unpacking_in, unpacking_of, Arrives, ShowsError, Leaves, WordPart, bytes_so_far, fault_in_record}
 use Rattle.record_mark.specs.Taking.{unbegun}
 use Rattle.capture3.specs.machinery.PositionState.{standing_at}
 use Rattle.capture3.specs.declared.container.position.Position.TheInside.{Inside}
@@ -92,57 +92,35 @@ module _ (c : Container) (inside : Inside) (spot : Spot) (bytes : List ℕ)
 
 -- ---- bytes of a chunk
 
-pub chunk_goes_on : (p : Position) (streams : Streams) (side : Side) (left : ℕ) (old new : Joining)
-    (bytes : List ℕ) → p.spot ≡ Chunk side left → length bytes ≤ left
-    → after join_next (Runs old) bytes ≡ Runs new
-    → after unpack_next (Runs (unpacking_at p streams old)) bytes
-    ≡ Runs (in_chunk p.at p.total p.connections p.records side (left - length bytes) new)
-chunk_goes_on p streams side left old new bytes here fits joins =
-    let size : left ≡ length bytes + (left - length bytes) = omega arith in
-    ap (λ (u : Unpacking). after unpack_next (Runs u) bytes)
-    (at_spot p streams old (Chunk side left) here)
-    ∙ counted_runs join_next unpack_next (in_chunk p.at p.total p.connections p.records side)
-    (record_joined p.at p.total p.connections p.records side) (λ n j byte. refl) bytes left
-    (left - length bytes) old new size joins
+-- of which a joiner takes some of those at hand
+module _ (p : Position) (streams : Streams) (side : Side) (left count most : ℕ) (old : Taking)
+    (rest : List ℕ) (here : p.spot ≡ Chunk side left) (within : count ≤ length (take most rest))
+    (fits : most ≤ left) where
+  taken_is : take count (take most rest) ≡ take count rest
+  taken_is = take-take count most rest (omega (arith, length-take most rest))
 
-pub chunk_has_record : (p : Position) (streams : Streams) (side : Side) (left : ℕ) (old : Joining)
-    (bytes body : List ℕ) → p.spot ≡ Chunk side left → length bytes ≤ left
-    → after join_next (Runs old) bytes ≡ Stops (Whole body)
-    → after unpack_next (Runs (unpacking_at p streams old)) bytes
-    ≡ Stops (Has (Record side) body (in_chunk p.at p.total p.connections (p.records + 1) side
-    (left - length bytes) Between))
-chunk_has_record p streams side left old bytes body here fits joins =
-    let size : left ≡ length bytes + (left - length bytes) = omega arith in
-    ap (λ (u : Unpacking). after unpack_next (Runs u) bytes)
-    (at_spot p streams old (Chunk side left) here)
-    ∙ counted_stops join_next unpack_next (in_chunk p.at p.total p.connections p.records side)
-    (record_joined p.at p.total p.connections p.records side) (λ n j byte. refl) bytes left
-    (left - length bytes) old (Whole body) size joins
+  left_is : left ≡ length (take count rest) + (left - count)
+  left_is = omega (arith, length-take most rest, length-take count rest)
 
-pub chunk_too_long : (p : Position) (streams : Streams) (side : Side) (left : ℕ) (old : Joining)
-    (bytes : List ℕ) (at : ℕ) → p.spot ≡ Chunk side left → length bytes ≤ left
-    → after join_next (Runs old) bytes ≡ Stops (TooLong at)
-    → after unpack_next (Runs (unpacking_at p streams old)) bytes
-    ≡ Stops (in_record p.connections side (p.records + 1) at RecordTooLong)
-chunk_too_long p streams side left old bytes at here fits joins =
-    let size : left ≡ length bytes + (left - length bytes) = omega arith in
-    ap (λ (u : Unpacking). after unpack_next (Runs u) bytes)
-    (at_spot p streams old (Chunk side left) here)
-    ∙ counted_stops join_next unpack_next (in_chunk p.at p.total p.connections p.records side)
-    (record_joined p.at p.total p.connections p.records side) (λ n j byte. refl) bytes left
-    (left - length bytes) old (TooLong at) size joins
+  joins_on : (new : Joining)
+      → after join_next (Runs (joining_of old)) (take count (take most rest)) ≡ Runs new
+      → after unpack_next (Runs (unpacking_of p old streams)) (take count rest)
+      ≡ Runs (in_chunk p.at p.total p.connections p.records side (left - count) new)
+  joins_on new joins =
+      rw here (counted_runs join_next unpack_next
+      (in_chunk p.at p.total p.connections p.records side)
+      (record_joined p.at p.total p.connections p.records side) (λ n j byte. refl)
+      (take count rest) left (left - count) (joining_of old) new left_is (rw taken_is at joins))
 
--- the bytes that a joiner takes of a chunk's bytes at hand
-joined_bytes : (rest : List ℕ) (count most left : ℕ) → count ≤ length (take most rest) → most ≤ left
-    → (take count (take most rest) ≡ take count rest) × (length (take count rest) ≡ count)
-    × (length (take count rest) ≤ left)
-joined_bytes rest count most left within fits =
-    let front = length-take most rest in
-    let short = length-take count rest in
-    let less : count ≤ most = omega arith in
-    let same : length (take count rest) ≡ count = omega arith in
-    let bounded : length (take count rest) ≤ left = omega arith in
-    (take-take count most rest less, same, bounded)
+  joins_up : (x : Joined)
+      → after join_next (Runs (joining_of old)) (take count (take most rest)) ≡ Stops x
+      → after unpack_next (Runs (unpacking_of p old streams)) (take count rest)
+      ≡ landed (record_joined p.at p.total p.connections p.records side (left - count) x)
+  joins_up x joins =
+      rw here (counted_stops join_next unpack_next
+      (in_chunk p.at p.total p.connections p.records side)
+      (record_joined p.at p.total p.connections p.records side) (λ n j byte. refl)
+      (take count rest) left (left - count) (joining_of old) x left_is (rw taken_is at joins))
 
 pub join_goes_on : (p q : Position) (streams : Streams) (side : Side) (left count most : ℕ)
     (old new : Taking) (rest : List ℕ) → p.spot ≡ Chunk side left
@@ -153,13 +131,7 @@ pub join_goes_on : (p q : Position) (streams : Streams) (side : Side) (left coun
     ≡ in_chunk p.at p.total p.connections p.records side (left - count) joining)
     → Arrives (unpacking_of p old streams) (take count rest) None q new streams
 join_goes_on p q streams side left count most old new rest here within fits joins leads =
-    let (same, size, bounded) = joined_bytes rest count most left within fits in
-    chunk_goes_on p streams side left (joining_of old) (joining_of new) (take count rest) here
-    bounded (ap (after join_next (Runs (joining_of old))) (sym same) ∙ joins)
-    ∙ ap
-    (λ (n : ℕ).
-    Runs (in_chunk p.at p.total p.connections p.records side (left - n) (joining_of new)))
-    size
+    joins_on p streams side left count most old rest here within fits (joining_of new) joins
     ∙ ap Runs (sym (leads (joining_of new)))
 
 pub join_has_record : (p q : Position) (streams : Streams) (side : Side) (left count most : ℕ)
@@ -172,14 +144,7 @@ pub join_has_record : (p q : Position) (streams : Streams) (side : Side) (left c
     ≡ in_chunk p.at p.total p.connections (p.records + 1) side (left - count) joining)
     → Arrives (unpacking_of p old streams) (take count rest) (Some (Record side)) q new streams
 join_has_record p q streams side left count most old new rest here within fits joins leads =
-    let (same, size, bounded) = joined_bytes rest count most left within fits in
-    chunk_has_record p streams side left (joining_of old) (take count rest) (body_of new) here
-    bounded (ap (after join_next (Runs (joining_of old))) (sym same) ∙ joins)
-    ∙ ap
-    (λ (n : ℕ).
-    Stops (Has (Record side) (body_of new)
-    (in_chunk p.at p.total p.connections (p.records + 1) side (left - n) Between)))
-    size
+    joins_up p streams side left count most old rest here within fits (Whole (body_of new)) joins
     ∙ ap (λ (u : Unpacking). Stops (Has (Record side) (body_of new) u)) (sym (leads Between))
 
 pub join_too_long : (p : Position) (streams : Streams) (side : Side) (left most at : ℕ)
@@ -188,15 +153,11 @@ pub join_too_long : (p : Position) (streams : Streams) (side : Side) (left most 
     × (after join_next (Runs (joining_of old)) (take n (take most rest)) ≡ Stops (TooLong at))
     → ShowsFault (unpacking_of p old streams) rest
     (errors.Refused (fault_in_record p.connections side (p.records + 1) at RecordTooLong))
-join_too_long p streams side left most at old rest here fits (n, within, joins) =
-    let (same, size, bounded) = joined_bytes rest n most left within fits in
-    let front = length-take most rest in
-    let all : n ≤ length rest = omega arith in (
-      n,
-      all,
-      chunk_too_long p streams side left (joining_of old) (take n rest) at here bounded
-          (ap (after join_next (Runs (joining_of old))) (sym same) ∙ joins),
-    )
+join_too_long p streams side left most at old rest here fits (n, within, joins) = (
+  n,
+  omega (arith, within, length-take most rest),
+  joins_up p streams side left n most old rest here within fits (TooLong at) joins,
+)
 
 -- bytes of a chunk of version 2
 pub gathers : (p q : Position) (streams : Streams) (side : Side) (left count most : ℕ)

@@ -13,6 +13,7 @@ use Rattle.capture3.specs.Bodies as bodies
 use Rattle.capture3.specs.BodyProgram.{read_whole, is_same, agrees, agreed, call_after, answering, reply_after, judge_call, judge_reply}
 use Rattle.capture3.proofs.Lemmas.Messages.BodyProgramLemmas.{Judged, by_result}
 use Rattle.capture3.proofs.Lemmas.Connections.RankLemmas.{by_test}
+use Rattle.capture3.proofs.Lemmas.Messages.BodySteps.{call_bad_start, reply_bad_start}
 use Rattle.capture3.proofs.Lemmas.Messages.Layouts.{whole_read, refused_read, more_read, is_whole, is_refused}
 
 -- ---- the first two words
@@ -190,11 +191,6 @@ as_call : (before : List (List Item)) (body : List ℕ) (xid : ℕ) → Starts b
 unfolding judge_call
 as_call before body xid s = (started body xid 0 (call_after before body) s).1
 
-pub judges_bad_start : (before : List (List Item)) (body : List ℕ) (stop : Stop)
-    → reading message_start body 0 ≡ Err stop → judge_call before body ≡ Err stop
-unfolding judge_call
-judges_bad_start before body stop e = ap (λ x. x >>= call_after before body) e
-
 pub judges_reply : (before : List (List Item)) (body : List ℕ) (xid to : ℕ)
     → reading message_start body 0 ≡ Ok (start_of xid 1, to)
     → judge_call before body ≡ refused 4 WrongSide
@@ -223,7 +219,7 @@ call_accepts before body items h =
 pub call_refuses : (before : List (List Item)) (body : List ℕ) (stop : Stop)
     → RefusesCall before body stop → judge_call before body ≡ Err stop
 call_refuses before body stop (bodies.RefusesCall.BadStart r) =
-    judges_bad_start before body stop (start_refused body stop r)
+    call_bad_start before body stop (start_refused body stop r)
 call_refuses before body stop (AReply xid s is) =
     let r = start_read body xid 1 s in
     judges_reply before body xid r.0 r.1 ∙ ap (λ (x : Stop). Err x) (sym is)
@@ -290,7 +286,7 @@ call_said before body are =
           let r = start_read body h.xid 1 s in
           rw (judges_reply before body h.xid r.0 r.1) (AReply h.xid s refl)
     ])
-    (λ stop e. rw (judges_bad_start before body stop e)
+    (λ stop e. rw (call_bad_start before body stop e)
     (bodies.RefusesCall.BadStart (is_not_started body stop are e)))
 
 -- a judgement by whose answers are so, and which answers what is so
@@ -311,11 +307,6 @@ as_reply : (calls : List (List Item)) (body : List ℕ) (xid : ℕ) → Starts b
     → judge_reply calls body ≡ answering body (procedure_of calls xid)
 unfolding judge_reply
 as_reply calls body xid s = (started body xid 1 (reply_after calls body) s).1
-
-pub judges_bad_reply_start : (calls : List (List Item)) (body : List ℕ) (stop : Stop)
-    → reading message_start body 0 ≡ Err stop → judge_reply calls body ≡ Err stop
-unfolding judge_reply
-judges_bad_reply_start calls body stop e = ap (λ x. x >>= reply_after calls body) e
 
 pub judges_call : (calls : List (List Item)) (body : List ℕ) (xid to : ℕ)
     → reading message_start body 0 ≡ Ok (start_of xid 0, to)
@@ -346,7 +337,7 @@ reply_accepts calls body reply h =
 pub reply_refuses : (calls : List (List Item)) (body : List ℕ) (stop : Stop)
     → RefusesReply calls body stop → judge_reply calls body ≡ Err stop
 reply_refuses calls body stop (bodies.RefusesReply.BadStart r) =
-    judges_bad_reply_start calls body stop (start_refused body stop r)
+    reply_bad_start calls body stop (start_refused body stop r)
 reply_refuses calls body stop (ACall xid s is) =
     let r = start_read body xid 0 s in
     judges_call calls body xid r.0 r.1 ∙ ap (λ (x : Stop). Err x) (sym is)
@@ -405,7 +396,7 @@ reply_said calls body are =
           rw (as_reply calls body h.xid s)
           (answered_said calls body h.xid are s (procedure_of calls h.xid) refl)
     ])
-    (λ stop e. rw (judges_bad_reply_start calls body stop e)
+    (λ stop e. rw (reply_bad_start calls body stop e)
     (bodies.RefusesReply.BadStart (is_not_started body stop are e)))
 
 abbrev pub the_replies : List (List Item) → Judged ReplyItems
