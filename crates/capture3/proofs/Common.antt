@@ -18,7 +18,7 @@ pub use Rattle.rpc_head.specs.Names.{head_names}
 unfoldable pub use Rattle.rpc_head.specs.Shapes.{call_head, message_start, reply_head}
 pub use Rattle.rpc_head.specs.declared.values.call.ProcId.{ProcId}
 pub use Rattle.rpc_head.specs.declared.values.message_start.MessageStart.{MessageStart}
-pub use Rattle.std.proofs.Common.{Bool, Err, IfOk, List, None, Ok, Option, Result, Some, [], add-one, ap, append-nil, append_assoc, ap₂, arith, cond, drop, eq-eqb, eqb-true, false, get_or, if◌then◌else◌, inl, inr, is_some, le-ltb, length, length-append, length-drop, length-take, lt-ltb, ltb-false, ltb-true, map, nat_eq, nat_lt, ne_eqb, refl, slice_range, subst, suc, sym, take, take-append-drop, take_all, true, vec_len, zero, ℕ, ◌%◌, ◌++◌, ◌+◌, ◌-◌, ◌<◌, ◌==◌, ◌∙◌, ◌∷◌, ◌≡◌, ◌≢◌, ◌≤◌, ◌⊎◌}
+pub use Rattle.std.proofs.Common.{Bool, Err, IfOk, List, None, Ok, Option, Result, Some, [], add-one, ap, append-nil, append_assoc, ap₂, arith, cond, drop, eq-eqb, eqb-true, false, get_or, if◌then◌else◌, inl, inr, is_some, le-ltb, length, length-append, length-drop, length-take, lt-ltb, ltb-false, ltb-true, map, nat_eq, nat_lt, ne_eqb, refl, slice_range, subst, suc, sym, take, take-append-drop, take_all, true, vec_len, zero, ℕ, ◌%◌, ◌++◌, ◌+◌, ◌-◌, ◌<◌, ◌==◌, ◌∙◌, ◌∷◌, ◌≡◌, ◌≢◌, ◌≤◌, ◌⊎◌, IfErr, IsTrue, OnOk, not, replicate, reverse, set, ⊎_elim, ◌*◌}
 pub use Rattle.std.proofs.Math.Logic.{∥∥₁_elim}
 pub use Rattle.std.proofs.Props.{props}
 pub use Rattle.std.proofs.lemmas.Bool.{eqb-false, false≢true}

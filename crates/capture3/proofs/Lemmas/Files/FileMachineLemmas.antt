@@ -1,6 +1,5 @@
 -- The machine for a file against connections, entries and rules.
-use Rattle.std.proofs.Common.{◌≡◌, ◌≢◌, ◌⊎◌, inl, inr, ℕ, zero, suc, ◌+◌, ◌<◌, ◌≤◌, List, [], ◌∷◌, ◌++◌, length, refl, sym, ap, ap₂, ⊎_elim, ◌∙◌, append_assoc, append-nil, arith, length-append, nat_lt, nat_eq, ltb-true, ltb-false, lt-ltb, eqb-true, eq-eqb, ne_eqb, false}
-use Rattle.capture3.proofs.Common.{lengths, eqb-false, append_cancel_left, Ends, Runs, Stops, landed, after, IsWord, Joins, word_next, Leads, leads_within, Tells, IsPart, word_leads, Joins-snoc, AreBytes, BadMagic, BadMark, AfterEnd, Fault, Streams, size, max_bytes, Context, ShownFault, refusal, Entry, Opening, Closing, Closes, Refuses, opening_next, opened, file_fault, connection_entries, HaveEntries, Version, One, Two, digit, magic_front, magic, max_connections, total_size, IsConnection, DiffersFromMagic, AfterConnections, Rule, MagicDiffers, MarkIsBad, ConnectionIsTooMany, WithinConnection, ByteAfterEnd, Opens, parsing_in}
+use Rattle.capture3.proofs.Common.{lengths, eqb-false, append_cancel_left, Ends, Runs, Stops, landed, after, IsWord, Joins, word_next, Leads, leads_within, Tells, IsPart, word_leads, Joins-snoc, AreBytes, BadMagic, BadMark, AfterEnd, Fault, Streams, size, max_bytes, Context, ShownFault, refusal, Entry, Opening, Closing, Closes, Refuses, opening_next, opened, file_fault, connection_entries, HaveEntries, Version, One, Two, digit, magic_front, magic, max_connections, total_size, IsConnection, DiffersFromMagic, AfterConnections, Rule, MagicDiffers, MarkIsBad, ConnectionIsTooMany, WithinConnection, ByteAfterEnd, Opens, parsing_in, ◌≡◌, ◌≢◌, ◌⊎◌, inl, inr, ℕ, zero, suc, ◌+◌, ◌<◌, ◌≤◌, List, [], ◌∷◌, ◌++◌, length, refl, sym, ap, ap₂, ⊎_elim, ◌∙◌, append_assoc, append-nil, arith, length-append, nat_lt, nat_eq, ltb-true, ltb-false, lt-ltb, eqb-true, eq-eqb, ne_eqb, false}
 use Rattle.capture3.specs.FileMachine.{Mark, Inside, Ended, Parsing, magic_left, marked, closed, file_next, file_start, parsed}
 use Rattle.capture3.proofs.Lemmas.Connections.RankLemmas.{by_test}
 use Rattle.capture3.proofs.Lemmas.Container.BytesOf.{split_bytes}

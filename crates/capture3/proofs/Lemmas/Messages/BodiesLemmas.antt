@@ -1,7 +1,6 @@
 -- Bodies of calls and of replies, judged from left to right, against what they are.
-use Rattle.std.proofs.Common.{◌≡◌, ◌≢◌, ◌⊎◌, ℕ, ◌+◌, Bool, true, false, cond, nat_eq, IsTrue, List, [], ◌∷◌, ◌++◌, length, drop, Option, Some, None, Result, Ok, Err, refl, sym, ap, ap₂, subst, ◌∙◌, append_assoc, inl, inr, arith, eqb-true, eq-eqb}
 use Rattle.std.specs.Prelude.{◌&&◌}
-use Rattle.capture3.proofs.Common.{WrongSide, XidConflict, Stop, reads_whole, ProcId, call_layout, call_start, reply_layout, reply_start, procedure_in, arguments_of, results_of, calls_in_turn, replies_to, judge_replies, Item, Word, AreBytes, Spells, ◌>>=◌, reading, refused, complete, head_names}
+use Rattle.capture3.proofs.Common.{WrongSide, XidConflict, Stop, reads_whole, ProcId, call_layout, call_start, reply_layout, reply_start, procedure_in, arguments_of, results_of, calls_in_turn, replies_to, judge_replies, Item, Word, AreBytes, Spells, ◌>>=◌, reading, refused, complete, head_names, ◌≡◌, ◌≢◌, ◌⊎◌, ℕ, ◌+◌, Bool, true, false, cond, nat_eq, IsTrue, List, [], ◌∷◌, ◌++◌, length, drop, Option, Some, None, Result, Ok, Err, refl, sym, ap, ap₂, subst, ◌∙◌, append_assoc, inl, inr, arith, eqb-true, eq-eqb}
 use Rattle.xdr3.specs.Layout.{Layout, ReadsLayout, word_in}
 use Rattle.xdr3.specs.Shape.{Fits, Reads, Refuses, ◌then◌, is_listed, listed, word}
 use Rattle.xdr3.proofs.Lemmas.Reading.Bytes.{ok_is}

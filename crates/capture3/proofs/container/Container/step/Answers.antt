@@ -1,5 +1,4 @@
-use Rattle.std.proofs.Common.{IfErr, ap, ◌∙◌}
-use Rattle.capture3.proofs.Common.{IfOk, ShowsError, joining_of, subst, take, unpacking_of}
+use Rattle.capture3.proofs.Common.{IfOk, ShowsError, joining_of, subst, take, unpacking_of, IfErr, ap, ◌∙◌}
 use Rattle.capture3.specs.declared.container.position.Position.{Position}
 use Rattle.capture3.specs.declared.container.position.WordOf.{WordOf}
 use Rattle.capture3.specs.declared.container.position.Spot.TheVariants.{Word}

@@ -1,5 +1,4 @@
-use Rattle.std.proofs.Common.{◌≡◌, ◌≤◌, ◌+◌, ℕ, length, take, length-take, refl, sym, ap, ◌∙◌, arith}
-use Rattle.capture3.proofs.Common.{size, with_more}
+use Rattle.capture3.proofs.Common.{size, with_more, ◌≡◌, ◌≤◌, ◌+◌, ℕ, length, take, length-take, refl, sym, ap, ◌∙◌, arith}
 use Rattle.capture3.specs.declared.container.position.Spot.TheVariants.{SideChunk}
 use Rattle.capture3.specs.machinery.PositionState.{standing_at}
 use Rattle.capture3.proofs.Lemmas.Container.ContainerLemmas.{gathers}
