@@ -1,5 +1,5 @@
 -- The machine for a connection against its two sides.
-use Rattle.capture3.proofs.Common.{lengths, Ends, Run, Runs, Stops, after, Leads, leads_within, Item, AreBytes, Client, Server, ReplyItems, Version, One, Two, AreStreams, Streams, size, max_bytes, IsStream, Context, client_position, server_position, calls_in_turn, refusal, replies_to, ConnectionShows, InClientStream, InServerStream, Entry, judge_call, MixedEnd, MixedCloses, MixedRefuses, mixed_next, mixing_from, judge_replies, Opening, InClient, InServer, InMixed, Closing, Closes, Refuses, turning, ending, server_said, client_said, conversing, opening_next, opened, StreamEnd, Held, Faulty, stream_end, Holds, place_at, Converses, connection_entries, Siding, SideEnd, SideCloses, SideRefuses, side_next, siding_from, ◌≡◌, inl, inr, ℕ, ◌+◌, ◌≤◌, List, [], ◌∷◌, ◌++◌, length, refl, sym, ap, ◌∙◌, append_assoc, append-nil, arith, length-append}
+use Rattle.capture3.proofs.Common.{lengths, Ends, Run, Runs, Stops, after, Leads, leads_within, Item, AreBytes, Client, Server, ReplyItems, Version, One, Two, AreStreams, Streams, size, max_bytes, IsStream, Context, client_position, server_position, calls_in_turn, refusal, replies_to, ConnectionShows, InClientStream, InServerStream, Entry, judge_call, MixedEnd, MixedCloses, MixedRefuses, mixed_next, mixing_from, judge_replies, Opening, InClient, InServer, InMixed, Closing, Closes, Refuses, turning, ending, server_said, client_said, conversing, opening_next, opened, StreamEnd, Held, Faulty, stream_end, Holds, place_at, Converses, connection_entries, Siding, SideEnd, SideCloses, SideRefuses, side_next, siding_from, ◌≡◌, inl, inr, ℕ, ◌+◌, ◌≤◌, List, [], ◌∷◌, ◌++◌, length, refl, sym, ap, ◌∙◌, append_assoc, append-nil, arith}
 use Rattle.capture3.proofs.Lemmas.Messages.BodiesLemmas.{the_calls, the_replies}
 use Rattle.capture3.proofs.Lemmas.Container.BytesOf.{split_bytes, mixed_bytes}
 use Rattle.capture3.proofs.Lemmas.Connections.JudgedInTurn.{conversed, calls_hold, replies_hold}

@@ -1,8 +1,6 @@
 -- Judging body by body says the same of a connection as what its messages are together.
-use Rattle.capture3.proofs.Common.{◌≡◌, ◌⊎◌, ℕ, Bool, true, false, cond, nat_eq, List, [], ◌∷◌, ◌++◌, Some, refl, sym, ap, subst, ◌∙◌, append_assoc, append-nil, inl, inr, eqb-true, eq-eqb, Item, ProcId, procedure_in, ReplyItems, IsCall, IsReply, xid_in, procedure_of, AcceptsCall, Streams, calls_in_turn, replies_to, AreMessages, Holds}
+use Rattle.capture3.proofs.Common.{◌≡◌, ◌⊎◌, ℕ, nat_eq, List, [], ◌∷◌, ◌++◌, Some, refl, sym, ap, subst, ◌∙◌, append_assoc, append-nil, inl, inr, eqb-true, eq-eqb, Item, ProcId, procedure_in, ReplyItems, IsCall, IsReply, xid_in, procedure_of, AcceptsCall, Streams, calls_in_turn, replies_to, AreMessages, Holds, IsJudgedInTurn, AreEach, IsIn, HaveOneProcedure, AnswerCalls, Converses}
 use Rattle.capture3.proofs.Lemmas.Connections.RankLemmas.{by_test}
-use Rattle.capture3.specs.Laws.{IsJudgedInTurn}
-use Rattle.capture3.specs.Typed.{AreEach, IsIn, HaveOneProcedure, AnswerCalls, Converses}
 
 -- ---- members
 

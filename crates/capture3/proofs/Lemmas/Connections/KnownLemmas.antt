@@ -1,12 +1,6 @@
 -- Tables of calls: what a call that comes makes of them.
-use Rattle.capture3.proofs.Common.{◌≡◌, ℕ, ◌==◌, ◌+◌, ◌<◌, Bool, true, false, cond, if◌then◌else◌, is_some, nat_eq, Option, Some, None, List, [], ◌∷◌, ◌++◌, length, refl, sym, ap, ◌∙◌, eq-eqb, eqb-true, arith, ProcId, Item, agrees, procedure_of, procedure_in, xid_in, NumberedCall, Gains, HasProcedures, IsTableOf, Known, KnowsNone, Puts, length-append, in_list, next_number, number_for, number_in, over, procedure_in_call, xids_in}
-use Rattle.std.specs.Prelude.{◌^◌, ◌||◌, min, IsSome}
-use Rattle.std.proofs.lemmas.List.{map-append}
-use Rattle.capture3.specs.machinery.Calls.{number_or}
-use Rattle.std.specs.List.{list_any}
-use Rattle.std.proofs.lemmas.Option.{none-some, same_Some}
+use Rattle.capture3.proofs.Common.{◌≡◌, ℕ, ◌==◌, ◌+◌, ◌<◌, Bool, true, false, cond, if◌then◌else◌, is_some, nat_eq, Option, Some, None, List, [], ◌∷◌, ◌++◌, length, refl, sym, ap, ◌∙◌, eq-eqb, eqb-true, arith, ProcId, Item, agrees, procedure_of, procedure_in, xid_in, NumberedCall, Gains, HasProcedures, IsTableOf, Known, KnowsNone, Puts, length-append, in_list, next_number, number_for, number_in, over, procedure_in_call, xids_in, ◌^◌, ◌||◌, min, IsSome, map-append, number_or, list_any, none-some, same_Some, distinct, number_limit, rank, with_key}
 use Rattle.std.specs.Cmp.{IsEquivalence}
-use Rattle.capture3.specs.Rank.{distinct, number_limit, rank, with_key}
 use Rattle.capture3.proofs.Lemmas.Connections.RankLemmas.{any-absent, any-distinct, before-absent, before-append, before-push, by_test, distinct-push}
 use Rattle.capture3.proofs.Lemmas.Messages.BodiesLemmas.{same_is}
 

@@ -1,9 +1,6 @@
 -- Calls in a line, each at the home of its xid.
-use Rattle.capture3.proofs.Common.{◌≡◌, ◌≢◌, ℕ, zero, suc, ◌==◌, ◌+◌, ◌-◌, ◌<◌, ◌≤◌, ◌%◌, Bool, true, false, cond, if◌then◌else◌, nat_eq, Option, Some, None, List, [], ◌∷◌, ◌++◌, length, take, take_all, refl, sym, ap, ◌∙◌, eq-eqb, eqb-true, arith, slice_get, swap_bytes, w32, home_of, Counting, NumberedCall, AreSame, Puts, at_home, lined, get_or, replicate, reverse, set}
-use Rattle.std.specs.Prelude.{◌^◌}
-use Rattle.std.proofs.lemmas.Option.{slice_get_past}
+use Rattle.capture3.proofs.Common.{◌≡◌, ◌≢◌, ℕ, zero, suc, ◌==◌, ◌+◌, ◌-◌, ◌<◌, ◌≤◌, ◌%◌, Bool, true, false, cond, if◌then◌else◌, nat_eq, Option, Some, None, List, [], ◌∷◌, ◌++◌, length, take, take_all, refl, sym, ap, ◌∙◌, eq-eqb, eqb-true, arith, slice_get, swap_bytes, w32, home_of, Counting, NumberedCall, AreSame, Puts, at_home, lined, get_or, replicate, reverse, set, ◌^◌, slice_get_past, from_be_bytes, to_be_bytes, to_le_bytes}
 use Rattle.std.proofs.Math.Dec.{eqb-suc-suc, eqb-suc-zero, eqb-zero-suc}
-use Rattle.std.specs.Int.{from_be_bytes, to_be_bytes, to_le_bytes}
 use Rattle.std.proofs.lemmas.Nat.{be_bytes_4, from_be_bytes-to_be_bytes_4}
 use Rattle.capture3.proofs.Lemmas.Connections.RankLemmas.{by_test}
 

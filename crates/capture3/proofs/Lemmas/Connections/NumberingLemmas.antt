@@ -1,17 +1,12 @@
 -- The numbers of messages, and the xids that are open after entries.
-use Rattle.capture3.proofs.Common.{lengths, ◌≡◌, ℕ, ◌+◌, ◌<◌, ◌≤◌, nat_eq, Option, Some, List, [], ◌∷◌, ◌++◌, length, length-append, map, append-nil, append_assoc, refl, sym, ap, subst, ◌∙◌, arith, Item, Word, Entry, xid_in, xids_in}
-use Rattle.std.specs.Prelude.{min, IfSome}
-use Rattle.std.proofs.lemmas.List.{map-append}
-use Rattle.capture3.specs.Entry.{Begin, Call, Turn, Reply, Close, End}
+use Rattle.capture3.proofs.Common.{lengths, ◌≡◌, ℕ, ◌+◌, ◌<◌, ◌≤◌, nat_eq, Option, Some, List, [], ◌∷◌, ◌++◌, length, length-append, map, append-nil, append_assoc, refl, sym, ap, subst, ◌∙◌, arith, Item, Word, Entry, xid_in, xids_in, min, IfSome, map-append, open_xids, xid_of, before, number_limit, rank, HasNumber}
+use Rattle.capture3.specs.Entry.{Begin, Call}
 use Rattle.capture3.specs.declared.reader.entry.Entry as kept
 use Rattle.capture3.specs.declared.reader.entry.Entry.TheVariants as variants
 use Rattle.capture3.specs.declared.reader.entry.EntryRef.{EntryRef}
 use Rattle.capture3.specs.declared.reader.entry.EntryRef.TheVariants as lent
 use Rattle.capture3.specs.Kept.{IsCopy, IsLent}
 use Rattle.capture3.specs.Numbering.{number_after, number_kept, number_lent, numbers_after, rank_among}
-use Rattle.capture3.specs.OpenXids.{open_xids, xid_of}
-use Rattle.capture3.specs.Rank.{before, number_limit, rank}
-use Rattle.capture3.specs.machinery.Pairing.{HasNumber}
 use Rattle.capture3.proofs.Lemmas.Connections.KnownLemmas.{equality}
 use Rattle.capture3.proofs.Lemmas.Connections.RankLemmas.{length-before, length-with_keys}
 

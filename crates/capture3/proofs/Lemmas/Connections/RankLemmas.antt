@@ -1,9 +1,7 @@
 -- Ranks, and places among the distinct members of a list.
-use Rattle.capture3.proofs.Common.{◌≡◌, ◌+◌, ◌≤◌, Bool, true, false, cond, List, [], ◌∷◌, ◌++◌, length, refl, sym, ap, ap₂, ◌∙◌, arith, append-nil, length-append}
+use Rattle.capture3.proofs.Common.{◌≡◌, ◌+◌, ◌≤◌, Bool, true, false, cond, List, [], ◌∷◌, ◌++◌, length, refl, sym, ap, ap₂, ◌∙◌, arith, append-nil, length-append, list_any, position_or_len, before, distinct, rank, with_key, with_keys}
 use Rattle.std.specs.Prelude.{not, ◌||◌}
-use Rattle.std.specs.List.{list_any, position_or_len}
 use Rattle.std.specs.Cmp.{IsEquivalence}
-use Rattle.capture3.specs.Rank.{before, distinct, rank, with_key, with_keys}
 
 -- ---- tests
 

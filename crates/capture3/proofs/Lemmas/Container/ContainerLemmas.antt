@@ -1,20 +1,14 @@
 -- Containers, as the machine has them: chunks' bytes at once, and step after step.
 use Rattle.std.proofs.Math.Seq.{take-add, take-take}
-use Rattle.capture3.proofs.Common.{RecordTooLong, Joining, Joined, Between, Whole, TooLong, join_next, landed, Next, Runs, Stops, Stopped, after, Run, Taking, Led, OutOfMemory, IsRunning, IsWhole, joining_of, body_of, released, Error, Side, Event, Streams, size, with_more, Cursor, Spot, Version, Two, after-append, counted_runs, counted_stops, Transition, AreStored, CanGoOn, Container, Reaches, unpacking_in, unpacking_of, Arrives, ShowsError, Leaves, WordPart, bytes_so_far, fault_in_record, ◌≡◌, subst, [], false, is_some, take_all, ℕ, zero, suc, ◌<◌, ◌+◌, ◌-◌, ◌≤◌, Option, Some, None, Result, Ok, Err, IfOk, IfErr, List, length, take, drop, refl, sym, ap, ◌∙◌, arith, length-take, length-drop, OnOk, ◌++◌}
-use Rattle.record_mark.specs.Taking.{unbegun}
+use Rattle.capture3.proofs.Common.{RecordTooLong, Joining, Joined, Between, Whole, TooLong, join_next, landed, Next, Runs, Stops, after, Run, Taking, Led, IsRunning, IsWhole, joining_of, body_of, released, Error, Side, Event, Streams, size, with_more, Cursor, Spot, Version, Two, after-append, counted_runs, counted_stops, Transition, AreStored, CanGoOn, Container, Reaches, unpacking_in, unpacking_of, Arrives, ShowsError, Leaves, WordPart, bytes_so_far, fault_in_record, ◌≡◌, subst, [], false, is_some, take_all, ℕ, zero, suc, ◌<◌, ◌+◌, ◌-◌, ◌≤◌, Option, Some, None, Result, Ok, Err, IfOk, IfErr, List, length, take, drop, refl, sym, ap, ◌∙◌, arith, length-take, length-drop, OnOk, ◌++◌, unbegun, stream_of, Record, Turn, Close, Unpacking, Has, in_chunk, in_side_chunk, record_joined, unpack_next, AreEmpty, IsBeforeMark, unpacking_at, cost_of, IsOfContainer, StepsFrom, Moves, MovesFrom, ShowsFault, StoredAt, StoredWith, version_of}
 use Rattle.capture3.specs.machinery.PositionState.{standing_at}
 use Rattle.capture3.specs.declared.container.position.Position.TheInside.{Inside}
 use Rattle.capture3.specs.machinery.PositionInside.{position_shown}
-use Rattle.capture3.specs.machinery.Container.{stream_of}
 use Rattle.record_mark.proofs.Takings.{is_between}
 use Rattle.capture3.specs.declared.fault.Error.TheVariants as errors
-use Rattle.capture3.specs.declared.container.position.Event.TheVariants.{Begin, Record, Turn, Close}
-use Rattle.capture3.specs.declared.container.position.Event.TheVariants.{Streams as Gathered}
 use Rattle.capture3.proofs.Lemmas.Container.ContainerMachineLemmas.{side_chunk_kept}
 use Rattle.capture3.specs.declared.container.position.Position.{Position}
 use Rattle.capture3.specs.declared.container.position.Spot.TheVariants.{Chunk, SideChunk}
-use Rattle.capture3.specs.machinery.ContainerMachine.{Unpacking, Has, in_chunk, in_side_chunk, in_record, record_joined, unpack_next}
-use Rattle.capture3.specs.machinery.Position.{AreEmpty, IsBeforeMark, unpacking_at, cost_of, IsOfContainer, StepsFrom, Moves, MovesFrom, ShowsFault, StoredAt, StoredWith, version_of}
 use Rattle.capture3.specs.declared.fault.Side.TheVariants as sides
 use Rattle.capture3.specs.declared.container.position.Spot.TheVariants as spots
 use Rattle.capture3.specs.declared.container.position.WordOf.TheVariants as words

@@ -1,17 +1,14 @@
 -- Judging the records of streams that are gathered, one after another.
-use Rattle.capture3.proofs.Common.{◌≡◌, inl, inr, ℕ, ◌+◌, List, [], ◌∷◌, ◌++◌, length, map, take, drop, take-append-drop, Result, Ok, Err, refl, sym, ap, subst, ◌∙◌, append_assoc, append-nil, arith, length-append, common_steps, Stop, Item, AreBytes, Joining, Between, Header, Bytes, Joined, Whole, TooLong, join_next, Next, Goes, Ends, Run, Runs, Stops, Stopped, after, landed, within, last_running, after-append, last_running-append, Known, Fault, Side, Client, Server, ReplyItems, Two, Entry, Shows, FirstFault, judge_call, judge_reply, Opening, Closing, judge_replies, server_said, client_said, Parsing, file_next, file_start, parsed, emitted, verdict, verdict_of, AreFirstReached, Reached, RecordFault, Streams, reply_entry, connection_entries, Unpacking, Mark, ShownFault, client_refusal, server_refusal, IsTableOf, xid_in, xids_in, Judge, Reading, judged, StreamEnd, Held, Faulty, left_in, end_of, rest_end, stream_end, stream_next, recorded, Judged, parsing_in, parsing_at, client_entries, server_entries, with_call, with_reply, turned, connection_closed, unpacking_with, reading_with}
+use Rattle.capture3.proofs.Common.{◌≡◌, inl, inr, ℕ, ◌+◌, List, [], ◌∷◌, ◌++◌, length, map, take, drop, take-append-drop, Result, Ok, Err, refl, sym, ap, subst, ◌∙◌, append_assoc, append-nil, arith, length-append, common_steps, Stop, Item, AreBytes, Joining, Between, Header, Bytes, Joined, Whole, TooLong, join_next, Next, Goes, Ends, Run, Runs, Stops, Stopped, after, landed, within, last_running, after-append, last_running-append, Known, Fault, Side, Client, Server, ReplyItems, Two, Entry, Shows, FirstFault, judge_call, judge_reply, Opening, Closing, judge_replies, server_said, client_said, Parsing, file_next, file_start, parsed, emitted, verdict, verdict_of, AreFirstReached, Reached, RecordFault, Streams, reply_entry, connection_entries, Unpacking, Mark, ShownFault, client_refusal, server_refusal, IsTableOf, xid_in, xids_in, Judge, Reading, judged, StreamEnd, Held, Faulty, left_in, end_of, rest_end, stream_end, stream_next, recorded, Judged, parsing_in, parsing_at, client_entries, server_entries, with_call, with_reply, turned, connection_closed, unpacking_with, reading_with, between_records, Recalls, ShowsFirst, map-append, xid_of}
 use Rattle.capture3.specs.Entry as entries
 use Rattle.capture3.specs.FileMachine as parsing
-use Rattle.capture3.specs.machinery.KeptStreams.{between_records, Recalls, ShowsFirst}
 use Rattle.capture3.proofs.Lemmas.Container.BytesOf.{split_bytes}
 use Rattle.capture3.proofs.Lemmas.Reader.WholeEntries.{call_added, reply_added}
 use Rattle.capture3.proofs.Lemmas.Sides.StreamEnds.{rest_accepts, rest_refuses, rest_leaves}
-use Rattle.std.proofs.lemmas.List.{map-append}
 use Rattle.capture3.proofs.Lemmas.Reached.ReachedBeforeFaults.{first_reached_at}
 use Rattle.capture3.proofs.Lemmas.Files.Verdicts.{clean_from_runs, shows_from_stops, stays, told, verdict_from_typed}
 use Rattle.capture3.proofs.Lemmas.Reached.ReachedLemmas.{stands_whole}
 use Rattle.capture3.proofs.Lemmas.Reader.FileStandingLemmas.{whole_connections}
-use Rattle.capture3.specs.OpenXids.{xid_of}
 use Rattle.capture3.proofs.Lemmas.Connections.NumberingLemmas.{opened_more, opened_still}
 
 -- ---- the rest of a stream

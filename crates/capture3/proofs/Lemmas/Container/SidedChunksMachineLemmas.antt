@@ -1,7 +1,5 @@
 -- The machine that gathers the chunks of both sides.
-use Rattle.capture3.proofs.Common.{lengths, ◌≡◌, inl, inr, ℕ, zero, suc, ◌+◌, ◌<◌, ◌≤◌, List, [], ◌∷◌, ◌++◌, length, refl, sym, ap, ◌∙◌, append_assoc, append-nil, arith, length-append, nat_lt, ltb-true, ltb-false, le-ltb, Run, Runs, Stops, landed, after, IsWord, Joins, word_next, Leads, leads_within, IsPart, word_leads, Joins-snoc, BadMark, Side, Client, Server, max_bytes, Context, MixedShows, BadSide, NoLength, TooMuch, file_fault, SideWord, SideLength, SideChunk, Mixing, MixedEnd, MixedCloses, MixedRefuses, awaiting_side, sided, measured, mixed_next, mixing_from, Streams, size, SidedChunk, IsSidedChunk, side_word, of_side, gathered, carried_by, with_more, AreMixed, BeginsMixed, mixing_in}
-use Rattle.capture3.specs.Connections.{AfterLength}
-use Rattle.capture3.specs.SidedChunks.{WithinSided}
+use Rattle.capture3.proofs.Common.{lengths, ◌≡◌, inl, inr, ℕ, zero, suc, ◌+◌, ◌<◌, ◌≤◌, List, [], ◌∷◌, ◌++◌, length, refl, sym, ap, ◌∙◌, append_assoc, append-nil, arith, length-append, nat_lt, ltb-true, ltb-false, le-ltb, Run, Runs, Stops, landed, after, IsWord, Joins, word_next, Leads, leads_within, IsPart, word_leads, Joins-snoc, BadMark, Side, Client, Server, max_bytes, Context, MixedShows, BadSide, NoLength, TooMuch, file_fault, SideWord, SideLength, SideChunk, Mixing, MixedEnd, MixedCloses, MixedRefuses, awaiting_side, sided, measured, mixed_next, mixing_from, Streams, size, SidedChunk, IsSidedChunk, side_word, of_side, gathered, carried_by, with_more, AreMixed, BeginsMixed, mixing_in, AfterLength, WithinSided}
 use Rattle.capture3.proofs.Lemmas.Connections.RankLemmas.{by_test}
 use Rattle.capture3.proofs.Lemmas.Files.EndedMachines.{after_two, word_ends, word_goes}
 

@@ -1,7 +1,6 @@
 -- A rule of the chunks of both sides: where it holds of bytes, the machine stops with its fault, or
 -- had stopped before.
-use Rattle.capture3.proofs.Common.{lengths, ◌≡◌, ℕ, zero, suc, ◌+◌, ◌<◌, List, [], ◌∷◌, ◌++◌, length, inl, refl, sym, ap, ap₂, ◌∙◌, append_assoc, arith, length-append, nat_lt, lt-ltb, Run, Runs, Stops, landed, IsWord, Joins, TooManyBytes, Fault, Side, Client, Server, max_bytes, Mixing, MixedEnd, MixedCloses, MixedRefuses, SideLength, awaiting_side, measured, mixed_next, mixing_from, Streams, size, SidedChunk, IsSidedChunk, of_side, gathered, carried_by, with_more, AreMixed, file_fault, mixing_in}
-use Rattle.capture3.specs.Connections.{Context, AfterLength, MixedShows, BadSide, NoLength, TooMuch}
+use Rattle.capture3.proofs.Common.{lengths, ◌≡◌, ℕ, zero, suc, ◌+◌, ◌<◌, List, [], ◌∷◌, ◌++◌, length, inl, refl, sym, ap, ap₂, ◌∙◌, append_assoc, arith, nat_lt, lt-ltb, Run, Runs, Stops, landed, IsWord, Joins, TooManyBytes, Fault, Side, max_bytes, Mixing, MixedEnd, MixedCloses, MixedRefuses, SideLength, awaiting_side, measured, mixed_next, mixing_from, Streams, size, SidedChunk, IsSidedChunk, gathered, with_more, AreMixed, file_fault, mixing_in, Context, AfterLength, MixedShows, BadSide, NoLength, TooMuch}
 use Rattle.capture3.proofs.Lemmas.Connections.RankLemmas.{by_test}
 use Rattle.capture3.proofs.Lemmas.Container.SidedChunksMachineLemmas.{RefusedMixed, with_chunks, with_chunks_all, size_of, chunk_bytes, word_lands, header_lands, after_side, bad_side, mixed_after, mixed_taken, mixing_at}
 use Rattle.capture3.proofs.Lemmas.Files.EndedMachines.{Over, Comes, At, Fails, comes_on, over_on}

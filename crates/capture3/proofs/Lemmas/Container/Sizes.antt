@@ -1,6 +1,5 @@
 -- How long a capture file can be.
-use Rattle.capture3.proofs.Common.{lengths, concat, Run, Runs, Stops, Stopped, IsWord, Joins, AreBytes, Streams, size, SidedChunk, IsSidedChunk, of_side, carried_by, gathered, AreMixed, BeginsMixed, max_bytes, IsChunk, AreChunks, IsStream, BeginsStream, ShownFault, Entry, IsClean, Parsing, parsed, Client, Server, Version, One, Two, max_connections, total_size, magic, IsConnection, IsCapture, Opens, ReachesInside, AreWhole, InMagic, BetweenConnections, InConnection, ◌≡◌, ◌⊎◌, inl, inr, ℕ, ◌+◌, ◌*◌, ◌<◌, ◌≤◌, List, [], ◌∷◌, ◌++◌, length, refl, sym, ap, ◌∙◌, append_assoc, append-nil, arith, length-append}
-use Rattle.capture3.specs.Laws.{most_bytes, IsWithinVersion}
+use Rattle.capture3.proofs.Common.{lengths, concat, Run, Runs, Stops, Stopped, IsWord, Joins, AreBytes, Streams, size, SidedChunk, IsSidedChunk, gathered, AreMixed, BeginsMixed, max_bytes, IsChunk, AreChunks, IsStream, BeginsStream, ShownFault, Entry, IsClean, Parsing, parsed, Version, One, Two, max_connections, total_size, magic, IsConnection, IsCapture, Opens, ReachesInside, AreWhole, InMagic, BetweenConnections, InConnection, ◌≡◌, ◌⊎◌, inl, inr, ℕ, ◌+◌, ◌*◌, ◌<◌, ◌≤◌, List, [], ◌∷◌, ◌++◌, length, refl, sym, ap, ◌∙◌, append_assoc, append-nil, arith, most_bytes, IsWithinVersion}
 use Rattle.capture3.proofs.Lemmas.Container.SidedChunksMachineLemmas.{size_of}
 use Rattle.capture3.proofs.Lemmas.Reached.ReachedLemmas.{stands_whole}
 use Rattle.capture3.proofs.Lemmas.Files.Verdicts.{told, shows_from_stops, shown_before}

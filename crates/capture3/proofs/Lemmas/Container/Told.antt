@@ -1,7 +1,5 @@
 -- A file tells its version and its streams: it is a capture of them in one way.
-use Rattle.capture3.proofs.Common.{◌≡◌, ℕ, ◌<◌, List, [], ◌∷◌, ◌++◌, length, get_or, refl, sym, ap, ap₂, subst, ◌∙◌, append_assoc, arith, concat, IsWord, Joins, number, Side, Client, Server, IsChunk, IsStream, Entry, HaveEntries, Typed, Streams, side_word, IsSidedChunk, gathered, AreMixed}
-use Rattle.capture3.specs.Capture.{Version, One, Two, magic, AreInTurn, AreStreams, IsConnection, IsCapture}
-use Rattle.capture3.specs.Laws.{HaveSameEntries}
+use Rattle.capture3.proofs.Common.{◌≡◌, ℕ, ◌<◌, List, [], ◌∷◌, ◌++◌, length, get_or, refl, sym, ap, ap₂, subst, ◌∙◌, append_assoc, arith, concat, IsWord, Joins, number, Side, Client, Server, IsChunk, IsStream, Entry, Typed, Streams, side_word, IsSidedChunk, gathered, AreMixed, Version, One, Two, magic, AreInTurn, AreStreams, IsConnection, IsCapture, HaveSameEntries}
 use Rattle.capture3.proofs.Lemmas.Files.FileMachineLemmas.{length_magic}
 
 -- bytes tell which thing they begin with, and what comes after it

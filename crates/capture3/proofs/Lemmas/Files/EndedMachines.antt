@@ -1,6 +1,5 @@
 -- Machines inside others, and machines that are over: at the last byte, or before it.
-use Rattle.capture3.proofs.Common.{lengths, ◌≡◌, ◌⊎◌, inl, inr, ℕ, suc, ◌+◌, ◌<◌, List, [], ◌∷◌, ◌++◌, length, refl, ap, subst, ◌∙◌, arith, length-append, Next, Goes, Ends, Run, Runs, Stops, Stopped, landed, after, within, Leads, Tells, tells, after-append, after_stopped, counted_runs, counted_stops, nested_runs, nested_stops, IsWord, number, word_next, word_runs, word_stops}
-use Rattle.record_mark.proofs.Machines.{Earlier}
+use Rattle.capture3.proofs.Common.{lengths, ◌≡◌, ◌⊎◌, inl, inr, ℕ, suc, ◌+◌, ◌<◌, List, [], ◌∷◌, ◌++◌, length, refl, ap, subst, ◌∙◌, arith, Next, Goes, Ends, Run, Runs, Stops, Stopped, landed, after, within, Leads, Tells, tells, after-append, after_stopped, counted_runs, counted_stops, nested_runs, nested_stops, IsWord, number, word_next, word_runs, word_stops, Earlier}
 
 -- bytes in two parts, by where the first leads
 pub after_two : {S X : Type 0} (next : S → ℕ → Next S X) (run : Run S X) {bytes : List ℕ}

@@ -1,7 +1,5 @@
 -- The same of the rules of connections and of files.
-use Rattle.capture3.proofs.Common.{lengths, ◌≡◌, ◌⊎◌, inl, inr, ℕ, suc, ◌+◌, ◌<◌, List, [], ◌∷◌, ◌++◌, length, refl, sym, ap, ap₂, ◌∙◌, append_assoc, append-nil, arith, length-append, nat_lt, le-ltb, Run, Runs, Stops, landed, after, Between, IsWord, Joins, Item, TooManyConnections, AfterEnd, Fault, ReplyItems, Version, One, Two, magic, max_connections, total_size, AreStreams, IsConnection, Streams, size, AreMixed, IsStream, Entry, AfterConnections, Rule, MagicDiffers, MarkIsBad, ConnectionIsTooMany, WithinConnection, ByteAfterEnd, judge_call, mixing_from, judge_replies, Opening, InServer, Closing, Closes, Refuses, server_said, client_said, opening_next, opened, Judgement, StreamEnd, Held, Faulty, stream_end, unread, Position, Reading, file_fault, SideShows, connection_entries, siding_from, reading_with}
-use Rattle.capture3.specs.Connections.{Context, ShownFault, refusal, client_refusal, server_refusal, client_position, server_position, calls_in_turn, replies_to, ServerShows, StreamsShow, InClientStream, InServerStream, ConnectionShows}
-use Rattle.capture3.specs.FileMachine.{Parsing, marked, file_next, file_start, parsed}
+use Rattle.capture3.proofs.Common.{lengths, ◌≡◌, ◌⊎◌, inl, inr, ℕ, suc, ◌+◌, ◌<◌, List, [], ◌∷◌, ◌++◌, length, refl, sym, ap, ap₂, ◌∙◌, append_assoc, append-nil, arith, nat_lt, le-ltb, Run, Runs, Stops, landed, after, Between, IsWord, Joins, Item, TooManyConnections, AfterEnd, Fault, ReplyItems, Version, One, Two, magic, max_connections, total_size, AreStreams, IsConnection, Streams, size, AreMixed, IsStream, Entry, AfterConnections, Rule, MagicDiffers, MarkIsBad, ConnectionIsTooMany, WithinConnection, ByteAfterEnd, judge_call, mixing_from, judge_replies, Opening, InServer, Closing, Closes, Refuses, server_said, client_said, opening_next, opened, Judgement, StreamEnd, Held, Faulty, stream_end, unread, Position, Reading, file_fault, SideShows, connection_entries, siding_from, reading_with, Context, ShownFault, refusal, client_refusal, server_refusal, client_position, server_position, calls_in_turn, replies_to, ServerShows, StreamsShow, InClientStream, InServerStream, ConnectionShows, Parsing, marked, file_next, file_start, parsed}
 use Rattle.capture3.proofs.Lemmas.Connections.ConnectionMachineLemmas.{RefusedClosing, in_client, in_mixed, in_server, opening_taken}
 use Rattle.capture3.proofs.Lemmas.Connections.RankLemmas.{by_test}
 use Rattle.capture3.proofs.Lemmas.Sides.SideRules.{side_closed_or, side_over}

@@ -1,9 +1,8 @@
 -- The first fault of a file stands where its reason says.
-use Rattle.capture3.proofs.Common.{lengths, ◌≡◌, ◌⊎◌, ◌+◌, ◌≤◌, inl, inr, ap, arith, ℕ, List, [], ◌∷◌, ◌++◌, length, length-append, refl, sym, subst, Reason, Stop, Item, Fault, Side, Client, Server, Version, One, Two, calls_in_turn, client_position, ConnectionShows, Context, MixedShows, BadSide, NoLength, TooMuch, ShownFault, replies_to, server_position, StreamsShow, InClientStream, InServerStream, FirstRecordFault, Judgement, NextIsCut, NextIsTooLong, RecordFault, RefusesNext, StreamShows, place_at, place_in, Position, SideShows, IsOfItem, AReply, BadCall, LongCall, OtherCall, ACall, Unasked, BadReply, LongReply, AfterConnections, DiffersFromMagic, FirstFault, Rule, MagicDiffers, MarkIsBad, ConnectionIsTooMany, WithinConnection, ByteAfterEnd}
-use Rattle.xdr3.specs.declared.reason.Reason.TheVariants.{BadMagic, CaptureCut, BadMark, AfterEnd, TooManyConnections, TooManyBytes, RecordCut, RecordTooLong, Short, Trailing, BadBool, BadEnum, TooLong, RpcVersion, Flavor, AuthLength, WrongSide, NoCall, XidConflict}
+use Rattle.capture3.proofs.Common.{lengths, ◌≡◌, ◌⊎◌, ◌+◌, ◌≤◌, inl, inr, ap, arith, ℕ, List, length, refl, Reason, Stop, Item, Fault, Side, Client, Server, Version, One, Two, calls_in_turn, client_position, ConnectionShows, Context, MixedShows, BadSide, NoLength, TooMuch, ShownFault, replies_to, server_position, StreamsShow, InClientStream, InServerStream, FirstRecordFault, Judgement, NextIsCut, NextIsTooLong, RecordFault, RefusesNext, StreamShows, place_at, place_in, Position, SideShows, IsOfItem, AReply, BadCall, LongCall, OtherCall, ACall, Unasked, BadReply, LongReply, AfterConnections, DiffersFromMagic, FirstFault, Rule, MagicDiffers, MarkIsBad, ConnectionIsTooMany, WithinConnection, ByteAfterEnd, HasItsPlace}
+use Rattle.xdr3.specs.declared.reason.Reason.TheVariants.{Short, Trailing, BadBool, BadEnum, TooLong, RpcVersion, Flavor, AuthLength}
 use Rattle.capture3.specs.declared.fault.Place.TheVariants.{Record}
 use Rattle.capture3.specs.Bodies as bodies
-use Rattle.capture3.specs.Laws.{HasItsPlace}
 use Rattle.capture3.proofs.Lemmas.Files.FileMachineLemmas.{length_magic}
 use Rattle.capture3.proofs.Lemmas.Messages.MessageReasons.{call_refused_for, reply_refused_for, start_refused_for}
 

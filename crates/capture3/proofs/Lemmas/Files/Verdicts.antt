@@ -1,8 +1,6 @@
 -- A file is well formed with its entries, or has one first fault, as the machine says.
-use Rattle.capture3.proofs.Common.{◌≡◌, inl, inr, ℕ, List, [], ◌∷◌, ◌++◌, length, refl, sym, ap, subst, ◌∙◌, append-nil, Result, Ok, Err, Run, Runs, Stops, Stopped, after, AreBytes, CaptureCut, AfterEnd, Fault, Version, total_size, magic, ShownFault, refusal, Entry, End, Rule, Shows, IsClean, FirstFault, file_fault, Typed, IsWellFormed, parsing_in}
-use Rattle.record_mark.proofs.Machines.{ran_before, Earlier, Tells, after-append, after_stopped, ran_to, not_runs}
-use Rattle.capture3.specs.Laws.{HasOneVerdict, IsCutShort}
-use Rattle.capture3.specs.FileMachine.{Spot, Magic, Digit, Mark, Inside, Ended, Parsing, file_next, file_start, parsed, concluded, verdict_of, verdict}
+use Rattle.capture3.proofs.Common.{◌≡◌, inl, inr, ℕ, List, [], ◌∷◌, ◌++◌, length, refl, sym, ap, subst, ◌∙◌, append-nil, Result, Ok, Err, Run, Runs, Stops, Stopped, after, AreBytes, CaptureCut, AfterEnd, Fault, Version, total_size, magic, ShownFault, refusal, Entry, End, Rule, Shows, IsClean, FirstFault, file_fault, Typed, IsWellFormed, parsing_in, ran_before, Earlier, Tells, after-append, after_stopped, ran_to, not_runs, HasOneVerdict, IsCutShort}
+use Rattle.capture3.specs.FileMachine.{Spot, Ended, Parsing, file_next, file_start, parsed, concluded, verdict_of, verdict}
 use Rattle.capture3.proofs.Lemmas.Files.FileRules.{rule_over}
 use Rattle.capture3.proofs.Lemmas.Container.BytesOf.{split_bytes}
 use Rattle.capture3.proofs.Lemmas.Files.EndedMachines.{Over, stopped_at}

@@ -1,13 +1,9 @@
 -- Bodies of calls and of replies, judged from left to right, against what they are.
-use Rattle.std.specs.Prelude.{◌&&◌}
-use Rattle.capture3.proofs.Common.{WrongSide, XidConflict, Stop, reads_whole, ProcId, call_layout, call_start, reply_layout, reply_start, procedure_in, arguments_of, results_of, calls_in_turn, replies_to, judge_replies, Item, Word, AreBytes, Spells, ◌>>=◌, reading, refused, complete, head_names, ◌≡◌, ◌≢◌, ◌⊎◌, ℕ, ◌+◌, Bool, true, false, cond, nat_eq, IsTrue, List, [], ◌∷◌, ◌++◌, length, drop, Option, Some, None, Result, Ok, Err, refl, sym, ap, ap₂, subst, ◌∙◌, append_assoc, inl, inr, arith, eqb-true, eq-eqb}
-use Rattle.xdr3.specs.Layout.{Layout, ReadsLayout, word_in}
+use Rattle.capture3.proofs.Common.{WrongSide, XidConflict, Stop, reads_whole, ProcId, call_layout, call_start, reply_layout, reply_start, procedure_in, arguments_of, results_of, calls_in_turn, replies_to, judge_replies, Item, Word, AreBytes, Spells, ◌>>=◌, reading, refused, complete, head_names, ◌≡◌, ◌≢◌, ◌⊎◌, ℕ, ◌+◌, Bool, true, false, cond, nat_eq, IsTrue, List, [], ◌∷◌, ◌++◌, length, drop, Option, Some, None, Result, Ok, Err, refl, sym, ap, ap₂, subst, ◌∙◌, append_assoc, inl, inr, arith, eqb-true, eq-eqb, ◌&&◌, Layout, ReadsLayout, word_in, Spells-split, ReplyItems, IsCall, xid_in, procedure_of, Starts, AcceptsCall, RefusesCall, AReply, BadCall, LongCall, OtherCall, AcceptsReply, RefusesReply, ACall, Unasked, BadReply, LongReply}
 use Rattle.xdr3.specs.Shape.{Fits, Reads, Refuses, ◌then◌, is_listed, listed, word}
 use Rattle.xdr3.proofs.Lemmas.Reading.Bytes.{ok_is}
 use Rattle.xdr3.proofs.Lemmas.Reading.Decided.{both_ways}
-use Rattle.xdr3.proofs.Lemmas.Reading.Items.{Spells-split}
 use Rattle.rpc_head.specs.Shapes.{message_start, message_types}
-use Rattle.capture3.specs.Bodies.{ReplyItems, IsCall, xid_in, procedure_of, Starts, AcceptsCall, RefusesCall, AReply, BadCall, LongCall, OtherCall, AcceptsReply, RefusesReply, ACall, Unasked, BadReply, LongReply}
 use Rattle.capture3.specs.Bodies as bodies
 use Rattle.capture3.specs.BodyProgram.{read_whole, is_same, agrees, agreed, call_after, answering, reply_after, judge_call, judge_reply}
 use Rattle.capture3.proofs.Lemmas.Messages.BodyProgramLemmas.{Judged, by_result}

@@ -1,6 +1,5 @@
 -- A judgement of bodies, and the program that decides it.
-use Rattle.capture3.proofs.Common.{◌≡◌, ◌⊎◌, ℕ, List, Result, Ok, Err, refl, inl, inr, Stop, AreBytes, Judge, Judgement}
-use Rattle.capture3.specs.Laws.{IsJudgedOnce}
+use Rattle.capture3.proofs.Common.{◌≡◌, ℕ, List, Result, Ok, Err, refl, inl, inr, Stop, AreBytes, Judge, Judgement, IsJudgedOnce}
 
 pub record Judged (M : Type 0) : Type 1 where
   pub says : Judgement M

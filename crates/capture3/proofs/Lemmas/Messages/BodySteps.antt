@@ -1,12 +1,11 @@
 -- Judging a body as the code does: its first two words, its side, its head, what stands after the
 -- head, its end.
 use Rattle.std.proofs.lemmas.Bool.{ne_eqb}
-use Rattle.capture3.proofs.Common.{[], ◌∷◌, Trailing, WrongSide, NoCall, XidConflict, Stop, Layout, reading_layout, ProcId, MessageStart, call_layout, reply_layout, procedure_in, call_head, message_start, reply_head, start_items, arguments_of, results_of, procedure_of, xid_in, Item, followed_by, ◌>>=◌, reading, refused, judge_call, judge_reply, read_whole, all_of_body, agreed, agrees, answering, GetError, results_after, ◌≡◌, ◌≢◌, ℕ, Bool, true, false, not, cond, List, ◌++◌, length, Some, None, Result, Ok, Err, refl, sym, ap, ◌∙◌, append_assoc, eq-eqb}
+use Rattle.capture3.proofs.Common.{[], ◌∷◌, Trailing, WrongSide, NoCall, XidConflict, Stop, Layout, reading_layout, ProcId, MessageStart, call_layout, reply_layout, procedure_in, call_head, message_start, reply_head, start_items, arguments_of, results_of, procedure_of, xid_in, Item, followed_by, ◌>>=◌, reading, refused, judge_call, judge_reply, read_whole, all_of_body, agreed, agrees, answering, GetError, results_after, ◌≡◌, ◌≢◌, ℕ, Bool, true, false, not, cond, List, ◌++◌, length, Some, None, Result, Ok, Err, refl, sym, ap, ◌∙◌, append_assoc, eq-eqb, xid_of}
 use Rattle.xdr3.proofs.Lemmas.Reading.Linked.{with_front}
 use Rattle.rpc_head.specs.HeadScan.{procedure_told, tells_success}
 use Rattle.rpc_head.proofs.Messages.{call_read, call_head_refused, procedure_read, reply_read, reply_head_refused}
 use Rattle.xdr3.specs.declared.reason.GetError.TheVariants as errors
-use Rattle.capture3.specs.OpenXids.{xid_of}
 
 -- ---- a whole layout, read in parts
 

@@ -1,10 +1,8 @@
 -- A whole body by its layout, decided.
-use Rattle.capture3.proofs.Common.{lengths, ◌≡◌, ◌⊎◌, ℕ, ◌+◌, ◌<◌, ◌≤◌, nat_eq, List, [], length, drop, Ok, Err, refl, sym, ap, subst, ◌∙◌, inl, inr, arith, eqb-true, eq-eqb, ne_eqb, eqb-false, Reason, Trailing, Stop, Item, AreBytes, Spells, refused, complete, all_of_body, read_whole}
-use Rattle.std.proofs.lemmas.List.{length-append, length-drop, drop_all}
+use Rattle.capture3.proofs.Common.{lengths, ◌≡◌, ◌⊎◌, ℕ, ◌+◌, ◌<◌, ◌≤◌, nat_eq, List, [], length, drop, Ok, Err, refl, sym, ap, subst, ◌∙◌, inl, inr, arith, eqb-true, eq-eqb, ne_eqb, eqb-false, Reason, Trailing, Stop, Item, AreBytes, Spells, refused, complete, all_of_body, read_whole, layout_decides, reads_whole, LeavesMore}
+use Rattle.std.proofs.lemmas.List.{length-drop, drop_all}
 use Rattle.xdr3.specs.Layout.{Layout, exactly, rest, after, FitsLayout, ReadsLayout, RefusesLayout, reading_layout}
 use Rattle.xdr3.proofs.Lemmas.Reading.Bytes.{drop_front, front_ends, bind_ok, bind_err, accept_ok, accept_err}
-use Rattle.xdr3.proofs.Lemmas.Shapes.Layouts.{layout_decides, reads_whole}
-use Rattle.capture3.specs.Bodies.{LeavesMore}
 
 -- ---- what is so is read
 

@@ -1,8 +1,7 @@
 -- For which reasons calls and replies are refused.
-use Rattle.capture3.proofs.Common.{◌≡◌, ◌⊎◌, inl, inr, arith, ℕ, List, [], ◌∷◌, length, sym, subst, Reason, Item, Spells, ProcId, call_head, message_start, reply_head, arguments_of, results_of, RpcVersion, Layout, exactly, RefusesLayout, length_of_spelling}
+use Rattle.capture3.proofs.Common.{◌≡◌, ◌⊎◌, inl, inr, arith, ℕ, List, [], ◌∷◌, length, sym, subst, Reason, Item, Spells, ProcId, call_head, message_start, reply_head, arguments_of, results_of, RpcVersion, Layout, exactly, RefusesLayout, length_of_spelling, HasItemReason, IsOfItem, refused_for, row_refused_for}
 use Rattle.std.specs.Prelude.{if◌then◌else◌}
 use Rattle.xdr3.specs.Shape.{Shape, Fits, Refuses, ◌then◌, nothing}
-use Rattle.xdr3.proofs.Lemmas.Reading.Reasons.{HasItemReason, IsOfItem, refused_for, row_refused_for}
 use Rattle.xdr3.proofs.Lemmas.Shapes.ShapeParts.{parts_weaker, row_weaker}
 use Rattle.rpc_head.specs.Messages.{call_layout, call_start, has_results, procedure_in, reply_layout, reply_start}
 use Rattle.procs3.proofs.HeadParts.{after_version, after_version_parts, call_start_parts, message_start_parts, reply_head_parts, reply_start_parts}

@@ -1,6 +1,5 @@
 -- What the machine emits along bytes is what they reach.
-use Rattle.capture3.proofs.Common.{◌≡◌, ◌⊎◌, inl, inr, ℕ, List, [], ◌∷◌, ◌++◌, refl, sym, ap, ap₂, ◌∙◌, append_assoc, append-nil, Result, Ok, Err, Next, Goes, Ends, Runs, Stops, landed, after, last_running, AreBytes, Fault, ShownFault, Entry, Shows, IsWellFormed, unwrap_or, result_ok, Parsing, file_next, file_start, parsed, verdict, emitted, last_entries, reached, IsLongestClean, Reached}
-use Rattle.record_mark.proofs.Machines.{after-append, after_stopped, runs_along, last_running-append}
+use Rattle.capture3.proofs.Common.{◌≡◌, ◌⊎◌, inl, inr, ℕ, List, [], ◌∷◌, ◌++◌, refl, sym, ap, ap₂, ◌∙◌, append_assoc, append-nil, Result, Ok, Err, Next, Goes, Ends, Runs, Stops, landed, after, last_running, AreBytes, Fault, ShownFault, Entry, Shows, IsWellFormed, unwrap_or, result_ok, Parsing, file_next, file_start, parsed, verdict, emitted, last_entries, reached, IsLongestClean, Reached, after-append, after_stopped, runs_along, last_running-append}
 use Rattle.capture3.proofs.Lemmas.Container.BytesOf.{split_bytes}
 use Rattle.capture3.proofs.Lemmas.Files.FileMachineLemmas.{file_runs}
 use Rattle.capture3.proofs.Lemmas.Reached.ReachedLemmas.{whole_stands, stands_whole}

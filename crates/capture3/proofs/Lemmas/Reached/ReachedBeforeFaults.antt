@@ -1,6 +1,6 @@
 -- What the bytes reach: in front of a fault, and from entries on that are whole.
-use Rattle.capture3.proofs.Common.{◌≡◌, inl, ℕ, List, [], ◌∷◌, ◌++◌, length, Result, Ok, Err, refl, sym, ap, subst, ◌∙◌, append_assoc, append-nil, AreBytes, Run, Runs, Stops, Stopped, last_running, last_running-append, Fault, ShownFault, AreFirstReached, Reached, Entry, End, Judged, Agrees, emitted_at, parsing_at, Unpacking, unwrap_or, result_ok}
-use Rattle.capture3.specs.FileMachine.{Parsing, Spot, Magic, Digit, Mark, Inside, Ended, file_next, file_start, parsed, concluded, verdict, verdict_of, spot_entries, emitted, last_entries, reached}
+use Rattle.capture3.proofs.Common.{◌≡◌, inl, ℕ, List, [], ◌∷◌, ◌++◌, length, Result, Ok, Err, refl, sym, ap, ◌∙◌, append_assoc, append-nil, AreBytes, Run, Runs, Stops, Stopped, last_running, last_running-append, Fault, ShownFault, AreFirstReached, Reached, Entry, End, Judged, Agrees, emitted_at, parsing_at, Unpacking, unwrap_or, result_ok}
+use Rattle.capture3.specs.FileMachine.{Parsing, Spot, Ended, file_next, file_start, parsed, concluded, verdict, verdict_of, spot_entries, emitted, last_entries, reached}
 use Rattle.capture3.proofs.Lemmas.Reached.EmittedEntries.{reached_by_machine}
 use Rattle.capture3.proofs.Lemmas.Reached.Growing.{Adds, grows}
 use Rattle.capture3.proofs.Lemmas.Files.Verdicts.{typed_from_verdict}

@@ -1,9 +1,7 @@
 -- What a clean prefix reaches, by its parts and by the machine.
-use Rattle.capture3.proofs.Common.{◌≡◌, inl, inr, ℕ, suc, ◌+◌, List, [], ◌∷◌, ◌++◌, length, map, refl, sym, ap, ◌∙◌, append_assoc, append-nil, arith, BeginsStream, Context, client_position, server_position, calls_in_turn, replies_to, ReachesInside, AreWhole, InMagic, BetweenConnections, InConnection, Reading, Judgement, HoldsSoFar, Position, reply_entry, Version, One, Two, digit, magic_front, magic, total_size, parsing_in, reading_with}
+use Rattle.capture3.proofs.Common.{◌≡◌, inl, inr, ℕ, suc, ◌+◌, List, [], ◌∷◌, ◌++◌, length, map, refl, sym, ap, ◌∙◌, append_assoc, append-nil, arith, BeginsStream, Context, client_position, server_position, calls_in_turn, replies_to, ReachesInside, AreWhole, InMagic, BetweenConnections, InConnection, Reading, Judgement, HoldsSoFar, Position, reply_entry, Version, One, Two, digit, magic_front, magic, total_size, parsing_in, reading_with, Opening, InClient, InServer, InMixed, opening_entries, Siding}
 use Rattle.capture3.specs.Entry.{Entry, Begin, Call, Turn}
-use Rattle.capture3.specs.ConnectionMachine.{Opening, InClient, InServer, InMixed, opening_entries}
 use Rattle.capture3.specs.FileMachine.{Mark, Ended, Parsing, emitted, magic_left, spot_entries}
-use Rattle.capture3.specs.SideMachine.{Siding}
 use Rattle.capture3.proofs.Lemmas.Files.FileMachineLemmas.{Stands, AtMagic, AtMark, AtInside, AtEnd, at_mark, context_after, inside_at, magic_split}
 use Rattle.capture3.proofs.Lemmas.Container.SidedChunksMachineLemmas.{mixed_state}
 use Rattle.capture3.proofs.Lemmas.Connections.ConnectionMachineLemmas.{HasOpening}

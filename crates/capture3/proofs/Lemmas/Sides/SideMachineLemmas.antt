@@ -1,7 +1,5 @@
 -- The machine for one side against chunks, records and messages.
-use Rattle.capture3.proofs.Common.{lengths, ◌≡◌, inl, inr, ℕ, zero, suc, ◌+◌, ◌<◌, ◌≤◌, List, [], ◌∷◌, ◌++◌, length, refl, sym, ap, ap₂, ◌∙◌, append_assoc, append-nil, arith, length-append, nat_lt, ltb-true, ltb-false, le-ltb, concat, Ends, Run, Runs, Stops, landed, after, IsWord, Joins, word_next, Joining, Between, Header, Bytes, IsOpen, AreBytes, RecordCut, max_bytes, IsChunk, AreChunks, BeginsStream, IsStream, Judgement, Holds, RecordFault, SideShows, fault_at, Reading, stream_next, unread, Position, place_in, Leads, leads_within, after-append, ran_to, IsPart, word_leads, Joins-snoc, siding_from, siding_in, reading_with}
-use Rattle.record_mark.proofs.Words.{concat-snoc}
-use Rattle.capture3.specs.Chunks.{WithinChunk}
+use Rattle.capture3.proofs.Common.{lengths, ◌≡◌, inl, inr, ℕ, zero, suc, ◌+◌, ◌<◌, ◌≤◌, List, [], ◌∷◌, ◌++◌, length, refl, sym, ap, ap₂, ◌∙◌, append_assoc, append-nil, arith, nat_lt, ltb-true, ltb-false, le-ltb, concat, Ends, Run, Runs, Stops, landed, after, IsWord, Joins, word_next, Joining, Between, Header, Bytes, IsOpen, AreBytes, RecordCut, max_bytes, IsChunk, AreChunks, BeginsStream, IsStream, Judgement, Holds, RecordFault, SideShows, fault_at, Reading, stream_next, unread, Position, place_in, Leads, leads_within, after-append, ran_to, IsPart, word_leads, Joins-snoc, siding_from, siding_in, reading_with, concat-snoc, WithinChunk}
 use Rattle.capture3.specs.SideMachine.{Length, Chunk, Siding, SideEnd, SideCloses, SideRefuses, awaiting, closing, counted, side_next}
 use Rattle.capture3.proofs.Lemmas.Connections.RankLemmas.{by_test}
 use Rattle.capture3.proofs.Lemmas.Container.BytesOf.{split_bytes, AreBytes-append, chunk_bytes}

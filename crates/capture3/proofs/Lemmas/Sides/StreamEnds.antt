@@ -1,7 +1,5 @@
 -- A whole stream, with its messages or its first fault.
-use Rattle.capture3.proofs.Common.{◌≡◌, inl, inr, ℕ, List, [], ◌∷◌, ◌++◌, refl, sym, ap, subst, ◌∙◌, append_assoc, append-nil, Ok, Ends, Run, Runs, Stops, Stopped, after, landed, last_running, Joining, Between, Header, Bytes, Joined, Whole, TooLong, join_next, IsOpen, AreBytes, RecordTooLong, Judgement, Holds, RecordFault, fault_at, FirstRecordFault, RefusesNext, NextIsTooLong, NextIsCut, record_stops, too_long_stops, Judge, Reading, judged, recorded, stream_next, unread, StreamEnd, Held, Faulty, left_in, end_of, rest_end, stream_end, reading_with}
-use Rattle.record_mark.specs.Joining.{HasJoined}
-use Rattle.record_mark.proofs.Machines.{Tells, after-append, after_stopped, nested_last, nested_runs, nested_stops, last_running-append, last_stopped}
+use Rattle.capture3.proofs.Common.{◌≡◌, inl, inr, ℕ, List, [], ◌∷◌, ◌++◌, refl, sym, ap, ◌∙◌, append_assoc, append-nil, Ok, Ends, Run, Runs, Stops, Stopped, after, landed, last_running, Joining, Between, Header, Bytes, Joined, Whole, TooLong, join_next, AreBytes, RecordTooLong, Judgement, Holds, RecordFault, fault_at, FirstRecordFault, RefusesNext, NextIsTooLong, NextIsCut, record_stops, too_long_stops, Judge, Reading, judged, recorded, stream_next, unread, StreamEnd, Held, Faulty, left_in, end_of, rest_end, stream_end, reading_with, HasJoined, Tells, after-append, after_stopped, nested_last, nested_runs, nested_stops, last_running-append, last_stopped}
 use Rattle.capture3.proofs.Lemmas.Messages.BodyProgramLemmas.{Judged}
 use Rattle.capture3.proofs.Lemmas.Sides.StreamMachineLemmas.{HasRead, ShowsAsFirst, stream_leads, between_holds, nothing_read, held_runs, stream_runs}
 use Rattle.capture3.proofs.Lemmas.Files.Telling.{tells_bytes}

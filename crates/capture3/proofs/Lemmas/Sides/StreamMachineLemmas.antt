@@ -1,9 +1,5 @@
 -- The machine for a stream against records and messages.
-use Rattle.capture3.proofs.Common.{◌≡◌, inl, inr, ℕ, suc, List, [], ◌∷◌, ◌++◌, length, refl, sym, ap, subst, ◌∙◌, append_assoc, append-nil, arith, Result, Ok, Err, Run, Runs, Stops, landed, after, Leads, leads_within, after-append, nested_runs, nested_stops, Joins-snoc, AreBytes, Reason, RecordTooLong, Stop, Reading, judged, recorded, stream_next, unread, joined_body, reading_with}
-use Rattle.record_mark.specs.RecordMark.{IsRecord, IsUnfinished, Marks}
-use Rattle.record_mark.specs.Joining.{Joining, Between, Header, Bytes, Joined, Whole, TooLong, join_next, HasJoined, EndsRecord}
-use Rattle.record_mark.proofs.Joins.{join_leads, record_stops, joining_runs}
-use Rattle.capture3.specs.Records.{Judgement, AreMessages, Holds, HoldsSoFar, RecordFault, fault_at, RefusesRecord, StreamShows, FirstRecordFault, RefusesNext, NextIsTooLong}
+use Rattle.capture3.proofs.Common.{◌≡◌, inl, inr, ℕ, suc, List, [], ◌∷◌, ◌++◌, length, refl, sym, ap, subst, ◌∙◌, append_assoc, append-nil, arith, Result, Ok, Err, Run, Runs, Stops, landed, after, Leads, leads_within, after-append, nested_runs, nested_stops, Joins-snoc, AreBytes, Reason, RecordTooLong, Stop, Reading, judged, recorded, stream_next, unread, joined_body, reading_with, IsRecord, IsUnfinished, Marks, Joining, Between, Header, Bytes, Joined, Whole, TooLong, join_next, HasJoined, EndsRecord, join_leads, record_stops, joining_runs, Judgement, AreMessages, Holds, HoldsSoFar, RecordFault, fault_at, RefusesRecord, StreamShows, FirstRecordFault, RefusesNext, NextIsTooLong}
 use Rattle.capture3.proofs.Lemmas.Container.BytesOf.{split_bytes, record_bytes}
 use Rattle.capture3.proofs.Lemmas.Messages.BodyProgramLemmas.{Judged}
 

@@ -1,4 +1,4 @@
-use Rattle.capture3.proofs.Common.{refl, sym, subst, [], ◌∷◌, ◌++◌, AfterEnd, BadEnum, BadMark, CaptureCut, TooManyBytes, WrongSide, Client, Server, file_fault, Reached, fault_in_record}
+use Rattle.capture3.proofs.Common.{refl, [], ◌∷◌, ◌++◌, AfterEnd, BadEnum, BadMark, CaptureCut, TooManyBytes, WrongSide, Client, Server, file_fault, fault_in_record}
 use Rattle.capture3.specs.Entry.{Begin, Close, End, Turn}
 use Rattle.capture3.specs.Examples.{bad_mtype, bad_mtype_cut, bad_mtype_mixed, bad_mtype_mixed_cut, call_answered_by_call, client_chunk, magic_1, magic_2, null_capture, null_entries, null_mixed, null_mixed_swapped, server_chunk, word_0, word_1, word_3}
 use Rattle.capture3.proofs.Lemmas.Container.BytesOf.{all_bytes, checked}

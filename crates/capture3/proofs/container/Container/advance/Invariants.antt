@@ -1,5 +1,4 @@
-use Rattle.capture3.proofs.Common.{◌≡◌, ◌≤◌, ◌-◌, length, take, None, IsRunning, Arrives, unpacking_in}
-use Rattle.capture3.specs.machinery.Position.{StoredAt, room_of}
+use Rattle.capture3.proofs.Common.{◌≡◌, ◌≤◌, ◌-◌, length, take, None, IsRunning, Arrives, unpacking_in, StoredAt, room_of}
 use Rattle.capture3.proofs.container.Container.advance.Given as goal
 
 abbrev pub invariant-loop-taken : goal.invariant-loop-taken

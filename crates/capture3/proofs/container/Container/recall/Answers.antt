@@ -1,5 +1,4 @@
-use Rattle.capture3.proofs.Common.{◌<◌, ◌≤◌, ◌+◌, length, sym, subst, arith, common_steps, IsRunning}
-use Rattle.capture3.specs.machinery.Container.{stream_of}
+use Rattle.capture3.proofs.Common.{◌<◌, ◌≤◌, ◌+◌, length, sym, subst, arith, common_steps, IsRunning, stream_of}
 use Rattle.capture3.proofs.Lemmas.Container.ContainerLemmas.{record_takes, released_whole, stream_ended_goes_on, stream_within}
 use Rattle.capture3.proofs.container.Container.recall.Goals as goal
 

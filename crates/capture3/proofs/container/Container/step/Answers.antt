@@ -1,8 +1,6 @@
-use Rattle.capture3.proofs.Common.{IfOk, ShowsError, joining_of, subst, take, unpacking_of, IfErr, ap, ◌∙◌}
-use Rattle.capture3.specs.declared.container.position.Position.{Position}
+use Rattle.capture3.proofs.Common.{joining_of, ap, ◌∙◌}
 use Rattle.capture3.specs.declared.container.position.WordOf.{WordOf}
 use Rattle.capture3.specs.declared.container.position.Spot.TheVariants.{Word}
-use Rattle.capture3.specs.machinery.Container.{Leads}
 use Rattle.capture3.proofs.Lemmas.Container.ContainerLemmas.{shown_at, step_fails, step_reaches, stored_here}
 use Rattle.capture3.proofs.container.Container.step.Goals as goal
 

@@ -1,6 +1,4 @@
-use Rattle.capture3.proofs.Common.{IfOk, ShowsError, joining_of, subst, take, unpacking_of, IfErr}
-use Rattle.capture3.specs.declared.container.position.Position.{Position}
-use Rattle.capture3.specs.machinery.Container.{Leads}
+use Rattle.capture3.proofs.Common.{joining_of}
 use Rattle.capture3.proofs.Lemmas.Container.ContainerLemmas.{shown_at, step_reaches, step_fails, stored_here}
 use Rattle.capture3.proofs.container.Container.step_aside.Goals as goal
 

@@ -1,7 +1,6 @@
 use Rattle.std.proofs.lemmas.Result.{IfOk-weaker}
-use Rattle.capture3.proofs.Common.{unpacking_at}
+use Rattle.capture3.proofs.Common.{unpacking_at, word_read}
 use Rattle.capture3.specs.declared.container.position.Spot.TheVariants.{Word}
-use Rattle.capture3.specs.machinery.Position.{word_read}
 use Rattle.capture3.specs.machinery.PositionState.{standing_at}
 use Rattle.capture3.proofs.Lemmas.Container.PositionLemmas.{lands_moves, word_part, word_whole}
 use Rattle.capture3.proofs.container.position.Counts.take_word.Goals as goal

@@ -1,6 +1,4 @@
-use Rattle.capture3.proofs.Common.{◌∷◌, [], ap, sym, subst, ◌∙◌, ℕ, List, arith, length, length-append, NumberedCall, Puts, known_in_list, in_list}
-use Rattle.std.specs.Prelude.{min}
-use Rattle.capture3.specs.Rank.{number_limit}
+use Rattle.capture3.proofs.Common.{◌∷◌, [], ap, sym, ◌∙◌, ℕ, List, arith, length, length-append, NumberedCall, Puts, known_in_list, in_list, min, number_limit}
 use Rattle.capture3.proofs.Lemmas.Connections.KnownLemmas.{known_anew, puts_listed}
 use Rattle.capture3.proofs.message.calls.CallListCallTable.admit.Goals as goal
 

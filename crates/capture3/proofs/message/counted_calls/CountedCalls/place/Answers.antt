@@ -1,4 +1,4 @@
-use Rattle.capture3.proofs.Common.{ap, sym, subst, ◌∙◌, refl, List, arith, NumberedCall, Puts, lined}
+use Rattle.capture3.proofs.Common.{ap, ◌∙◌, refl, List, arith, NumberedCall}
 use Rattle.capture3.proofs.Lemmas.Connections.LineLemmas.{filled, home_at, puts_last, puts_set}
 use Rattle.capture3.proofs.message.counted_calls.CountedCalls.place.Goals as goal
 

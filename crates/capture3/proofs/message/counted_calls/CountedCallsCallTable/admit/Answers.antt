@@ -1,7 +1,6 @@
-use Rattle.capture3.proofs.Common.{sym, subst, ◌∙◌, refl, List, arith, NumberedCall, Puts, lined, in_list}
+use Rattle.capture3.proofs.Common.{◌∙◌, refl, arith, NumberedCall, Puts, lined, in_list, known_of}
 use Rattle.capture3.proofs.Lemmas.Connections.LineLemmas.{nothing_past, puts_last}
 use Rattle.capture3.proofs.Lemmas.Connections.KnownLemmas.{known_anew, over_none, puts_in_line}
-use Rattle.capture3.specs.machinery.CountedCalls.{known_of}
 use Rattle.capture3.proofs.message.counted_calls.CountedCallsCallTable.admit.Goals as goal
 
 pub returns-then-home-self : goal.returns-then-home-self
