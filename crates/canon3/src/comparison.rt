@@ -250,9 +250,12 @@ impl<S: BuildHasher + Drop> Comparison<S> {
         ensures reads { ReadsBoth A.failures B.failures first.old first.new
             second.old second.new result }
     {
+        // Written out, since `?` takes more instructions for each message.
         loop {
-            if let Some(finding) = self.step(first, second)? {
-                return Ok(finding);
+            match self.step(first, second) {
+                Ok(None) => {}
+                Ok(Some(finding)) => return Ok(finding),
+                Err(error) => return Err(error),
             }
         }
     }

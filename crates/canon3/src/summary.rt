@@ -118,8 +118,14 @@ impl<S: BuildHasher + Drop> Tally<S> {
             → TalliesToTheEnd R.told first entries.new self.new result }
         ensures reads { ReadsOne R.failures entries.old entries.new result }
     {
-        while self.add_next(entries)? {}
-        Ok(())
+        // Written out, since `?` takes more instructions for each message.
+        loop {
+            match self.add_next(entries) {
+                Ok(true) => {}
+                Ok(false) => return Ok(()),
+                Err(error) => return Err(error),
+            }
+        }
     }
 
     /// Counts the next entry. Returns `false` at the end.
@@ -141,12 +147,14 @@ impl<S: BuildHasher + Drop> Tally<S> {
         // The device.
         ensures reads { ReadsOne R.failures entries.old entries.new result }
     {
-        match entries.next(&mut self.handles)? {
-            Some(kind) => {
+        // Written out, since `?` takes more instructions for each message.
+        match entries.next(&mut self.handles) {
+            Ok(Some(kind)) => {
                 self.counts.add(kind);
                 Ok(true)
             }
-            None => Ok(false),
+            Ok(None) => Ok(false),
+            Err(error) => Err(error),
         }
     }
 

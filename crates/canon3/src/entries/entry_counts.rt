@@ -56,8 +56,8 @@ impl EntryCounts {
         ensures counts { (entries : List spec.Entry) (one : spec.Entry) → IsOfKind kind one
             → AreCounted self.old entries → AreCounted self.new (entries ++ one ∷ []) }
     {
-        self.progress.pass(kind);
         self.count(kind);
+        self.progress.pass(kind);
     }
 
     /// Counts a message, if the entry is one.

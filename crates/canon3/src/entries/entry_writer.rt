@@ -228,8 +228,14 @@ fn write_rest<R: Source, W: Sink, E: EntryWriter, S: BuildHasher + Drop>(
     ensures devices { ReadsAndWrites R.failures entries.old entries.new (W.failures sink.old)
         (W.failures sink.new) result }
 {
-    while write_next(entries, counts, sink, writer)? {}
-    Ok(())
+    // Written out, since `?` takes more instructions for each message.
+    loop {
+        match write_next(entries, counts, sink, writer) {
+            Ok(true) => {}
+            Ok(false) => return Ok(()),
+            Err(error) => return Err(error),
+        }
+    }
 }
 
 /// Writes the next entry. Returns `false` at the end.
@@ -263,13 +269,15 @@ fn write_next<R: Source, W: Sink, E: EntryWriter, S: BuildHasher + Drop>(
     ensures devices { ReadsAndWrites R.failures entries.old entries.new (W.failures sink.old)
         (W.failures sink.new) result }
 {
-    match entries.next(writer)? {
-        Some(_) => match entries.entry() {
+    // Written out, since `?` takes more instructions for each message.
+    match entries.next(writer) {
+        Ok(Some(_)) => match entries.entry() {
             Some(entry) => write_one(counts, sink, writer, entry),
             // An entry was just returned.
             None => unreachable!(),
         },
-        None => Ok(false),
+        Ok(None) => Ok(false),
+        Err(error) => Err(error),
     }
 }
 

@@ -2,8 +2,8 @@ use Rattle.canon3.proofs.Common.{◌≡◌, ◌≤◌, ◌+◌, List, ℕ, None,
 use Rattle.canon3.specs.machinery.WritingSteps.{IsWriting}
 use Rattle.canon3.proofs.entries.entry_writer.write_rest.Given as goal
 
-abbrev pub invariant-loop : goal.invariant-loop
-invariant-loop g l = record {
+abbrev pub invariant-loop-error : goal.invariant-loop-error
+invariant-loop-error g l = record {
   going : failure_of l.entries ≡ None;
   room : counted_steps l.counts + entries_left l.entries ≤ most_entries;
   under_way : (first : Told) (old : Option (List ℕ))
@@ -17,5 +17,5 @@ invariant-loop g l = record {
   same_reference : loan_of l.entries ≡ loan_of l.fn.entries;
 }
 
-abbrev pub decreases-loop : goal.decreases-loop
-decreases-loop g l = entries_left l.entries
+abbrev pub decreases-loop-error : goal.decreases-loop-error
+decreases-loop-error g l = entries_left l.entries
