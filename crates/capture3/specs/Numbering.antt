@@ -1,4 +1,5 @@
--- The numbers of messages: their xids by the order of first appearance in a connection.
+-- The numbers of messages: their xids (RFC 5531, section 9) by the order of first appearance in a
+-- connection.
 use Rattle.std.specs.Prelude.{ℕ, nat_eq, List, [], ◌∷◌, ◌++◌, Option, Some, None}
 use Rattle.capture3.specs.declared.reader.entry.Entry as kept
 use Rattle.capture3.specs.declared.reader.entry.Entry.TheVariants as variants

@@ -117,6 +117,7 @@ impl<'r, R: Source, S: BuildHasher + Drop> Entries<'r, R, S> {
     ///
     /// It never returns `Write`. After an error the contents of the visitor are unspecified, the
     /// same error is returned from then on, and nothing is read.
+    #[inline(always)]
     pub fn next<V: Visit>(&mut self, visitor: &mut V) -> Result<Option<Kind>, Error>
         // What is returned, and which entry is lent.
         ensures answers { (given : List ℕ) (handed : List spec.Entry)
@@ -166,8 +167,7 @@ impl<'r, R: Source, S: BuildHasher + Drop> Entries<'r, R, S> {
     }
 
     /// Returns the error for good.
-    #[cold]
-    #[inline(never)]
+    #[inline(always)]
     fn failure(&self) -> Error
         requires { IsSome (failure_of self.now) }
         ensures { failure_of self.now ≡ Some result }

@@ -57,6 +57,7 @@ impl<C: CallTable + Drop> Pairing<C> {
     /// the next entry is of kept streams. The items of a message are passed to the visitor, and its
     /// record stays until the next call. After an error the contents of the visitor are
     /// unspecified.
+    #[inline(always)]
     pub(crate) fn next<V: Visit>(&mut self, piece: &[u8], visitor: &mut V) -> Result<usize, Noted>
         requires ready { CanGoOn self.old.container.cursor
             (released self.old.container.joiner.taking) self.old.container }
