@@ -25,13 +25,13 @@ import make  # noqa: E402
 # The most instructions, in millions.
 LIMITS = {
     'check small': 7.1,
-    'canon small': 10.6,
+    'canon small': 10.3,
     'show small': 16.4,
-    'same small': 18.5,
+    'same small': 17.9,
     'check mixed': 5.4,
     'canon mixed': 12.9,
     'show mixed': 19.5,
-    'same mixed': 12.9,
+    'same mixed': 12.8,
     'pack small': 0.39,
     'nfs3mask small': 19.8,
     'nfs3mask mixed': 17.8,
