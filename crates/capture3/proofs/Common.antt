@@ -6,7 +6,7 @@ pub use Rattle.record_mark.proofs.Words.{IsPart, Joins-snoc, word_leads, word_ru
 pub use Rattle.record_mark.specs.Joining.{Between, Bytes, Header, Joined, Joining, TooLong, Whole, join_next, EndsRecord, HasJoined}
 pub use Rattle.record_mark.specs.Machine.{Ends, Goes, Next, Run, Runs, Stopped, Stops, after, landed, last_running, within}
 pub use Rattle.record_mark.specs.RecordMark.{IsFragment, IsOpen, IsRecord, Marks, IsTooLong, IsUnfinished}
-pub use Rattle.record_mark.specs.Taking.{IsRunning, IsWhole, Led, OutOfMemory, Taking, body_of, joined_body, joining_of, released, unbegun}
+pub use Rattle.record_mark.specs.Taking.{IsRunning, IsWhole, Led, OutOfMemory, Taking, body_of, joined_body, joining_of, released}
 pub use Rattle.record_mark.specs.Word.{IsWord, Joins, word_next}
 unfoldable pub use Rattle.record_mark.specs.Word.{number}
 pub use Rattle.record_mark.specs.WordPart.{bytes_so_far, TakesWord}
@@ -18,13 +18,13 @@ pub use Rattle.rpc_head.specs.Names.{head_names}
 unfoldable pub use Rattle.rpc_head.specs.Shapes.{call_head, message_start, reply_head}
 pub use Rattle.rpc_head.specs.declared.values.call.ProcId.{ProcId}
 pub use Rattle.rpc_head.specs.declared.values.message_start.MessageStart.{MessageStart}
-pub use Rattle.std.proofs.Common.{Bool, Err, IfOk, List, None, Ok, Option, Result, Some, [], add-one, ap, append-nil, append_assoc, ap₂, arith, cond, drop, eq-eqb, eqb-true, false, get_or, if◌then◌else◌, inl, inr, is_some, le-ltb, length, length-append, length-drop, length-take, lt-ltb, ltb-false, ltb-true, map, nat_eq, nat_lt, ne_eqb, refl, slice_range, subst, suc, sym, take, take-append-drop, take_all, true, vec_len, zero, ℕ, ◌%◌, ◌++◌, ◌+◌, ◌-◌, ◌<◌, ◌==◌, ◌∙◌, ◌∷◌, ◌≡◌, ◌≢◌, ◌≤◌, ◌⊎◌, IfErr, IsTrue, OnOk, not, replicate, reverse, set, ⊎_elim, ◌*◌}
+pub use Rattle.std.proofs.Common.{Bool, Err, IfOk, List, None, Ok, Option, Result, Some, [], add-one, ap, append-nil, append_assoc, ap₂, arith, cond, drop, eq-eqb, eqb-true, false, get_or, if◌then◌else◌, inl, inr, is_some, le-ltb, length, length-append, length-drop, length-take, lt-ltb, ltb-false, ltb-true, map, nat_eq, nat_lt, ne_eqb, refl, slice_range, subst, suc, sym, take, take-append-drop, take_all, true, vec_len, zero, ℕ, ◌%◌, ◌++◌, ◌+◌, ◌-◌, ◌<◌, ◌==◌, ◌∙◌, ◌∷◌, ◌≡◌, ◌≢◌, ◌≤◌, ◌⊎◌, IfErr, IsTrue, not, replicate, reverse, set, ⊎_elim, ◌*◌}
 pub use Rattle.std.proofs.Math.Logic.{∥∥₁_elim}
 pub use Rattle.std.proofs.Props.{props}
 pub use Rattle.std.proofs.lemmas.Bool.{eqb-false, false≢true}
 pub use Rattle.std.proofs.lemmas.Grind.{common_steps}
 pub use Rattle.std.proofs.lemmas.List.{append_cancel_left, map-append}
-pub use Rattle.std.proofs.lemmas.Option.{slice_get_read, none-some, same_Some, slice_get_past}
+pub use Rattle.std.proofs.lemmas.Option.{none-some, same_Some, slice_get_past}
 pub use Rattle.std.specs.Int.{swap_bytes, w32, from_be_bytes, to_be_bytes, to_le_bytes}
 pub use Rattle.std.specs.List.{concat, slice_get, list_any, position_or_len}
 pub use Rattle.std.specs.Prelude.{unwrap_or}
@@ -52,14 +52,14 @@ pub use Rattle.capture3.specs.Chunks.{AreChunks, BeginsStream, IsChunk, IsStream
 pub use Rattle.capture3.specs.ConnectionMachine.{Closes, Closing, InClient, InMixed, InServer, Opening, Refuses, client_said, conversing, ending, judge_replies, opened, opening_next, server_said, turning, opening_entries}
 pub use Rattle.capture3.specs.Connections.{BadSide, ConnectionShows, Context, InClientStream, InServerStream, MixedShows, NoLength, ShownFault, StreamsShow, TooMuch, calls_in_turn, client_position, client_refusal, refusal, replies_to, server_position, server_refusal, AfterLength, ServerShows}
 pub use Rattle.capture3.specs.Entry.{End, Entry}
-pub use Rattle.capture3.specs.FileMachine.{Parsing, closed, concluded, emitted, file_next, file_start, last_entries, parsed, parsing_in, reached, verdict, verdict_of, marked}
+pub use Rattle.capture3.specs.FileMachine.{Parsing, concluded, emitted, file_next, file_start, last_entries, parsed, parsing_in, reached, verdict, verdict_of, marked}
 pub use Rattle.capture3.specs.FirstFault.{AfterConnections, ByteAfterEnd, ConnectionIsTooMany, DiffersFromMagic, FirstFault, IsClean, MagicDiffers, MarkIsBad, Rule, Shows, WithinConnection}
 pub use Rattle.capture3.specs.Laws.{AreWithinLimits, begins, most_bytes, HasItsPlace, HasOneVerdict, HaveSameEntries, IsCutShort, IsJudgedInTurn, IsJudgedOnce, IsWithinVersion, spelled}
 pub use Rattle.capture3.specs.Reached.{AreFirstReached, AreWhole, BetweenConnections, InConnection, InMagic, IsLongestClean, Opens, Reached, ReachesInside}
 pub use Rattle.capture3.specs.Records.{AreMessages, FirstRecordFault, Holds, HoldsSoFar, Judgement, NextIsCut, NextIsTooLong, RecordFault, RefusesNext, StreamShows, fault_at, IsCut, RefusesRecord}
 pub use Rattle.capture3.specs.SideMachine.{SideCloses, SideEnd, SideRefuses, Siding, side_next, siding_from, siding_in, awaiting, closing, counted}
 pub use Rattle.capture3.specs.SidedChunks.{AreMixed, BeginsMixed, IsSidedChunk, SidedChunk, Streams, carried_by, gathered, of_side, side_word, size, with_more, WithinSided}
-pub use Rattle.capture3.specs.SidedChunksMachine.{MixedCloses, MixedEnd, MixedPoint, MixedRefuses, Mixing, SideChunk, SideLength, SideWord, awaiting_side, measured, mixed_next, mixed_step, mixing_from, mixing_in, sided}
+pub use Rattle.capture3.specs.SidedChunksMachine.{MixedCloses, MixedEnd, MixedRefuses, Mixing, SideChunk, SideLength, SideWord, awaiting_side, measured, mixed_next, mixed_step, mixing_from, mixing_in, sided}
 pub use Rattle.capture3.specs.Sides.{Position, SideShows, file_fault, place_at, place_in, CutsRecord, ShowsRecord}
 pub use Rattle.capture3.specs.StreamMachine.{Faulty, Held, Judge, Reading, StreamEnd, end_of, judged, left_in, reading_with, recorded, rest_end, stream_end, stream_next, unread}
 pub use Rattle.capture3.specs.Told.{Gave, IsSpent, Told}
@@ -73,27 +73,26 @@ pub use Rattle.capture3.specs.declared.container.position.TheConstants.{MAGIC}
 pub use Rattle.capture3.specs.declared.container.position.Transition.{Transition}
 pub use Rattle.capture3.specs.declared.fault.Error.{Error}
 pub use Rattle.capture3.specs.declared.fault.Fault.{Fault}
-pub use Rattle.capture3.specs.declared.fault.Place.TheVariants.{File}
 pub use Rattle.capture3.specs.declared.fault.Side.{Side}
 pub use Rattle.capture3.specs.declared.fault.Side.TheVariants.{Client, Server}
 pub use Rattle.capture3.specs.declared.message.calls.NumberedCall.{NumberedCall}
 pub use Rattle.capture3.specs.declared.message.counting.Counting.{Counting}
 pub use Rattle.capture3.specs.declared.message.scan.CallHead.{CallHead}
 pub use Rattle.capture3.specs.declared.reader.entry.Kind.{Kind}
-pub use Rattle.capture3.specs.machinery.Calls.{Admits, AreAbove, AreSame, Gains, Known, KnowsNone, Puts, at_home, known_by, known_in, known_in_list, lined, in_list, next_number, number_for, number_in, over, procedure_in_call, number_or}
-pub use Rattle.capture3.specs.machinery.Container.{AreStored, Arrives, CanGoOn, FirstKept, InFirstKept, InNextKept, IsReady, IsStored, Leaves, NextKept, Reaches, ShowsError, room_in, unpacking_in, unpacking_of, stream_of}
-pub use Rattle.capture3.specs.machinery.ContainerMachine.{Length, Mark, Mixed, Unpacking, chunk_counted, connection_marked, fault_in_record, in_side_chunk, mixed_at, mixed_ended, sides_counted, sides_marked, unpack_next, unpacking_with, Has, Unpacked, at_byte, before_mark, begun_at, in_chunk, in_record, left_of_magic, record_joined}
+pub use Rattle.capture3.specs.machinery.Calls.{AreSame, Gains, Known, KnowsNone, Puts, at_home, known_in_list, lined, in_list, next_number, number_for, number_in, over, procedure_in_call, number_or}
+pub use Rattle.capture3.specs.machinery.Container.{AreStored, Arrives, CanGoOn, FirstKept, InFirstKept, InNextKept, IsReady, Leaves, NextKept, Reaches, ShowsError, room_in, unpacking_in, unpacking_of}
+pub use Rattle.capture3.specs.machinery.ContainerMachine.{Mark, Mixed, Unpacking, chunk_counted, connection_marked, fault_in_record, in_side_chunk, mixed_at, mixed_ended, sides_counted, sides_marked, unpack_next, unpacking_with, Has, Unpacked, at_byte, before_mark, begun_at, in_chunk, left_of_magic, record_joined}
 unfoldable pub use Rattle.capture3.specs.machinery.Counting.{home_of}
 pub use Rattle.capture3.specs.machinery.CountedCalls.{known_of}
 pub use Rattle.capture3.specs.OpenXids.{open_xids, xid_of}
 pub use Rattle.capture3.specs.Rank.{number_limit, rank, before, distinct, with_key, with_keys}
 pub use Rattle.std.specs.Prelude.{min, IfSome, IsSome, ◌&&◌, ◌^◌, ◌||◌}
-pub use Rattle.capture3.specs.machinery.EntriesHistory.{HasRead, StandsFor, Turns, entries_left}
-pub use Rattle.capture3.specs.machinery.Pairing.{FailsAt, GoesTo, HasCome, HasNumber, IsHeld, MeetsEvent, StandsAt, StandsOrRecalls}
+pub use Rattle.capture3.specs.machinery.EntriesHistory.{HasRead, StandsFor, entries_left}
+pub use Rattle.capture3.specs.machinery.Pairing.{FailsAt, GoesTo, HasCome, HasNumber, IsHeld, StandsAt, StandsOrRecalls}
 pub use Rattle.capture3.specs.machinery.FileStanding.{Agrees, EmitsOn, Judged, call_judged, client_entries, connection_begun, connection_closed, emitted_at, parsing_at, reply_judged, resumed, resumed_at, server_entries, turned, with_call, with_reply, AgreesOn, conversed}
 pub use Rattle.capture3.specs.machinery.KeptStreams.{Recalls, ShowsFirst, between_records}
 pub use Rattle.capture3.specs.machinery.Messages.{HasProcedures, IsTableOf, results_after, xids_in}
-pub use Rattle.capture3.specs.machinery.Position.{AreEmpty, IsBeforeMark, IsEndSpot, StoredWith, opened_at, unpacking_at, version_of, IsOfContainer, Lands, Moves, MovesFrom, ShowsFault, StepsFrom, StoredAt, cost_of, opened_word, room_of, word_read}
+pub use Rattle.capture3.specs.machinery.Position.{IsBeforeMark, IsEndSpot, StoredWith, opened_at, unpacking_at, version_of, IsOfContainer, Lands, Moves, MovesFrom, ShowsFault, StepsFrom, StoredAt, cost_of, opened_word, room_of, word_read}
 pub use Rattle.capture3.specs.machinery.Spelled.{SpellsCall, SpellsReply}
 pub use Rattle.capture3.specs.declared.message.counted_calls.CountedCalls.{CountedCalls}
 pub use Rattle.capture3.specs.declared.reader.pairing.Pairing.{Pairing}

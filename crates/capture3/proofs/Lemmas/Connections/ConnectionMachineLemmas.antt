@@ -252,8 +252,7 @@ module _ (context : Context) where
       runs_inside (in_client context.number) bytes 0 (siding_from context.start context.before)
       (side_runs the_calls (client_position context) bytes s h)
   opening_runs One bytes (InServer calls s) h =
-      after_two (opening_next context.number) (Runs (opened One context.start context.before))
-      h.front h.last h.split (turned h.front h.client calls h.first h.holds h.fits)
+      after_two _ _ h.front h.last h.split (turned h.front h.client calls h.first h.holds h.fits)
       (runs_inside (in_server context.number calls) h.last 0
       (siding_from (context.start + length h.front) (context.before + length h.client))
       (side_runs (the_replies calls) (server_position context h.front h.client) h.last s h.rest))
@@ -268,8 +267,7 @@ module _ (context : Context) where
   opening_closes One bytes at total entries h =
       let w = h.whole in
       let holds = calls_hold h.streams h.calls h.replies h.converses in
-      rw h.entries_are (after_two (opening_next context.number)
-      (Runs (opened One context.start context.before)) w.front w.last w.split
+      rw h.entries_are (after_two _ _ w.front w.last w.split
       (turned w.front h.streams.client h.calls w.client holds (omega (arith, h.fits, h.total_is)))
       (stops_inside (in_server context.number h.calls) w.last 0
       (siding_from (context.start + length w.front) (context.before + length h.streams.client))

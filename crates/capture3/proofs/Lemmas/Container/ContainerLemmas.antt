@@ -1,15 +1,13 @@
 -- Containers, as the machine has them: chunks' bytes at once, and step after step.
 use Rattle.std.proofs.Math.Seq.{take-add, take-take}
-use Rattle.capture3.proofs.Common.{RecordTooLong, Joining, Joined, Between, Whole, TooLong, join_next, landed, Next, Runs, Stops, after, Run, Taking, Led, IsRunning, IsWhole, joining_of, body_of, released, Error, Side, Event, Streams, size, with_more, Cursor, Spot, Version, Two, after-append, counted_runs, counted_stops, Transition, AreStored, CanGoOn, Container, Reaches, unpacking_in, unpacking_of, Arrives, ShowsError, Leaves, WordPart, bytes_so_far, fault_in_record, ◌≡◌, subst, [], false, is_some, take_all, ℕ, zero, suc, ◌<◌, ◌+◌, ◌-◌, ◌≤◌, Option, Some, None, Result, Ok, Err, IfOk, IfErr, List, length, take, drop, refl, sym, ap, ◌∙◌, arith, length-take, length-drop, OnOk, ◌++◌, unbegun, stream_of, Record, Turn, Close, Unpacking, Has, in_chunk, in_side_chunk, record_joined, unpack_next, AreEmpty, IsBeforeMark, unpacking_at, cost_of, IsOfContainer, StepsFrom, Moves, MovesFrom, ShowsFault, StoredAt, StoredWith, version_of}
+use Rattle.capture3.proofs.Common.{RecordTooLong, Joining, Joined, Between, Whole, TooLong, join_next, landed, Next, Runs, Stops, after, Run, Taking, IsRunning, joining_of, body_of, Error, Side, Event, Streams, with_more, Spot, Version, after-append, counted_runs, counted_stops, Transition, CanGoOn, Container, Reaches, unpacking_in, unpacking_of, Arrives, ShowsError, Leaves, WordPart, bytes_so_far, fault_in_record, ◌≡◌, subst, [], false, is_some, take_all, ℕ, ◌+◌, ◌-◌, ◌≤◌, Option, Some, None, Result, Ok, Err, IfOk, IfErr, List, length, take, drop, refl, sym, ap, ◌∙◌, arith, length-take, length-drop, ◌++◌, Record, Unpacking, Has, in_chunk, in_side_chunk, record_joined, unpack_next, IsBeforeMark, unpacking_at, cost_of, IsOfContainer, StepsFrom, Moves, MovesFrom, ShowsFault, StoredAt, StoredWith, version_of}
 use Rattle.capture3.specs.machinery.PositionState.{standing_at}
 use Rattle.capture3.specs.declared.container.position.Position.TheInside.{Inside}
 use Rattle.capture3.specs.machinery.PositionInside.{position_shown}
-use Rattle.record_mark.proofs.Takings.{is_between}
 use Rattle.capture3.specs.declared.fault.Error.TheVariants as errors
 use Rattle.capture3.proofs.Lemmas.Container.ContainerMachineLemmas.{side_chunk_kept}
 use Rattle.capture3.specs.declared.container.position.Position.{Position}
 use Rattle.capture3.specs.declared.container.position.Spot.TheVariants.{Chunk, SideChunk}
-use Rattle.capture3.specs.declared.fault.Side.TheVariants as sides
 use Rattle.capture3.specs.declared.container.position.Spot.TheVariants as spots
 use Rattle.capture3.specs.declared.container.position.WordOf.TheVariants as words
 use Rattle.capture3.specs.declared.container.position.Version as declared
@@ -260,75 +258,9 @@ fails_more from bytes n p t before error within first shown = shown
 
 -- ---- the streams that are kept
 
--- a record takes bytes
-pub record_takes : (from : Joining) (piece : List ℕ) (n : ℕ) (body : List ℕ)
-    → after join_next (Runs from) (take n piece) ≡ Stops (Whole body) → 0 < n
-record_takes from piece zero body e = absurd (cc)
-record_takes from piece (suc n) body e = omega arith
-
 -- where a connection word is open, before its first byte
 pub mark_is : (version : Version) (spot : Spot) → IsBeforeMark version spot
     → (told : declared.Version) × (part : WordPart) × (spot ≡ spots.Word (words.Mark told) part)
     × (version_of told ≡ version) × (bytes_so_far part ≡ [])
 mark_is version (spots.Word (words.Mark told) part) before = (told, part, refl, before.0, before.1)
 mark_is version spot before = absurd before
-
--- there no stream byte is kept
-stored_before_mark : (version : Version) (spot : Spot) (total : ℕ) (streams : Streams)
-    → IsBeforeMark version spot → AreEmpty streams → StoredAt spot total streams
-stored_before_mark version spot total streams before empty =
-    let is = mark_is version spot before in
-    subst (λ (s : Spot). StoredAt s total streams) (sym is.2) empty
-
--- a stream is no longer than both together
-pub stream_within : (side : Side) (streams : Streams)
-    → length (stream_of side streams) ≤ size streams
-stream_within sides.Client streams = omega arith
-stream_within sides.Server streams = omega arith
-
--- a joiner that is let go begins the next record
-pub released_whole : (t : Taking) → IsWhole t → released t ≡ unbegun
-released_whole (Led (Stops (Whole body))) h = refl
-released_whole t h = absurd h
-
-between_streams : (t : Taking) → IsRunning t → joining_of t ≡ Between → released t ≡ unbegun
-between_streams t running between = ap released (is_between t running between)
-
--- after the end of a stream
-pub stream_ended_goes_on : (cursor : Cursor) (old new : Container) (r : Result Event Error)
-    → CanGoOn (Some cursor) old.joiner.taking old → IsRunning new.joiner.taking
-    → OnOk r (joining_of new.joiner.taking ≡ Between)
-    → (cursor.side ≡ sides.Client
-    → IfOk r (λ event. (event ≡ Turn) × (new.position ≡ record old.position { records = 0 })
-    × (new.cursor ≡ Some (record { side = sides.Server; taken = 0 }))
-    × (new.streams.kept ≡ old.streams.kept)))
-    → (cursor.side ≡ sides.Server
-    → IfOk r (λ event. (event ≡ Close) × (new.position ≡ old.position) × (new.cursor ≡ None)
-    × AreEmpty new.streams.kept))
-    → OnOk r (CanGoOn new.cursor (released new.joiner.taking) new)
-stream_ended_goes_on cursor old new (Ok event) ready running between client server =
-    by_side cursor.side refl
-  where
-    by_side : (side : Side) → cursor.side ≡ side
-        → CanGoOn new.cursor (released new.joiner.taking) new
-    by_side sides.Client is =
-        let (turn, position_is, next_is, streams_are) = client is in
-        let next : Cursor = record { side = sides.Server; taken = 0 } in
-        let stored : AreStored new.position (Some next) new.streams.kept =
-        rw (position_is, streams_are)
-        (omega arith, omega arith, ready.stored.2, ready.stored.3) in
-        rw next_is (record {
-          stored = stored;
-          ready = between_streams new.joiner.taking running between;
-        })
-    by_side sides.Server is =
-        let (close, position_is, next_is, empty) = server is in
-        let stored : AreStored new.position None new.streams.kept =
-        rw position_is
-        (stored_before_mark Two old.position.spot old.position.total new.streams.kept
-        ready.stored.3 empty) in
-        rw next_is (record {
-          stored = stored;
-          ready = subst IsRunning (sym (between_streams new.joiner.taking running between)) tt;
-        })
-stream_ended_goes_on cursor old new (Err error) ready running between client server = tt

@@ -388,7 +388,7 @@ pub after_side : (at total : ℕ) (streams : Streams) (side : Side) (word rest :
     → mixed_after (mixing_at at total streams) (word ++ rest)
     ≡ mixed_after (mixing_in (at + 4) total streams (SideLength side [])) rest
 after_side at total streams side word rest is =
-    after_two mixed_next (Runs (mixing_at at total streams)) word rest refl
+    after_two _ _ word rest refl
     (word_lands at total (side_word side) streams word is ∙ side_lands at total streams side) refl
 
 measures : (at total n : ℕ) (streams : Streams) (side : Side) (header : List ℕ) → IsWord header n
@@ -408,7 +408,7 @@ chunk_lands : (at total : ℕ) (streams : Streams) (side : Side) (word header go
     (with_more streams side got) (awaiting_side side left))
 chunk_lands at total streams side word header got left is counts some fits =
     after_side at total streams side word (header ++ got) is
-    ∙ after_two mixed_next (Runs (mixing_in (at + 4) total streams (SideLength side []))) header got
+    ∙ after_two _ _ header got
     refl (measures (at + 4) total (length got + left) streams side header counts some fits)
     (chunk_bytes (at + 4 + 4 + (length got + left)) (total + (length got + left)) streams side
     got (length got + left) left refl)
@@ -461,7 +461,7 @@ chunks_land (chunk ∷ chunks) at total end sum streams front h fits end_is sum_
     let servers =
     length-append (of_side Server chunk.side chunk.bytes) (carried_by Server chunks) in
     let sides = size_of chunk.side chunk.bytes in
-    after_two mixed_next (Runs (mixing_at at total streams)) h.0 h.1 h.2
+    after_two _ _ h.0 h.1 h.2
     (rw (h.3.split, c.split) (chunk_lands at total streams chunk.side h.3.word c.header chunk.bytes
     0 h.3.sided (c.word.0, c.word.1 ∙ whole) (omega lengths) (omega lengths)))
     (chunks_land chunks (at + 4 + 4 + (length chunk.bytes + 0)) (total + (length chunk.bytes + 0))
@@ -487,15 +487,13 @@ module _ (context : Context) where
   begun_runs bytes (inl b) =
       let at : ℕ = context.start + length b.front in
       let total : ℕ = context.before + size (gathered b.chunks) in
-      after_two mixed_next (Runs (mixing_from context.start context.before)) b.front b.part b.split
-      (front_lands b.front b.chunks b.joined b.fits)
+      after_two _ _ b.front b.part b.split (front_lands b.front b.chunks b.joined b.fits)
       (word_goes mixed_next (λ p. mixing_in at total (gathered b.chunks) (SideWord p))
       (sided at total (gathered b.chunks)) (λ s byte. refl) b.part b.short)
   begun_runs bytes (inr (inl b)) =
       let at : ℕ = context.start + length b.front in
       let total : ℕ = context.before + size (gathered b.chunks) in
-      after_two mixed_next (Runs (mixing_from context.start context.before)) b.front
-      (b.word ++ b.part) (b.split ∙ append_assoc b.front b.word b.part)
+      after_two _ _ b.front (b.word ++ b.part) (b.split ∙ append_assoc b.front b.word b.part)
       (front_lands b.front b.chunks b.joined b.fits)
       (after_side at total (gathered b.chunks) b.side b.word b.part b.sided
       ∙ word_goes mixed_next
@@ -504,8 +502,7 @@ module _ (context : Context) where
   begun_runs bytes (inr (inr w)) =
       let split : bytes ≡ w.front ++ (w.word ++ (w.header ++ w.got)) =
       simp (w.split, append_assoc) in
-      after_two mixed_next (Runs (mixing_from context.start context.before)) w.front
-      (w.word ++ (w.header ++ w.got)) split
+      after_two _ _ w.front (w.word ++ (w.header ++ w.got)) split
       (front_lands w.front w.chunks w.joined (omega (arith, w.fits)))
       (chunk_lands (context.start + length w.front) (context.before + size (gathered w.chunks))
       (gathered w.chunks) w.side w.word w.header w.got (suc w.left) w.sided w.counts (omega arith)
@@ -525,7 +522,7 @@ module _ (context : Context) where
       let at_is : context.start + length m.front + 4 ≡ at =
       omega (lengths, ap length m.split) in
       let sum = ap (λ s. context.before + size s) m.carried in
-      after_two mixed_next (Runs (mixing_from context.start context.before)) m.front m.last m.split
+      after_two _ _ m.front m.last m.split
       (front_lands m.front m.chunks m.joined (omega (arith, h.fits, h.total_is)))
       (word_lands (context.start + length m.front) (context.before + size (gathered m.chunks)) 0
       (gathered m.chunks) m.last m.closes

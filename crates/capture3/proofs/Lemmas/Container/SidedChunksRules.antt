@@ -1,6 +1,6 @@
 -- A rule of the chunks of both sides: where it holds of bytes, the machine stops with its fault, or
 -- had stopped before.
-use Rattle.capture3.proofs.Common.{lengths, ◌≡◌, ℕ, zero, suc, ◌+◌, ◌<◌, List, [], ◌∷◌, ◌++◌, length, inl, refl, sym, ap, ap₂, ◌∙◌, append_assoc, arith, nat_lt, lt-ltb, Run, Runs, Stops, landed, IsWord, Joins, TooManyBytes, Fault, Side, max_bytes, Mixing, MixedEnd, MixedCloses, MixedRefuses, SideLength, awaiting_side, measured, mixed_next, mixing_from, Streams, size, SidedChunk, IsSidedChunk, gathered, with_more, AreMixed, file_fault, mixing_in, Context, AfterLength, MixedShows, BadSide, NoLength, TooMuch}
+use Rattle.capture3.proofs.Common.{lengths, ◌≡◌, ℕ, zero, suc, ◌+◌, ◌<◌, List, [], ◌∷◌, ◌++◌, length, inl, refl, sym, ap, ap₂, ◌∙◌, append_assoc, arith, nat_lt, lt-ltb, Run, Runs, Stops, landed, IsWord, Joins, TooManyBytes, Fault, Side, max_bytes, Mixing, MixedEnd, MixedCloses, MixedRefuses, SideLength, awaiting_side, measured, Streams, size, SidedChunk, IsSidedChunk, gathered, with_more, AreMixed, file_fault, mixing_in, Context, AfterLength, MixedShows, BadSide, NoLength, TooMuch}
 use Rattle.capture3.proofs.Lemmas.Connections.RankLemmas.{by_test}
 use Rattle.capture3.proofs.Lemmas.Container.SidedChunksMachineLemmas.{RefusedMixed, with_chunks, with_chunks_all, size_of, chunk_bytes, word_lands, header_lands, after_side, bad_side, mixed_after, mixed_taken, mixing_at}
 use Rattle.capture3.proofs.Lemmas.Files.EndedMachines.{Over, Comes, At, Fails, comes_on, over_on}
@@ -33,8 +33,7 @@ chunk_or at total end sum streams chunk bytes h end_is sum_is =
     omega (lengths, ap length h.split, ap length c.split) in
     let whole : length chunk.bytes ≡ length chunk.bytes + 0 = omega arith in
     rw (h.split, after_side at total streams chunk.side h.word h.rest h.sided)
-    (comes_on mixed_next (Runs (mixing_in (at + 4) total streams (SideLength chunk.side [])))
-    c.header chunk.bytes c.split
+    (comes_on _ _ c.header chunk.bytes c.split
     (measured_or (at + 4) total (length chunk.bytes) streams chunk.side c.header c.word c.some)
     (λ _. At tt (chunk_bytes (at + 4 + 4 + length chunk.bytes) (total + length chunk.bytes) streams
     chunk.side chunk.bytes (length chunk.bytes) 0 whole
@@ -50,7 +49,7 @@ chunks_or [] at total end sum streams front h end_is sum_is =
     let all : total ≡ sum = omega arith in
     rw h (At tt (ap₂ (λ n m. Runs (mixing_at n m streams)) at_end all))
 chunks_or (chunk ∷ chunks) at total end sum streams front h end_is sum_is =
-    comes_on mixed_next (Runs (mixing_at at total streams)) h.0 h.1 h.2
+    comes_on _ _ h.0 h.1 h.2
     (chunk_or at total (at + length h.0) (total + length chunk.bytes) streams chunk h.0 h.3 refl
     refl)
     (λ _. chunks_or chunks (at + length h.0) (total + length chunk.bytes) end sum
@@ -67,7 +66,7 @@ module _ (context : Context) where
       (gathered chunks)) back ≡ Stops x
       → Over RefusedMixed (mixed_taken context bytes) x
   after_or chunks bytes front back x split some h stops =
-      over_on mixed_next (Runs (mixing_from context.start context.before)) front back split
+      over_on _ _ front back split
       (chunks_or chunks context.start context.before (context.start + length front)
       (context.before + size (gathered chunks)) (gathered []) front h refl refl)
       some (λ _. inl (rw (with_chunks_all chunks) stops))

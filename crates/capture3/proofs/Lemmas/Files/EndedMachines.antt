@@ -121,8 +121,8 @@ module _ {S X T Y : Type 0} {inner : S → ℕ → Next S X} {outer : T → ℕ 
       size at.ending in (
         y.0,
         y.1,
-        after_two outer (Runs (inside (length bytes + left) s)) at.front (at.byte ∷ at.back)
-            at.split (stops ∙ ap landed y.2) (after_stopped outer y.0 at.back),
+        after_two _ _ at.front (at.byte ∷ at.back) at.split (stops ∙ ap landed y.2)
+            (after_stopped outer y.0 at.back),
       )
 
   pub gone_inside : Gone Bad (after inner (Runs s) bytes)

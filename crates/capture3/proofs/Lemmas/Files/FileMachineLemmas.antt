@@ -354,9 +354,8 @@ connections_run version (streams ∷ connections) at total number end sum count 
     e small few end_is sum_is count_is =
     let c = h.3 in
     let more : List Entry = connection_entries e.0 e.1 in
-    rw (e.3, ← append_assoc before more e.2) (after_two file_next
-    (Runs (at_mark version at total number before)) h.0 h.1 h.2
-    (after_two file_next (Runs (at_mark version at total number before)) c.mark c.rest c.split
+    rw (e.3, ← append_assoc before more e.2) (after_two _ _ h.0 h.1 h.2
+    (after_two _ _ c.mark c.rest c.split
     (begins version at total number before c.mark c.one (omega arith))
     (stops_inside (in_file version (at + 4) total (suc number) before) c.rest 0
     (opened version (at + 4) total)
@@ -387,8 +386,7 @@ front_runs : (version : Version) (front : List ℕ) (connections : List Streams)
     → parsed front
     ≡ Runs (at_mark version (length front) (total_size connections) (length connections) entries)
 front_runs version front connections entries opens =
-    after_two file_next (Runs file_start) (magic version) opens.rest opens.split
-    (magics_run version)
+    after_two _ _ (magic version) opens.rest opens.split (magics_run version)
     (connections_run version connections 8 0 0 (length front) (total_size connections)
     (length connections) [] entries opens.rest opens.joined opens.messages
     (omega lengths) (omega lengths)
@@ -400,8 +398,7 @@ file_runs bytes s (AtMagic more begins is) =
     rw is (magic_runs bytes more 0 magic_front begins
     ∙ ap (λ n. Runs (parsing_in One n 0 0 [] (magic_left more))) at_is)
 file_runs bytes s (AtMark version front part connections entries split short opens is) =
-    rw is (after_two file_next (Runs file_start) front part split
-    (front_runs version front connections entries opens)
+    rw is (after_two _ _ front part split (front_runs version front connections entries opens)
     (word_goes file_next
     (λ p.
     parsing_in version (length front) (total_size connections) (length connections) entries
@@ -413,18 +410,16 @@ file_runs bytes s
     let at : ℕ = length front in
     let total : ℕ = total_size connections in
     let number : ℕ = length connections in
-    rw is (after_two file_next (Runs file_start) front (mark ++ rest)
+    rw is (after_two _ _ front (mark ++ rest)
     (split ∙ append_assoc front mark rest) (front_runs version front connections entries opens)
-    (after_two file_next (Runs (at_mark version at total number entries)) mark rest refl
-    (begins version at total number entries mark one few)
+    (after_two _ _ mark rest refl (begins version at total number entries mark one few)
     (runs_inside (in_file version (at + 4) total (suc number) entries) rest 0
     (opened version (at + 4) total)
     (opening_runs (context_after front connections) version rest o inside))))
 file_runs bytes s (AtEnd version front last connections entries split opens closes is) =
     let at_is : length front + 4 ≡ length bytes =
     omega (lengths, ap length split) in
-    rw is (after_two file_next (Runs file_start) front last split
-    (front_runs version front connections entries opens)
+    rw is (after_two _ _ front last split (front_runs version front connections entries opens)
     (mark_runs version (length front) (total_size connections) (length connections) entries last 0
     closes
     ∙ rw at_is))
@@ -457,11 +452,11 @@ magic_stops bytes fault d =
     ∙ ap (λ f. Stops (refusal f)) (sym d.is) in
     elim (magic_split magic_front d.front (digit d.version) d.due d.more d.begins) [
       | inl l ↦
-          after_two file_next (Runs file_start) d.front (d.byte ∷ []) d.split
+          after_two _ _ d.front (d.byte ∷ []) d.split
           (magic_runs d.front (d.due ∷ l.0) 0 magic_front l.1)
           (rw (ne_eqb d.byte d.due (d.differs d.version d.due d.more d.begins)) fault_is)
       | inr r ↦
-          after_two file_next (Runs file_start) d.front (d.byte ∷ []) d.split
+          after_two _ _ d.front (d.byte ∷ []) d.split
           (magic_runs d.front [] 0 magic_front (r ∙ sym (append-nil d.front)))
           (rw (
             ne_eqb d.byte 49 (d.differs One 49 [] (ap (λ (b : List ℕ). b ++ 49 ∷ []) r)),

@@ -1,5 +1,5 @@
 -- The same of the rules of connections and of files.
-use Rattle.capture3.proofs.Common.{lengths, ◌≡◌, ◌⊎◌, inl, inr, ℕ, suc, ◌+◌, ◌<◌, List, [], ◌∷◌, ◌++◌, length, refl, sym, ap, ap₂, ◌∙◌, append_assoc, append-nil, arith, nat_lt, le-ltb, Run, Runs, Stops, landed, after, Between, IsWord, Joins, Item, TooManyConnections, AfterEnd, Fault, ReplyItems, Version, One, Two, magic, max_connections, total_size, AreStreams, IsConnection, Streams, size, AreMixed, IsStream, Entry, AfterConnections, Rule, MagicDiffers, MarkIsBad, ConnectionIsTooMany, WithinConnection, ByteAfterEnd, judge_call, mixing_from, judge_replies, Opening, InServer, Closing, Closes, Refuses, server_said, client_said, opening_next, opened, Judgement, StreamEnd, Held, Faulty, stream_end, unread, Position, Reading, file_fault, SideShows, connection_entries, siding_from, reading_with, Context, ShownFault, refusal, client_refusal, server_refusal, client_position, server_position, calls_in_turn, replies_to, ServerShows, StreamsShow, InClientStream, InServerStream, ConnectionShows, Parsing, marked, file_next, file_start, parsed}
+use Rattle.capture3.proofs.Common.{lengths, ◌≡◌, ◌⊎◌, inl, inr, ℕ, suc, ◌+◌, ◌<◌, List, [], ◌∷◌, ◌++◌, length, refl, sym, ap, ap₂, ◌∙◌, append_assoc, append-nil, arith, nat_lt, le-ltb, Run, Runs, Stops, landed, after, Between, IsWord, Joins, Item, TooManyConnections, AfterEnd, Fault, ReplyItems, Version, One, Two, magic, max_connections, total_size, AreStreams, IsConnection, Streams, size, AreMixed, IsStream, Entry, AfterConnections, Rule, MagicDiffers, MarkIsBad, ConnectionIsTooMany, WithinConnection, ByteAfterEnd, judge_call, mixing_from, judge_replies, Opening, InServer, Closing, Closes, Refuses, server_said, client_said, opened, Judgement, StreamEnd, Held, Faulty, stream_end, unread, Position, Reading, file_fault, SideShows, connection_entries, siding_from, reading_with, Context, ShownFault, refusal, client_refusal, server_refusal, client_position, server_position, calls_in_turn, replies_to, ServerShows, StreamsShow, InClientStream, InServerStream, ConnectionShows, Parsing, marked, file_next, parsed}
 use Rattle.capture3.proofs.Lemmas.Connections.ConnectionMachineLemmas.{RefusedClosing, in_client, in_mixed, in_server, opening_taken}
 use Rattle.capture3.proofs.Lemmas.Connections.RankLemmas.{by_test}
 use Rattle.capture3.proofs.Lemmas.Sides.SideRules.{side_closed_or, side_over}
@@ -61,8 +61,7 @@ module _ (context : Context) where
   server_over : (bytes : List ℕ) (fault : Fault) → ServerShows context bytes fault
       → Over RefusedClosing (opening_taken One context bytes) (Refuses (refusal fault))
   server_over bytes fault h =
-      over_on (opening_next context.number) (Runs (opened One context.start context.before)) h.front
-      h.last h.split (turned_or h.front h.client h.first)
+      over_on _ _ h.front h.last h.split (turned_or h.front h.client h.first)
       (side_some (replies_to h.calls) (server_position context h.front h.client) h.last fault
       h.shows)
       (λ calls.
@@ -160,8 +159,7 @@ module _ (context : Context) where
       let sum_is : context.before + length streams.client + length streams.server
       ≡ context.before + size streams =
       omega arith in
-      comes_on (opening_next context.number) (Runs (opened One context.start context.before))
-      h.front h.last h.split (turned_or h.front streams.client h.client)
+      comes_on _ _ h.front h.last h.split (turned_or h.front streams.client h.client)
       (λ calls.
       comes_inside (in_server context.number calls.0) h.last 0
       (siding_from (context.start + length h.front) (context.before + length streams.client))
@@ -205,8 +203,7 @@ one_or : (version : Version) (at total number end sum : ℕ) (entries : List Ent
 one_or version at total number end sum entries bytes streams h end_is sum_is =
     let there : at + 4 + length h.rest ≡ end =
     omega (lengths, ap length h.split) in
-    comes_on file_next (Runs (at_mark version at total number entries)) h.mark h.rest h.split
-    (begins_or version at total number entries h.mark h.one)
+    comes_on _ _ h.mark h.rest h.split (begins_or version at total number entries h.mark h.one)
     (λ _.
     comes_inside (in_file version (at + 4) total (suc number) entries) h.rest 0
     (opened version (at + 4) total)
@@ -228,7 +225,7 @@ connections_or version [] at total number end sum count entries bytes h end_is s
     rw h (At entries (λ i. Runs (at_mark version (at_end i) (all i) (each i) entries)))
 connections_or version (streams ∷ connections) at total number end sum count entries bytes h end_is
     sum_is count_is =
-    comes_on file_next (Runs (at_mark version at total number entries)) h.0 h.1 h.2
+    comes_on _ _ h.0 h.1 h.2
     (one_or version at total number (at + length h.0) (total + size streams) entries h.0 streams h.3
     refl refl)
     (λ more.
@@ -241,8 +238,7 @@ pub begun_or : (bytes : List ℕ) (b : AfterConnections bytes)
     → Marked b.version (length b.front) (total_size b.connections) (length b.connections)
     (parsed b.front)
 begun_or bytes b =
-    rw (after_two file_next (Runs file_start) (magic b.version) b.whole b.begins
-    (magics_run b.version) refl)
+    rw (after_two _ _ (magic b.version) b.whole b.begins (magics_run b.version) refl)
     (connections_or b.version b.connections 8 0 0 (length b.front) (total_size b.connections)
     (length b.connections) [] b.whole b.joined
     (omega (lengths, ap length b.begins, length_magic b.version)) (omega lengths) (omega lengths))
@@ -256,7 +252,7 @@ pub inside_or : (bytes : List ℕ) (b : AfterConnections bytes) → b.mark ≡ 1
     (opened b.version (length b.front + 4) (total_size b.connections))))
     (parsed (b.front ++ b.word))
 inside_or bytes b one =
-    comes_on file_next (Runs file_start) b.front b.word refl (begun_or bytes b)
+    comes_on _ _ b.front b.word refl (begun_or bytes b)
     (λ entries.
     elim (begins_or b.version (length b.front) (total_size b.connections) (length b.connections)
     entries b.word (b.is_word.0, b.is_word.1 ∙ one)) [
@@ -273,7 +269,7 @@ after_over : (bytes : List ℕ) (b : AfterConnections bytes) (shown : ShownFault
     (length b.connections) entries)) (b.word ++ b.rest)) shown)
     → Over AnyRefusal (parsed bytes) shown
 after_over bytes b shown =
-    over_on file_next (Runs file_start) b.front (b.word ++ b.rest)
+    over_on _ _ b.front (b.word ++ b.rest)
     (b.split ∙ append_assoc b.front b.word b.rest) (begun_or bytes b)
     (words_some b.word b.rest b.mark b.is_word)
 
@@ -294,7 +290,7 @@ end_over : (version : Version) (at total number : ℕ) (entries : List Entry) (w
     ≡ Stops (refusal (file_fault (at + 4) AfterEnd))
 end_over version at total number entries word [] mark is none one = absurd (omega arith)
 end_over version at total number entries word (byte ∷ []) mark is none one =
-    after_two file_next (Runs (at_mark version at total number entries)) word (byte ∷ []) refl
+    after_two _ _ word (byte ∷ []) refl
     (mark_runs version at total number entries word 0 (is.0, is.1 ∙ none)) refl
 end_over version at total number entries word (byte ∷ other ∷ more) mark is none one =
     absurd (omega arith)
@@ -315,7 +311,7 @@ rule_over bytes shown (WithinConnection b one shows) =
     let at : ℕ = length b.front + 4 in
     let total : ℕ = total_size b.connections in
     let number : ℕ = suc (length b.connections) in
-    over_on file_next (Runs file_start) (b.front ++ b.word) b.rest b.split (inside_or bytes b one)
+    over_on _ _ (b.front ++ b.word) b.rest b.split (inside_or bytes b one)
     (connection_some (context_at number at total) b.version b.rest shown shows)
     (λ entries.
     over_inside (in_file b.version at total number entries) b.rest 0 (opened b.version at total)

@@ -29,7 +29,7 @@ carried_size [] bytes h = omega arith
 carried_size (part ∷ parts) bytes h =
     omega (lengths, carried_size parts h.1 h.4, ap length h.2, ap length h.3.1)
 
-pub record_size : (bytes body : List ℕ) → IsRecord bytes body → length body ≤ length bytes
+pub record_size : (bytes body : List ℕ) → IsRecord bytes body → 4 + length body ≤ length bytes
 record_size bytes body h =
     omega (
       lengths,
@@ -37,6 +37,7 @@ record_size bytes body h =
       ap length h.carried,
       ap length h.split,
       ap length h.closes.1,
+      h.closes.2.word,
     )
 
 -- messages that are no longer than their bodies are together no longer than the stream

@@ -1,6 +1,6 @@
 -- What the byte of a fault still reaches, in a file of version 2: the entries of the connection
 -- before a record at fault.
-use Rattle.capture3.proofs.Common.{lengths, ◌≡◌, ◌⊎◌, inl, inr, ℕ, suc, ◌+◌, ◌<◌, ◌≤◌, List, [], ◌∷◌, ◌++◌, length, refl, sym, ap, subst, ◌∙◌, append-nil, arith, Next, Goes, Ends, Run, Runs, landed, after, Two, total_size, max_bytes, max_connections, Context, HaveEntries, ShownFault, StreamsShow, Rule, Shows, AfterConnections, MagicDiffers, MarkIsBad, ConnectionIsTooMany, WithinConnection, ByteAfterEnd, Mixing, MixedCloses, mixed_next, mixing_from, InMixed, Opening, opened, Version, Parsing, emitted, file_next, file_start, parsed, Streams, size, AreMixed, Tells, ran_before, tells, AreWithinLimits, AreWhole, IsLongestClean, Reached}
+use Rattle.capture3.proofs.Common.{lengths, ◌≡◌, ◌⊎◌, inl, inr, ℕ, suc, ◌+◌, ◌<◌, ◌≤◌, List, [], ◌∷◌, ◌++◌, length, refl, sym, ap, subst, ◌∙◌, append-nil, arith, Next, Goes, Ends, Run, Runs, landed, after, Two, total_size, max_bytes, max_connections, Context, HaveEntries, ShownFault, StreamsShow, Rule, Shows, AfterConnections, MagicDiffers, MarkIsBad, ConnectionIsTooMany, WithinConnection, ByteAfterEnd, Mixing, MixedCloses, mixed_next, mixing_from, InMixed, Opening, opened, Version, Parsing, emitted, file_next, parsed, Streams, size, AreMixed, Tells, ran_before, tells, AreWithinLimits, AreWhole, IsLongestClean, Reached}
 use Rattle.capture3.specs.Entry.{Entry, Begin}
 use Rattle.capture3.proofs.Lemmas.Connections.ConnectionMachineLemmas.{in_mixed}
 use Rattle.capture3.proofs.Lemmas.Files.FileRules.{inside_or, shown_mixed, streams_some}
@@ -83,7 +83,7 @@ module _ (front : List ℕ) (byte : ℕ) (state : Parsing) (whole : List Entry)
 
   steps : parsed front ≡ after file_next (parsed (b.front ++ b.word)) cut.0
   unfolding cut
-  steps = after_two file_next (Runs file_start) (b.front ++ b.word) cut.0 cut.2 refl refl
+  steps = after_two _ _ (b.front ++ b.word) cut.0 cut.2 refl refl
 
   -- after the word 1 the machine is in the connection
   inside : (entries : List Entry)
@@ -103,9 +103,9 @@ module _ (front : List ℕ) (byte : ℕ) (state : Parsing) (whole : List Entry)
   unfolding context
   not_past past =
       let one_more : parsed (front ++ byte ∷ []) ≡ landed (file_next state byte) =
-      after_two file_next (Runs file_start) front (byte ∷ []) refl runs refl in
+      after_two _ _ front (byte ∷ []) refl runs refl in
       let same =
-      after_two file_next (Runs file_start) (b.front ++ b.word) b.rest b.split inside.1 refl in
+      after_two _ _ (b.front ++ b.word) b.rest b.split inside.1 refl in
       landed_past (parsed (front ++ byte ∷ [])) (file_next state byte) one_more
       (rw same (past_inside (in_file Two (at + 4) total (suc number) inside.0) b.rest 0
       (opened Two (at + 4) total)

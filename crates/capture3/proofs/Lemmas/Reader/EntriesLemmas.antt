@@ -1,5 +1,5 @@
 -- What a reader of entries makes of its histories, step by step.
-use Rattle.std.proofs.Common.{◌≡◌, ◌≢◌, ◌⊎◌, inl, inr, ℕ, ◌+◌, ◌-◌, ◌≤◌, ◌<◌, Option, Some, None, Result, Ok, Err, IsSome, OnErr, OnOk, List, [], ◌∷◌, ◌++◌, length, take, drop, slice_range, refl, sym, ap, subst, ◌∙◌, append_assoc, append-nil, length-append, arith, take-append-drop, length-take, length-drop, vec_len}
+use Rattle.std.proofs.Common.{◌≡◌, ◌⊎◌, inl, inr, ℕ, ◌+◌, ◌-◌, ◌≤◌, ◌<◌, Option, Some, None, Result, Ok, Err, IsSome, OnErr, OnOk, List, [], ◌∷◌, ◌++◌, length, take, drop, slice_range, refl, sym, ap, subst, ◌∙◌, append_assoc, append-nil, length-append, arith, take-append-drop, length-take, length-drop, vec_len}
 use Rattle.capture3.proofs.Common.{CanGoOn, common_steps, Pairing, CountedCalls, known_of, open_xids, ∥∥₁_elim, CaptureCut, AreBytes, Item, Runs, Stops, Stopped, Taking, Led, OutOfMemory, IsRunning, released, Known, Kind, Error, Spot, Container, Cursor, Two, max_connections, Entry, End, FirstFault, IsClean, begins, most_bytes, Parsing, parsed, emitted, AreFirstReached, AreWhole, Reached, parsing_at, Streams, file_fault, IsWellFormed, props, Told, Gave, IsSpent, AreStored, IsReady, room_in, unpacking_of}
 use Rattle.std.proofs.lemmas.List.{drop-take}
 use Rattle.capture3.proofs.Lemmas.Reader.ToldLemmas.{gave_both, gave_none}
@@ -18,7 +18,7 @@ use Rattle.capture3.specs.declared.container.position.WordOf.TheVariants as word
 use Rattle.capture3.specs.Entries.{AreAllBeforeEnd, IsMetBy, failure_in, failure_of, last_of}
 use Rattle.capture3.specs.machinery.EntriesHistory.{entries_left_in, entries_left, unjudged, IsReading, StandsIn, StandsFor, HoldsLast, HasRead, HandsOutOrGoesOn, Turns}
 use Rattle.capture3.specs.Handing.{HandsOut, HandsOutGiven}
-use Rattle.capture3.specs.machinery.Pairing.{StandsAt, StandsOrRecalls, HasCome, HasNumber, after_side_word, GoesTo, FailsAt, IsHeld, IsOfBytes, entry_cost}
+use Rattle.capture3.specs.machinery.Pairing.{StandsAt, StandsOrRecalls, HasCome, HasNumber, after_side_word, GoesTo, FailsAt, IsHeld, entry_cost}
 use Rattle.capture3.specs.Kept.{IsOfKind}
 use Rattle.capture3.specs.machinery.Position.{AreEmpty, IsBeforeMark, IsEndSpot, StoredAt, opened_at}
 use Rattle.capture3.specs.Laws.{most_entries}
@@ -235,13 +235,6 @@ all_before_end bytes p t streams table model are s =
     ]
 
 -- ---- the reader
-
-failed_stage : (stage : Stage) (error : Error) → failure_in stage ≡ Some error
-    → stage ≡ Failed error
-failed_stage Reading error is = absurd (cc)
-failed_stage Over error is = absurd (cc)
-failed_stage (Failed other) error is =
-    let same : other ≡ error = cc in ap (λ (e : Error). Failed e) same
 
 module _ {R S H : Type 0} {builds : BuildHasher.Ghosts S H} {hashes : Hasher.Ghosts H}
     (told : R → Told) where
@@ -676,36 +669,6 @@ module _ {R S H : Type 0} {builds : BuildHasher.Ghosts S H} {hashes : Hasher.Gho
       by_last (Some kind) some (entry, is, adds, s) =
           (entry, is, stands_first new (given ++ t.more) (handed ++ entry ∷ []) goes s, adds, s)
 
-  pub answers_failure : {V : Type 0} (stands : V → List Item → Type 0) (was now : V)
-      (old new : Entries R S H builds hashes) (given : List ℕ) (handed : List Entry)
-      (error : Error) → failure_of new ≡ Some error → last_of new ≡ None
-      → Turns told stands old new was now given handed
-      → HandsOutGiven told stands old new was now given handed (Err error)
-  answers_failure stands was now old new given handed error failed none t =
-      let r = read_on stands was now old new given handed none t in
-      record {
-        more = r.more;
-        consumed = r.consumed;
-        hands_out = (
-          here_at new (Failed error) (given ++ r.more) handed
-              (failed_stage new.stage error failed) r.stands,
-          r.stands,
-        );
-      }
-
-  pub answers_none : {V : Type 0} (stands : V → List Item → Type 0) (v : V)
-      (e : Entries R S H builds hashes) (given : List ℕ) (handed : List Entry) → e.stage ≡ Over
-      → StandsFor told e given handed → HandsOutGiven told stands e e v v given handed (Ok None)
-  answers_none stands v e given handed is s =
-      let here = here_at e Over given handed is s in
-      record {
-        more = [];
-        consumed = gave_none (told e.source.now);
-        hands_out =
-            subst (λ (b : List ℕ). HandsOut told stands e v v b handed (Ok None))
-            (sym (append-nil given)) (here.0, here.1, s);
-      }
-
   pub answers_again : {V : Type 0} (stands : V → List Item → Type 0) (v : V)
       (e : Entries R S H builds hashes) (error : Error) (given : List ℕ) (handed : List Entry)
       → e.stage ≡ Failed error → StandsFor told e given handed
@@ -719,12 +682,3 @@ module _ {R S H : Type 0} {builds : BuildHasher.Ghosts S H} {hashes : Hasher.Gho
   }
 
 -- ---- no device failed
-
-not_read : (error : Error) → IsOfBytes error → error ≢ errors.Read
-not_read (errors.Refused fault) h = λ e. cc
-not_read errors.Read h = absurd h
-not_read errors.Write h = absurd h
-not_read errors.Memory h = λ e. cc
-
-pub failed_not_read : (error : Error) → IsOfBytes error → Some error ≢ Some errors.Read
-failed_not_read error h = λ e. not_read error h cc

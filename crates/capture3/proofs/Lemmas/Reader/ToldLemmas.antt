@@ -1,9 +1,14 @@
 -- What is given in turn is given at once, and what is given of known bytes is a prefix of them.
-use Rattle.capture3.proofs.Common.{◌≡◌, ◌∙◌, inl, inr, ap, sym, refl, subst, ℕ, Option, None, Some, List, [], ◌++◌, append-nil, Fault, Entry, FirstFault, Reached, append_cancel_left}
+use Rattle.capture3.proofs.Common.{◌≡◌, ◌∙◌, inl, inr, ap, sym, refl, subst, ℕ, Option, None, Some, Result, List, [], ◌++◌, append-nil, Error, Fault, Entry, Kind, FirstFault, Reached, append_cancel_left}
 use Rattle.std.specs.Io.KnownBytes.{Appends, Consumes}
 use Rattle.std.proofs.KnownBytes.{Appends-nil, Appends-trans, Consumes-all, Consumes-nil, Consumes-trans}
 use Rattle.capture3.specs.Entries.{IsShownBy}
+use Rattle.capture3.specs.Handing.{HandsOutGiven}
 use Rattle.capture3.specs.Told.{Told, Gave, GavePrefix, IsSpent}
+use Rattle.std.specs.declared.hash.BuildHasher as BuildHasher
+use Rattle.std.specs.declared.hash.Hasher as Hasher
+use Rattle.capture3.specs.declared.reader.entries.Entries.{Entries}
+use Rattle.xdr3.specs.Item.{Item}
 
 pub gave_none : (told : Told) → Gave told told []
 gave_none told = (Consumes-nil told.left, Appends-nil told.given)
@@ -13,6 +18,16 @@ gave_both a b c xs ys p q = (
   Consumes-trans a.left b.left c.left xs ys p.0 q.0,
   Appends-trans a.given b.given c.given xs ys p.1 q.1,
 )
+
+-- what was given before a call of a reader, and in it
+pub gave_on : {R S H V : Type 0} {builds : BuildHasher.Ghosts S H} {hashes : Hasher.Ghosts H}
+    {told : R → Told} {stands : V → List Item → Type 0} {old new : Entries R S H builds hashes}
+    {was now : V} {given : List ℕ} {handed : List Entry} {result : Result (Option Kind) Error}
+    (first : Told) → Gave first (told old.source.now) given
+    → (a : HandsOutGiven told stands old new was now given handed result)
+    → Gave first (told new.source.now) (given ++ a.more)
+gave_on {told = told} {old = old} {new = new} {given = given} first gave a =
+    gave_both first (told old.source.now) (told new.source.now) given a.more gave a.consumed
 
 -- the bytes given are a prefix of these, and all of them where the source is spent
 pub record IsPrefixOf (told : Told) (given bytes : List ℕ) : Type 0 where

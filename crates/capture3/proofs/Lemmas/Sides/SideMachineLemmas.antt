@@ -362,8 +362,7 @@ module _ {M : Type 0} (judge : Judged M) (position : Position) where
       ≡ Runs (siding_in (at + 4 + (length got + left)) (total + (length got + left)) t
       (awaiting left))
   chunk_runs at total r t bytes header got left split word some fits e =
-      after_two (side_next judge.decide (place_in position)) (Runs (at_length at total r)) header
-      got split (opens at total (length got + left) r header word some fits)
+      after_two _ _ header got split (opens at total (length got + left) r header word some fits)
       (runs_inside (in_chunk (at + 4 + (length got + left)) (total + (length got + left))) got left
       r e)
 
@@ -378,9 +377,7 @@ module _ {M : Type 0} (judge : Judged M) (position : Position) where
   chunks_run (chunk ∷ chunks) at total end sum r t front h e fits end_is sum_is =
       let mid = ran_to (stream_next judge.decide) (Runs r) chunk (concat chunks) t e in
       let whole : length chunk ≡ length chunk + 0 = omega lengths in
-      after_two (side_next judge.decide (place_in position)) (Runs (at_length at total r)) h.0 h.1
-      h.2
-      (chunk_runs at total r mid.0 h.0 h.3.header chunk 0 h.3.split
+      after_two _ _ h.0 h.1 h.2 (chunk_runs at total r mid.0 h.0 h.3.header chunk 0 h.3.split
       (h.3.word.0, h.3.word.1 ∙ whole) (omega lengths) (omega lengths) mid.1)
       (chunks_run chunks (at + 4 + (length chunk + 0)) (total + (length chunk + 0)) end sum mid.0 t
       h.1 h.4 (rw (after-append, mid.1) at e) (omega lengths)
@@ -404,8 +401,7 @@ module _ {M : Type 0} (judge : Judged M) (position : Position) where
   begun_runs bytes stream (inl b) reading read =
       let at : ℕ = position.start + length b.front in
       let total : ℕ = position.before + length stream in
-      after_two (side_next judge.decide (place_in position))
-      (Runs (siding_from position.start position.before)) b.front b.part b.split
+      after_two _ _ b.front b.part b.split
       (stream_front b.front stream reading b.chunks (stream_runs judge stream reading read) b.fits)
       (word_goes (side_next judge.decide (place_in position))
       (λ p. siding_in at total reading (Length p)) (counted (place_in position) at total reading)
@@ -415,9 +411,7 @@ module _ {M : Type 0} (judge : Judged M) (position : Position) where
       rw w.stream_is at (stream_runs judge stream reading read) in
       let mid = ran_to (stream_next judge.decide) (Runs unread) w.carried w.got reading all in
       let total_is = ap length w.stream_is in
-      after_two (side_next judge.decide (place_in position))
-      (Runs (siding_from position.start position.before)) w.front (w.header ++ w.got)
-      (w.split ∙ append_assoc w.front w.header w.got)
+      after_two _ _ w.front (w.header ++ w.got) (w.split ∙ append_assoc w.front w.header w.got)
       (stream_front w.front w.carried mid.0 w.chunks mid.1 (omega lengths))
       (chunk_runs (position.start + length w.front) (position.before + length w.carried) mid.0
       reading (w.header ++ w.got) w.header w.got (suc w.left) refl w.word (omega lengths)
@@ -438,8 +432,7 @@ module _ {M : Type 0} (judge : Judged M) (position : Position) where
       let whole : Reading M = reading_with messages Between in
       let at_is : position.start + length c.front + 4 ≡ at =
       omega (lengths, ap length c.split) in
-      after_two (side_next judge.decide (place_in position))
-      (Runs (siding_from position.start position.before)) c.front c.last c.split
+      after_two _ _ c.front c.last c.split
       (stream_front c.front h.stream whole c.chunks (held_runs judge h.stream messages h.holds)
       (omega (arith, h.fits, h.total_is)))
       (length_runs (position.start + length c.front) (position.before + length h.stream) 0 whole

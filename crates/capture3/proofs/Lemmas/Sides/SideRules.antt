@@ -1,6 +1,6 @@
 -- A rule of one side: where it holds of bytes, the machine stops with its fault, or had stopped
 -- before.
-use Rattle.capture3.proofs.Common.{lengths, ◌≡◌, inl, inr, ℕ, zero, suc, ◌+◌, ◌<◌, ◌≤◌, List, [], ◌∷◌, ◌++◌, length, refl, sym, ap, ap₂, ◌∙◌, append_assoc, arith, length-append, Ok, Err, nat_lt, ltb-false, lt-ltb, concat, Run, Runs, Stops, Stopped, landed, after, Joining, Between, Header, Bytes, Whole, TooLong, join_next, IsWord, Joins, after-append, nested_runs, TooManyBytes, RecordTooLong, RecordCut, Fault, max_bytes, IsChunk, AreChunks, IsStream, Reading, judged, recorded, stream_next, unread, record_stops, too_long_stops, joining_runs, siding_from, siding_in, reading_with, Marks, IsOpen, IsRecord, IsTooLong, RecordFault, fault_at, StreamShows, IsCut, Position, file_fault, place_in, CutsRecord, ShowsRecord, SideShows, Siding, SideEnd, SideCloses, SideRefuses, awaiting, closing, counted, side_next}
+use Rattle.capture3.proofs.Common.{lengths, ◌≡◌, inl, inr, ℕ, zero, suc, ◌+◌, ◌<◌, ◌≤◌, List, [], ◌∷◌, ◌++◌, length, refl, sym, ap, ap₂, ◌∙◌, append_assoc, arith, length-append, Ok, Err, nat_lt, ltb-false, lt-ltb, concat, Run, Runs, Stops, Stopped, landed, after, Joining, Between, Header, Bytes, Whole, TooLong, join_next, IsWord, Joins, after-append, nested_runs, TooManyBytes, RecordTooLong, RecordCut, Fault, max_bytes, IsChunk, AreChunks, IsStream, Reading, judged, recorded, stream_next, unread, record_stops, too_long_stops, joining_runs, siding_in, reading_with, Marks, IsOpen, IsRecord, IsTooLong, RecordFault, fault_at, StreamShows, IsCut, Position, file_fault, place_in, CutsRecord, ShowsRecord, SideShows, Siding, SideEnd, SideCloses, SideRefuses, awaiting, closing, counted}
 use Rattle.capture3.proofs.Lemmas.Messages.BodyProgramLemmas.{Judged}
 use Rattle.capture3.proofs.Lemmas.Connections.RankLemmas.{by_test}
 use Rattle.capture3.proofs.Lemmas.Files.EndedMachines.{Over, Comes, At, Fails, after_two, comes_on, over_on, gone_inside, over_inside, runs_inside, runs_not_gone}
@@ -64,8 +64,7 @@ module _ {M : Type 0} (judge : Judged M) where
       → Recorded n (stream_after judge (reading_with before Between) stream)
   records_or [] before stream n size h = rw h (At (before, omega arith) refl)
   records_or (body ∷ bodies) before stream n size h =
-      comes_on (stream_next judge.decide) (Runs (reading_with before Between)) h.0 h.1 h.2
-      (record_or before h.0 body h.3)
+      comes_on _ _ h.0 h.1 h.2 (record_or before h.0 body h.3)
       (λ m.
       records_or bodies (before ++ m ∷ []) h.1 n (omega (arith, length-append before (m ∷ [])))
       h.4)
@@ -74,7 +73,7 @@ module _ {M : Type 0} (judge : Judged M) where
       → Over AnyFault (stream_after judge unread stream) fault
   stream_over stream fault (inl h) = inl (refusal_stops judge stream fault h)
   stream_over stream fault (inr h) =
-      over_on (stream_next judge.decide) (Runs unread) h.front h.last h.split
+      over_on _ _ h.front h.last h.split
       (records_or h.bodies [] h.front (length h.bodies) (omega arith) h.marks)
       (too_long_some h.last h.at h.long)
       (λ m.
@@ -86,7 +85,7 @@ module _ {M : Type 0} (judge : Judged M) where
       → Opened (length h.bodies) h.body (stream_after judge unread stream)
   cut_or stream fault h =
       let o = open_in h.last h.body h.is_open in
-      comes_on (stream_next judge.decide) (Runs unread) h.front h.last h.split
+      comes_on _ _ h.front h.last h.split
       (records_or h.bodies [] h.front (length h.bodies) (omega arith) h.marks)
       (λ m.
       At (m.0, o.0, m.1, o.1)
@@ -117,9 +116,7 @@ module _ {M : Type 0} (judge : Judged M) (position : Position) where
       (awaiting left)))
       (side_after judge position (at_length judge position at total r) bytes)
   chunk_or at total r bytes header got left split word some =
-      comes_on (side_next judge.decide (place_in position))
-      (Runs (at_length judge position at total r)) header got split
-      (header_or at total (length got + left) r header word some)
+      comes_on _ _ header got split (header_or at total (length got + left) r header word some)
       (λ fits.
       let within =
       in_chunk judge position (at + 4 + (length got + left)) (total + (length got + left)) in
@@ -145,8 +142,7 @@ module _ {M : Type 0} (judge : Judged M) (position : Position) where
       rw h (At (r, refl) (ap₂ (λ n m. Runs (at_length judge position n m r)) at_end all))
   chunks_or (chunk ∷ chunks) front at total end sum r h end_is sum_is =
       let whole : length chunk ≡ length chunk + 0 = omega arith in
-      comes_on (side_next judge.decide (place_in position))
-      (Runs (at_length judge position at total r)) h.0 h.1 h.2
+      comes_on _ _ h.0 h.1 h.2
       (chunk_or at total r h.0 h.3.header chunk 0 h.3.split (h.3.word.0, h.3.word.1 ∙ whole)
       (omega (arith, h.3.some)))
       (λ t.
@@ -157,7 +153,7 @@ module _ {M : Type 0} (judge : Judged M) (position : Position) where
         | At u e ↦
             At (
               u.0,
-              after_two (stream_next judge.decide) (Runs r) chunk (concat chunks) refl t.1 u.1,
+              after_two _ _ chunk (concat chunks) refl t.1 u.1,
             ) e
         | Fails gone ↦ Fails gone
       ])
@@ -196,9 +192,7 @@ module _ {M : Type 0} (judge : Judged M) (position : Position) where
   side_closed_or bytes stream h =
       let at : ℕ = position.start + length h.front in
       let total : ℕ = position.before + length stream in
-      comes_on (side_next judge.decide (place_in position))
-      (Runs (siding_from position.start position.before)) h.front h.last h.split
-      (front_or h.front stream h.chunks)
+      comes_on _ _ h.front h.last h.split (front_or h.front stream h.chunks)
       (λ r.
       rw (length_runs judge position at total 0 r.0 h.last h.closes)
       (closing_or stream at total (position.start + length bytes) r.0.messages r.0.joining
@@ -212,9 +206,7 @@ module _ {M : Type 0} (judge : Judged M) (position : Position) where
       (position.before + length stream) r n) ≡ Stops (SideRefuses fault))
       → Over RefusedSide (side_taken judge position bytes) (SideRefuses fault)
   after_word bytes front last stream n fault split chunks word stops =
-      over_on (side_next judge.decide (place_in position))
-      (Runs (siding_from position.start position.before)) front last split
-      (front_or front stream chunks) (word_some last n word)
+      over_on _ _ front last split (front_or front stream chunks) (word_some last n word)
       (λ r.
       inl (length_runs judge position (position.start + length front)
       (position.before + length stream) n r.0 last word ∙ stops r.0 r.1))
@@ -259,8 +251,7 @@ module _ {M : Type 0} (judge : Judged M) (position : Position) where
       (side_after judge position (at_length judge position at total r) (header ++ got))
       (SideRefuses (place_in position shown))
   chunk_over at total r header got left shown word some over =
-      over_on (side_next judge.decide (place_in position))
-      (Runs (at_length judge position at total r)) header got refl
+      over_on _ _ header got refl
       (header_or at total (length got + left) r header word (omega arith)) some
       (λ fits.
       over_inside
@@ -270,8 +261,7 @@ module _ {M : Type 0} (judge : Judged M) (position : Position) where
   shows_over : (bytes : List ℕ) (fault : Fault) → ShowsRecord judge.says position bytes fault
       → Over RefusedSide (side_taken judge position bytes) (SideRefuses fault)
   shows_over bytes fault h =
-      over_on (side_next judge.decide (place_in position))
-      (Runs (siding_from position.start position.before)) h.front (h.header ++ h.got)
+      over_on _ _ h.front (h.header ++ h.got)
       (h.split ∙ append_assoc h.front h.header h.got) (front_or h.front h.stream h.chunks)
       (omega lengths)
       (λ r.

@@ -1,4 +1,4 @@
-use Rattle.capture3.proofs.Common.{sym, ◌∙◌, arith, common_steps, unpacking_in}
+use Rattle.capture3.proofs.Common.{sym, ◌∙◌, arith, common_steps}
 use Rattle.capture3.proofs.Lemmas.Container.ContainerLemmas.{arrives_more, fails_more, goes_on_more, room_on, still_running, stored_on}
 use Rattle.capture3.proofs.Lemmas.Reader.PassedOn.{error_is}
 use Rattle.capture3.proofs.container.Container.advance.Goals as goal
@@ -8,11 +8,8 @@ returns-then-is_some-clause-reaches c =
     let reached = c.in_ok-step.ensures.reaches in
     record {
       machine =
-          arrives_more (unpacking_in c.args.self.now) c.args.piece.now c.loop-taken.taken
-          c.in_ok-step.step.count c.loop-taken.self.position c.in_ok-step.step.position
-          c.loop-taken.self.joiner.taking c.step.new.self.joiner.taking
-          c.loop-taken.self.streams.kept c.step.new.self.streams.kept c.in_ok-step.step.event
-          c.loop-taken.invariant.machine reached.machine;
+          arrives_more _ c.args.piece.now _ _ c.loop-taken.self.position _
+          c.loop-taken.self.joiner.taking _ _ _ _ c.loop-taken.invariant.machine reached.machine;
       joiner = reached.joiner;
       stored = reached.stored;
       room = omega (arith, reached.room, c.loop-taken.invariant.room);
@@ -27,24 +24,19 @@ loop-taken-preserved c =
       running =
           still_running c.in_ok-step.step.event c.step.new.self.joiner.taking none reached.joiner;
       machine =
-          goes_on_more (unpacking_in c.args.self.now) c.args.piece.now c.loop-taken.taken
-          c.in_ok-step.step.count c.loop-taken.self.position c.in_ok-step.step.position
-          c.loop-taken.self.joiner.taking c.step.new.self.joiner.taking
-          c.loop-taken.self.streams.kept c.step.new.self.streams.kept c.in_ok-step.step.event none
+          goes_on_more _ c.args.piece.now _ _ c.loop-taken.self.position _
+          c.loop-taken.self.joiner.taking _ _ _ c.in_ok-step.step.event none
           c.loop-taken.invariant.machine reached.machine;
       room =
-          room_on c.in_ok-step.step.event _ _ c.step.new.self.streams.kept none reached.room
-          c.loop-taken.invariant.room;
+          room_on c.in_ok-step.step.event _ _ _ none reached.room c.loop-taken.invariant.room;
       cursor = c.in_ok-step.ensures.cursor ∙ c.loop-taken.invariant.cursor;
       stored =
-          stored_on c.in_ok-step.step.event c.in_ok-step.step.position
-          c.step.new.self.streams.kept none reached.stored;
+          stored_on c.in_ok-step.step.event _ c.step.new.self.streams.kept none reached.stored;
     }
 
 pub returns-in_err-step-clause-fault : goal.returns-in_err-step-clause-fault
 returns-in_err-step-clause-fault c =
     rw (error_is _ _ c.from_residual.ensures)
-    (fails_more (unpacking_in c.args.self.now) c.args.piece.now c.loop-taken.taken
-    c.loop-taken.self.position c.loop-taken.self.joiner.taking c.loop-taken.self.streams.kept
-    c.in_err-step.field-0.0
-    c.loop-taken.invariant.within c.loop-taken.invariant.machine c.in_err-step.ensures.fault)
+    (fails_more _ c.args.piece.now _ c.loop-taken.self.position c.loop-taken.self.joiner.taking _
+    c.in_err-step.field-0.0 c.loop-taken.invariant.within c.loop-taken.invariant.machine
+    c.in_err-step.ensures.fault)

@@ -1,4 +1,4 @@
-use Rattle.capture3.proofs.Common.{ap, refl, ◌∙◌, subst, Option, Some, take, Event, FirstKept, InFirstKept, InNextKept, NextKept, Reaches}
+use Rattle.capture3.proofs.Common.{refl, FirstKept, InFirstKept, InNextKept, NextKept}
 use Rattle.capture3.proofs.container.Container.next_aside.Goals as goal
 
 pub returns-in-Ok-clause-comes : goal.returns-in-Ok-clause-comes
@@ -12,11 +12,7 @@ pub returns-in-Ok-first_recalled-clause-comes : goal.returns-in-Ok-first_recalle
 returns-in-Ok-first_recalled-clause-comes c =
     let came = c.in-Ok-default-Some-Streams in
     let mid = c.advance.new.self in
-    let reaches =
-    subst
-    (λ (e : Option Event).
-    Reaches c.args.self.now (take came.count c.args.piece.now) e mid.position mid)
-    (came.field-0-1-is ∙ ap Some came.field-0-1-0-is) came.ensures.reaches in
+    let reaches = rw (came.field-0-1-is, came.field-0-1-0-is) at came.ensures.reaches in
     FirstKept mid c.in-Ok-first_recalled.event c.in-None.is reaches.machine reaches.stored refl
     c.in-Ok-first_recalled.ensures.recalled
 
@@ -24,9 +20,5 @@ pub returns-in-Err-first_recalled-clause-fault : goal.returns-in-Err-first_recal
 returns-in-Err-first_recalled-clause-fault c =
     let came = c.in-Ok-default-Some-Streams in
     let mid = c.advance.new.self in
-    let reaches =
-    subst
-    (λ (e : Option Event).
-    Reaches c.args.self.now (take came.count c.args.piece.now) e mid.position mid)
-    (came.field-0-1-is ∙ ap Some came.field-0-1-0-is) came.ensures.reaches in
+    let reaches = rw (came.field-0-1-is, came.field-0-1-0-is) at came.ensures.reaches in
     InFirstKept mid came.count c.in-None.is reaches.machine c.in-Err-first_recalled.ensures.fault

@@ -1,28 +1,20 @@
-use Rattle.capture3.proofs.Common.{joining_of, ap, ◌∙◌}
+use Rattle.capture3.proofs.Common.{ap, ◌∙◌}
 use Rattle.capture3.specs.declared.container.position.WordOf.{WordOf}
 use Rattle.capture3.specs.declared.container.position.Spot.TheVariants.{Word}
-use Rattle.capture3.proofs.Lemmas.Container.ContainerLemmas.{shown_at, step_fails, step_reaches, stored_here}
+use Rattle.capture3.proofs.Lemmas.Container.ContainerLemmas.{shown_at, step_fails, step_reaches}
 use Rattle.capture3.proofs.container.Container.step.Goals as goal
 
 pub returns-in-Length-clause-reaches : goal.returns-in-Length-clause-reaches
 returns-in-Length-clause-reaches c =
     step_reaches c.args.self.now c.position.inside _ c.args.rest.now _ c.position.view_is
     (c.in-Word.is ∙ ap (λ (w : WordOf). Word w c.in-Word.part) c.in-Length.is) c.requires.ready
-    c.take_word.ensures.steps
-    (c.take_word.ensures.machine (joining_of c.args.self.now.joiner.taking) c.open_body.ensures)
+    c.take_word.ensures.steps (c.take_word.ensures.machine _ c.open_body.ensures)
 
 pub returns-in-Length-clause-fault : goal.returns-in-Length-clause-fault
 returns-in-Length-clause-fault c =
     step_fails c.args.self.now c.position.inside _ c.args.rest.now _ c.position.view_is
     (c.in-Word.is ∙ ap (λ (w : WordOf). Word w c.in-Word.part) c.in-Length.is) c.requires.ready
-    (c.take_word.ensures.machine (joining_of c.args.self.now.joiner.taking) c.open_body.ensures)
-
-pub returns-in-Chunk-clause-reaches : goal.returns-in-Chunk-clause-reaches
-returns-in-Chunk-clause-reaches c =
-    let self = c.args.self.now in
-    rw (← (shown_at c.position.inside self.position _ c.position.view_is c.in-Chunk.is))
-    (c.join.ensures.leads self.streams.kept (stored_here c.position.inside self.position
-    _ self.streams.kept c.position.view_is c.in-Chunk.is c.requires.ready.stored))
+    (c.take_word.ensures.machine _ c.open_body.ensures)
 
 pub returns-in-Chunk-clause-fault : goal.returns-in-Chunk-clause-fault
 returns-in-Chunk-clause-fault c =

@@ -1,4 +1,4 @@
-use Rattle.capture3.proofs.Common.{Err, ℕ, List, arith, ap, ◌≡◌, ◌∙◌, ◌++◌, ◌-◌, [], ◌∷◌, take, take_all, drop, length, length-take, length-drop, refl, End}
+use Rattle.capture3.proofs.Common.{Err, ℕ, List, arith, ap, ◌≡◌, ◌∙◌, ◌++◌, [], ◌∷◌, take, take_all, length-take, length-drop, refl, End}
 use Rattle.capture3.specs.machinery.Pairing.{entry_cost}
 use Rattle.capture3.proofs.Lemmas.Reached.Limits.{typed_within}
 use Rattle.capture3.proofs.Lemmas.Reader.PassedOn.{error_is}
@@ -15,12 +15,9 @@ pub loop-taken-preserved-in-Continue-branch-2 : goal.loop-taken-preserved-in-Con
 loop-taken-preserved-in-Continue-branch-2 c =
     let invariant = c.loop-taken.invariant in
     let cost = ap entry_cost c.in-Some.is in
-    let left = length-drop c.loop-taken.taken c.args.bytes.now in
-    let piece =
-    length-take (length c.args.bytes.now - c.loop-taken.taken)
-    (drop c.loop-taken.taken c.args.bytes.now) in
     record {
-      within = omega (arith, c.in-Ok.ensures.taken.within, piece, left, invariant.within);
+      within =
+          omega (arith, c.in-Ok.ensures.taken.within, length-take {A = ℕ}, length-drop {A = ℕ});
       ready = c.in-Ok.ensures.ready;
       room =
           omega (arith, invariant.room, c.in-Ok.ensures.room, cost, c.in_ok-push-in-Ok.ensures.len);
@@ -51,12 +48,9 @@ pub loop-taken-preserved : goal.loop-taken-preserved
 loop-taken-preserved c =
     let invariant = c.loop-taken.invariant in
     let cost = ap entry_cost c.in_default.is in
-    let left = length-drop c.loop-taken.taken c.args.bytes.now in
-    let piece =
-    length-take (length c.args.bytes.now - c.loop-taken.taken)
-    (drop c.loop-taken.taken c.args.bytes.now) in
     record {
-      within = omega (arith, c.in-Ok.ensures.taken.within, piece, left, invariant.within);
+      within =
+          omega (arith, c.in-Ok.ensures.taken.within, length-take {A = ℕ}, length-drop {A = ℕ});
       ready = c.in-Ok.ensures.ready;
       room = omega (arith, invariant.room, c.in-Ok.ensures.room, cost);
       machine =

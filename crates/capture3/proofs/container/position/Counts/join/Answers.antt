@@ -11,10 +11,9 @@ returns-in-Ok-default-Record-clause-leads c streams stored =
     let pushed = c.in-Ok-default-Record.ensures in
     rw (chunk.count, chunk.event) (record {
       machine =
-          join_has_record (standing_at c.args.self (Chunk c.args.side c.args.left))
-          c.take_chunk.result.position streams c.args.side c.args.left
-          c.in-Ok-default-Record.count c.min.result c.args.joiner.now.taking
-          c.push.new.self.taking c.args.rest.now refl pushed.within most
+          join_has_record (standing_at c.args.self (Chunk c.args.side c.args.left)) _ streams
+          c.args.side _ _ _ c.args.joiner.now.taking c.push.new.self.taking c.args.rest.now refl
+          pushed.within most
           (pushed.machine.stops c.requires.running c.in-Ok-default-Record.field-0-1-is)
           (chunk.machine streams);
       joiner = pushed.machine.whole.0 c.in-Ok-default-Record.field-0-1-is;
@@ -29,10 +28,9 @@ returns-in-Ok-default-More-clause-leads c streams stored =
     let pushed = c.in-Ok-default-More.ensures in
     rw (chunk.count, chunk.event) (record {
       machine =
-          join_goes_on (standing_at c.args.self (Chunk c.args.side c.args.left))
-          c.take_chunk-in-Ok-default-More.result.position streams c.args.side c.args.left
-          c.in-Ok-default-More.count c.min.result c.args.joiner.now.taking
-          c.push.new.self.taking c.args.rest.now refl pushed.within most
+          join_goes_on (standing_at c.args.self (Chunk c.args.side c.args.left)) _ streams
+          c.args.side _ _ _ c.args.joiner.now.taking c.push.new.self.taking c.args.rest.now refl
+          pushed.within most
           (pushed.machine.runs c.requires.running c.in-Ok-default-More.field-0-1-is)
           (chunk.machine streams);
       joiner = pushed.machine.running.0 c.in-Ok-default-More.field-0-1-is;
@@ -44,7 +42,7 @@ pub returns-in-Err-TooLong-clause-fault : goal.returns-in-Err-TooLong-clause-fau
 returns-in-Err-TooLong-clause-fault c streams =
     let most : c.min.result ≤ c.args.left = omega arith in
     rw c.next_record_fault.ensures
-    (join_too_long (standing_at c.args.self (Chunk c.args.side c.args.left)) streams c.args.side
-    c.args.left c.min.result c.in-Err-TooLong.at c.args.joiner.now.taking c.args.rest.now refl most
+    (join_too_long (standing_at c.args.self (Chunk c.args.side c.args.left)) streams c.args.side _ _
+    c.in-Err-TooLong.at c.args.joiner.now.taking c.args.rest.now refl most
     (c.in-Err-TooLong.ensures.machine.refuses c.in-Err-TooLong.at c.requires.running
     (ap Err c.in-Err-TooLong.field-0-is)))

@@ -1,5 +1,5 @@
-use Rattle.capture3.proofs.Common.{ap, arith, refl, subst, List, ℕ, ◌-◌, ◌+◌, ◌++◌, ◌≤◌, take, drop, slice_range, length, length-take, FailsAt, GoesTo}
-use Rattle.capture3.proofs.Lemmas.Reader.EntriesLemmas.{failed_not_read, judged_failed, judged_on, can_go_on}
+use Rattle.capture3.proofs.Common.{ap, arith, refl, subst, List, ℕ, ◌+◌, ◌++◌, ◌≤◌, take, slice_range, length, length-take, FailsAt, GoesTo}
+use Rattle.capture3.proofs.Lemmas.Reader.EntriesLemmas.{judged_failed, judged_on, can_go_on}
 use Rattle.capture3.specs.machinery.CountedCalls.{known_of}
 use Rattle.capture3.proofs.reader.entries.Entries.judge.Goals as goal
 
@@ -13,11 +13,8 @@ next-requires g c =
 
 pub returns-in-Ok-clause-goes_on : goal.returns-in-Ok-clause-goes_on
 returns-in-Ok-clause-goes_on g c given handed s =
-    let inner =
-    length-take (c.args.self.now.end - c.args.self.now.start)
-    (drop c.args.self.now.start c.deref.result.now) in
     let fits : c.args.self.now.start + c.in-Ok.count ≤ c.args.self.now.end =
-    omega (arith, c.in-Ok.ensures.taken.within, inner, c.args.self.now.ordered) in
+    omega (arith, c.in-Ok.ensures.taken.within, length-take {A = ℕ}, c.args.self.now.ordered) in
     let within : c.args.self.now.end ≤ length c.args.self.now.block.items =
     omega (arith, c.args.self.now.within, c.deref.ensures.len, ap length c.deref.ensures.value) in
     judged_on g.R.Source.told g.V.Visit.stands c.args.visitor.now c.next.new.visitor c.args.self.now
@@ -42,11 +39,3 @@ returns-in-Err-clause-goes_on g c given handed s =
     FailsAt (judged ++ slice_range items c.args.self.now.start c.args.self.now.end)
     handed c.next.new.self.error) c.deref.ensures.value
     (c.in-Err.ensures.fault.fault judged handed at))
-
-pub returns-in-Err-clause-device : goal.returns-in-Err-clause-device
-returns-in-Err-clause-device g c = record {
-  never_reads = failed_not_read c.next.new.self.error c.in-Err.ensures.fault.device;
-  unread = refl;
-  same_block = refl;
-  same_reference = refl;
-}

@@ -1,10 +1,5 @@
-use Rattle.capture3.proofs.Lemmas.Reader.EntriesLemmas.{answers_again, answers_failure, answers_kind, answers_none}
+use Rattle.capture3.proofs.Lemmas.Reader.EntriesLemmas.{answers_again, answers_kind}
 use Rattle.capture3.proofs.reader.entries.Entries.next.Goals as goal
-
-pub returns-in-Over-clause-answers : goal.returns-in-Over-clause-answers
-returns-in-Over-clause-answers g c given handed s =
-    answers_none g.R.Source.told g.V.Visit.stands c.args.visitor.now c.args.self.now given handed
-    c.in-Over.is s
 
 pub returns-in-Ok-clause-answers : goal.returns-in-Ok-clause-answers
 returns-in-Ok-clause-answers g c given handed s =
@@ -12,12 +7,6 @@ returns-in-Ok-clause-answers g c given handed s =
     answers_kind g.R.Source.told g.V.Visit.stands c.args.visitor.now c.next_entry.new.visitor
     c.args.self.now c.next_entry.new.self given handed read.some read.lends.going
     (read.turns given handed s)
-
-pub returns-in-Err-clause-answers : goal.returns-in-Err-clause-answers
-returns-in-Err-clause-answers g c given handed s =
-    answers_failure g.R.Source.told g.V.Visit.stands c.args.visitor.now c.next_entry.new.visitor
-    c.args.self.now c.next_entry.new.self given handed c.failure.result c.failure.ensures
-    c.in-Err.ensures.lends.failure.unlent (c.in-Err.ensures.turns given handed s)
 
 pub returns-in-Failed-clause-answers : goal.returns-in-Failed-clause-answers
 returns-in-Failed-clause-answers g c given handed s =

@@ -7,8 +7,7 @@ use Rattle.capture3.proofs.reader.entries.Entries.next_entry.Goals as goal
 pub returns-in-Ok-false-clause-turns : goal.returns-in-Ok-false-clause-turns
 returns-in-Ok-false-clause-turns g c given handed s =
     let ends = c.finish.ensures in
-    turned g.R.Source.told g.V.Visit.stands _ c.loop-self.visitor c.loop-self.visitor _
-    c.loop-self.self c.refill.new.self c.finish.new.self given handed
+    turned g.R.Source.told g.V.Visit.stands _ _ _ _ _ _ _ given handed
     (c.loop-self.invariant.has_read given handed s) c.loop-self.invariant.untold
     c.refill.ensures.has_read
     (λ so_far out at.
@@ -18,8 +17,7 @@ returns-in-Ok-false-clause-turns g c given handed s =
 
 pub returns-in-Err-clause-turns : goal.returns-in-Err-clause-turns
 returns-in-Err-clause-turns g c given handed s =
-    turned g.R.Source.told g.V.Visit.stands _ c.loop-self.visitor c.loop-self.visitor _
-    c.loop-self.self c.refill.new.self c.refill.new.self given handed
+    turned g.R.Source.told g.V.Visit.stands _ _ _ _ _ _ _ given handed
     (c.loop-self.invariant.has_read given handed s) c.loop-self.invariant.untold
     c.refill.ensures.has_read
     (λ so_far out at.
@@ -28,15 +26,13 @@ returns-in-Err-clause-turns g c given handed s =
 
 pub returns-in-Err-judge-clause-turns : goal.returns-in-Err-judge-clause-turns
 returns-in-Err-judge-clause-turns g c given handed s =
-    turned g.R.Source.told g.V.Visit.stands _ c.loop-self.visitor c.judge.new.visitor _
-    c.loop-self.self c.refill.new.self c.judge.new.self given handed
+    turned g.R.Source.told g.V.Visit.stands _ _ _ _ _ _ _ given handed
     (c.loop-self.invariant.has_read given handed s) c.loop-self.invariant.untold
     c.refill.ensures.has_read c.judge.ensures.goes_on c.judge.ensures.device.unread
 
 pub returns-then-is_some-clause-turns : goal.returns-then-is_some-clause-turns
 returns-then-is_some-clause-turns g c given handed s =
-    turned g.R.Source.told g.V.Visit.stands _ c.loop-self.visitor c.judge.new.visitor _
-    c.loop-self.self c.refill.new.self c.judge.new.self given handed
+    turned g.R.Source.told g.V.Visit.stands _ _ _ _ _ _ _ given handed
     (c.loop-self.invariant.has_read given handed s) c.loop-self.invariant.untold
     c.refill.ensures.has_read c.judge.ensures.goes_on c.judge.ensures.device.unread
 
@@ -61,8 +57,7 @@ loop-self-preserved g c =
           λ given handed s.
           read_on g.R.Source.told g.V.Visit.stands _ c.judge.new.visitor c.args.self.now
           c.judge.new.self given handed none
-          (turned g.R.Source.told g.V.Visit.stands _ c.loop-self.visitor c.judge.new.visitor _
-          c.loop-self.self c.refill.new.self c.judge.new.self given handed
+          (turned g.R.Source.told g.V.Visit.stands _ _ _ _ _ _ _ given handed
           (invariant.has_read given handed s) invariant.untold filled.has_read judged.goes_on
           judged.device.unread);
       untold = judged.on.untold none ∙ invariant.untold;

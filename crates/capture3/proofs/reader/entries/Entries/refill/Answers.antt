@@ -1,7 +1,7 @@
 use Rattle.std.proofs.Common.{◌≡◌, ◌∙◌, ap, arith, length, length-take, refl, take, drop, take-append-drop, sym, vec_len}
 use Rattle.std.proofs.lemmas.List.{with_items_is}
 use Rattle.capture3.proofs.Lemmas.Container.BytesOf.{split_bytes}
-use Rattle.capture3.proofs.Lemmas.Reader.EntriesLemmas.{front_range, has_failed, has_read, nothing_read}
+use Rattle.capture3.proofs.Lemmas.Reader.EntriesLemmas.{front_range, has_failed, has_read}
 use Rattle.capture3.proofs.reader.entries.Entries.refill.Goals as goal
 
 pub returns-in-Ok-clause-has_read : goal.returns-in-Ok-clause-has_read
@@ -25,7 +25,3 @@ returns-in-Err-clause-has_read g c given handed s =
     let used_up = c.if-not-is_used_up.ensures.used_up refl in
     has_failed g.R.Source.told c.args.self.now _ given handed c.requires.reading refl refl refl
     used_up.0 used_up.1 c.in-Err.ensures.bytes s
-
-pub returns-then-not-is_used_up-clause-has_read : goal.returns-then-not-is_used_up-clause-has_read
-returns-then-not-is_used_up-clause-has_read g c given handed s =
-    nothing_read g.R.Source.told c.args.self.now given handed s

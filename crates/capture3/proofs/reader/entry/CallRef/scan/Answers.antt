@@ -9,8 +9,3 @@ unreachable-requires g c =
     (λ s.
     call_never_stops c.args.self.now.id c.args.self.now.body.now c.in-Err-Stop.field-0-0 s
     (c.in-Err-Stop.ensures.err [] c.in-Err-Stop.field-0-0 c.in-Err-Stop.field-0-is))
-
-pub returns-in-Ok : goal.returns-in-Ok
-returns-in-Ok g c =
-    let scanned = c.in-Ok.ensures.ok in
-    (scanned.items, scanned.is_call, scanned.adds)

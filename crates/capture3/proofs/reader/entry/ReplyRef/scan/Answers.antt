@@ -1,6 +1,6 @@
-use Rattle.capture3.proofs.Common.{◌≡◌, [], ◌∷◌, Bool, true, false, cond, Some, None, nat_eq, refl, subst, ◌∙◌, ap, ∥∥₁_elim, NumberedCall, ProcId, IsReply, procedure_in_call, xid_in}
+use Rattle.capture3.proofs.Common.{◌≡◌, [], ◌∷◌, Bool, true, false, cond, Some, None, nat_eq, refl, ∥∥₁_elim, NumberedCall, procedure_in_call}
 use mathlib.Core.HLevel.{⊥_prop}
-use Rattle.capture3.proofs.Lemmas.Messages.SpelledLemmas.{asking, only_one, reply_never_stops}
+use Rattle.capture3.proofs.Lemmas.Messages.SpelledLemmas.{asking, reply_never_stops}
 use Rattle.capture3.proofs.reader.entry.ReplyRef.scan.Goals as goal
 
 -- the procedure of a call that may be there
@@ -20,18 +20,3 @@ unreachable-requires g c =
     (c.in-Err-Stop.ensures.err calls
     (λ xid small. its_procedure (nat_eq c.answered.result.xid xid) call)
     c.in-Err-Stop.field-0-0 c.in-Err-Stop.field-0-is))
-
-pub returns-in-Ok : goal.returns-in-Ok
-returns-in-Ok g c =
-    let scanned = c.in-Ok.ensures.ok in
-    let same : c.in-Ok.field-0.id ≡ c.args.self.now.id =
-    ap (λ (call : NumberedCall). call.id)
-    (only_one (nat_eq c.answered.result.xid (xid_in scanned.items)) c.answered.result.call
-    c.in-Ok.field-0 scanned.asked) ∙ c.answered.ensures.id in (
-      scanned.items,
-      subst
-          (λ (id : ProcId).
-          IsReply c.args.self.now.body.now (record { id = id; items = scanned.items })) same
-          scanned.is_reply,
-      scanned.adds,
-    )
