@@ -3,7 +3,7 @@ pub use Rattle.byteorder.specs.Endian.{big_bytes, big_number}
 pub use Rattle.capture3.proofs.Lemmas.Container.BytesOf.{AreBytes-append, AreBytes-nil, checked}
 pub use Rattle.capture3.proofs.Lemmas.Reached.EmittedEntries.{reached_by_machine}
 pub use Rattle.capture3.proofs.Lemmas.Reader.PassedOn.{error_is}
-pub use Rattle.capture3.proofs.Lemmas.Reader.ToldLemmas.{IsPrefixOf, gave_both, gave_none, prefix_of_kept, prefix_of_told, shown_of_all}
+pub use Rattle.capture3.proofs.Lemmas.Reader.ToldLemmas.{IsPrefixOf, gave_none, gave_on, prefix_of_kept, prefix_of_told, shown_of_all}
 pub use Rattle.capture3.specs.Bodies.{IsCall, IsReply, ReplyItems, xid_in}
 pub use Rattle.capture3.specs.Capture.{One, magic}
 pub use Rattle.capture3.specs.Chunks.{max_bytes}
@@ -47,7 +47,7 @@ pub use Rattle.std.specs.List.{AllByRecursion, flat_map, list_any, position_or_l
 pub use Rattle.std.specs.Prelude.{OnOk, bytes_eq, if◌then◌else◌, nat_eq, slice_get, ⊤, ◌==◌}
 pub use Rattle.xdr3.proofs.Lemmas.Reading.Decided.{zero_spelled_all}
 pub use Rattle.xdr3.proofs.Lemmas.Reading.Items.{length_of_spelling}
-pub use Rattle.xdr3.specs.Item.{AreBytes, Fixed, Handle, Hyper, Item, Opaque, Rest, Spells, SpellsItem, Text, Var, Word, WriteVerf, residue, word_bytes, zero_spelling, zero_spelling_of}
+pub use Rattle.xdr3.specs.Item.{AreBytes, Fixed, Handle, Hyper, Item, Opaque, Rest, Spells, SpellsItem, Word, WriteVerf, residue, word_bytes, zero_spelling, zero_spelling_of}
 pub use Rattle.xdr3.specs.Plain.{run_items, run_size}
 unfoldable pub use Rattle.xdr3.specs.Visit.{Adds}
 pub use Rattle.xdr3.specs.declared.plain.PlainField.{PlainField}

@@ -147,14 +147,12 @@ impl<S: BuildHasher + Drop> Tally<S> {
         // The device.
         ensures reads { ReadsOne R.failures entries.old entries.new result }
     {
-        // Written out, since `?` takes more instructions for each message.
-        match entries.next(&mut self.handles) {
-            Ok(Some(kind)) => {
+        match entries.next(&mut self.handles)? {
+            Some(kind) => {
                 self.counts.add(kind);
                 Ok(true)
             }
-            Ok(None) => Ok(false),
-            Err(error) => Err(error),
+            None => Ok(false),
         }
     }
 

@@ -28,8 +28,8 @@ use std::marker::Brand;
 /// becomes 0. All else is as it was, but each record is one chunk and one fragment, and residual
 /// bytes are 0.
 ///
-/// It keeps one block of the source's bytes, one record, one call without its name, the calls of
-/// the open connection, the distinct file handles, and the values that have numbers.
+/// It keeps one block of the source's bytes, one record, its masked form, the calls of the open
+/// connection, the distinct file handles, and the values that have numbers.
 ///
 /// # Errors
 ///

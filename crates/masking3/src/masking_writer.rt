@@ -11,14 +11,14 @@ ghost use Rattle.masking3.specs.Ways.{usual};
 ghost use Rattle.capture3.specs.declared.fault.Side.{Side};
 ghost use Rattle.masking3.specs.machinery.MaskingWriter.{HasMemory, MaskStands, after_messages, told_items, written_as};
 ghost use Rattle.masking3.specs.machinery.MessageSpot.{BeginsOn, first_spot};
-ghost use Rattle.masking3.specs.machinery.UnnamedBody.{body_by, unnamed_body};
+ghost use Rattle.masking3.specs.machinery.UnnamedBody.{body_by};
 
 use crate::class::{fixed_class, hyper_class, word_class};
 use crate::class_tables::ClassTables;
 use crate::hashers::ClassHashers;
 use crate::spot::{Spot, spot_after};
 use crate::texts::masked_text;
-use crate::unnamed_body::without_name;
+use crate::unnamed_body::write_unnamed;
 use crate::ways::{Way, Ways};
 use byteorder::{BigEndian, ByteOrder};
 use canon3::{HandleTable, Sink, write_message, write_word};
@@ -48,8 +48,6 @@ pub(crate) struct MaskingWriter<P: Plan, S: BuildHasher + Drop> {
     pub(crate) writer: Writer,
     /// Where the next item stands, once the side of its message is known.
     pub(crate) spot: Option<Spot>,
-    /// A call without the name of its machine.
-    unnamed: Vec<u8>,
     /// Memory ran out, and the tables may have more than was written.
     pub(crate) failed: bool,
     plan: PhantomData<P>,
@@ -72,7 +70,6 @@ impl<P: Plan, S: BuildHasher + Drop> MaskingWriter<P, S> {
             classes: ClassTables::new(alloc, ways, classes),
             writer: Writer::new(alloc),
             spot: None,
-            unnamed: Vec::new(alloc),
             failed: false,
             plan: PhantomData,
         }
@@ -152,34 +149,26 @@ impl<P: Plan, S: BuildHasher + Drop> MaskingWriter<P, S> {
     }
 
     /// Writes an entry, whose message the writer contains.
-    pub(crate) fn write_entry<W: Sink>(&mut self, sink: &mut W, kind: Kind) -> Result<(), Error>
-        ensures stands { (all : List Item) → MaskStands P.ways self.old all
-            → MaskStands P.ways self.new all }
-        ensures going { HasMemory self.old → HasMemory self.new }
+    pub(crate) fn write_entry<W: Sink>(&self, sink: &mut W, kind: Kind) -> Result<(), Error>
         ensures ok { OnOk result (Appends (W.written sink.old) (W.written sink.new)
-            (written_as self.old.classes.ways.machines kind self.old.writer)) }
+            (written_as self.now.classes.ways.machines kind self.now.writer)) }
         ensures err { OnErr result (AppendsFront (W.written sink.old) (W.written sink.new)
-            (written_as self.old.classes.ways.machines kind self.old.writer)) }
+            (written_as self.now.classes.ways.machines kind self.now.writer)) }
         ensures count { CountsWriting (W.failures sink.old) (W.failures sink.new) result }
         ensures error { IfErr result IsOfWriting }
     {
         let body = self.writer.bytes();
         match kind {
             Kind::Begin => write_word(sink, 1),
-            Kind::Call(_) => write_call(sink, self.classes.ways.machines, &mut self.unnamed, body),
-            Kind::Reply(_) => write_message(sink, body),
+            Kind::Call(_) => write_call(sink, self.classes.ways.machines, body),
+            Kind::Reply(_) => write_message(sink, body, &[]),
             Kind::Turn | Kind::Close | Kind::End => write_word(sink, 0),
         }
     }
 }
 
 /// Writes a call, with the name of its machine as the way has it.
-fn write_call<W: Sink>(
-    sink: &mut W,
-    machines: Way,
-    unnamed: &mut Vec<u8>,
-    body: &[u8],
-) -> Result<(), Error>
+fn write_call<W: Sink>(sink: &mut W, machines: Way, body: &[u8]) -> Result<(), Error>
     ensures ok { OnOk result (Appends (W.written sink.old) (W.written sink.new)
         (chunk_bytes (record_bytes (body_by machines body.now)))) }
     ensures err { OnErr result (AppendsFront (W.written sink.old) (W.written sink.new)
@@ -188,24 +177,9 @@ fn write_call<W: Sink>(
     ensures error { IfErr result IsOfWriting }
 {
     match machines {
-        Way::Keep => write_message(sink, body),
-        Way::Zero => write_unnamed(sink, unnamed, body),
-        Way::Number => write_unnamed(sink, unnamed, body),
-    }
-}
-
-/// Writes a call without the name of its machine, which is put into `unnamed` first.
-fn write_unnamed<W: Sink>(sink: &mut W, unnamed: &mut Vec<u8>, body: &[u8]) -> Result<(), Error>
-    ensures ok { OnOk result (Appends (W.written sink.old) (W.written sink.new)
-        (chunk_bytes (record_bytes (unnamed_body body.now)))) }
-    ensures err { OnErr result (AppendsFront (W.written sink.old) (W.written sink.new)
-        (chunk_bytes (record_bytes (unnamed_body body.now)))) }
-    ensures count { CountsWriting (W.failures sink.old) (W.failures sink.new) result }
-    ensures error { IfErr result IsOfWriting }
-{
-    match without_name(unnamed, body) {
-        Ok(bytes) => write_message(sink, bytes),
-        Err(_) => Err(Error::Memory),
+        Way::Keep => write_message(sink, body, &[]),
+        Way::Zero => write_unnamed(sink, body),
+        Way::Number => write_unnamed(sink, body),
     }
 }
 

@@ -2,4 +2,3 @@
 pub mod ComparisonLemmas
 pub mod PartingLemmas
 pub mod Places
-pub mod Reading

@@ -2,7 +2,6 @@
 pub mod Conversations
 pub mod Conversing
 pub mod Files
-pub mod Kept
 pub mod Laid
 pub mod Items
 pub mod Messages

@@ -91,27 +91,29 @@ pub fn write_word<W: Sink>(sink: &mut W, n: u32) -> Result<(), Error>
     write_all(sink, &pack_chunk(n))
 }
 
-/// Writes a message as one chunk, which is one record of one fragment. After an error a prefix of
-/// it was written.
+/// Writes a message as one chunk, which is one record of one fragment. The message is given in two
+/// parts. After an error a prefix of it was written.
 ///
 /// # Errors
 ///
 /// - `Write` if a write failed.
 /// - `Memory` if the message has more than 16,777,216 bytes.
 // No message of a capture has more bytes than a record may have, and with numbers it has no more.
-pub fn write_message<W: Sink>(sink: &mut W, message: &[u8]) -> Result<(), Error>
+pub fn write_message<W: Sink>(sink: &mut W, front: &[u8], back: &[u8]) -> Result<(), Error>
     ensures ok { OnOk result
         (Appends (W.written sink.old) (W.written sink.new)
-        (chunk_bytes (record_bytes message.now))) }
+        (chunk_bytes (record_bytes (front.now ++ back.now)))) }
     ensures err { OnErr result
         (AppendsFront (W.written sink.old) (W.written sink.new)
-        (chunk_bytes (record_bytes message.now))) }
+        (chunk_bytes (record_bytes (front.now ++ back.now)))) }
     ensures count { CountsWriting (W.failures sink.old) (W.failures sink.new) result }
     ensures error { IfErr result (λ error. (error ≡ Error.Write)
-        ⊎ ((error ≡ Error.Memory) × (max_body < length message.now))) }
+        ⊎ ((error ≡ Error.Memory) × (max_body < length (front.now ++ back.now)))) }
 {
-    if message.len() > BODY_LIMIT as usize {
+    let len = front.len().saturating_add(back.len());
+    if len > BODY_LIMIT as usize {
         return Err(Error::Memory);
     }
-    write_both(sink, &chunk_head(message.len() as u32), message)
+    write_both(sink, &chunk_head(len as u32), front)?;
+    write_all(sink, back)
 }

@@ -269,15 +269,13 @@ fn write_next<R: Source, W: Sink, E: EntryWriter, S: BuildHasher + Drop>(
     ensures devices { ReadsAndWrites R.failures entries.old entries.new (W.failures sink.old)
         (W.failures sink.new) result }
 {
-    // Written out, since `?` takes more instructions for each message.
-    match entries.next(writer) {
-        Ok(Some(_)) => match entries.entry() {
+    match entries.next(writer)? {
+        Some(_) => match entries.entry() {
             Some(entry) => write_one(counts, sink, writer, entry),
             // An entry was just returned.
             None => unreachable!(),
         },
-        Ok(None) => Ok(false),
-        Err(error) => Err(error),
+        None => Ok(false),
     }
 }
 

@@ -1,5 +1,5 @@
 -- A comparison of two captures, entry by entry.
-use Rattle.canon3.proofs.Common.{◌≡◌, ◌≢◌, ℕ, List, [], ◌∷◌, ◌++◌, append-nil, append_assoc, Option, None, Some, Result, Ok, Err, refl, sym, ap, ◌∙◌, subst, Gave, Told, gave_both, gave_none, IsPrefixOf, shown_of_all, Item, Adds, Entries, Error, Place, Entry, items_of, Typed, MessageWriter, Kind, AreFirst, Before, told_after, WriterStands, values_of, Same, IsOfKind, HasPassed, place_from, side_in, IsMetBy, source_of, StandsFor, Progress, SameError, bytes_after, HasSpelled, spelling_of}
+use Rattle.canon3.proofs.Common.{◌≡◌, ◌≢◌, ℕ, List, [], ◌∷◌, ◌++◌, append-nil, append_assoc, Option, None, Some, Result, Ok, Err, refl, sym, ap, ◌∙◌, subst, Gave, Told, gave_on, gave_none, IsPrefixOf, shown_of_all, Item, Adds, Entries, Error, Place, Entry, items_of, Typed, MessageWriter, Kind, AreFirst, Before, told_after, WriterStands, values_of, Same, IsOfKind, HasPassed, place_from, side_in, IsMetBy, source_of, StandsFor, Progress, SameError, bytes_after, HasSpelled, spelling_of}
 use Rattle.std.specs.Option.{is_some, IsSomeAnd, MatchOption}
 use Rattle.std.specs.declared.hash.BuildHasher as BuildHasher
 use Rattle.std.specs.declared.hash.Hasher as Hasher
@@ -145,13 +145,6 @@ module _ {R S H V : Type 0} {builds : BuildHasher.Ghosts S H} {hashes : Hasher.G
       GaveAll start (telling (source_of new)) handed × HasGiven telling start new handed
   Hands (Err error) = SaysOfGiven start (telling (source_of new)) error
 
-  more_given : (h : HasGiven telling start old handed) (more : List ℕ)
-      → Gave (telling (source_of old)) (telling (source_of new)) more
-      → Gave start (telling (source_of new)) (h.given ++ more)
-  more_given h more gave =
-      gave_both start (telling (source_of old)) (telling (source_of new)) h.given more h.consumed
-      gave
-
   pub hands : (h : HasGiven telling start old handed) (result : Result (Option Kind) Error)
       → HandsOutGiven telling stands old new was now h.given handed result → Hands result
   hands h (Ok (Some kind)) a =
@@ -162,19 +155,19 @@ module _ {R S H V : Type 0} {builds : BuildHasher.Ghosts S H} {hashes : Hasher.G
         adds,
         record {
           given = h.given ++ a.more;
-          consumed = more_given h a.more a.consumed;
+          consumed = gave_on start h.consumed a;
           stands = stands_for;
         },
       )
   hands h (Ok None) a =
       let (typed, ended, stands_for) = a.hands_out in
-      let gave = more_given h a.more a.consumed in (
+      let gave = gave_on start h.consumed a in (
         record { given = h.given ++ a.more; gave = gave; ended = ended; typed = typed },
         record { given = h.given ++ a.more; consumed = gave; stands = stands_for },
       )
   hands h (Err error) a =
       says_of start (telling (source_of new)) (h.given ++ a.more) handed error
-      (more_given h a.more a.consumed) a.hands_out.0
+      (gave_on start h.consumed a) a.hands_out.0
 
 module _ {R S H : Type 0} {builds : BuildHasher.Ghosts S H} {hashes : Hasher.Ghosts H}
     (telling : R → Told) (start : Told) (reader : Entries R S H builds hashes)

@@ -1,9 +1,8 @@
 -- Tables that gather the handles of items.
-use Rattle.canon3.proofs.Common.{◌≡◌, ◌≢◌, ℕ, List, [], ◌∷◌, ◌++◌, drop, length, map, refl, ap, ◌∙◌, append-nil, ◌≤◌, arith, flat_map-append, PlainField, run_items, Item, Opaque, Handle, Spells, length_of_spelling, max_body, Entry, all_items, handles, handles_in, handle_bytes, Gathers, same_handle, distinct, HoldsDistinct}
+use Rattle.canon3.proofs.Common.{◌≡◌, ◌≢◌, ℕ, List, [], ◌∷◌, ◌++◌, drop, length, map, refl, ap, ◌∙◌, append-nil, flat_map-append, PlainField, run_items, Item, Opaque, Handle, Entry, all_items, handles, handles_in, handle_bytes, Gathers, same_handle, distinct}
 use Rattle.std.specs.Prelude.{bytes_eq}
 use Rattle.std.proofs.lemmas.List.{map-append}
 use Rattle.xdr3.specs.declared.plain.PlainField.TheVariants as fields
-use Rattle.xdr3.specs.Visit.{AreWithinLimit}
 use Rattle.nfs3_types.specs.declared.values.handle.Handle as handles
 use Rattle.canon3.proofs.Lemmas.Numbers.RankLemmas.{distinct_mapped}
 
@@ -35,14 +34,6 @@ none_in_run [] run = refl
 none_in_run (fields.Word name ∷ all) run = none_in_run all (drop 4 run)
 none_in_run (fields.Hyper name ∷ all) run = none_in_run all (drop 8 run)
 
-pub gathers_one : (old new : List handles.Handle) (handle : handles.Handle) (name bytes : List ℕ)
-    (items : List Item) → handle_bytes handle ≡ bytes → bytes ≢ []
-    → ((given : List handles.Handle) → HoldsDistinct same_handle old given
-    → HoldsDistinct same_handle new (given ++ handle ∷ []))
-    → Gathers old items → Gathers new (items ++ Opaque Handle name bytes ∷ [])
-gathers_one old new handle name bytes items is some step (given, stands, are) =
-    (given ++ handle ∷ [], step given stands, one_more given handle name bytes items is some are)
-
 -- as many handles as bytes of them
 pub distinct_held : {hs : List (List ℕ)} (given : List handles.Handle) → map handle_bytes given ≡ hs
     → length (distinct same_handle given) ≡ length (distinct bytes_eq hs)
@@ -59,11 +50,3 @@ count_gathered table items (given, stands, are) = distinct_held given are
 pub handles_of_all : (entries : List Entry) → handles_in (all_items entries) ≡ handles entries
 handles_of_all [] = refl
 handles_of_all (entry ∷ entries) = simp (flat_map-append, handles_of_all entries)
-
--- ---- of one message
-
--- what was read can be walked
-pub within_limit : (items : List Item) (body : List ℕ) → Spells items body → length body ≤ max_body
-    → AreWithinLimit items
-unfolding AreWithinLimit
-within_limit items body p few = omega (arith, length_of_spelling items body p, few)

@@ -45,12 +45,6 @@ counted_more old new kind entry entries is progress called replied t =
           t.replies_are;
     }
 
--- an entry is a call or a reply at most
-pub counts_once : (kind : Kind) → cond (calls kind) 1 0 + cond (replies kind) 1 0 ≤ 1
-counts_once (kinds.Call id) = omega arith
-counts_once (kinds.Reply id) = omega arith
-counts_once _ = omega arith
-
 pub connections_counted : (entries : List Entry) → connections entries ≡ count_by is_begin entries
 connections_counted [] = refl
 connections_counted (Begin ∷ entries) =

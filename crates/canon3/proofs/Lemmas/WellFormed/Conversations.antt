@@ -1,9 +1,10 @@
 -- The messages of connections, apart from the streams that carry them.
-use Rattle.canon3.proofs.Common.{◌≡◌, ℕ, ◌+◌, ◌≤◌, ◌^◌, false, List, [], ◌∷◌, ◌++◌, length, map, refl, ap, ◌∙◌, subst, arith, length-append, map-append, Item, Spells, word_bytes, zero_spelling, length_of_spelling, ReplyItems, IsCall, IsReply, Streams, record_bytes, chunk_bytes, message_bytes, Joins, AreEach, IsIn, HaveOneProcedure, AnswerCalls}
+use Rattle.canon3.proofs.Common.{◌≡◌, ℕ, ◌+◌, ◌≤◌, ◌^◌, List, [], ◌∷◌, ◌++◌, length, map, refl, ap, ◌∙◌, subst, arith, length-append, map-append, Item, Spells, word_bytes, zero_spelling, length_of_spelling, ReplyItems, IsCall, IsReply, Streams, record_bytes, chunk_bytes, message_bytes, Joins, AreEach, IsIn, HaveOneProcedure, AnswerCalls}
 use Rattle.std.specs.List.{AllByRecursion, flat_map, concat}
-use Rattle.record_mark.specs.RecordMark.{max_body, IsFragment, IsRecord, Marks}
+use Rattle.record_mark.specs.RecordMark.{max_body, IsRecord, Marks}
 use Rattle.record_mark.proofs.Steps.{IsWord-big_bytes, heads, one_fragment}
 use Rattle.capture3.specs.Chunks.{IsChunk, IsStream}
+use Rattle.capture3.proofs.Lemmas.Reached.Limits.{record_size}
 
 -- ---- lists
 
@@ -99,25 +100,7 @@ is_stream messages h = record {
   closes = IsWord-big_bytes 0 (omega arith);
 }
 
--- ---- records are longer than their bodies
-
-carried_size : (parts : List (List ℕ)) (bytes : List ℕ) → Joins (IsFragment false) bytes parts
-    → length (concat parts) ≤ length bytes
-carried_size [] bytes h = omega arith
-carried_size (part ∷ parts) bytes h =
-    omega (arith, carried_size parts h.1 h.4, ap length h.2, ap length h.3.1, length-append {A = ℕ})
-
-record_size : (bytes body : List ℕ) → IsRecord bytes body → 4 + length body ≤ length bytes
-record_size bytes body h =
-    omega (
-      arith,
-      carried_size h.fragments h.front h.joined,
-      ap length h.carried,
-      ap length h.split,
-      ap length h.closes.1,
-      h.closes.2.word,
-      length-append {A = ℕ},
-    )
+-- ---- messages and their bodies
 
 module _ {M : Type 0} (items : M → List Item) (Is : List ℕ → M → Type 0)
     (spelled : (body : List ℕ) (m : M) → Is body m → Spells (items m) body) where

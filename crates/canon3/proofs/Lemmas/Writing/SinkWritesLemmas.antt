@@ -1,5 +1,5 @@
 -- What a sink has taken of bytes, piece by piece.
-use Rattle.canon3.proofs.Common.{◌≡◌, ℕ, List, [], ◌++◌, ◌∙◌, ap, append_assoc, append-nil, drop, subst, sym, length, length-drop, length-take, take, take-append-drop, arith, ◌+◌, ◌-◌, ◌^◌, ◌≤◌, Appends, word_bytes, chunk_bytes, record_bytes, AppendsFront, Appends-trans, TookUpTo}
+use Rattle.canon3.proofs.Common.{◌≡◌, ℕ, List, [], ◌++◌, ◌∙◌, ap, append_assoc, append-nil, drop, subst, sym, length, length-append, length-drop, length-take, take, take-append-drop, arith, ◌+◌, ◌-◌, ◌^◌, ◌≤◌, Appends, word_bytes, chunk_bytes, record_bytes, AppendsFront, Appends-trans, TookUpTo}
 use Rattle.std.proofs.lemmas.List.{drop-append-le, drop-take, take_all}
 use Rattle.std.proofs.Math.Seq.{take-append-add}
 use Rattle.std.specs.Prelude.{Option}
@@ -49,6 +49,16 @@ pub record_split : (front body : List ℕ)
 record_split front body is =
     let size : length (record_bytes body) ≡ 4 + length body = omega arith in
     ap (λ n. word_bytes n ++ record_bytes body) size ∙ ap (λ (l : List ℕ). l ++ body) (sym is)
+
+-- the same, where the body is in two parts
+pub parts_split : (head front back : List ℕ) (len : ℕ) → len ≡ length front + length back
+    → head ≡ word_bytes (4 + len) ++ word_bytes (2 ^ 31 + len)
+    → chunk_bytes (record_bytes (front ++ back)) ≡ (head ++ front) ++ back
+parts_split head front back len size is =
+    let all : len ≡ length (front ++ back) = size ∙ sym (length-append front back) in
+    record_split head (front ++ back)
+    (subst (λ n. head ≡ word_bytes (4 + n) ++ word_bytes (2 ^ 31 + n)) all is)
+    ∙ sym (append_assoc head front back)
 
 head_set : (count end : ℕ) (head room rest : List ℕ) → length head ≡ count → count ≤ end
     → end ≤ length room

@@ -447,10 +447,3 @@ pub settled : {T E V : Type 0} (P : V → Type 0) (written result : Result T E) 
     → OnOk result (P new)
 settled P (Ok x) result between new same stays p = rw same (subst P (sym stays) p)
 settled P (Err e) result between new same stays p = rw same tt
-
-pub adds_settled : {S H T E : Type 0} (was between new : MessageWriter S H) (items : List Item)
-    {written result : Result T E} → result ≡ written → OnOk written (new ≡ between)
-    → OnOk written (Adds WriterStands was between items)
-    → OnOk result (Adds WriterStands was new items)
-adds_settled was between new items same stays =
-    settled (λ n. Adds WriterStands was n items) _ _ between new same stays

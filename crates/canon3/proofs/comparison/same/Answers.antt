@@ -1,4 +1,4 @@
-use Rattle.canon3.proofs.Common.{[], arith, rules, sym, ◌≡◌, ◌∙◌, source_of, prefix_of_kept, prefix_of_told}
+use Rattle.canon3.proofs.Common.{[], rules, sym, ◌≡◌, ◌∙◌, source_of, prefix_of_kept, prefix_of_told}
 use Rattle.canon3.proofs.Lemmas.Comparison.ComparisonLemmas.{decides_all, fresh}
 use Rattle.canon3.proofs.comparison.same.Goals as goal
 
@@ -10,9 +10,6 @@ compared-result-requires-clause-begins g c = record {
   second_given = fresh g.B.Source.told c.through-others.result c.through-others.ensures.stands;
   compared = search rules;
 }
-
-pub compared-result-requires-clause-room : goal.compared-result-requires-clause-room
-compared-result-requires-clause-room g c = omega (arith, c.through-entries.ensures.stands.few)
 
 -- the readers gave back the sources that they were lent
 pub returns : goal.returns

@@ -1,15 +1,6 @@
-use Rattle.canon3.proofs.Common.{[], gave_none, sym, ◌≡◌, ◌∙◌, source_of, prefix_of_kept, prefix_of_told}
+use Rattle.canon3.proofs.Common.{sym, ◌≡◌, ◌∙◌, source_of, prefix_of_kept, prefix_of_told}
 use Rattle.canon3.proofs.Lemmas.Progress.SummaryLemmas.{concluded, nothing_concluded}
 use Rattle.canon3.proofs.summary.check.Goals as goal
-
-pub summed-result-requires-clause-begins : goal.summed-result-requires-clause-begins
-summed-result-requires-clause-begins g c tally tallied = record {
-  given = [];
-  handed = [];
-  consumed = gave_none (g.R.Source.told (source_of c.through-entries.result));
-  stands = c.through-entries.ensures.stands;
-  tallied = tallied;
-}
 
 -- the reader gave back the source that it was lent
 pub returns : goal.returns

@@ -118,14 +118,3 @@ holds_numbered ways old new seen own n d is given others = holds_more ways old n
     step c numbered held =
         subst (λ o. HoldsAt new (position c) (seen c ++ value_where c o n)) (sym is)
         (same_or_other c held)
-
--- before a capture
-pub holds_none : (ways : Ways) (tables : List (List ℕ))
-    → ((c : Class) → get_or tables (position c) [] ≡ []) → HoldsValues ways tables no_values
-holds_none ways tables none c numbered = none c
-
--- no other table has changed
-pub others_stay : (old new : List (List ℕ)) (i place : ℕ) (table : List ℕ)
-    → new ≡ slice_set old i table → place ≢ i → get_or new place [] ≡ get_or old place []
-others_stay old new i place table is other =
-    ap (λ (l : List (List ℕ)). get_or l place []) is ∙ get_or-set_other old i place table [] other

@@ -110,7 +110,6 @@ module _ {P S H : Type 0} (ways : Ways) (w : MaskingWriter P S H) where
         classes = classes;
         writer = bytes;
         spot = spot;
-        unnamed = w.unnamed;
         failed = w.failed;
         plan = w.plan;
       }

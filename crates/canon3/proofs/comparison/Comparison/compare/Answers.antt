@@ -6,15 +6,11 @@ use Rattle.canon3.proofs.comparison.Comparison.compare.Goals as goal
 
 pub returns-then-branch-clause-compares : goal.returns-then-branch-clause-compares
 returns-then-branch-clause-compares g c a b e f of other_of first second told =
-    let n = c.spelling_of_entry.new.message_writer in
-    let m = c.spelling_of_entry-2.new.message_writer in
-    let form = c.in-Ok.form in
-    let other_form = c.in-Ok-spelling_of_entry.form in
     let s = c.in-Ok.ensures a e of first told.first in
     let t = c.in-Ok-spelling_of_entry.ensures b f other_of second told.second in
     let alike = rw c.if-branch.true at c.in_ok-are_alike.ensures.alike in
     record {
-      agree = agree_on n m form other_form a b e f first second s t told.agree alike;
+      agree = agree_on _ _ _ _ a b e f first second s t told.agree alike;
       first =
           c.begin_message.ensures.stands (values_of (a ++ e ∷ []))
           (c.in_ok-are_alike.ensures.holds (values_of (a ++ e ∷ [])) s.holds);
@@ -28,12 +24,8 @@ returns-then-branch-clause-compares g c a b e f of other_of first second told =
 
 pub returns-clause-compares : goal.returns-clause-compares
 returns-clause-compares g c a b e f of other_of first second told =
-    let n = c.spelling_of_entry.new.message_writer in
-    let m = c.spelling_of_entry-2.new.message_writer in
-    let form = c.in-Ok.form in
-    let other_form = c.in-Ok-spelling_of_entry.form in
     let unlike = rw c.if-branch.false at c.in_ok-are_alike.ensures.alike in
-    parts_here n m form other_form a b e f first second
+    parts_here _ _ _ _ a b e f first second
     (c.in-Ok.ensures a e of first told.first)
     (c.in-Ok-spelling_of_entry.ensures b f other_of second told.second)
     told.agree c.args.self.now.progress c.place.result unlike told.progress

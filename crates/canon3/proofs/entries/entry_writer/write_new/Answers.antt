@@ -1,4 +1,4 @@
-use Rattle.canon3.proofs.Common.{arith, inl, source_of, error_is}
+use Rattle.canon3.proofs.Common.{arith, inl, source_of}
 use Rattle.std.proofs.KnownBytes.{Appends-kept}
 use Rattle.canon3.proofs.Lemmas.Writing.SinkWritesLemmas.{whole_front}
 use Rattle.canon3.proofs.entries.entry_writer.write_new.Goals as goal
@@ -38,9 +38,3 @@ returns-in-Err-clause-ends g c =
       consumed = done.ended.consumed;
       stopped = (done.handed, inl done.ended.typed, whole_front old _ _ whole);
     }
-
-pub returns-in_err-write_rest-clause-ends : goal.returns-in_err-write_rest-clause-ends
-returns-in_err-write_rest-clause-ends g c =
-    rw (error_is _ _ c.from_residual.ensures) (c.in_err-write_rest.ensures.over
-    (g.R.Source.told (source_of c.args.entries.now)) (g.W.Sink.written c.args.sink.now)
-    (c.requires.begins _ c.new-counts.ensures.counts))

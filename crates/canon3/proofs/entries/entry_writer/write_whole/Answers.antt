@@ -1,21 +1,6 @@
-use Rattle.canon3.proofs.Common.{[], sym, ◌≡◌, ◌∙◌, source_of, gave_none, Appends-nil}
+use Rattle.canon3.proofs.Common.{[], sym, ◌≡◌, ◌∙◌, source_of, gave_none}
 use Rattle.canon3.proofs.Lemmas.Writing.EntryWriterLemmas.{nothing_written}
 use Rattle.canon3.proofs.entries.entry_writer.write_whole.Goals as goal
-
-pub write_new-result-requires-clause-begins : goal.write_new-result-requires-clause-begins
-write_new-result-requires-clause-begins g c counts came = record {
-  given = [];
-  handed = [];
-  consumed = gave_none (g.R.Source.told (source_of c.through-entries.result));
-  reads = c.through-entries.ensures.stands;
-  writes =
-      record {
-        goes = c.requires.well;
-        stands_for = c.requires.new;
-        came = came;
-        written = rw c.requires.empty (Appends-nil _);
-      };
-}
 
 -- the reader gave back the source that it was lent
 pub returns : goal.returns

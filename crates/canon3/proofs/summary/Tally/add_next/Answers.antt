@@ -1,18 +1,25 @@
-use Rattle.canon3.proofs.Common.{List, [], ◌∷◌, ◌++◌, subst, sym, gave_both, Item, Adds, source_of, all_items, Gathers}
+use Rattle.canon3.proofs.Common.{List, [], ◌∷◌, ◌++◌, subst, sym, error_is, gave_on, Item, Adds, all_items, Gathers}
 use Rattle.canon3.proofs.Lemmas.Progress.SummaryLemmas.{items_with_last}
 use Rattle.canon3.proofs.summary.Tally.add_next.Goals as goal
 
-pub returns-in-Ok-Some-clause-goes_on : goal.returns-in-Ok-Some-clause-goes_on
+pub returns-in_err-kind-clause-goes_on : goal.returns-in_err-kind-clause-goes_on
+returns-in_err-kind-clause-goes_on g c first u =
+    let a = c.in_err-kind.ensures.answers u.given u.handed u.stands in
+    rw (error_is _ _ c.from_residual.ensures) (
+      u.given ++ a.more,
+      gave_on first u.consumed a,
+      (u.handed, a.hands_out.0),
+    )
+
+pub returns-in-Some-clause-goes_on : goal.returns-in-Some-clause-goes_on
 unfolding Adds
-returns-in-Ok-Some-clause-goes_on g c first u =
-    let a = c.in-Ok-Some.ensures.answers u.given u.handed u.stands in
-    let (one, is, reached, adds, stands) = rw c.in-Ok-Some.field-0-is at a.hands_out in
+returns-in-Some-clause-goes_on g c first u =
+    let a = c.in_ok-kind.ensures.answers u.given u.handed u.stands in
+    let (one, is, reached, adds, stands) = rw c.in-Some.is at a.hands_out in
     record {
       given = u.given ++ a.more;
       handed = u.handed ++ one ∷ [];
-      consumed =
-          gave_both first (g.R.Source.told (source_of c.args.entries.now))
-          (g.R.Source.told (source_of c.next.new.self)) u.given a.more u.consumed a.consumed;
+      consumed = gave_on first u.consumed a;
       stands = stands;
       tallied = record {
         counts = c.add.ensures.counts u.handed one is u.tallied.counts;
@@ -22,29 +29,18 @@ returns-in-Ok-Some-clause-goes_on g c first u =
       };
     }
 
-pub returns-in-Err-clause-goes_on : goal.returns-in-Err-clause-goes_on
-returns-in-Err-clause-goes_on g c first u =
-    let a = c.in-Err.ensures.answers u.given u.handed u.stands in (
-      u.given ++ a.more,
-      gave_both first (g.R.Source.told (source_of c.args.entries.now))
-          (g.R.Source.told (source_of c.next.new.self)) u.given a.more u.consumed a.consumed,
-      (u.handed, a.hands_out.0),
-    )
-
-pub returns-in-Ok-None-clause-goes_on : goal.returns-in-Ok-None-clause-goes_on
-returns-in-Ok-None-clause-goes_on g c first u =
-    let a = c.in-Ok-None.ensures.answers u.given u.handed u.stands in
-    let (typed, ended, stands) = rw c.in-Ok-None.field-0-is at a.hands_out in
+pub returns-in-None-clause-goes_on : goal.returns-in-None-clause-goes_on
+returns-in-None-clause-goes_on g c first u =
+    let a = c.in_ok-kind.ensures.answers u.given u.handed u.stands in
+    let (typed, ended, stands) = rw c.in-None.is at a.hands_out in
     record {
       given = u.given ++ a.more;
       handed = u.handed;
-      consumed =
-          gave_both first (g.R.Source.told (source_of c.args.entries.now))
-          (g.R.Source.told (source_of c.next.new.self)) u.given a.more u.consumed a.consumed;
+      consumed = gave_on first u.consumed a;
       ended = ended;
       typed = typed;
       tallied = record {
         counts = u.tallied.counts;
-        handles = rw (c.in-Ok-None.ensures.untold c.in-Ok-None.field-0-is) u.tallied.handles;
+        handles = rw (c.in_ok-kind.ensures.untold c.in-None.is) u.tallied.handles;
       };
     }

@@ -48,14 +48,13 @@ returns-clause-writes g c old entries one of first few came told written =
     let is =
     is_after g.P.Plan.ways c.args.self.now (flat_map told_entry entries) (items_of one)
     (entry_side one) (last_begins entries one first) c.if-self.false stands in (
-      c.begin_message.ensures.going (c.in_ok-write_entry.ensures.going c.if-self.false),
+      c.begin_message.ensures.going c.if-self.false,
       subst
           (λ (l : List Item).
           MaskStands g.P.Plan.ways c.begin_message.new.self (after_messages l []))
           (sym (before_with_last entries one)) (c.begin_message.ensures.stands
           (flat_map told_entry entries) (items_of one) (entry_side one)
-          (last_begins entries one first) (c.in_ok-write_entry.ensures.stands
-          (after_messages (flat_map told_entry entries) (items_of one)) stands)),
+          (last_begins entries one first) stands),
       all_written g.P.Plan.ways old (g.W.Sink.written c.args.sink.now)
           (g.W.Sink.written c.write_magic.new.sink) (g.W.Sink.written c.write_entry.new.sink)
           entries one

@@ -1,4 +1,4 @@
-use Rattle.masking3.proofs.Common.{refl, ap, sym, ◌∙◌, ◌++◌, [], append-nil, None, Some, on_ok_weaker, big_bytes, Fixed}
+use Rattle.masking3.proofs.Common.{refl, ap, sym, ◌∙◌, ◌++◌, [], append-nil, on_ok_weaker, big_bytes, Fixed}
 use Rattle.masking3.proofs.Lemmas.Writing.WriterLemmas.{adds_of_class, stays_found}
 use Rattle.masking3.proofs.masking_writer.MaskingWriter.write_masked_fixed.Goals as goal
 
@@ -7,14 +7,12 @@ returns-in-Some g c =
     let i = Fixed c.args.name.now c.args.bytes.now in
     record {
       ok = on_ok_weaker c.fixed.result
-          (adds_of_class g.P.Plan.ways c.args.self.now c.fixed_class-class.result
-          c.read_u64-value.result c.substitute.new.self c.fixed.new.self c.args.self.now.spot i
-          (Fixed c.args.name.now c.write_u64.new.buf) (Some c.in-Some.substitute)
+          (adds_of_class g.P.Plan.ways c.args.self.now _ _ _ _ _ i _ _
           c.read_u64-value.ensures refl c.substitute.ensures.ways (
             c.fixed_class-class.ensures c.args.bytes.now,
             stays_found g.P.Plan.ways c.args.self.now i tt,
           )
-          (λ seen h. c.in_ok-substitute.ensures.holds seen h)
+          c.in_ok-substitute.ensures.holds
           (λ seen h. sym c.in-Some.is ∙ c.in_ok-substitute.ensures.stands seen h)
           (ap (Fixed c.args.name.now) (sym (c.write_u64.ensures
           ∙ (ap (λ n. big_bytes 8 n ++ []) c.from.ensures
@@ -27,13 +25,12 @@ returns-in-None g c =
     let i = Fixed c.args.name.now c.args.bytes.now in
     record {
       ok = on_ok_weaker c.fixed-in-None.result
-          (adds_of_class g.P.Plan.ways c.args.self.now c.fixed_class-class.result
-          c.read_u64-value.result c.substitute.new.self c.fixed-in-None.new.self
-          c.args.self.now.spot i i None c.read_u64-value.ensures refl c.substitute.ensures.ways (
+          (adds_of_class g.P.Plan.ways c.args.self.now _ _ _ _ _ i _ _
+          c.read_u64-value.ensures refl c.substitute.ensures.ways (
             c.fixed_class-class.ensures c.args.bytes.now,
             stays_found g.P.Plan.ways c.args.self.now i tt,
           )
-          (λ seen h. c.in_ok-substitute.ensures.holds seen h)
+          c.in_ok-substitute.ensures.holds
           (λ seen h. sym c.in-None.is ∙ c.in_ok-substitute.ensures.stands seen h) refl)
           c.fixed-in-None.ensures.ok;
     }

@@ -1,4 +1,4 @@
-use Rattle.masking3.proofs.Common.{refl, sym, ◌∙◌, None, Some, on_ok_weaker, Word}
+use Rattle.masking3.proofs.Common.{refl, sym, ◌∙◌, on_ok_weaker, Word}
 use Rattle.masking3.proofs.Lemmas.Writing.WriterLemmas.{adds_of_class}
 use Rattle.masking3.proofs.masking_writer.MaskingWriter.write_masked_word.Goals as goal
 
@@ -7,12 +7,10 @@ returns-in-Some g c =
     let i = Word c.args.name.now c.args.n in
     record {
       ok = on_ok_weaker c.word.result
-          (adds_of_class g.P.Plan.ways c.args.self.now c.word_class-class.result c.from.result
-          c.substitute.new.self c.word.new.self c.spot_after-self.result i
-          (Word c.args.name.now c.in-Some.substitute) (Some c.in-Some.substitute) c.from.ensures
-          refl c.substitute.ensures.ways
+          (adds_of_class g.P.Plan.ways c.args.self.now _ _ _ _ _ i _ _ c.from.ensures refl
+          c.substitute.ensures.ways
           (c.word_class-class.ensures c.args.n, c.spot_after-self.ensures)
-          (λ seen h. c.in_ok-substitute.ensures.holds seen h)
+          c.in_ok-substitute.ensures.holds
           (λ seen h. sym c.in-Some.is ∙ c.in_ok-substitute.ensures.stands seen h) refl)
           c.word.ensures.ok;
     }
@@ -22,11 +20,10 @@ returns-in-None g c =
     let i = Word c.args.name.now c.args.n in
     record {
       ok = on_ok_weaker c.word-in-None.result
-          (adds_of_class g.P.Plan.ways c.args.self.now c.word_class-class.result c.from.result
-          c.substitute.new.self c.word-in-None.new.self c.spot_after-self.result i i None
-          c.from.ensures refl c.substitute.ensures.ways
+          (adds_of_class g.P.Plan.ways c.args.self.now _ _ _ _ _ i _ _ c.from.ensures refl
+          c.substitute.ensures.ways
           (c.word_class-class.ensures c.args.n, c.spot_after-self.ensures)
-          (λ seen h. c.in_ok-substitute.ensures.holds seen h)
+          c.in_ok-substitute.ensures.holds
           (λ seen h. sym c.in-None.is ∙ c.in_ok-substitute.ensures.stands seen h) refl)
           c.word-in-None.ensures.ok;
     }

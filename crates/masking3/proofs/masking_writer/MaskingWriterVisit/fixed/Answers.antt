@@ -3,12 +3,8 @@ use Rattle.masking3.proofs.masking_writer.MaskingWriterVisit.fixed.Goals as goal
 
 pub returns-clause-ok : goal.returns-clause-ok
 returns-clause-ok g c =
-    settled
-    (λ n.
-    Adds
-    (MaskStands {P = g.row.P.Denot} {S = g.row.S.Denot} {H = g.row.S-Hasher.Denot}
-    g.P.Plan.ways) c.args.self.now n (Fixed c.args.name.now c.args.bytes.now ∷ []))
-    c.write_masked_fixed-written.result c.fail_for_good.result
-    c.write_masked_fixed-written.new.self c.fail_for_good.new.self
-    c.fail_for_good.ensures.result c.fail_for_good.ensures.ok
+    settled (λ n.
+    Adds (MaskStands g.P.Plan.ways) c.args.self.now n
+    (Fixed c.args.name.now c.args.bytes.now ∷ []))
+    _ _ _ _ c.fail_for_good.ensures.result c.fail_for_good.ensures.ok
     c.write_masked_fixed-written.ensures.ok

@@ -3,12 +3,7 @@ use Rattle.masking3.proofs.masking_writer.MaskingWriterVisit.hyper.Goals as goal
 
 pub returns-clause-ok : goal.returns-clause-ok
 returns-clause-ok g c =
-    settled
-    (λ n.
-    Adds
-    (MaskStands {P = g.row.P.Denot} {S = g.row.S.Denot} {H = g.row.S-Hasher.Denot}
-    g.P.Plan.ways) c.args.self.now n (Hyper c.args.name.now c.args.n ∷ []))
-    c.write_masked_hyper-written.result c.fail_for_good.result
-    c.write_masked_hyper-written.new.self c.fail_for_good.new.self
-    c.fail_for_good.ensures.result c.fail_for_good.ensures.ok
+    settled (λ n.
+    Adds (MaskStands g.P.Plan.ways) c.args.self.now n (Hyper c.args.name.now c.args.n ∷ []))
+    _ _ _ _ c.fail_for_good.ensures.result c.fail_for_good.ensures.ok
     c.write_masked_hyper-written.ensures.ok

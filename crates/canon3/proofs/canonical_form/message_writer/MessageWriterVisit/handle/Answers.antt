@@ -1,4 +1,4 @@
-use Rattle.canon3.proofs.Lemmas.Writing.Visiting.{adds_empty_handle, adds_settled, is_none}
+use Rattle.canon3.proofs.Lemmas.Writing.Visiting.{adds_empty_handle, is_none}
 use Rattle.canon3.proofs.canonical_form.message_writer.MessageWriterVisit.handle.Goals as goal
 
 pub returns-then-is_empty-clause-ok : goal.returns-then-is_empty-clause-ok
@@ -6,8 +6,3 @@ returns-then-is_empty-clause-ok g c =
     adds_empty_handle c.args.self.now c.keep.new.self c.args._name.now c.args.bytes.now
     (is_none c.args.bytes.now c.is_empty.result c.is_empty.ensures c.if-is_empty.true)
     c.keep.ensures
-
-pub returns-clause-ok : goal.returns-clause-ok
-returns-clause-ok g c =
-    adds_settled _ _ _ _ c.fail_for_good.ensures.result c.fail_for_good.ensures.ok
-    (c.note_handle-noted.ensures.ok c.args._name.now)

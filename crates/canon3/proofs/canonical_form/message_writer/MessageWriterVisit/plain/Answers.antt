@@ -7,6 +7,3 @@ returns-in-Goes g c = record {
       adds_run c.args.self.now c.keep.new.self c.args.fields.now c.args.bytes.now
       _ (after_xid c.args.self.now c.keep.new.self c.in-Goes.is) c.requires c.keep.ensures;
 }
-
-pub returns-in-Begins : goal.returns-in-Begins
-returns-in-Begins g c = record { ok = c.note_first.ensures }

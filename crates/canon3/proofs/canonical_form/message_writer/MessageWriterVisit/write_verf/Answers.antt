@@ -1,7 +1,0 @@
-use Rattle.canon3.proofs.Lemmas.Writing.Visiting.{adds_settled}
-use Rattle.canon3.proofs.canonical_form.message_writer.MessageWriterVisit.write_verf.Goals as goal
-
-pub returns-clause-ok : goal.returns-clause-ok
-returns-clause-ok g c =
-    adds_settled _ _ _ _ c.fail_for_good.ensures.result c.fail_for_good.ensures.ok
-    (c.note_verifier-noted.ensures.ok c.args._name.now)
