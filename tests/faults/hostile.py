@@ -24,7 +24,7 @@ from typing import IO
 
 sys.path.insert(0, str(pathlib.Path(__file__).resolve().parents[1] / 'shared'))
 from outputs import PART  # noqa: E402
-from running import LIMIT, Answer, RunOptions, Runs, ended, pipe_of, try_tests  # noqa: E402
+from running import LIMIT, Answer, RunOptions, Runs, ended, pipe_of, pipe_without_reader, try_tests  # noqa: E402
 from texts import mixed  # noqa: E402
 import messages  # noqa: E402
 from messages import CLIENT, MAGIC_2, NFS, NFSACL, call, dirop, fh, fragment, hyper, in_turn, interleaved, success, word  # noqa: E402
@@ -262,8 +262,7 @@ def pipes_that_do_not_wait(place: Place) -> None:
 def standard_error_that_nobody_reads(place: Place) -> None:
     """The status still tells."""
     place.write('a', messages.MAGIC)
-    reader, writer = os.pipe()
-    os.close(reader)
+    writer = pipe_without_reader()
     place.want('check', place.run('check', 'a', stderr=writer), (2, '', ''))
     os.close(writer)
 

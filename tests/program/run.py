@@ -43,7 +43,7 @@ import threading
 from collections.abc import Callable
 
 sys.path.insert(0, str(pathlib.Path(__file__).resolve().parents[1] / 'shared'))
-from running import Ended, RunOptions, ended, program_named, try_all, words_of  # noqa: E402
+from running import Ended, RunOptions, ended, pipe_without_reader, program_named, try_all, words_of  # noqa: E402
 from texts import bytes_of, capture_of, mixed_of  # noqa: E402
 
 HERE = pathlib.Path(__file__).resolve().parent
@@ -233,9 +233,7 @@ def run_in(case: Case, program: str, folder: str) -> Ended:
         if case.stdin:
             options['stdin'] = opened.enter_context(open(os.path.join(folder, case.stdin), 'rb'))
         if case.stdout == 'closed-pipe':
-            reader, writer = os.pipe()
-            os.close(reader)
-            options['stdout'] = opened.enter_context(open(writer, 'wb'))
+            options['stdout'] = opened.enter_context(open(pipe_without_reader(), 'wb'))
         elif case.stdout:
             mode = 'ab' if case.stdout.startswith('>>') else 'wb'
             options['stdout'] = opened.enter_context(open(os.path.join(folder, case.stdout.lstrip('> ')), mode))

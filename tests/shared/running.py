@@ -7,6 +7,7 @@ import concurrent.futures
 import functools
 import os
 import pathlib
+import select
 import subprocess
 import sys
 import tempfile
@@ -57,6 +58,17 @@ def pipe_of(pipe: IO[bytes] | None) -> IO[bytes]:
     """A pipe with which a run was begun."""
     assert pipe is not None
     return pipe
+
+
+def pipe_without_reader() -> int:
+    """Where to write to a pipe that nobody reads. A child that another thread begins has its other end too, until it execs."""
+    reader, writer = os.pipe()
+    os.close(reader)
+    waiting = select.poll()
+    waiting.register(writer, 0)  # that nobody reads is an error, which is told in any case
+    if not waiting.poll(1000 * LIMIT):
+        raise TimeoutError('somebody reads the pipe')
+    return writer
 
 
 def ended(words: Sequence[str | bytes], folder: str | pathlib.Path, **options: Unpack[RunOptions]) -> Ended:
