@@ -3,3 +3,4 @@ pub mod ClassTables
 pub mod MessageSpot
 pub mod MaskingWriter
 pub mod UnnamedBody
+pub mod KnownFields

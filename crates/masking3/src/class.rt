@@ -3,7 +3,7 @@
 ghost use Rattle.std.specs.Prelude.{◌≡◌, ℕ, List};
 ghost use Rattle.masking3.specs.Classes.{class_in_wcc, class_of_fixed, class_of_group, class_of_hyper, class_of_word, position, zero_stays};
 ghost use Rattle.masking3.specs.machinery.MessageSpot.{class_found};
-ghost use Rattle.xdr3.specs.Item.{Fixed, Hyper, Word};
+ghost use Rattle.xdr3.specs.Item.{Fixed, Hyper};
 
 use crate::spot::Spot;
 
@@ -71,7 +71,7 @@ fn class_of_group(spot: Spot) -> Option<Class>
 }
 
 /// Returns the class of a size, or of a count of links.
-fn class_in_wcc(spot: Spot) -> Option<Class>
+pub(crate) fn class_in_wcc(spot: Spot) -> Option<Class>
     ensures { result ≡ class_in_wcc spot }
 {
     match spot {
@@ -82,7 +82,7 @@ fn class_in_wcc(spot: Spot) -> Option<Class>
 
 /// Returns the class of a word of this name.
 #[tactic(auto, unfolding(nfs3_types::specs::Names::names, rpc_head::specs::Names::head_names))]
-fn class_of_word(spot: Spot, name: &str) -> Option<Class>
+pub(crate) fn class_of_word(spot: Spot, name: &str) -> Option<Class>
     ensures { result ≡ class_of_word spot name.now }
 {
     match name {
@@ -95,16 +95,6 @@ fn class_of_word(spot: Spot, name: &str) -> Option<Class>
         "group" => class_of_group(spot),
         "nlink" => class_in_wcc(spot),
         _ => None,
-    }
-}
-
-/// Returns the class of a word of this name, if its spot is known.
-pub(crate) fn word_class(spot: Option<Spot>, name: &str) -> Option<Class>
-    ensures { (n : ℕ) → result ≡ class_found spot (Word name.now n) }
-{
-    match spot {
-        Some(spot) => class_of_word(spot, name),
-        None => None,
     }
 }
 

@@ -1,6 +1,7 @@
 //! The numbers of the values of each class.
 
 ghost use Rattle.std.specs.Prelude.{◌≡◌, ◌≢◌, ◌++◌, ◌∷◌, ℕ, List, [], Some, get_or, min, nat_eq, slice_set, IfOk, OnOk};
+ghost use Rattle.std.specs.Option.{unwrap_or};
 ghost use Rattle.capture3.specs.Rank.{number_limit, rank};
 ghost use Rattle.masking3.specs.Classes.{position};
 ghost use Rattle.masking3.specs.Masked.{number_among, substitute, value_where};
@@ -51,6 +52,7 @@ impl<S: BuildHasher + Drop> ClassTables<S> {
     }
 
     /// Returns what replaces a value of the class, if its way replaces it.
+    #[inline(always)]
     pub(crate) fn substitute(
         &mut self,
         class: Option<Class>,
@@ -76,7 +78,36 @@ impl<S: BuildHasher + Drop> ClassTables<S> {
         }
     }
 
+    /// Returns a word of the class, or of none, or what replaces it.
+    #[inline(always)]
+    pub(crate) fn replaced_word(&mut self, class: Option<Class>, n: u32) -> Result<u32, AllocError>
+        ensures ways { self.new.ways ≡ self.old.ways }
+        ensures put { (seen : Class → List ℕ)
+            → HoldsValues self.old.ways (tables_in self.old) seen → IfOk result
+            (λ m. m ≡ unwrap_or (substitute self.old.ways (with_one seen class n) class n) n) }
+        ensures holds { (seen : Class → List ℕ)
+            → HoldsValues self.old.ways (tables_in self.old) seen → OnOk result
+            (HoldsValues self.new.ways (tables_in self.new) (with_one seen class n)) }
+    {
+        Ok(self.substitute(class, u64::from(n))?.unwrap_or(n))
+    }
+
+    /// Does the same of a number of eight bytes.
+    #[inline(always)]
+    pub(crate) fn replaced_hyper(&mut self, class: Option<Class>, n: u64) -> Result<u64, AllocError>
+        ensures ways { self.new.ways ≡ self.old.ways }
+        ensures put { (seen : Class → List ℕ)
+            → HoldsValues self.old.ways (tables_in self.old) seen → IfOk result
+            (λ m. m ≡ unwrap_or (substitute self.old.ways (with_one seen class n) class n) n) }
+        ensures holds { (seen : Class → List ℕ)
+            → HoldsValues self.old.ways (tables_in self.old) seen → OnOk result
+            (HoldsValues self.new.ways (tables_in self.new) (with_one seen class n)) }
+    {
+        Ok(self.substitute(class, n)?.map_or(n, u64::from))
+    }
+
     /// Returns the number of a value of a class that is numbered.
+    #[inline(always)]
     fn number(&mut self, class: Class, n: u64) -> Result<u32, AllocError>
         ensures ways { self.new.ways ≡ self.old.ways }
         ensures number { (seen : List ℕ) → HoldsAt (tables_in self.old) (position class) seen

@@ -1,10 +1,12 @@
 //! Captures in which the values that no two runs share are zero, or numbers by their first appearance.
 #![tactic(auto)]
 
+mod attributes;
 mod class;
 mod class_tables;
 pub mod examples;
 mod hashers;
+mod kept;
 pub mod laws;
 mod masked_form;
 mod masking_writer;

@@ -1,8 +1,9 @@
 //! The writer of the masked form, one message at a time.
 
-ghost use Rattle.std.specs.Prelude.{◌≡◌, ◌≤◌, ◌++◌, ◌∷◌, List, [], length, true, IfErr, OnErr, OnOk};
+ghost use Rattle.std.specs.Prelude.{◌≡◌, ◌≤◌, ◌++◌, ◌∷◌, List, [], None, Some, length, true, IfErr, OnErr, OnOk};
 ghost use Rattle.std.specs.Io.KnownBytes.{Appends};
 ghost use Rattle.xdr3.specs.Item.{Fixed, Handle as HandleKind, Hyper, Item, Opaque, Word};
+ghost use Rattle.xdr3.specs.Plain.{run_items, run_size};
 ghost use Rattle.xdr3.specs.Visit.{Adds};
 ghost use Rattle.canon3.specs.Bytes.{chunk_bytes, record_bytes};
 ghost use Rattle.canon3.specs.SinkWrites.{AppendsFront};
@@ -13,10 +14,12 @@ ghost use Rattle.masking3.specs.machinery.MaskingWriter.{HasMemory, MaskStands, 
 ghost use Rattle.masking3.specs.machinery.MessageSpot.{BeginsOn, first_spot};
 ghost use Rattle.masking3.specs.machinery.UnnamedBody.{body_by};
 
-use crate::class::{fixed_class, hyper_class, word_class};
+use crate::attributes::are_attributes;
+use crate::class::{class_of_word, fixed_class, hyper_class};
 use crate::class_tables::ClassTables;
 use crate::hashers::ClassHashers;
-use crate::spot::{Spot, spot_after};
+use crate::kept::{are_kept, is_free_name};
+use crate::spot::{Spot, first_found, spot_after};
 use crate::texts::masked_text;
 use crate::unnamed_body::write_unnamed;
 use crate::ways::{Way, Ways};
@@ -26,7 +29,7 @@ use capture3::{Error, Kind};
 use std::alloc::{AllocError, Global};
 use std::hash::BuildHasher;
 use std::marker::{Brand, PhantomData};
-use xdr3::{Visit, Writer};
+use xdr3::{PlainField, Visit, Writer};
 
 /// Stands for ways that are known only when the program runs.
 pub(crate) trait Plan {
@@ -87,16 +90,30 @@ impl<P: Plan, S: BuildHasher + Drop> MaskingWriter<P, S> {
         self.spot = None;
     }
 
-    fn write_masked_word(&mut self, name: &'static str, n: u32) -> Result<(), AllocError>
+    /// Writes a word up to the mtype, none of which has a class.
+    fn write_first(&mut self, name: &'static str, n: u32) -> Result<(), AllocError>
+        requires { self.old.spot ≡ None }
         ensures ok { OnOk result
             (Adds (MaskStands P.ways) self.old self.new (Word name.now n ∷ [])) }
     {
-        let class = word_class(self.spot, name);
-        self.spot = spot_after(self.spot, class, name, n);
-        match self.classes.substitute(class, u64::from(n))? {
-            Some(substitute) => self.writer.word(name, substitute),
-            None => self.writer.word(name, n),
-        }
+        self.spot = first_found(name, n);
+        self.writer.word(name, n)
+    }
+
+    fn write_masked_word(
+        &mut self,
+        spot: Spot,
+        name: &'static str,
+        n: u32,
+    ) -> Result<(), AllocError>
+        requires { self.old.spot ≡ Some spot }
+        ensures ok { OnOk result
+            (Adds (MaskStands P.ways) self.old self.new (Word name.now n ∷ [])) }
+    {
+        let class = class_of_word(spot, name);
+        self.spot = Some(spot_after(spot, class, name, n));
+        let put = self.classes.replaced_word(class, n)?;
+        self.writer.word(name, put)
     }
 
     fn write_masked_hyper(&mut self, name: &'static str, n: u64) -> Result<(), AllocError>
@@ -104,10 +121,8 @@ impl<P: Plan, S: BuildHasher + Drop> MaskingWriter<P, S> {
             (Adds (MaskStands P.ways) self.old self.new (Hyper name.now n ∷ [])) }
     {
         let class = hyper_class(self.spot, name);
-        match self.classes.substitute(class, n)? {
-            Some(substitute) => self.writer.hyper(name, u64::from(substitute)),
-            None => self.writer.hyper(name, n),
-        }
+        let put = self.classes.replaced_hyper(class, n)?;
+        self.writer.hyper(name, put)
     }
 
     fn write_masked_fixed(&mut self, name: &'static str, bytes: &[u8; 8]) -> Result<(), AllocError>
@@ -124,6 +139,43 @@ impl<P: Plan, S: BuildHasher + Drop> MaskingWriter<P, S> {
             }
             None => self.writer.fixed(name, bytes),
         }
+    }
+
+    /// Writes a word, with what replaces it. Says nothing more of the tables after an error.
+    #[inline(never)]
+    fn write_word(&mut self, name: &'static str, n: u32) -> Result<(), AllocError>
+        ensures ok { OnOk result
+            (Adds (MaskStands P.ways) self.old self.new (Word name.now n ∷ [])) }
+        ensures err { OnErr result (self.new.failed ≡ true) }
+    {
+        let written = match self.spot {
+            Some(spot) => self.write_masked_word(spot, name, n),
+            None => self.write_first(name, n),
+        };
+        self.fail_for_good(written)
+    }
+
+    /// Writes words and hypers, each by itself.
+    #[inline(never)]
+    fn write_each(&mut self, fields: &[PlainField], bytes: &[u8]) -> Result<(), AllocError>
+        requires { length bytes.now ≡ run_size fields.now }
+        ensures { OnOk result
+            (Adds (MaskStands P.ways) self.old self.new (run_items fields.now bytes.now)) }
+    {
+        let mut rest = bytes;
+        for field in fields {
+            match *field {
+                PlainField::Word(name) => {
+                    self.word(name, BigEndian::read_u32(rest))?;
+                    rest = &rest[4..];
+                }
+                PlainField::Hyper(name) => {
+                    self.hyper(name, BigEndian::read_u64(rest))?;
+                    rest = &rest[8..];
+                }
+            }
+        }
+        Ok(())
     }
 
     /// Writes a handle as it is, and gathers it.
@@ -189,9 +241,13 @@ impl<P: Plan, S: BuildHasher + Drop> Visit for MaskingWriter<P, S> {
 
     ghost stands = { MaskStands P.ways };
 
+    // In line, so that names that are constants are not compared.
+    #[inline(always)]
     fn word(&mut self, name: &'static str, n: u32) -> Result<(), AllocError> {
-        let written = self.write_masked_word(name, n);
-        self.fail_for_good(written)
+        if is_free_name(name) {
+            return self.writer.word(name, n);
+        }
+        self.write_word(name, n)
     }
 
     fn hyper(&mut self, name: &'static str, n: u64) -> Result<(), AllocError> {
@@ -224,5 +280,18 @@ impl<P: Plan, S: BuildHasher + Drop> Visit for MaskingWriter<P, S> {
 
     fn rest(&mut self, name: &'static str, bytes: &[u8]) -> Result<(), AllocError> {
         self.writer.rest(name, bytes)
+    }
+
+    // In line, as a word is.
+    #[inline(always)]
+    fn plain(&mut self, fields: &[PlainField], bytes: &[u8]) -> Result<(), AllocError> {
+        if are_kept(fields, self.classes.ways.owners) {
+            return self.writer.plain(fields, bytes);
+        }
+        let written = match self.spot {
+            Some(spot) if are_attributes(fields) => self.write_attributes(spot, bytes),
+            _ => self.write_each(fields, bytes),
+        };
+        self.fail_for_good(written)
     }
 }

@@ -2,8 +2,9 @@
 
 ghost use Rattle.std.specs.Prelude.{◌≡◌, None};
 ghost use Rattle.xdr3.specs.Item.{Word};
+ghost use Rattle.masking3.specs.Classes.{class_of_word};
 ghost use Rattle.masking3.specs.Spots.{after_word, next_spot};
-ghost use Rattle.masking3.specs.machinery.MessageSpot.{class_found, found_next};
+ghost use Rattle.masking3.specs.machinery.MessageSpot.{found_next};
 
 use crate::class::Class;
 
@@ -47,36 +48,20 @@ fn after_word(spot: Spot, name: &str, n: u32) -> Spot
     }
 }
 
-/// Returns the spot of what follows a word of this name in a message. There is none up to the mtype. A word that has
-/// a class leaves the spot as it is.
-pub(crate) fn spot_after(
-    spot: Option<Spot>,
-    class: Option<Class>,
-    name: &str,
-    n: u32,
-) -> Option<Spot>
-    requires { class ≡ class_found spot (Word name.now n) }
-    ensures { result ≡ found_next spot (Word name.now n) }
+/// Returns the spot of what follows a word of this name. A word that has a class leaves the spot as it is.
+pub(crate) fn spot_after(spot: Spot, class: Option<Class>, name: &str, n: u32) -> Spot
+    requires { class ≡ class_of_word spot name.now }
+    ensures { result ≡ next_spot spot (Word name.now n) }
 {
     match class {
         Some(_) => spot,
-        None => found_next(spot, name, n),
+        None => spot.next(name, n),
     }
 }
 
-/// Returns the same for a word of any class, or of none.
-fn found_next(spot: Option<Spot>, name: &str, n: u32) -> Option<Spot>
-    ensures { result ≡ found_next spot (Word name.now n) }
-{
-    match spot {
-        Some(spot) => Some(spot.next(name, n)),
-        None => first_found(name, n),
-    }
-}
-
-/// Returns the first spot after an mtype, which is 0 in a call (RFC 5531, section 9).
+/// Returns the spot after a word up to the mtype. There is none before that, which is 0 in a call (RFC 5531, section 9).
 #[tactic(auto, unfolding(rpc_head::specs::Names::head_names))]
-fn first_found(name: &str, n: u32) -> Option<Spot>
+pub(crate) fn first_found(name: &str, n: u32) -> Option<Spot>
     ensures { result ≡ found_next None (Word name.now n) }
 {
     match name {

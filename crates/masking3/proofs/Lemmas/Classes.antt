@@ -4,3 +4,4 @@ pub mod FewValues
 pub mod FirstEntries
 pub mod SpotLemmas
 pub mod MessageSpotLemmas
+pub mod KnownFieldLemmas

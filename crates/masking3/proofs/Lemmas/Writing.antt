@@ -2,3 +2,4 @@
 pub mod WriterLemmas
 pub mod FormLemmas
 pub mod ToldItems
+pub mod RunLemmas

@@ -1,5 +1,5 @@
 -- Where the items of a message stand.
-use Rattle.masking3.proofs.Common.{◌≡◌, ℕ, true, List, [], ◌∷◌, ◌++◌, refl, sym, ap, ◌∙◌, subst, append_assoc, bytes_eq-Decides, Item, Word, Hyper, Fixed, WriteVerf, Opaque, Rest, head_names, names, Side, Client, Server, by_test, cond_either, Class, Spot, InCall, InReply, InDirectory, InWcc, Ways, class_of, class_of_word, masked_item, masked_items, value_in, values_in, ⊤, ◌==◌, bytes_eq, fold, None, Some, after_word, next_spot}
+use Rattle.masking3.proofs.Common.{◌≡◌, ℕ, false, true, List, [], ◌∷◌, ◌++◌, refl, sym, ap, ◌∙◌, subst, append_assoc, bytes_eq-Decides, Item, Word, Hyper, Fixed, WriteVerf, Opaque, Rest, head_names, names, Side, Client, Server, by_test, cond_either, Class, Spot, InCall, InReply, InDirectory, InWcc, Ways, class_of, class_of_word, masked_item, masked_items, value_in, values_in, ⊤, ◌==◌, bytes_eq, fold, None, Some, after_word, next_spot}
 
 -- the spot after items
 abbrev pub spot_after : Spot → List Item → Spot
@@ -63,6 +63,14 @@ still spot i d is =
     by_next (λ s. s ≡ spot) spot i refl
     (λ name n e. word_still spot name n d (subst (λ k. class_of spot k ≡ Some d) e is))
 
+-- a word that is neither a `before` nor a `type` moves nowhere
+pub still_name : (spot : Spot) (name : List ℕ) (n : ℕ) → bytes_eq name names.before ≡ false
+    → bytes_eq name names.type ≡ false → next_spot spot (Word name n) ≡ spot
+still_name InCall name n f g = refl
+still_name InReply name n f g = rw (f, g) refl
+still_name InDirectory name n f g = rw (f, g) refl
+still_name InWcc name n f g = refl
+
 -- a word of this name has no class, and moves nowhere
 pub record IsFree (name : List ℕ) : Type 0 where
   pub classless : (spot : Spot) → class_of_word spot name ≡ None
@@ -74,10 +82,7 @@ xid_classless spot = refl
 
 xid_moves_not : (spot : Spot) (n : ℕ) → next_spot spot (Word head_names.xid n) ≡ spot
 unfolding names head_names
-xid_moves_not InCall n = refl
-xid_moves_not InReply n = refl
-xid_moves_not InDirectory n = refl
-xid_moves_not InWcc n = refl
+xid_moves_not spot n = still_name spot head_names.xid n refl refl
 
 pub xid_free : IsFree head_names.xid
 xid_free = record { classless = xid_classless; moves_not = xid_moves_not }
@@ -88,10 +93,7 @@ mtype_classless spot = refl
 
 mtype_moves_not : (spot : Spot) (n : ℕ) → next_spot spot (Word head_names.mtype n) ≡ spot
 unfolding names head_names
-mtype_moves_not InCall n = refl
-mtype_moves_not InReply n = refl
-mtype_moves_not InDirectory n = refl
-mtype_moves_not InWcc n = refl
+mtype_moves_not spot n = still_name spot head_names.mtype n refl refl
 
 pub mtype_free : IsFree head_names.mtype
 mtype_free = record { classless = mtype_classless; moves_not = mtype_moves_not }

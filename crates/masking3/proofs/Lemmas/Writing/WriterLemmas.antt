@@ -1,10 +1,13 @@
 -- A message is masked item by item.
-use Rattle.masking3.proofs.Common.{◌≡◌, ℕ, List, [], ◌∷◌, ◌++◌, length, map, refl, sym, ap, ap₂, ◌∙◌, subst, append_assoc, append-nil, arith, Option, None, Some, flat_map, flat_map-append, map-append, Item, Word, Hyper, Fixed, WriteVerf, Opaque, Rest, zero_spelling, Side, Spot, Ways, Class, class_of, class_value, masked_item, masked_items, substitute, value_in, value_where, values_in, with_value, with_text, HoldsValues, tables_in, with_one, handle_in, handles_in, member-append_right, BeginsOn, class_found, first_spot, found_next, Adds, Keeps, Gathers, HoldsHandles, after_messages, HasMaskedUnderWay, HasMemory, MaskStands, told_items, told_value, values_so_far}
+use Rattle.masking3.proofs.Common.{◌≡◌, ℕ, List, [], ◌∷◌, ◌++◌, length, map, refl, sym, ap, ap₂, ◌∙◌, subst, append_assoc, append-nil, arith, Option, None, Some, flat_map, flat_map-append, map-append, Item, Word, Hyper, Fixed, WriteVerf, Opaque, Rest, zero_spelling, Side, Spot, Ways, Class, class_of, class_value, masked_item, masked_items, substitute, value_in, value_where, values_in, with_value, with_text, HoldsAt, HoldsValues, position, tables_in, with_one, handle_in, handles_in, member-append_right, BeginsOn, class_found, first_spot, found_after, found_next, Adds, Keeps, Gathers, HoldsHandles, after_messages, HasMaskedUnderWay, HasMemory, MaskStands, told_items, told_value, values_so_far}
 use Rattle.nfs3_types.specs.declared.values.handle.Handle as handles
 use Rattle.canon3.proofs.Lemmas.Numbers.HandleTableLemmas.{gathers_none}
 use Rattle.masking3.specs.declared.class_tables.ClassTables.{ClassTables}
 use Rattle.masking3.specs.declared.masking_writer.MaskingWriter.{MaskingWriter}
+use Rattle.std.proofs.lemmas.List.Sums.{fold-append}
+use Rattle.std.specs.Option.{unwrap_or}
 use Rattle.masking3.proofs.Lemmas.Classes.ClassLemmas.{holds_without, seen_alike}
+use Rattle.masking3.proofs.Lemmas.Classes.KnownFieldLemmas.{AreKept, kept_found, kept_handles, kept_masked, kept_texts, kept_values}
 use Rattle.masking3.proofs.Lemmas.Classes.MessageSpotLemmas.{begins_before, found_class, found_more}
 use Rattle.masking3.proofs.Lemmas.Classes.SpotLemmas.{IsNoWord, masked_items-append, spot_after, still_after, values_in-append}
 use Rattle.masking3.proofs.Lemmas.Masked.MaskedLemmas.{ItemsAreAmong, items_among, items_stay}
@@ -13,6 +16,17 @@ use Rattle.masking3.proofs.Lemmas.Writing.ToldItems.{told_handles, told_values}
 -- the bytes spell the items
 abbrev pub Spells : List ℕ → List Item → Type 0
 Spells bytes items = bytes ≡ zero_spelling items
+
+-- a number with what replaces it
+pub word_with : (ways : Ways) (name : List ℕ) (v n m : ℕ) (o : Option ℕ) → n ≡ v
+    → m ≡ unwrap_or o n → with_text ways (with_value (Word name v) o) ≡ Word name m
+word_with ways name v n m None same is = ap (Word name) (sym (is ∙ same))
+word_with ways name v n m (Some k) same is = ap (Word name) (sym is)
+
+pub hyper_with : (ways : Ways) (name : List ℕ) (v n m : ℕ) (o : Option ℕ) → n ≡ v
+    → m ≡ unwrap_or o n → with_text ways (with_value (Hyper name v) o) ≡ Hyper name m
+hyper_with ways name v n m None same is = ap (Hyper name) (sym (is ∙ same))
+hyper_with ways name v n m (Some k) same is = ap (Hyper name) (sym is)
 
 -- ---- items in front
 
@@ -53,6 +67,19 @@ module _ (side : Side) where
       (first_spot side) items (i ∷ [])
       ∙ ap (λ (l : List ℕ). values_in d (first_spot side) items ++ l)
       (append-nil (value_in d (spot_of_next items) i)))))
+
+  so_far_grown : (front items more : List Item)
+      → (λ d. values_so_far front side items d ++ values_in d (spot_of_next items) more)
+      ≡ values_so_far front side (items ++ more)
+  so_far_grown front items more =
+      seen_alike
+      (λ d. values_so_far front side items d ++ values_in d (spot_of_next items) more)
+      (values_so_far front side (items ++ more))
+      (λ d.
+      append_assoc (flat_map (told_value d) front) (values_in d (first_spot side) items)
+      (values_in d (spot_of_next items) more)
+      ∙ ap (λ (l : List ℕ). flat_map (told_value d) front ++ l)
+      (sym (values_in-append d (first_spot side) items more)))
 
   among_so_far : (front items : List Item)
       → ItemsAreAmong (values_so_far front side items) (first_spot side) items
@@ -259,26 +286,38 @@ module _ {P S H : Type 0} (ways : Ways) (w : MaskingWriter P S H) where
 
   -- an item that may have a class, and has no handle
   pub adds_of_class : (own : Option Class) (n : ℕ) (classes : ClassTables S H) (bytes : List ℕ)
-      (spot : Option Spot) (i j : Item) (o : Option ℕ) → n ≡ class_value i
-      → handles_in (i ∷ []) ≡ [] → classes.ways ≡ w.classes.ways
-      → IsFound own w.handles classes bytes spot i
+      (spot : Option Spot) (i j : Item) → n ≡ class_value i → handles_in (i ∷ []) ≡ []
+      → classes.ways ≡ w.classes.ways → IsFound own w.handles classes bytes spot i
       → ((seen : Class → List ℕ) → HoldsValues w.classes.ways (tables_in w.classes) seen
       → HoldsValues classes.ways (tables_in classes) (with_one seen own n))
       → ((seen : Class → List ℕ) → HoldsValues w.classes.ways (tables_in w.classes) seen
-      → o ≡ substitute w.classes.ways (with_one seen own n) own n)
-      → with_text w.classes.ways (with_value i o) ≡ j → Adds Spells w.writer bytes (j ∷ [])
+      → with_text w.classes.ways
+      (with_value i (substitute w.classes.ways (with_one seen own n) own n)) ≡ j)
+      → Adds Spells w.writer bytes (j ∷ [])
       → Adds (MaskStands ways) w (with_parts w.handles classes bytes spot) (i ∷ [])
-  adds_of_class own n classes bytes spot i j o value none same found tables is with_it write =
+  adds_of_class own n classes bytes spot i j value none same found tables is write =
       adds own w.handles classes bytes spot i same found
       (λ seen h.
       subst (λ m. HoldsValues classes.ways (tables_in classes) (with_one seen own m)) value
       (tables seen h)) (λ items g. gathers_none w.handles items (i ∷ []) none g)
       (λ seen h.
-      let put_is : o
-      ≡ substitute w.classes.ways (with_one seen own (class_value i)) own (class_value i) =
-      is seen h ∙ ap (λ m. substitute w.classes.ways (with_one seen own m) own m) value in
-      subst (λ k. Adds Spells w.writer bytes (k ∷ []))
-      (sym with_it ∙ ap (λ p. with_text w.classes.ways (with_value i p)) put_is) write)
+      subst
+      (λ m.
+      Adds Spells w.writer bytes (with_text w.classes.ways
+      (with_value i (substitute w.classes.ways (with_one seen own m) own m)) ∷ []))
+      value (subst (λ k. Adds Spells w.writer bytes (k ∷ [])) (sym (is seen h)) write))
+
+  -- a word up to the mtype has no class
+  pub adds_first : (bytes name : List ℕ) (n : ℕ) (spot : Option Spot) → w.spot ≡ None
+      → spot ≡ found_next None (Word name n) → Adds Spells w.writer bytes (Word name n ∷ [])
+      → Adds (MaskStands ways) w (with_parts w.handles w.classes bytes spot) (Word name n ∷ [])
+  adds_first bytes name n spot none moved write =
+      let i : Item = Word name n in
+      adds None w.handles w.classes bytes spot i refl
+      (ap (λ o. class_found o i) (sym none), moved ∙ ap (λ o. found_next o i) (sym none))
+      (λ seen h.
+      holds_without w.classes.ways (tables_in w.classes) seen None n refl h)
+      (λ items g. gathers_none w.handles items (i ∷ []) refl g) (λ seen h. write)
 
   -- ---- an item that is no word moves nowhere
 
@@ -328,3 +367,61 @@ module _ {P S H : Type 0} (ways : Ways) (w : MaskingWriter P S H) where
   unfolding Adds
   adds_handle gathered bytes i other none gathers write =
       adds_classless gathered bytes i other none gathers write
+
+  -- ---- words that stay
+
+  pub adds_kept : (bytes : List ℕ) (items : List Item) → AreKept w.classes.ways items
+      → Adds Spells w.writer bytes items
+      → Adds (MaskStands ways) w (with_parts w.handles w.classes bytes w.spot) items
+  unfolding Adds
+  adds_kept bytes items all_kept write all stands going =
+      let (front, own, are, is) = stands going in
+      let texts : List Item → List Item = map (with_text ways) in (
+        front,
+        own ++ items,
+        ap (λ (l : List Item). l ++ items) are ∙ after_messages-append front own items,
+        (λ side begins.
+            let h = is side (begins_before side own items begins) in
+            let kept : AreKept ways items =
+            subst (λ k. AreKept k items) h.ways_are all_kept in
+            let so_far : Class → List ℕ = values_so_far front side own in
+            let later : Spot = spot_of_next side own in
+            let first : Spot = first_spot side in
+            let before : List Item = masked_items ways so_far first own in
+            let grown : Class → List ℕ = λ d. so_far d ++ values_in d later items in
+            let masked : before ++ items ≡ masked_items ways grown first (own ++ items) =
+            ap₂ (λ (l m : List Item). l ++ m)
+            (sym (items_stay ways so_far (λ d. values_in d later items) first own
+            (among_so_far side front own)))
+            (sym (kept_masked ways grown later items kept))
+            ∙ sym (masked_items-append ways grown first own items) in
+            let whole : texts before ++ items
+            ≡ texts (masked_items ways grown first (own ++ items)) =
+            ap (λ (l : List Item). texts before ++ l) (sym (kept_texts ways items kept))
+            ∙ sym (map-append (with_text ways) before items) ∙ ap texts masked in
+            record {
+              ways_are = h.ways_are;
+              tables =
+                  subst (HoldsValues ways (tables_in w.classes)) (so_far_grown side front own items)
+                  (λ d numbered.
+                  subst (HoldsAt (tables_in w.classes) (position d))
+                  (sym (ap (λ (l : List ℕ). so_far d ++ l)
+                  (kept_values ways d later items numbered kept) ∙ append-nil (so_far d)))
+                  (h.tables d numbered));
+              handles =
+                  subst (Gathers w.handles) (append_assoc front own items)
+                  (gathers_none w.handles (front ++ own) items (kept_handles ways items kept)
+                  h.handles);
+              spot_is =
+                  h.spot_is
+                  ∙ sym (fold-append found_next None own items
+                  ∙ kept_found ways (found_after own) items kept);
+              written =
+                  subst
+                  (λ (seen : Class → List ℕ).
+                  bytes
+                  ≡ zero_spelling (texts (masked_items ways seen first (own ++ items))))
+                  (so_far_grown side front own items)
+                  (write (texts before) h.written ∙ ap zero_spelling whole);
+            }),
+      )

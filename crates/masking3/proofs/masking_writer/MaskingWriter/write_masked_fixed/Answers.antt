@@ -1,4 +1,4 @@
-use Rattle.masking3.proofs.Common.{refl, ap, sym, ◌∙◌, ◌++◌, [], append-nil, on_ok_weaker, big_bytes, Fixed}
+use Rattle.masking3.proofs.Common.{refl, ap, sym, ◌∙◌, ◌++◌, [], append-nil, on_ok_weaker, big_bytes, with_text, with_value, Fixed}
 use Rattle.masking3.proofs.Lemmas.Writing.WriterLemmas.{adds_of_class, stays_found}
 use Rattle.masking3.proofs.masking_writer.MaskingWriter.write_masked_fixed.Goals as goal
 
@@ -7,14 +7,16 @@ returns-in-Some g c =
     let i = Fixed c.args.name.now c.args.bytes.now in
     record {
       ok = on_ok_weaker c.fixed.result
-          (adds_of_class g.P.Plan.ways c.args.self.now _ _ _ _ _ i _ _
+          (adds_of_class g.P.Plan.ways c.args.self.now _ _ _ _ _ i _
           c.read_u64-value.ensures refl c.substitute.ensures.ways (
             c.fixed_class-class.ensures c.args.bytes.now,
             stays_found g.P.Plan.ways c.args.self.now i tt,
           )
           c.in_ok-substitute.ensures.holds
-          (λ seen h. sym c.in-Some.is ∙ c.in_ok-substitute.ensures.stands seen h)
-          (ap (Fixed c.args.name.now) (sym (c.write_u64.ensures
+          (λ seen h.
+          ap (λ o. with_text c.args.self.now.classes.ways (with_value i o))
+          (sym (c.in_ok-substitute.ensures.stands seen h) ∙ c.in-Some.is)
+          ∙ ap (Fixed c.args.name.now) (sym (c.write_u64.ensures
           ∙ (ap (λ n. big_bytes 8 n ++ []) c.from.ensures
           ∙ append-nil (big_bytes 8 c.in-Some.substitute))))))
           c.fixed.ensures.ok;
@@ -25,12 +27,14 @@ returns-in-None g c =
     let i = Fixed c.args.name.now c.args.bytes.now in
     record {
       ok = on_ok_weaker c.fixed-in-None.result
-          (adds_of_class g.P.Plan.ways c.args.self.now _ _ _ _ _ i _ _
+          (adds_of_class g.P.Plan.ways c.args.self.now _ _ _ _ _ i _
           c.read_u64-value.ensures refl c.substitute.ensures.ways (
             c.fixed_class-class.ensures c.args.bytes.now,
             stays_found g.P.Plan.ways c.args.self.now i tt,
           )
           c.in_ok-substitute.ensures.holds
-          (λ seen h. sym c.in-None.is ∙ c.in_ok-substitute.ensures.stands seen h) refl)
+          (λ seen h.
+          ap (λ o. with_text c.args.self.now.classes.ways (with_value i o))
+          (sym (c.in_ok-substitute.ensures.stands seen h) ∙ c.in-None.is)))
           c.fixed-in-None.ensures.ok;
     }

@@ -1,29 +1,18 @@
-use Rattle.masking3.proofs.Common.{refl, sym, ◌∙◌, on_ok_weaker, Word}
-use Rattle.masking3.proofs.Lemmas.Writing.WriterLemmas.{adds_of_class}
+use Rattle.masking3.proofs.Common.{refl, on_ok_weaker, Word}
+use Rattle.masking3.proofs.Lemmas.Classes.KnownFieldLemmas.{word_found}
+use Rattle.masking3.proofs.Lemmas.Writing.WriterLemmas.{adds_of_class, word_with}
 use Rattle.masking3.proofs.masking_writer.MaskingWriter.write_masked_word.Goals as goal
 
-pub returns-in-Some : goal.returns-in-Some
-returns-in-Some g c =
-    let i = Word c.args.name.now c.args.n in
+pub returns : goal.returns
+returns g c =
+    let w = c.args.self.now in
     record {
       ok = on_ok_weaker c.word.result
-          (adds_of_class g.P.Plan.ways c.args.self.now _ _ _ _ _ i _ _ c.from.ensures refl
-          c.substitute.ensures.ways
-          (c.word_class-class.ensures c.args.n, c.spot_after-self.ensures)
-          c.in_ok-substitute.ensures.holds
-          (λ seen h. sym c.in-Some.is ∙ c.in_ok-substitute.ensures.stands seen h) refl)
-          c.word.ensures.ok;
-    }
-
-pub returns-in-None : goal.returns-in-None
-returns-in-None g c =
-    let i = Word c.args.name.now c.args.n in
-    record {
-      ok = on_ok_weaker c.word-in-None.result
-          (adds_of_class g.P.Plan.ways c.args.self.now _ _ _ _ _ i _ _ c.from.ensures refl
-          c.substitute.ensures.ways
-          (c.word_class-class.ensures c.args.n, c.spot_after-self.ensures)
-          c.in_ok-substitute.ensures.holds
-          (λ seen h. sym c.in-None.is ∙ c.in_ok-substitute.ensures.stands seen h) refl)
-          c.word-in-None.ensures.ok;
+          (adds_of_class g.P.Plan.ways w _ _ _ _ _ (Word c.args.name.now c.args.n) _ refl refl
+          c.replaced_word.ensures.ways
+          (word_found w.spot c.args.spot _ _ _ _ c.requires c.class_of_word-class.ensures
+          c.spot_after.ensures) c.in_ok-put.ensures.holds
+          (λ seen h.
+          word_with w.classes.ways c.args.name.now c.args.n _ _ _ refl
+          (c.in_ok-put.ensures.put seen h))) c.word.ensures.ok;
     }

@@ -1,0 +1,293 @@
+-- Fields whose classes are known by their names.
+use Rattle.masking3.proofs.Common.{◌≡◌, ℕ, ◌+◌, true, false, Bool, ◌||◌, List, [], ◌∷◌, ◌++◌, refl, sym, ap, ap₂, ◌∙◌, subst, by_test, and_parts, bytes_eq, bytes_eq-Decides, drop, fold, map, list_all, AllByRecursion, Option, None, Some, Item, Word, Hyper, Fixed, WriteVerf, Opaque, Rest, Class, Spot, Ways, head_names, names, class_of, class_of_hyper, class_of_word, class_value, big_number, substitute, value_where, values_in, masked_items, with_text, with_value, handle_in, handles_in, next_spot, class_found, found_next, Way, Keep, Number, Zero, way_of, InCall, InReply, InDirectory, InWcc}
+use Rattle.std.proofs.lemmas.List.{drop-drop}
+use Rattle.std.specs.List.{list_any}
+use Rattle.std.proofs.Common.{Bor}
+use Rattle.xdr3.specs.declared.plain.PlainField.{PlainField}
+use Rattle.xdr3.specs.declared.plain.PlainField.TheVariants as fields
+use Rattle.xdr3.specs.Plain.{run_items, run_size}
+use Rattle.masking3.specs.Classes.{class_of_group, is_one_of, names_of_owners, names_of_times}
+use Rattle.masking3.specs.declared.class.Class.TheVariants.{Owners}
+use Rattle.masking3.specs.machinery.KnownFields.{IsKeptItem, IsKnown, attribute_fields, attribute_items, is_free_field, is_free_name, is_kept_field, is_kept_name, is_owner_name, owner_names, named, numbered_from}
+use Rattle.masking3.specs.machinery.UnnamedBody.{body_word}
+use Rattle.masking3.proofs.Lemmas.Classes.ClassLemmas.{none_of_other}
+use Rattle.masking3.proofs.Lemmas.Classes.SpotLemmas.{still_after, still_name}
+
+-- ---- words that stay
+
+-- a word that begins nothing moves nowhere
+moves_nowhere : (name : List ℕ) → bytes_eq name head_names.mtype ≡ false
+    → bytes_eq name names.before ≡ false → bytes_eq name names.type ≡ false
+    → (o : Option Spot) (n : ℕ) → o ≡ found_next o (Word name n)
+moves_nowhere name e f g None n = rw e refl
+moves_nowhere name e f g (Some spot) n = ap Some (sym (still_name spot name n f g))
+
+module _ (name : List ℕ) (free : is_free_name name ≡ true) where
+  apart : (other : List ℕ) → is_free_name other ≡ false → bytes_eq name other ≡ false
+  apart other not_free = by_test (bytes_eq name other)
+      (λ t. let same : name ≡ other = (bytes_eq-Decides name other).0 t in
+      absurd (cc (free, not_free, same)))
+      (λ f. f)
+
+  none_of : (others : List (List ℕ)) → AllByRecursion (λ other. is_free_name other ≡ false) others
+      → list_any (bytes_eq name) others ≡ false
+  none_of [] all = refl
+  none_of (other ∷ others) (f, all) = rw (apart other f, none_of others all) refl
+
+  free_classless : (spot : Spot) → class_of_word spot name ≡ None
+  unfolding names head_names
+  free_classless spot =
+      rw (
+        none_of names_of_times (refl, (refl, (refl, (refl, (refl, (refl, tt)))))),
+        none_of (head_names.stamp ∷ []) (refl, tt),
+        none_of (names.invarsec ∷ []) (refl, tt),
+        none_of names_of_owners (refl, (refl, tt)),
+        none_of (head_names.group ∷ []) (refl, tt),
+        none_of (names.nlink ∷ []) (refl, tt),
+      ) refl
+
+  free_moves_not : (o : Option Spot) (n : ℕ) → o ≡ found_next o (Word name n)
+  unfolding names head_names
+  free_moves_not =
+      moves_nowhere name (apart head_names.mtype refl) (apart names.before refl)
+      (apart names.type refl)
+
+-- the class is none, or that of users and groups
+abbrev IsOwned : Option Class → Type 0
+IsOwned o = (d : Class) → o ≡ Some d → d ≡ Owners
+
+-- a word of this name is a user or a group, if it has a class, and moves nowhere
+record IsOwnerName (name : List ℕ) : Type 0 where
+  owned : (spot : Spot) → IsOwned (class_of_word spot name)
+  owner_moves_not : (o : Option Spot) (n : ℕ) → o ≡ found_next o (Word name n)
+
+group_owned : (spot : Spot) → IsOwned (class_of_group spot)
+group_owned InCall d is = cc
+group_owned InReply d is = absurd cc
+group_owned InDirectory d is = absurd cc
+group_owned InWcc d is = absurd cc
+
+uid_is_owner : IsOwnerName names.uid
+unfolding names head_names
+uid_is_owner =
+    record { owned = λ spot d is. cc; owner_moves_not = moves_nowhere names.uid refl refl refl }
+
+gid_is_owner : IsOwnerName names.gid
+unfolding names head_names
+gid_is_owner =
+    record { owned = λ spot d is. cc; owner_moves_not = moves_nowhere names.gid refl refl refl }
+
+group_is_owner : IsOwnerName head_names.group
+unfolding names head_names
+group_is_owner =
+    record { owned = group_owned; owner_moves_not = moves_nowhere head_names.group refl refl refl }
+
+free_is_owner : (name : List ℕ) → is_free_name name ≡ true → IsOwnerName name
+free_is_owner name free = record {
+  owned = λ spot d is. absurd (cc (is, free_classless name free spot));
+  owner_moves_not = free_moves_not name free;
+}
+
+among_owners : (name : List ℕ) → is_owner_name name ≡ true → IsOwnerName name
+among_owners name t = by_test (bytes_eq name names.uid)
+    (λ u. subst IsOwnerName (sym ((bytes_eq-Decides name names.uid).0 u)) uid_is_owner)
+    (λ u. by_test (bytes_eq name names.gid)
+    (λ g. subst IsOwnerName (sym ((bytes_eq-Decides name names.gid).0 g)) gid_is_owner)
+    (λ g. by_test (bytes_eq name head_names.group)
+    (λ r. subst IsOwnerName (sym ((bytes_eq-Decides name head_names.group).0 r)) group_is_owner)
+    (λ r. free_is_owner name (rw (u, g, r) at t))))
+
+-- ---- items that stay
+
+-- the item has no class whose values change, no handle and no text that is masked, and moves nowhere
+record Stays (ways : Ways) (i : Item) : Type 0 where
+  keeps : (spot : Spot) (d : Class) → class_of spot i ≡ Some d → way_of ways d ≡ Keep
+  moves_not : (o : Option Spot) → o ≡ found_next o i
+  no_handle : handle_in i ≡ []
+  same_text : with_text ways i ≡ i
+
+name_stays : (ways : Ways) (name : List ℕ) → is_kept_name ways.owners name ≡ true → (n : ℕ)
+    → Stays ways (Word name n)
+name_stays ways name kept n = of_way ways.owners refl kept
+  where
+    of_free : is_free_name name ≡ true → Stays ways (Word name n)
+    of_free t = record {
+      keeps = λ spot d is. absurd (cc (is, free_classless name t spot));
+      moves_not = λ o. free_moves_not name t o n;
+      no_handle = refl;
+      same_text = refl;
+    }
+
+    of_way : (owners : Way) → ways.owners ≡ owners → is_kept_name owners name ≡ true
+        → Stays ways (Word name n)
+    of_way Keep are t =
+        let h = among_owners name t in
+        record {
+          keeps = λ spot d is. ap (way_of ways) (h.owned spot d is) ∙ are;
+          moves_not = λ o. h.owner_moves_not o n;
+          no_handle = refl;
+          same_text = refl;
+        }
+    of_way Zero are t = of_free t
+    of_way Number are t = of_free t
+
+stays : (ways : Ways) (i : Item) → IsKeptItem ways.owners i → Stays ways i
+stays ways (Word name n) kept = name_stays ways name kept n
+stays ways (Hyper name n) kept = absurd kept
+stays ways (Fixed name bytes) kept = absurd kept
+stays ways (WriteVerf name bytes) kept = absurd kept
+stays ways (Opaque kind name bytes) kept = absurd kept
+stays ways (Rest name bytes) kept = absurd kept
+
+abbrev pub AreKept : Ways → List Item → Type 0
+AreKept ways items = AllByRecursion (IsKeptItem ways.owners) items
+
+or_true : (b : Bool) → (b || true) ≡ true
+or_true true = refl
+or_true false = refl
+
+module _ (ways : Ways) where
+  kept_value : (d : Class) (o : Option Class) (n : ℕ) → way_of ways d ≡ Number
+      → ((e : Class) → o ≡ Some e → way_of ways e ≡ Keep) → value_where d o n ≡ []
+  kept_value d None n numbered keeps = refl
+  kept_value d (Some e) n numbered keeps =
+      none_of_other d e n (λ same. absurd (cc (numbered, keeps e refl, ap (way_of ways) same)))
+
+  pub kept_values : (d : Class) (spot : Spot) (items : List Item) → way_of ways d ≡ Number
+      → AreKept ways items → values_in d spot items ≡ []
+  kept_values d spot [] numbered all = refl
+  kept_values d spot (i ∷ items) numbered (kept, all) =
+      ap₂ (λ (l m : List ℕ). l ++ m)
+      (kept_value d (class_of spot i) (class_value i) numbered ((stays ways i kept).keeps spot))
+      (kept_values d (next_spot spot i) items numbered all)
+
+  kept_item : (seen : Class → List ℕ) (o : Option Class) (i : Item)
+      → ((e : Class) → o ≡ Some e → way_of ways e ≡ Keep)
+      → with_value i (substitute ways seen o (class_value i)) ≡ i
+  kept_item seen None i keeps = refl
+  kept_item seen (Some e) i keeps = rw (keeps e refl) refl
+
+  pub kept_masked : (seen : Class → List ℕ) (spot : Spot) (items : List Item)
+      → AreKept ways items → masked_items ways seen spot items ≡ items
+  kept_masked seen spot [] all = refl
+  kept_masked seen spot (i ∷ items) (kept, all) =
+      ap₂ (λ (j : Item) (l : List Item). j ∷ l)
+      (kept_item seen (class_of spot i) i ((stays ways i kept).keeps spot))
+      (kept_masked seen (next_spot spot i) items all)
+
+  pub kept_texts : (items : List Item) → AreKept ways items → map (with_text ways) items ≡ items
+  kept_texts [] all = refl
+  kept_texts (i ∷ items) (kept, all) =
+      ap₂ (λ (j : Item) (l : List Item). j ∷ l) (stays ways i kept).same_text
+      (kept_texts items all)
+
+  pub kept_handles : (items : List Item) → AreKept ways items → handles_in items ≡ []
+  kept_handles [] all = refl
+  kept_handles (i ∷ items) (kept, all) =
+      ap₂ (λ (l m : List (List ℕ)). l ++ m) (stays ways i kept).no_handle (kept_handles items all)
+
+  pub kept_found : (o : Option Spot) (items : List Item) → AreKept ways items
+      → fold found_next o items ≡ o
+  kept_found o [] all = refl
+  kept_found o (i ∷ items) (kept, all) =
+      kept_found (found_next o i) items all ∙ sym ((stays ways i kept).moves_not o)
+
+kept_field : (owners : Way) (name : Bor (List ℕ)) → is_kept_field owners (fields.Word name)
+    ≡ is_kept_name owners name.now
+kept_field Keep name = refl
+kept_field Zero name = refl
+kept_field Number name = refl
+
+no_hyper : (owners : Way) (name : Bor (List ℕ)) → is_kept_field owners (fields.Hyper name) ≡ false
+no_hyper Keep name = refl
+no_hyper Zero name = refl
+no_hyper Number name = refl
+
+pub kept_run : (owners : Way) (all : List PlainField) (bytes : List ℕ)
+    → list_all (is_kept_field owners) all ≡ true
+    → AllByRecursion (IsKeptItem owners) (run_items all bytes)
+kept_run owners [] bytes t = tt
+kept_run owners (fields.Word name ∷ more) bytes t =
+    let parts = and_parts (is_kept_field owners (fields.Word name))
+    (list_all (is_kept_field owners) more) t in
+    (sym (kept_field owners name) ∙ parts.0, kept_run owners more (drop 4 bytes) parts.1)
+kept_run owners (fields.Hyper name ∷ more) bytes t =
+    let parts = and_parts (is_kept_field owners (fields.Hyper name))
+    (list_all (is_kept_field owners) more) t in
+    absurd (cc (parts.0, no_hyper owners name))
+
+pub free_name_is_kept : (owners : Way) (name : List ℕ) → is_free_name name ≡ true
+    → is_kept_name owners name ≡ true
+free_name_is_kept Keep name t = rw t (or_true (is_one_of owner_names name))
+free_name_is_kept Zero name t = t
+free_name_is_kept Number name t = t
+
+free_is_kept : (owners : Way) (field : PlainField) → is_free_field field ≡ true
+    → is_kept_field owners field ≡ true
+free_is_kept Keep (fields.Word name) t = free_name_is_kept Keep name.now t
+free_is_kept Keep (fields.Hyper name) t = t
+free_is_kept Zero field t = t
+free_is_kept Number field t = t
+
+pub kept_if_free : (owners : Way) (all : List PlainField) → list_all is_free_field all ≡ true
+    → list_all (is_kept_field owners) all ≡ true
+kept_if_free owners [] t = refl
+kept_if_free owners (field ∷ more) t =
+    let parts = and_parts (is_free_field field) (list_all is_free_field more) t in
+    rw (free_is_kept owners field parts.0, kept_if_free owners more parts.1) refl
+
+-- ---- attributes
+
+pub run_named : (all : List PlainField) (at : ℕ) (bytes : List ℕ)
+    → run_items all (drop at bytes) ≡ numbered_from at bytes (map named all)
+run_named [] at bytes = refl
+run_named (fields.Word name ∷ more) at bytes =
+    ap (λ (l : List Item). Word name.now (body_word at bytes) ∷ l)
+    (ap (run_items more) (drop-drop 4 at bytes) ∙ run_named more (at + 4) bytes)
+run_named (fields.Hyper name ∷ more) at bytes =
+    ap (λ (l : List Item). Hyper name.now (big_number 8 (drop at bytes)) ∷ l)
+    (ap (run_items more) (drop-drop 8 at bytes) ∙ run_named more (at + 8) bytes)
+
+-- how many bytes such items have
+size_of : List Item → ℕ
+size_of [] = 0
+size_of (Hyper name n ∷ more) = 8 + size_of more
+size_of (_ ∷ more) = 4 + size_of more
+
+size_named : (all : List PlainField) → run_size all ≡ size_of (map named all)
+unfolding size_of
+size_named [] = refl
+size_named (fields.Word name ∷ more) = ap (λ n. 4 + n) (size_named more)
+size_named (fields.Hyper name ∷ more) = ap (λ n. 8 + n) (size_named more)
+
+pub attributes_size : (all : List PlainField) → map named all ≡ attribute_fields
+    → run_size all ≡ 80
+unfolding size_of
+attributes_size all are = size_named all ∙ ap size_of are
+
+pub attributes_named : (all : List PlainField) (bytes : List ℕ) → map named all ≡ attribute_fields
+    → run_items all bytes ≡ attribute_items bytes
+attributes_named all bytes are = run_named all 0 bytes ∙ ap (numbered_from 0 bytes) are
+
+-- the class that is found at a known spot
+pub known_found : (o : Option Spot) (spot : Spot) (own : Option Class) (name : List ℕ) (n : ℕ)
+    → o ≡ Some spot → IsKnown spot own name
+    → (own ≡ class_found o (Word name n)) × (o ≡ found_next o (Word name n))
+known_found o spot own name n at known = rw at (sym known.0, ap Some (sym (known.1 n)))
+
+-- the class of a word at a known spot, and the spot after it
+pub word_found : (o : Option Spot) (spot next : Spot) (own : Option Class) (name : List ℕ) (n : ℕ)
+    → o ≡ Some spot → own ≡ class_of_word spot name → next ≡ next_spot spot (Word name n)
+    → (own ≡ class_found o (Word name n)) × (Some next ≡ found_next o (Word name n))
+word_found o spot next own name n at is after = rw at (is, ap Some after)
+
+pub hyper_found : (o : Option Spot) (spot : Spot) (own : Option Class) (name : List ℕ) (n : ℕ)
+    → o ≡ Some spot → class_of_hyper spot name ≡ own
+    → (own ≡ class_found o (Hyper name n)) × (o ≡ found_next o (Hyper name n))
+hyper_found o spot own name n at known =
+    rw at (sym known, ap Some (sym (still_after spot (Hyper name n) tt)))
+
+pub known : (spot : Spot) (own : Option Class) (name : List ℕ) → class_of_word spot name ≡ own
+    → bytes_eq name names.before ≡ false → bytes_eq name names.type ≡ false
+    → IsKnown spot own name
+known spot own name is f g = (is, λ n. still_name spot name n f g)

@@ -1,0 +1,50 @@
+-- A run of attributes that is put together before it is written.
+use Rattle.masking3.proofs.Common.{◌≡◌, ℕ, ◌+◌, ◌≤◌, List, [], ◌∷◌, ◌++◌, refl, sym, ap, ◌∙◌, subst, append_assoc, append-nil, arith, flat_map-append, length, Item, Rest, zero_spelling, zero_spelling_of, Ways, Adds, MaskStands}
+use Rattle.std.specs.Prelude.{take}
+use Rattle.masking3.specs.declared.masking_writer.MaskingWriter.{MaskingWriter}
+use Rattle.masking3.specs.machinery.KnownFields.{with_run}
+use Rattle.masking3.proofs.Lemmas.Writing.WriterLemmas.{Spells, with_parts}
+use Rattle.std.proofs.lemmas.List.{take_all}
+
+-- an item more is put into a run behind these bytes
+pub put_spells : (front old new : List ℕ) (j : Item) → new ≡ old ++ zero_spelling_of j
+    → Adds Spells (front ++ old) (front ++ new) (j ∷ [])
+unfolding Adds
+put_spells front old new j is before was =
+    ap (λ (l : List ℕ). front ++ l) is ∙ sym (append_assoc front old (zero_spelling_of j))
+    ∙ ap (λ (l : List ℕ). l ++ zero_spelling_of j) was
+    ∙ sym (flat_map-append zero_spelling_of before (j ∷ [])
+    ∙ ap (λ (l : List ℕ). zero_spelling before ++ l) (append-nil (zero_spelling_of j)))
+
+pub put_there : (end at width : ℕ) (old new bytes spelled : List ℕ) → end ≡ at + length bytes
+    → take end new ≡ take at old ++ bytes → bytes ≡ spelled → length spelled ≡ width
+    → take (at + width) new ≡ take at old ++ spelled
+put_there end at width old new bytes spelled ends written is size =
+    subst (λ n. take n new ≡ take at old ++ spelled)
+    (ends ∙ ap (λ (l : List ℕ). at + length l) is ∙ ap (λ n. at + n) size)
+    (written ∙ ap (λ (l : List ℕ). take at old ++ l) is)
+
+-- what a writer appends
+appends : (old new : List ℕ) (items : List Item) → Adds Spells old new items
+    → new ≡ old ++ zero_spelling items
+unfolding Adds
+appends old new items adds = adds (Rest [] old ∷ []) (sym (append-nil old))
+
+-- the run is written
+pub run_written : {P S H : Type 0} (ways : Ways) (old w : MaskingWriter P S H)
+    (run bytes name : List ℕ) (items : List Item) → length run ≤ 80
+    → Adds (MaskStands ways) (with_run old []) (with_run w (take 80 run)) items
+    → Adds Spells w.writer bytes (Rest name run ∷ [])
+    → Adds (MaskStands ways) old (with_parts ways w w.handles w.classes bytes w.spot) items
+run_written ways old w run bytes name items size adds write =
+    let is : bytes ≡ w.writer ++ take 80 run =
+    appends w.writer bytes (Rest name run ∷ []) write
+    ∙ ap (λ (l : List ℕ). w.writer ++ l) (append-nil run ∙ sym (take_all 80 run size)) in
+    subst
+    (λ (l : List ℕ).
+    Adds (MaskStands ways) old (with_parts ways w w.handles w.classes l w.spot) items)
+    (sym is)
+    (subst
+    (λ (l : List ℕ).
+    Adds (MaskStands ways) (with_parts ways old old.handles old.classes l old.spot)
+    (with_run w (take 80 run)) items) (append-nil old.writer) adds)

@@ -1,0 +1,23 @@
+use Rattle.masking3.proofs.Common.{refl, ap, ◌∙◌, Hyper, big_number, drop}
+use Rattle.std.proofs.lemmas.List.{take_rest}
+use Rattle.std.specs.Prelude.{take}
+use Rattle.masking3.specs.machinery.KnownFields.{with_run}
+use Rattle.masking3.proofs.Lemmas.Classes.KnownFieldLemmas.{hyper_found}
+use Rattle.masking3.proofs.Lemmas.Writing.RunLemmas.{put_spells, put_there}
+use Rattle.masking3.proofs.Lemmas.Writing.WriterLemmas.{adds_of_class, hyper_with}
+use Rattle.masking3.proofs.masking_writer.MaskingWriter.put_hyper.Goals as goal
+
+pub returns-clause-ok : goal.returns-clause-ok
+returns-clause-ok g c =
+    let w = c.args.self.now in
+    let name = c.args.name.now in
+    let n_is = c.read_u64-n.ensures ∙ ap (big_number 8) (take_rest c.args.bytes.now c.args.at) in
+    adds_of_class g.P.Plan.ways (with_run w (take c.args.at c.args.run.now)) _ _ _ _ _
+    (Hyper name (big_number 8 (drop c.args.at c.args.bytes.now))) _ n_is refl c.replaced_hyper.ensures.ways
+    (hyper_found w.spot c.args.spot c.args.class name _ c.requires.spot c.requires.known)
+    c.in_ok-put.ensures.holds
+    (λ seen h.
+    hyper_with w.classes.ways name _ _ _ _ n_is (c.in_ok-put.ensures.put seen h))
+    (put_spells w.writer _ _ _
+    (put_there _ c.args.at 8 c.args.run.now _ _ _ c.put_bytes.ensures.end
+    c.put_bytes.ensures.written c.spelled_hyper.ensures refl))

@@ -1,0 +1,110 @@
+-- Fields whose classes are known by their names: those of attributes, and words that stay.
+use Rattle.std.specs.Prelude.{◌≡◌, ℕ, ◌==◌, ◌+◌, true, false, Bool, not, ◌||◌, if◌then◌else◌, List, [], ◌∷◌, ◌++◌, Option, drop, get_or, length, ⊤}
+use Rattle.byteorder.specs.Endian.{big_number}
+use Rattle.xdr3.specs.declared.plain.PlainField.{PlainField}
+use Rattle.xdr3.specs.declared.plain.PlainField.TheVariants as fields
+use Rattle.xdr3.specs.Item.{Item, Word, Hyper}
+use Rattle.nfs3_types.specs.Names.{names}
+use Rattle.rpc_head.specs.Names.{head_names}
+use Rattle.masking3.specs.declared.class.Class.{Class}
+use Rattle.masking3.specs.declared.masking_writer.MaskingWriter.{MaskingWriter}
+use Rattle.masking3.specs.declared.spot.Spot.{Spot}
+use Rattle.masking3.specs.Classes.{class_of_word, is_one_of}
+use Rattle.masking3.specs.declared.ways.Way.{Way}
+use Rattle.masking3.specs.declared.ways.Way.TheVariants.{Keep}
+use Rattle.masking3.specs.Spots.{next_spot}
+use Rattle.masking3.specs.machinery.UnnamedBody.{body_word}
+
+-- ---- words that stay
+
+-- of users and groups
+abbrev pub owner_names : List (List ℕ)
+owner_names = names.uid ∷ names.gid ∷ head_names.group ∷ []
+
+-- By its length and its first letter this is neither the name of a word that has a class, nor
+-- `mtype`, `type` or `before`.
+abbrev pub is_free_name : List ℕ → Bool
+is_free_name name =
+    (if length name == 3 then get_or name 0 0 == 120 else
+    (if length name == 4 then not (get_or name 0 0 == 116) else
+    (if length name == 6 then not (get_or name 0 0 == 98) else
+    (if length name == 7 then true else
+    (if length name == 10 then get_or name 0 0 == 114 else
+    (length name == 11))))))
+
+-- the name is of a word that is free, or that is a user or a group
+abbrev pub is_owner_name : List ℕ → Bool
+is_owner_name name = is_one_of owner_names name || is_free_name name
+
+abbrev pub is_free_field : PlainField → Bool
+is_free_field (fields.Word name) = is_free_name name.now
+is_free_field (fields.Hyper name) = false
+
+abbrev pub is_owner_field : PlainField → Bool
+is_owner_field (fields.Word name) = is_owner_name name.now
+is_owner_field (fields.Hyper name) = false
+
+-- a word of this name stays, where this becomes of users and groups
+abbrev pub is_kept_name : Way → List ℕ → Bool
+is_kept_name Keep name = is_owner_name name
+is_kept_name _ name = is_free_name name
+
+abbrev pub is_kept_field : Way → PlainField → Bool
+is_kept_field Keep field = is_owner_field field
+is_kept_field _ field = is_free_field field
+
+abbrev pub IsKeptItem : Way → Item → Type 0
+IsKeptItem owners (Word name n) = is_kept_name owners name ≡ true
+IsKeptItem owners _ = ⊥
+
+-- ---- attributes (RFC 1813, section 2.5)
+
+-- the item of a field whose bytes are zeros
+abbrev pub named : PlainField → Item
+named (fields.Word name) = Word name.now 0
+named (fields.Hyper name) = Hyper name.now 0
+
+-- such items, with the numbers that these bytes spell from a place on
+abbrev pub numbered_from : ℕ → List ℕ → List Item → List Item
+numbered_from at bytes [] = []
+numbered_from at bytes (Word name n ∷ more) =
+    Word name (body_word at bytes) ∷ numbered_from (at + 4) bytes more
+numbered_from at bytes (Hyper name n ∷ more) =
+    Hyper name (big_number 8 (drop at bytes)) ∷ numbered_from (at + 8) bytes more
+numbered_from at bytes (_ ∷ more) = numbered_from at bytes more
+
+abbrev pub first_fields : List Item
+first_fields = Word names.mode 0 ∷ Word names.nlink 0 ∷ Word names.uid 0 ∷ Word names.gid 0 ∷ []
+
+abbrev pub next_fields : List Item
+next_fields =
+    Hyper names.size 0 ∷ Hyper names.used 0 ∷ Word names.rdev1 0 ∷ Word names.rdev2 0
+    ∷ Hyper names.fsid 0 ∷ Hyper names.fileid 0 ∷ []
+
+abbrev pub last_fields : List Item
+last_fields =
+    Word names.atime_sec 0 ∷ Word names.atime_nsec 0 ∷ Word names.mtime_sec 0
+    ∷ Word names.mtime_nsec 0 ∷ Word names.ctime_sec 0 ∷ Word names.ctime_nsec 0 ∷ []
+
+-- a fattr3 after its type
+abbrev pub attribute_fields : List Item
+attribute_fields = first_fields ++ (next_fields ++ last_fields)
+
+abbrev pub attribute_items : List ℕ → List Item
+attribute_items bytes = numbered_from 0 bytes attribute_fields
+
+-- at this spot a word of this name has this class, and moves nowhere
+abbrev pub IsKnown : Spot → Option Class → List ℕ → Type 0
+IsKnown spot class name =
+    (class_of_word spot name ≡ class) × ((n : ℕ) → next_spot spot (Word name n) ≡ spot)
+
+-- a writer that wrote these bytes too
+abbrev pub with_run : {P S H : Type 0} → MaskingWriter P S H → List ℕ → MaskingWriter P S H
+with_run w run = record {
+  handles = w.handles;
+  classes = w.classes;
+  writer = w.writer ++ run;
+  spot = w.spot;
+  failed = w.failed;
+  plan = w.plan;
+}
