@@ -99,7 +99,8 @@ among_owners name t = by_test (bytes_eq name names.uid)
 
 -- ---- items that stay
 
--- the item has no class whose values change, no handle and no text that is masked, and moves nowhere
+-- the item has no class whose values change, no handle and no text that is masked, and moves
+-- nowhere
 record Stays (ways : Ways) (i : Item) : Type 0 where
   keeps : (spot : Spot) (d : Class) → class_of spot i ≡ Some d → way_of ways d ≡ Keep
   moves_not : (o : Option Spot) → o ≡ found_next o i

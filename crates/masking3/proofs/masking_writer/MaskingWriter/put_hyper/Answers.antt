@@ -13,7 +13,8 @@ returns-clause-ok g c =
     let name = c.args.name.now in
     let n_is = c.read_u64-n.ensures ∙ ap (big_number 8) (take_rest c.args.bytes.now c.args.at) in
     adds_of_class g.P.Plan.ways (with_run w (take c.args.at c.args.run.now)) _ _ _ _ _
-    (Hyper name (big_number 8 (drop c.args.at c.args.bytes.now))) _ n_is refl c.replaced_hyper.ensures.ways
+    (Hyper name (big_number 8 (drop c.args.at c.args.bytes.now))) _ n_is refl
+    c.replaced_hyper.ensures.ways
     (hyper_found w.spot c.args.spot c.args.class name _ c.requires.spot c.requires.known)
     c.in_ok-put.ensures.holds
     (λ seen h.

@@ -6,6 +6,7 @@ pub returns : goal.returns
 returns g c = record {
   ok =
       on_ok_weaker c.word.result
-      (adds_first g.P.Plan.ways c.args.self.now c.word.new.self c.args.name.now c.args.n _ c.requires
+      (adds_first g.P.Plan.ways c.args.self.now c.word.new.self c.args.name.now c.args.n
+      _ c.requires
       c.first_found-self.ensures) c.word.ensures.ok;
 }
