@@ -6,7 +6,7 @@ ghost use Rattle.byteorder.specs.Endian.{big_bytes, big_number};
 ghost use Rattle.xdr3.specs.Item.{Hyper, Word};
 ghost use Rattle.xdr3.specs.Visit.{Adds};
 ghost use Rattle.masking3.specs.Classes.{class_of_hyper};
-ghost use Rattle.masking3.specs.machinery.KnownFields.{IsKnown, attribute_fields, attribute_items, named, numbered_from, first_fields, next_fields, last_fields, with_run};
+ghost use Rattle.masking3.specs.machinery.KnownFields.{IsKnown, attribute_fields, attributes_in, field_item, numbered_from, first_fields, next_fields, last_fields, with_run};
 ghost use Rattle.masking3.specs.machinery.MaskingWriter.{MaskStands};
 ghost use Rattle.masking3.specs.machinery.UnnamedBody.{body_word};
 
@@ -26,7 +26,7 @@ const SIZE: usize = 80;
 #[inline(always)]
 #[tactic(auto, unfolding(nfs3_types::specs::Names::names))]
 fn are_first_fields(fields: &[PlainField]) -> bool
-    ensures { IsTrue result → map named fields.now ≡ first_fields }
+    ensures { IsTrue result → map field_item fields.now ≡ first_fields }
 {
     matches!(
         fields,
@@ -42,7 +42,7 @@ fn are_first_fields(fields: &[PlainField]) -> bool
 #[inline(always)]
 #[tactic(auto, unfolding(nfs3_types::specs::Names::names))]
 fn are_next_fields(fields: &[PlainField]) -> bool
-    ensures { IsTrue result → map named fields.now ≡ next_fields }
+    ensures { IsTrue result → map field_item fields.now ≡ next_fields }
 {
     matches!(
         fields,
@@ -60,7 +60,7 @@ fn are_next_fields(fields: &[PlainField]) -> bool
 #[inline(always)]
 #[tactic(auto, unfolding(nfs3_types::specs::Names::names))]
 fn are_last_fields(fields: &[PlainField]) -> bool
-    ensures { IsTrue result → map named fields.now ≡ last_fields }
+    ensures { IsTrue result → map field_item fields.now ≡ last_fields }
 {
     matches!(
         fields,
@@ -78,7 +78,7 @@ fn are_last_fields(fields: &[PlainField]) -> bool
 /// Returns whether these are the fields of attributes after the type.
 #[inline(always)]
 pub(crate) fn are_attributes(fields: &[PlainField]) -> bool
-    ensures { IsTrue result → map named fields.now ≡ attribute_fields }
+    ensures { IsTrue result → map field_item fields.now ≡ attribute_fields }
 {
     fields.len() == 16
         && are_first_fields(&fields[..4])
@@ -102,7 +102,7 @@ impl<P: Plan, S: BuildHasher + Drop> MaskingWriter<P, S> {
         requires size { length bytes.now ≡ 80 }
         requires spot { self.old.spot ≡ Some spot }
         ensures { OnOk result
-            (Adds (MaskStands P.ways) self.old self.new (attribute_items bytes.now)) }
+            (Adds (MaskStands P.ways) self.old self.new (attributes_in bytes.now)) }
     {
         let mut run = [0u8; SIZE];
         let (wcc, times) = (class_in_wcc(spot), Some(Class::Times));

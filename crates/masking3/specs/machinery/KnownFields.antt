@@ -1,5 +1,5 @@
 -- Fields whose classes are known by their names: those of attributes, and words that stay.
-use Rattle.std.specs.Prelude.{◌≡◌, ℕ, ◌==◌, ◌+◌, true, false, Bool, not, ◌||◌, if◌then◌else◌, List, [], ◌∷◌, ◌++◌, Option, drop, get_or, length, ⊤}
+use Rattle.std.specs.Prelude.{◌≡◌, ℕ, ◌==◌, ◌+◌, true, false, Bool, not, ◌||◌, if◌then◌else◌, List, [], ◌∷◌, ◌++◌, Option, drop, get_or, length}
 use Rattle.byteorder.specs.Endian.{big_number}
 use Rattle.xdr3.specs.declared.plain.PlainField.{PlainField}
 use Rattle.xdr3.specs.declared.plain.PlainField.TheVariants as fields
@@ -60,9 +60,9 @@ IsKeptItem owners _ = ⊥
 -- ---- attributes (RFC 1813, section 2.5)
 
 -- the item of a field whose bytes are zeros
-abbrev pub named : PlainField → Item
-named (fields.Word name) = Word name.now 0
-named (fields.Hyper name) = Hyper name.now 0
+abbrev pub field_item : PlainField → Item
+field_item (fields.Word name) = Word name.now 0
+field_item (fields.Hyper name) = Hyper name.now 0
 
 -- such items, with the numbers that these bytes spell from a place on
 abbrev pub numbered_from : ℕ → List ℕ → List Item → List Item
@@ -90,8 +90,8 @@ last_fields =
 abbrev pub attribute_fields : List Item
 attribute_fields = first_fields ++ (next_fields ++ last_fields)
 
-abbrev pub attribute_items : List ℕ → List Item
-attribute_items bytes = numbered_from 0 bytes attribute_fields
+abbrev pub attributes_in : List ℕ → List Item
+attributes_in bytes = numbered_from 0 bytes attribute_fields
 
 -- at this spot a word of this name has this class, and moves nowhere
 abbrev pub IsKnown : Spot → Option Class → List ℕ → Type 0

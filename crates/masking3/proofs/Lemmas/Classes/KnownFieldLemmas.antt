@@ -8,7 +8,7 @@ use Rattle.xdr3.specs.declared.plain.PlainField.TheVariants as fields
 use Rattle.xdr3.specs.Plain.{run_items, run_size}
 use Rattle.masking3.specs.Classes.{class_of_group, is_one_of, names_of_owners, names_of_times}
 use Rattle.masking3.specs.declared.class.Class.TheVariants.{Owners}
-use Rattle.masking3.specs.machinery.KnownFields.{IsKeptItem, IsKnown, attribute_fields, attribute_items, is_free_field, is_free_name, is_kept_field, is_kept_name, is_owner_name, owner_names, named, numbered_from}
+use Rattle.masking3.specs.machinery.KnownFields.{IsKeptItem, IsKnown, attribute_fields, attributes_in, is_free_field, is_free_name, is_kept_field, is_kept_name, is_owner_name, owner_names, field_item, numbered_from}
 use Rattle.masking3.specs.machinery.UnnamedBody.{body_word}
 use Rattle.masking3.proofs.Lemmas.Classes.ClassLemmas.{none_of_other}
 use Rattle.masking3.proofs.Lemmas.Classes.SpotLemmas.{still_after, still_name}
@@ -240,7 +240,7 @@ kept_if_free owners (field ∷ more) t =
 -- ---- attributes
 
 pub run_named : (all : List PlainField) (at : ℕ) (bytes : List ℕ)
-    → run_items all (drop at bytes) ≡ numbered_from at bytes (map named all)
+    → run_items all (drop at bytes) ≡ numbered_from at bytes (map field_item all)
 run_named [] at bytes = refl
 run_named (fields.Word name ∷ more) at bytes =
     ap (λ (l : List Item). Word name.now (body_word at bytes) ∷ l)
@@ -255,19 +255,20 @@ size_of [] = 0
 size_of (Hyper name n ∷ more) = 8 + size_of more
 size_of (_ ∷ more) = 4 + size_of more
 
-size_named : (all : List PlainField) → run_size all ≡ size_of (map named all)
+size_named : (all : List PlainField) → run_size all ≡ size_of (map field_item all)
 unfolding size_of
 size_named [] = refl
 size_named (fields.Word name ∷ more) = ap (λ n. 4 + n) (size_named more)
 size_named (fields.Hyper name ∷ more) = ap (λ n. 8 + n) (size_named more)
 
-pub attributes_size : (all : List PlainField) → map named all ≡ attribute_fields
+pub attributes_size : (all : List PlainField) → map field_item all ≡ attribute_fields
     → run_size all ≡ 80
 unfolding size_of
 attributes_size all are = size_named all ∙ ap size_of are
 
-pub attributes_named : (all : List PlainField) (bytes : List ℕ) → map named all ≡ attribute_fields
-    → run_items all bytes ≡ attribute_items bytes
+pub attributes_named : (all : List PlainField) (bytes : List ℕ)
+    → map field_item all ≡ attribute_fields
+    → run_items all bytes ≡ attributes_in bytes
 attributes_named all bytes are = run_named all 0 bytes ∙ ap (numbered_from 0 bytes) are
 
 -- the class that is found at a known spot
