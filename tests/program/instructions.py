@@ -33,8 +33,8 @@ LIMITS = {
     'show mixed': 19.5,
     'same mixed': 12.8,
     'pack small': 0.39,
-    'nfs3mask small': 19.8,
-    'nfs3mask mixed': 17.8,
+    'nfs3mask small': 13.6,
+    'nfs3mask mixed': 15.2,
 }
 MIXES = {'small': (make.SMALL, 1), 'mixed': (make.MIXED, 4)}
 
