@@ -1,5 +1,5 @@
 -- Masked texts, apart from the values that are masked.
-use Rattle.masking3.proofs.Common.{◌≡◌, ℕ, ◌+◌, ◌≤◌, Bool, true, false, List, [], ◌∷◌, ◌++◌, length, map, refl, sym, ap, ap₂, ◌∙◌, arith, ⊤, ◌==◌, bytes_eq, if◌then◌else◌, Option, None, Some, Decides-eqb, Item, Word, Hyper, Fixed, WriteVerf, Opaque, Rest, Var, Text, Handle, residue, names, by_test, Class, Spot, Way, Keep, Zero, Number, Ways, class_of, class_value, TellsNoMore, masked_item, masked_items, substitute, value_in, values_in, with_value, next_spot, emptied, less_by, text_size, and_parts, host_by, is_silly_name, silly_by, silly_zero, text_by, with_text, zero_name}
+use Rattle.masking3.proofs.Common.{◌≡◌, ℕ, ◌+◌, ◌≤◌, Bool, true, false, List, [], ◌∷◌, ◌++◌, length, map, refl, sym, ap, ap₂, ◌∙◌, arith, ⊤, ◌==◌, bytes_eq, if◌then◌else◌, Option, None, Some, Decides-eqb, Item, Opaque, Text, residue, names, by_test, Class, Spot, Way, Keep, Zero, Number, Ways, class_of, class_value, TellsNoMore, masked_item, masked_items, substitute, value_in, values_in, with_value, next_spot, emptied, less_by, text_size, and_parts, host_by, is_silly_name, silly_by, silly_zero, text_by, with_text, zero_name}
 use Rattle.masking3.proofs.Lemmas.Classes.SpotLemmas.{still_after}
 
 -- ---- an item and its masked text
@@ -10,14 +10,8 @@ module _ (ways : Ways) where
       → ((name bytes : List ℕ)
       → P (Opaque Text name bytes) (Opaque Text name (text_by ways name bytes))) → (i : Item)
       → P i (with_text ways i)
-  by_text P same text (Word name n) = same (Word name n)
-  by_text P same text (Hyper name n) = same (Hyper name n)
-  by_text P same text (Fixed name b) = same (Fixed name b)
-  by_text P same text (WriteVerf name b) = same (WriteVerf name b)
-  by_text P same text (Opaque Var name b) = same (Opaque Var name b)
   by_text P same text (Opaque Text name b) = text name b
-  by_text P same text (Opaque Handle name b) = same (Opaque Handle name b)
-  by_text P same text (Rest name b) = same (Rest name b)
+  by_text P same text i = same i
 
   text_class : (spot : Spot) (i : Item) → class_of spot (with_text ways i) ≡ class_of spot i
   text_class spot i =
@@ -53,14 +47,8 @@ module _ (ways : Ways) where
   text_with : (i : Item) (o : Option ℕ)
       → with_value (with_text ways i) o ≡ with_text ways (with_value i o)
   text_with i None = refl
-  text_with (Word name n) (Some m) = refl
-  text_with (Hyper name n) (Some m) = refl
-  text_with (Fixed name b) (Some m) = refl
-  text_with (WriteVerf name b) (Some m) = refl
-  text_with (Opaque Var name b) (Some m) = refl
   text_with (Opaque Text name b) (Some m) = refl
-  text_with (Opaque Handle name b) (Some m) = refl
-  text_with (Rest name b) (Some m) = refl
+  text_with i (Some m) = refl
 
   module _ (others : Ways) (seen : Class → List ℕ) where
     item_masked : (spot : Spot) (i : Item)
@@ -91,13 +79,11 @@ zero_length b false e = refl
 
 silly_length : (way : Way) (b : List ℕ) → length (silly_by way b) ≡ length b
 silly_length Keep b = refl
-silly_length Zero b = zero_length b (is_silly_name b) refl
-silly_length Number b = zero_length b (is_silly_name b) refl
+silly_length way b = zero_length b (is_silly_name b) refl
 
 host_length : (way : Way) (b : List ℕ) → length (host_by way b) ≤ length b
 host_length Keep b = omega arith
-host_length Zero b = omega arith
-host_length Number b = omega arith
+host_length way b = omega arith
 
 module _ (ways : Ways) (name : List ℕ) where
   -- what is so of bytes that are masked as a name of a file, as a name of a host, and that stay
@@ -117,37 +103,23 @@ module _ (ways : Ways) (name : List ℕ) where
 
 silly_of_none : (way : Way) → silly_by way [] ≡ []
 silly_of_none Keep = refl
-silly_of_none Zero = refl
-silly_of_none Number = refl
+silly_of_none way = refl
 
 host_of_none : (way : Way) → host_by way [] ≡ []
 host_of_none Keep = refl
-host_of_none Zero = refl
-host_of_none Number = refl
+host_of_none way = refl
 
 module _ (ways : Ways) where
   pub text_emptied : (i : Item) → with_text ways (emptied i) ≡ emptied (with_text ways i)
-  text_emptied (Word name n) = refl
-  text_emptied (Hyper name n) = refl
-  text_emptied (Fixed name b) = refl
-  text_emptied (WriteVerf name b) = refl
-  text_emptied (Opaque Var name b) = refl
   text_emptied (Opaque Text name b) =
       ap (Opaque Text name) (by_name ways name (λ c. c ≡ []) [] (silly_of_none ways.silly_names)
       (host_of_none ways.machines) refl)
-  text_emptied (Opaque Handle name b) = refl
-  text_emptied (Rest name b) = refl
+  text_emptied i = refl
 
   pub text_less : (size : ℕ) (i : Item)
       → with_text ways (less_by size i) ≡ less_by size (with_text ways i)
-  text_less size (Word name n) = refl
-  text_less size (Hyper name n) = refl
-  text_less size (Fixed name b) = refl
-  text_less size (WriteVerf name b) = refl
-  text_less size (Opaque Var name b) = refl
   text_less size (Opaque Text name b) = refl
-  text_less size (Opaque Handle name b) = refl
-  text_less size (Rest name b) = refl
+  text_less size i = refl
 
 -- ---- masking as much or more leaves nothing of masking before
 
@@ -162,21 +134,13 @@ zero_again b = zeroed b (is_silly_name b) refl
 silly_absorbed : (w v : Way) → TellsNoMore w v → (b : List ℕ)
     → silly_by v (silly_by w b) ≡ silly_by v b
 silly_absorbed Keep v t b = refl
-silly_absorbed Number Keep t b = absurd t
-silly_absorbed Number Number t b = zero_again b
-silly_absorbed Number Zero t b = zero_again b
-silly_absorbed Zero Keep t b = absurd t
-silly_absorbed Zero Number t b = absurd t
-silly_absorbed Zero Zero t b = zero_again b
+silly_absorbed w Keep t b = absurd t
+silly_absorbed w v t b = zero_again b
 
 host_absorbed : (w v : Way) → TellsNoMore w v → (b : List ℕ) → host_by v (host_by w b) ≡ host_by v b
 host_absorbed Keep v t b = refl
-host_absorbed Number Keep t b = absurd t
-host_absorbed Number Number t b = refl
-host_absorbed Number Zero t b = refl
-host_absorbed Zero Keep t b = absurd t
-host_absorbed Zero Number t b = absurd t
-host_absorbed Zero Zero t b = refl
+host_absorbed w Keep t b = absurd t
+host_absorbed w v t b = refl
 
 module _ (ways others : Ways) (machines : TellsNoMore ways.machines others.machines)
     (silly : TellsNoMore ways.silly_names others.silly_names) where
@@ -210,8 +174,7 @@ Empties Number = ⊤
 
 host_emptied : (way : Way) → Empties way → (b : List ℕ) → host_by way b ≡ []
 host_emptied Keep e b = absurd e
-host_emptied Zero e b = refl
-host_emptied Number e b = refl
+host_emptied way e b = refl
 
 module _ (ways others : Ways) (first : Empties ways.machines)
     (second : Empties others.machines) where
@@ -226,14 +189,8 @@ module _ (ways others : Ways) (first : Empties ways.machines)
       (λ g. rw (f, g) refl))
 
   pub same_size : (i : Item) → text_size (with_text ways i) ≡ text_size (with_text others i)
-  same_size (Word name n) = refl
-  same_size (Hyper name n) = refl
-  same_size (Fixed name b) = refl
-  same_size (WriteVerf name b) = refl
-  same_size (Opaque Var name b) = refl
   same_size (Opaque Text name b) = ap (λ (n : ℕ). n + residue n) (same_length name b)
-  same_size (Opaque Handle name b) = refl
-  same_size (Rest name b) = refl
+  same_size i = refl
 
 -- ---- texts that stay
 

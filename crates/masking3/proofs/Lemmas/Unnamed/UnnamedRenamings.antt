@@ -1,86 +1,53 @@
 -- Captures that are renamed, or whose values change, do so with masked names as well.
-use Rattle.masking3.proofs.Common.{◌≡◌, ℕ, zero, suc, false, List, map, refl, sym, ap, subst, bytes_eq, Option, None, Some, Item, Word, Hyper, Fixed, WriteVerf, Opaque, Rest, Var, Text, Handle, head_names, Entry, Pairs, by_test, Class, Spot, InCall, InReply, Way, Keep, Zero, Number, Ways, class_of, next_spot, with_text, after_first, emptied, less_by, named_by, names_by, text_size, unnamed_credential, way_of, AreAlike, words, hypers, eights, ChangesBy, ChangesOf, ChangesItem, ChangesItems, over, along, ChangesEntry, begin, call, turn, reply, close, end, IsPlain, RenamesItem, handle, plain, Pairwise, none, more, RenamesMessage, message, Renames, ended, begins, calls, turns, replies, closes, ends, Same}
-use Rattle.canon3.specs.Renaming.{verifier}
+use Rattle.masking3.proofs.Common.{◌≡◌, ℕ, zero, suc, List, map, refl, sym, ap, subst, bytes_eq, Option, None, Some, Item, Word, Opaque, Text, head_names, Entry, Pairs, by_test, Class, Spot, InCall, InReply, Way, Keep, Zero, Number, Ways, class_of, next_spot, with_text, after_first, emptied, less_by, named_by, named_entry, names_by, text_size, unnamed_credential, way_of, AreAlike, words, ChangesBy, ChangesOf, ChangesItem, ChangesItems, over, along, ChangesEntry, call, reply, IsPlain, RenamesItem, plain, Pairwise, none, more, RenamesMessage, message, Renames, ended, begins, calls, turns, replies, closes, ends, Same}
 use Rattle.masking3.proofs.Lemmas.Unnamed.TextsLemmas.{by_text, text_spot}
-use Rattle.masking3.proofs.Lemmas.Unnamed.UnnamedLemmas.{free_length, other_word}
-
--- ---- item by item
-
-module _ (R : Item → Item → Type 0) (size : (i j : Item) → R i j → text_size i ≡ text_size j)
-    (less : (n : ℕ) (i j : Item) → R i j → R (less_by n i) (less_by n j))
-    (empty : (i j : Item) → R i j → R (emptied i) (emptied j)) where
-  credential_too : {l m : List Item} → Pairwise R l m
-      → Pairwise R (unnamed_credential l) (unnamed_credential m)
-  credential_too none = none
-  credential_too (more a none) = more a none
-  credential_too (more a (more b none)) = more a (more b none)
-  credential_too (more {x = i} {y = j} a (more b (more {x = k} {y = o} c p))) =
-      more
-      (subst (λ n. R (less_by (text_size k) i) (less_by n j)) (size k o c)
-      (less (text_size k) i j a)) (more b (more (empty k o c) p))
-
-  pub after_too : (n : ℕ) {l m : List Item} → Pairwise R l m
-      → Pairwise R (after_first n unnamed_credential l) (after_first n unnamed_credential m)
-  after_too zero p = credential_too p
-  after_too (suc n) none = none
-  after_too (suc n) (more a p) = more a (after_too n p)
+use Rattle.masking3.proofs.Lemmas.Unnamed.UnnamedLemmas.{IsNoLength, any_way, free_length, less_stays}
 
 -- ---- renamings
 
 plain_less : (n : ℕ) (i : Item) → IsPlain i → IsPlain (less_by n i)
 plain_less n (Word name m) p = tt
-plain_less n (Hyper name m) p = p
-plain_less n (Fixed name b) p = p
-plain_less n (WriteVerf name b) p = p
-plain_less n (Opaque kind name b) p = p
-plain_less n (Rest name b) p = p
+plain_less n i p = p
 
 plain_emptied : (i : Item) → IsPlain i → IsPlain (emptied i)
-plain_emptied (Word name m) p = p
-plain_emptied (Hyper name m) p = p
-plain_emptied (Fixed name b) p = p
-plain_emptied (WriteVerf name b) p = p
-plain_emptied (Opaque Var name b) p = p
 plain_emptied (Opaque Text name b) p = tt
-plain_emptied (Opaque Handle name b) p = p
-plain_emptied (Rest name b) p = p
+plain_emptied i p = p
 
 module _ {ps vs : Pairs (List ℕ)} where
   size_renamed : (i j : Item) → RenamesItem ps vs i j → text_size i ≡ text_size j
-  size_renamed i j (handle m) = refl
-  size_renamed i j (verifier m) = refl
   size_renamed i j (plain item p) = refl
+  size_renamed i j r = refl
 
   less_renamed : (n : ℕ) (i j : Item) → RenamesItem ps vs i j
       → RenamesItem ps vs (less_by n i) (less_by n j)
-  less_renamed n i j (handle m) = handle m
-  less_renamed n i j (verifier m) = verifier m
   less_renamed n i j (plain item p) = plain (less_by n item) (plain_less n item p)
+  less_renamed n i j r = r
 
   emptied_renamed : (i j : Item) → RenamesItem ps vs i j → RenamesItem ps vs (emptied i) (emptied j)
-  emptied_renamed i j (handle m) = handle m
-  emptied_renamed i j (verifier m) = verifier m
   emptied_renamed i j (plain item p) = plain (emptied item) (plain_emptied item p)
+  emptied_renamed i j r = r
 
   after_renamed : (n : ℕ) {l m : List Item} → Pairwise (RenamesItem ps vs) l m
       → Pairwise (RenamesItem ps vs) (after_first n unnamed_credential l)
       (after_first n unnamed_credential m)
-  after_renamed n p = after_too (RenamesItem ps vs) size_renamed less_renamed emptied_renamed n p
+  after_renamed zero (more {x = i} {y = j} a (more b (more {x = k} {y = o} c p))) =
+      rw (size_renamed k o c) (more (less_renamed (text_size o) i j a) (more b
+      (more (emptied_renamed k o c) p)))
+  after_renamed (suc n) (more a p) = more a (after_renamed n p)
+  after_renamed n p = p
 
   message_renamed : {xs : Pairs ℕ} (way : Way) {l m : List Item} → RenamesMessage ps vs xs l m
       → RenamesMessage ps vs xs (named_by way l) (named_by way m)
   message_renamed Keep r = r
-  message_renamed Zero (message b p) = message b (after_renamed 6 p)
-  message_renamed Number (message b p) = message b (after_renamed 6 p)
+  message_renamed way (message b p) = message b (after_renamed 6 p)
 
   module _ (by : Ways) where
     text_renamed : (i j : Item) → RenamesItem ps vs i j
         → RenamesItem ps vs (with_text by i) (with_text by j)
-    text_renamed i j (handle m) = handle m
-    text_renamed i j (verifier m) = verifier m
     text_renamed i j (plain item p) =
         plain (with_text by item)
         (by_text by (λ i j. IsPlain i → IsPlain j) (λ i p. p) (λ name b p. tt) item p)
+    text_renamed i j r = r
 
     texts_renamed : {l m : List Item} → Pairwise (RenamesItem ps vs) l m
         → Pairwise (RenamesItem ps vs) (map (with_text by) l) (map (with_text by) m)
@@ -130,43 +97,19 @@ module _ (P : Item → Item → Type 0) (same : (i : Item) → P i i)
 
 size_alike : (i j : Item) → AreAlike i j → text_size i ≡ text_size j
 size_alike i j words = refl
-size_alike i j hypers = refl
-size_alike i j eights = refl
+size_alike i j a = refl
 
--- where one item stays, so does the other
-abbrev StayTogether : (Item → Item) → Item → Item → Type 0
-StayTogether f i j = f i ≡ i → f j ≡ j
-
-emptied_alike : (i j : Item) → AreAlike i j → StayTogether emptied i j
+emptied_alike : (i j : Item) → AreAlike i j → emptied i ≡ i → emptied j ≡ j
 emptied_alike i j words e = refl
-emptied_alike i j hypers e = refl
-emptied_alike i j eights e = refl
+emptied_alike i j a e = refl
 
-text_alike : (by : Ways) (i j : Item) → AreAlike i j → StayTogether (with_text by) i j
+text_alike : (by : Ways) (i j : Item) → AreAlike i j → with_text by i ≡ i → with_text by j ≡ j
 text_alike by i j words e = refl
-text_alike by i j hypers e = refl
-text_alike by i j eights e = refl
+text_alike by i j a e = refl
 
--- a name that is no length's
-abbrev IsNoLength : Item → Type 0
-IsNoLength (Word name n) = bytes_eq name head_names.cred_length ≡ false
-IsNoLength _ = Unit
-
-less_stays : (n : ℕ) (i : Item) → IsNoLength i → less_by n i ≡ i
-less_stays n (Word name m) f = other_word n name m f
-less_stays n (Hyper name m) f = refl
-less_stays n (Fixed name b) f = refl
-less_stays n (WriteVerf name b) f = refl
-less_stays n (Opaque kind name b) f = refl
-less_stays n (Rest name b) f = refl
-
-abbrev NoLengthsTogether : Item → Item → Type 0
-NoLengthsTogether i j = IsNoLength i → IsNoLength j
-
-no_length_alike : (i j : Item) → AreAlike i j → NoLengthsTogether i j
-no_length_alike i j words f = f
-no_length_alike i j hypers f = tt
-no_length_alike i j eights f = tt
+less_alike : (n : ℕ) (i j : Item) → AreAlike i j → IsNoLength i → less_by n j ≡ j
+less_alike n i j words f = rw f refl
+less_alike n i j a f = refl
 
 module _ (ways : Ways) (pairs : Class → Pairs ℕ) where
   size_changed : (i j : Item) → ChangesItem ways pairs InCall i j → text_size i ≡ text_size j
@@ -174,38 +117,19 @@ module _ (ways : Ways) (pairs : Class → Pairs ℕ) where
       changed_is (λ i j. text_size i ≡ text_size j) (λ i. refl) size_alike ways pairs
       (class_of InCall i) i j h
 
-  -- an item that stays
-  stays_changed : (f : Item → Item) → ((i j : Item) → AreAlike i j → StayTogether f i j)
-      → (spot : Spot) (i j : Item) → f i ≡ i → ChangesItem ways pairs spot i j
-      → ChangesItem ways pairs spot (f i) (f j)
-  stays_changed f alike spot i j e h =
-      subst (λ k. ChangesItem ways pairs spot k (f j)) (sym e)
-      (subst (ChangesItem ways pairs spot i)
-      (sym (changed_is (StayTogether f) (λ k s. s) alike ways pairs (class_of spot i) i j h e))
-      h)
+  -- an item that stays, as those that are alike do
+  stays_changed : (f : Item → Item) (P : Item → Type 0) → ((i : Item) → P i → f i ≡ i)
+      → ((i j : Item) → AreAlike i j → P i → f j ≡ j) → (spot : Spot) (i j : Item) → P i
+      → ChangesItem ways pairs spot i j → ChangesItem ways pairs spot (f i) (f j)
+  stays_changed f P stays alike spot i j p h =
+      let e = changed_is (λ i j. P i → f j ≡ j) stays alike ways pairs (class_of spot i) i j h p in
+      rw (stays i p, e) h
 
   emptied_changed : (i j : Item) → ChangesItem ways pairs InCall i j
       → ChangesItem ways pairs InCall (emptied i) (emptied j)
-  emptied_changed (Word name n) j h =
-      stays_changed emptied emptied_alike InCall (Word name n) j refl h
-  emptied_changed (Hyper name n) j h =
-      stays_changed emptied emptied_alike InCall (Hyper name n) j refl h
-  emptied_changed (Fixed name b) j h =
-      stays_changed emptied emptied_alike InCall (Fixed name b) j refl h
-  emptied_changed (WriteVerf name b) j h = ap emptied h
-  emptied_changed (Opaque Var name b) j h = ap emptied h
   emptied_changed (Opaque Text name b) j h = ap emptied h
-  emptied_changed (Opaque Handle name b) j h = ap emptied h
-  emptied_changed (Rest name b) j h = ap emptied h
-
-  less_kept : (n : ℕ) (i j : Item) → IsNoLength i → ChangesItem ways pairs InCall i j
-      → ChangesItem ways pairs InCall (less_by n i) (less_by n j)
-  less_kept n i j f h =
-      let other =
-      changed_is NoLengthsTogether (λ k s. s) no_length_alike ways pairs (class_of InCall i) i j h f
-      in
-      subst (λ k. ChangesItem ways pairs InCall k (less_by n j)) (sym (less_stays n i f))
-      (subst (ChangesItem ways pairs InCall i) (sym (less_stays n j other)) h)
+  emptied_changed i j h =
+      stays_changed emptied (λ i. emptied i ≡ i) (λ i e. e) emptied_alike InCall i j refl h
 
   less_changed : (n : ℕ) (i j : Item) → ChangesItem ways pairs InCall i j
       → ChangesItem ways pairs InCall (less_by n i) (less_by n j)
@@ -214,69 +138,45 @@ module _ (ways : Ways) (pairs : Class → Pairs ℕ) where
       let same : Word name m ≡ j = subst (λ o. ChangesOf ways pairs o (Word name m) j) free h in
       subst (λ o. ChangesOf ways pairs o (less_by n (Word name m)) (less_by n j)) (sym free)
       (ap (less_by n) same))
-      (λ f. less_kept n (Word name m) j f h)
-  less_changed n (Hyper name m) j h = less_kept n (Hyper name m) j tt h
-  less_changed n (Fixed name b) j h = less_kept n (Fixed name b) j tt h
-  less_changed n (WriteVerf name b) j h = less_kept n (WriteVerf name b) j tt h
-  less_changed n (Opaque kind name b) j h = less_kept n (Opaque kind name b) j tt h
-  less_changed n (Rest name b) j h = less_kept n (Rest name b) j tt h
+      (λ f.
+      stays_changed (less_by n) IsNoLength (less_stays n) (less_alike n) InCall (Word name m) j f h)
+  less_changed n i j h =
+      stays_changed (less_by n) IsNoLength (less_stays n) (less_alike n) InCall i j tt h
 
-  -- all items of a call stand in a call
-  each_changes : {l m : List Item} → ChangesItems ways pairs InCall l m
-      → Pairwise (ChangesItem ways pairs InCall) l m
-  each_changes over = none
-  each_changes (along c p) = more c (each_changes p)
-
-  all_change : {l m : List Item} → Pairwise (ChangesItem ways pairs InCall) l m
-      → ChangesItems ways pairs InCall l m
-  all_change none = over
-  all_change (more c p) = along c (all_change p)
-
-  after_changed : {l m : List Item} → ChangesItems ways pairs InCall l m
-      → ChangesItems ways pairs InCall (after_first 7 unnamed_credential l)
-      (after_first 7 unnamed_credential m)
-  after_changed p =
-      all_change (after_too (ChangesItem ways pairs InCall) size_changed less_changed
-      emptied_changed 7 (each_changes p))
-
-  message_changed : (way : Way) {l m : List Item} → ChangesItems ways pairs InCall l m
-      → ChangesItems ways pairs InCall (named_by way l) (named_by way m)
-  message_changed Keep p = p
-  message_changed Zero p = after_changed p
-  message_changed Number p = after_changed p
+  after_changed : (n : ℕ) {l m : List Item} → ChangesItems ways pairs InCall l m
+      → ChangesItems ways pairs InCall (after_first n unnamed_credential l)
+      (after_first n unnamed_credential m)
+  after_changed zero (along {i = i} {j = j} a (along b (along {i = k} {j = o} c p))) =
+      rw (size_changed k o c) (along (less_changed (text_size o) i j a) (along b
+      (along (emptied_changed k o c) p)))
+  after_changed (suc n) (along a p) = along a (after_changed n p)
+  after_changed n p = p
 
   module _ (by : Ways) where
-    text_stays : (spot : Spot) (i j : Item) → with_text by i ≡ i → ChangesItem ways pairs spot i j
-        → ChangesItem ways pairs spot (with_text by i) (with_text by j)
-    text_stays spot i j e h = stays_changed (with_text by) (text_alike by) spot i j e h
-
     text_changed : (spot : Spot) (i j : Item) → ChangesItem ways pairs spot i j
         → ChangesItem ways pairs spot (with_text by i) (with_text by j)
-    text_changed spot (Word name n) j h = text_stays spot (Word name n) j refl h
-    text_changed spot (Hyper name n) j h = text_stays spot (Hyper name n) j refl h
-    text_changed spot (Fixed name b) j h = text_stays spot (Fixed name b) j refl h
-    text_changed spot (WriteVerf name b) j h = ap (with_text by) h
-    text_changed spot (Opaque Var name b) j h = ap (with_text by) h
     text_changed spot (Opaque Text name b) j h = ap (with_text by) h
-    text_changed spot (Opaque Handle name b) j h = ap (with_text by) h
-    text_changed spot (Rest name b) j h = ap (with_text by) h
+    text_changed spot i j h =
+        stays_changed (with_text by) (λ i. with_text by i ≡ i) (λ i e. e) (text_alike by) spot i j
+        refl h
 
     texts_changed : (spot : Spot) {l m : List Item} → ChangesItems ways pairs spot l m
         → ChangesItems ways pairs spot (map (with_text by) l) (map (with_text by) m)
     texts_changed spot over = over
-    texts_changed spot (along {i = i} {j = j} {a = a} {b = b} c p) =
+    texts_changed spot (along {i = i} {j = j} c p) =
         along (text_changed spot i j c)
-        (subst
-        (λ (s : Spot). ChangesItems ways pairs s (map (with_text by) a) (map (with_text by) b))
-        (sym (text_spot by spot i)) (texts_changed (next_spot spot i) p))
+            (rw (text_spot by spot i) (texts_changed (next_spot spot i) p))
+
+    entry_changed : (a b : Entry) → ChangesEntry ways pairs a b
+        → ChangesEntry ways pairs (named_entry by a) (named_entry by b)
+    entry_changed a b (call {a = l} {b = m} c) =
+        call (any_way (λ f. ChangesItems ways pairs InCall (f (map (with_text by) l)) (f
+        (map (with_text by) m))) (texts_changed InCall c) (after_changed 7
+        (texts_changed InCall c)) by.machines)
+    entry_changed a b (reply c) = reply (texts_changed InReply c)
+    entry_changed a b c = c
 
     pub changes_named : {a b : List Entry} → Pairwise (ChangesEntry ways pairs) a b
         → Pairwise (ChangesEntry ways pairs) (names_by by a) (names_by by b)
     changes_named none = none
-    changes_named (more begin p) = more begin (changes_named p)
-    changes_named (more (call c) p) =
-        more (call (message_changed by.machines (texts_changed InCall c))) (changes_named p)
-    changes_named (more turn p) = more turn (changes_named p)
-    changes_named (more (reply c) p) = more (reply (texts_changed InReply c)) (changes_named p)
-    changes_named (more close p) = more close (changes_named p)
-    changes_named (more end p) = more end (changes_named p)
+    changes_named (more {x = a} {y = b} c p) = more (entry_changed a b c) (changes_named p)
