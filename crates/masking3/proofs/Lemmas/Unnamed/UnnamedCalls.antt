@@ -102,8 +102,9 @@ auth_with inner last =
     Word head_names.cred_flavor 1 ∷ Word head_names.cred_length (length (zero_spelling inner))
     ∷ (inner ++ last)
 
-none_listed : (n : ℕ) → IsTrue (is_listed credential_flavors (suc (suc n))) → ⊥
-none_listed n f = grind (arith, nat_tests)
+word_fits : (name : List ℕ) (s : Shape) (n : ℕ) (rest : List Item) → Fits s rest
+    → Fits (word name then s) (Word name n ∷ rest)
+word_fits name s n rest fit = (_, _, (n, [], refl, refl, refl), fit, refl)
 
 -- what is so with a credential of no parameters, and with an AUTH_SYS credential, is so of a head
 module _ (P : List Item → Type 0)
@@ -131,7 +132,7 @@ module _ (P : List Item → Type 0)
       (named version prog vers proc s.2.0 t.2.0 t.1 last a t.2.1 t.3
       (subst (λ (l : List Item). length (zero_spelling l) ≤ 400) is c.2) v)
   by_flavor version prog vers proc (suc (suc flavor)) body last a f c v =
-      absurd (none_listed flavor f)
+      absurd (grind (arith, nat_tests, f))
 
   by_head : (head : List Item) → Fits call_head head → P head
   unfolding call_head credential
@@ -167,36 +168,23 @@ unnamed_head head p =
     by_head (λ l. Fits call_head l → UnnamedHead l)
     (λ version prog vers proc flavor body verf_body q. (_, q, (λ i j. refl), (λ back. refl)))
     (λ version prog vers proc stamp name more last a short fit few v q.
-    let less = size_less stamp name more in (
-      four_words version prog vers proc (auth_with (stamped stamp [] more) last),
+    let less = size_less stamp name more in
+    let inner = stamped stamp [] more in
+    let few' : length (zero_spelling inner) ≤ 400 = omega (arith, less, few) in
+    let d = opaque Text head_names.machinename 255 then owners in
+    let c = credential then verifier in
+    let b = word head_names.proc then c in
+    let fits : Fits parameters inner =
+    word_fits head_names.stamp d stamp _ (_, more, ([], omega arith, refl), fit, refl) in
+    let back_fits : Fits c (auth_with inner last) =
+    (_, last, (1, _, refl, (inner, fits, few', refl), refl), v, refl) in (
+      four_words version prog vers proc (auth_with inner last),
       (
         version,
         _,
         a,
-        (
-          _,
-          _,
-          (prog, [], refl, refl, refl),
-          (
-            _,
-            _,
-            (vers, [], refl, refl, refl),
-            (
-              _,
-              _,
-              (proc, [], refl, refl, refl),
-              (_, last,
-                  (1, _, refl,
-                      (stamped stamp [] more,
-                          (_, _, (stamp, [], refl, refl, refl),
-                              (_, more, ([], omega arith, refl), fit, refl), refl),
-                          omega (arith, less, few), refl), refl), v, refl),
-              refl,
-            ),
-            refl,
-          ),
-          refl,
-        ),
+        word_fits head_names.prog (word head_names.vers then b) prog _
+            (word_fits head_names.vers b vers _ (word_fits head_names.proc c proc _ back_fits)),
         refl,
       ),
       (λ i j. refl),
