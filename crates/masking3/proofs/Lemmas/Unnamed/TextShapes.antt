@@ -153,26 +153,21 @@ host_bytes Keep b h = h
 host_bytes way b h = AreBytes-nil
 
 module _ (ways : Ways) where
-  opaque_spelled : (name b : List ℕ) → length b < 2 ^ 32 → AreBytes b
-      → SpellsItem (Opaque Text name b) (zero_spelling_of (Opaque Text name b))
-  opaque_spelled name b low are = (
-    replicate (residue (length b)) 0,
-    low,
-    are,
-    length-replicate {A = ℕ} (residue (length b)) 0,
-    zeros_are_bytes (residue (length b)),
-    refl,
-  )
-
   item_spelled : (i : Item) (bytes : List ℕ) → SpellsItem i bytes
       → SpellsItem (with_text ways i) (zero_spelling_of (with_text ways i))
   item_spelled i bytes p =
       by_text ways (λ i j. SpellsItem i (zero_spelling_of i) → SpellsItem j (zero_spelling_of j))
       (λ i q. q)
       (λ name b q.
-      opaque_spelled name (text_by ways name b) (omega (arith, q.1, text_shorter ways name b))
-      (by_name ways name AreBytes b (silly_bytes ways.silly_names b q.2)
-      (host_bytes ways.machines b q.2) q.2)) i (zero_spelled_one i bytes p)
+      let n = residue (length (text_by ways name b)) in (
+        replicate n 0,
+        omega (arith, q.1, text_shorter ways name b),
+        by_name name (λ f. AreBytes (f ways b)) (silly_bytes ways.silly_names b q.2)
+            (host_bytes ways.machines b q.2) q.2,
+        length-replicate {A = ℕ} n 0,
+        zeros_are_bytes n,
+        refl,
+      )) i (zero_spelled_one i bytes p)
 
   pub spelled_with_texts : (l : List Item) (bytes : List ℕ) → Spells l bytes
       → Spells (with_texts ways l) (zero_spelling (with_texts ways l))

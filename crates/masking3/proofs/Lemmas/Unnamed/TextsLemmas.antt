@@ -29,18 +29,16 @@ module _ (ways : Ways) where
 
   -- ---- values stay
 
-  item_values : (d : Class) (spot : Spot) (i : Item)
-      → value_in d spot (with_text ways i) ≡ value_in d spot i
-  item_values d spot i =
-      by_text (λ i j. value_in d spot j ≡ value_in d spot i) (λ i. refl) (λ name b. refl) i
-
   pub texts_values : (d : Class) (spot : Spot) (l : List Item)
       → values_in d spot (map (with_text ways) l) ≡ values_in d spot l
   texts_values d spot [] = refl
   texts_values d spot (i ∷ l) =
-      ap₂ (λ (a b : List ℕ). a ++ b) (item_values d spot i) (ap
-      (λ (s : Spot). values_in d s (map (with_text ways) l)) (text_spot spot i)
-      ∙ texts_values d (next_spot spot i) l)
+      rw (
+        text_class spot i,
+        text_value i,
+        text_spot spot i,
+        texts_values d (next_spot spot i) l,
+      ) refl
 
   -- ---- values may be masked first
 
@@ -55,49 +53,44 @@ module _ (ways : Ways) where
         → masked_item others seen spot (with_text ways i)
         ≡ with_text ways (masked_item others seen spot i)
     item_masked spot i =
-        ap₂
-        (λ (o : Option Class) (n : ℕ).
-        with_value (with_text ways i) (substitute others seen o n)) (text_class spot i)
-        (text_value i)
-        ∙ text_with i (substitute others seen (class_of spot i) (class_value i))
+        rw (text_class spot i, text_value i)
+        (text_with i (substitute others seen (class_of spot i) (class_value i)))
 
     pub texts_masked : (spot : Spot) (l : List Item)
         → masked_items others seen spot (map (with_text ways) l)
         ≡ map (with_text ways) (masked_items others seen spot l)
     texts_masked spot [] = refl
     texts_masked spot (i ∷ l) =
-        ap₂ (λ (j : Item) (m : List Item). j ∷ m) (item_masked spot i) (ap
-        (λ (s : Spot). masked_items others seen s (map (with_text ways) l))
-        (text_spot spot i) ∙ texts_masked (next_spot spot i) l)
+        rw (item_masked spot i, text_spot spot i, texts_masked (next_spot spot i) l) refl
 
 -- ---- no more bytes
 
-zero_length : (b : List ℕ) (x : Bool) → is_silly_name b ≡ x
-    → length (if x then silly_zero else b) ≡ length b
-zero_length b true e = sym ((Decides-eqb (length b) 28).0 (and_parts (length b == 28) _ e).0)
-zero_length b false e = refl
+zero_length : (b : List ℕ) → length (zero_name b) ≡ length b
+zero_length b = by_test (is_silly_name b)
+    (λ t. rw t (sym ((Decides-eqb (length b) 28).0 (and_parts (length b == 28) _ t).0)))
+    (λ f. rw f refl)
 
 silly_length : (way : Way) (b : List ℕ) → length (silly_by way b) ≡ length b
 silly_length Keep b = refl
-silly_length way b = zero_length b (is_silly_name b) refl
+silly_length way b = zero_length b
 
 host_length : (way : Way) (b : List ℕ) → length (host_by way b) ≤ length b
 host_length Keep b = omega arith
 host_length way b = omega arith
 
-module _ (ways : Ways) (name : List ℕ) where
-  -- what is so of bytes that are masked as a name of a file, as a name of a host, and that stay
-  pub by_name : (P : List ℕ → Type 0) (b : List ℕ) → P (silly_by ways.silly_names b)
-      → P (host_by ways.machines b) → P b → P (text_by ways name b)
-  by_name P b file host other =
-      by_test (bytes_eq name names.name)
-      (λ t. rw t file)
-      (λ f. by_test (bytes_eq name names.hostname) (λ t. rw (f, t) host) (λ g. rw (f, g) other))
+-- what is so of names of files, of names of hosts and of bytes that stay is so of each text's
+pub by_name : (name : List ℕ) (P : (Ways → List ℕ → List ℕ) → Type 0)
+    → P (λ ways b. silly_by ways.silly_names b) → P (λ ways b. host_by ways.machines b)
+    → P (λ ways b. b) → P (λ ways b. text_by ways name b)
+by_name name P file host other =
+    by_test (bytes_eq name names.name)
+    (λ t. rw t file)
+    (λ f. by_test (bytes_eq name names.hostname) (λ t. rw (f, t) host) (λ g. rw (f, g) other))
 
-  pub text_shorter : (b : List ℕ) → length (text_by ways name b) ≤ length b
-  text_shorter b =
-      by_name (λ c. length c ≤ length b) b (omega (arith, silly_length ways.silly_names b))
-      (host_length ways.machines b) (omega arith)
+pub text_shorter : (ways : Ways) (name b : List ℕ) → length (text_by ways name b) ≤ length b
+text_shorter ways name b =
+    by_name name (λ f. length (f ways b) ≤ length b)
+    (omega (arith, silly_length ways.silly_names b)) (host_length ways.machines b) (omega arith)
 
 -- ---- what has no bytes has none
 
@@ -112,7 +105,7 @@ host_of_none way = refl
 module _ (ways : Ways) where
   pub text_emptied : (i : Item) → with_text ways (emptied i) ≡ emptied (with_text ways i)
   text_emptied (Opaque Text name b) =
-      ap (Opaque Text name) (by_name ways name (λ c. c ≡ []) [] (silly_of_none ways.silly_names)
+      ap (Opaque Text name) (by_name name (λ f. f ways [] ≡ []) (silly_of_none ways.silly_names)
       (host_of_none ways.machines) refl)
   text_emptied i = refl
 
@@ -123,13 +116,8 @@ module _ (ways : Ways) where
 
 -- ---- masking as much or more leaves nothing of masking before
 
-zeroed : (b : List ℕ) (x : Bool) → is_silly_name b ≡ x
-    → zero_name (if x then silly_zero else b) ≡ (if x then silly_zero else b)
-zeroed b true e = refl
-zeroed b false e = ap (λ (x : Bool). if x then silly_zero else b) e
-
 zero_again : (b : List ℕ) → zero_name (zero_name b) ≡ zero_name b
-zero_again b = zeroed b (is_silly_name b) refl
+zero_again b = by_test (is_silly_name b) (λ t. rw t refl) (λ f. rw (f, f) refl)
 
 silly_absorbed : (w v : Way) → TellsNoMore w v → (b : List ℕ)
     → silly_by v (silly_by w b) ≡ silly_by v b
@@ -144,71 +132,40 @@ host_absorbed w v t b = refl
 
 module _ (ways others : Ways) (machines : TellsNoMore ways.machines others.machines)
     (silly : TellsNoMore ways.silly_names others.silly_names) where
-  bytes_absorbed : (name b : List ℕ)
-      → text_by others name (text_by ways name b) ≡ text_by others name b
-  bytes_absorbed name b =
-      by_test (bytes_eq name names.name)
-      (λ t. rw t (silly_absorbed ways.silly_names others.silly_names silly b))
-      (λ f.
-      by_test (bytes_eq name names.hostname)
-      (λ t. rw (f, t) (host_absorbed ways.machines others.machines machines b))
-      (λ g. rw (f, g) refl))
-
   pub text_absorbed : (i : Item) → with_text others (with_text ways i) ≡ with_text others i
   text_absorbed i =
       by_text ways (λ i j. with_text others j ≡ with_text others i) (λ i. refl)
-      (λ name b. ap (Opaque Text name) (bytes_absorbed name b)) i
+      (λ name b.
+      ap (Opaque Text name) (by_name name (λ f. f others (f ways b) ≡ f others b)
+      (silly_absorbed ways.silly_names others.silly_names silly b)
+      (host_absorbed ways.machines others.machines machines b) refl)) i
 
   pub texts_absorbed : (l : List Item)
       → map (with_text others) (map (with_text ways) l) ≡ map (with_text others) l
   texts_absorbed [] = refl
-  texts_absorbed (i ∷ l) =
-      ap₂ (λ (j : Item) (m : List Item). j ∷ m) (text_absorbed i) (texts_absorbed l)
+  texts_absorbed (i ∷ l) = rw (text_absorbed i, texts_absorbed l) refl
 
 -- ---- sizes under ways that empty names of machines
 
-abbrev pub Empties : Way → Type 0
-Empties Keep = ⊥
-Empties Zero = ⊤
-Empties Number = ⊤
-
-host_emptied : (way : Way) → Empties way → (b : List ℕ) → host_by way b ≡ []
-host_emptied Keep e b = absurd e
-host_emptied way e b = refl
-
-module _ (ways others : Ways) (first : Empties ways.machines)
-    (second : Empties others.machines) where
-  same_length : (name b : List ℕ) → length (text_by ways name b) ≡ length (text_by others name b)
-  same_length name b =
-      by_test (bytes_eq name names.name)
-      (λ t. rw t (silly_length ways.silly_names b ∙ sym (silly_length others.silly_names b)))
-      (λ f. by_test (bytes_eq name names.hostname)
-      (λ t.
-      rw (f, t) (ap length (host_emptied ways.machines first b
-      ∙ sym (host_emptied others.machines second b))))
-      (λ g. rw (f, g) refl))
-
+module _ (ways others : Ways) (first : (b : List ℕ) → host_by ways.machines b ≡ [])
+    (second : (b : List ℕ) → host_by others.machines b ≡ []) where
   pub same_size : (i : Item) → text_size (with_text ways i) ≡ text_size (with_text others i)
-  same_size (Opaque Text name b) = ap (λ (n : ℕ). n + residue n) (same_length name b)
+  same_size (Opaque Text name b) =
+      ap (λ (n : ℕ). n + residue n) (by_name name (λ f. length (f ways b) ≡ length (f others b))
+      (silly_length ways.silly_names b ∙ sym (silly_length others.silly_names b))
+      (rw (first b, second b) refl) refl)
   same_size i = refl
 
 -- ---- texts that stay
-
-silly_kept : (way : Way) → way ≡ Keep → (b : List ℕ) → silly_by way b ≡ b
-silly_kept way keeps b = ap (λ w. silly_by w b) keeps
-
-host_kept : (way : Way) → way ≡ Keep → (b : List ℕ) → host_by way b ≡ b
-host_kept way keeps b = ap (λ w. host_by w b) keeps
 
 module _ (ways : Ways) (machines : ways.machines ≡ Keep) (silly : ways.silly_names ≡ Keep) where
   text_kept : (i : Item) → with_text ways i ≡ i
   text_kept i =
       by_text ways (λ i j. j ≡ i) (λ i. refl)
       (λ name b.
-      ap (Opaque Text name) (by_name ways name (λ c. c ≡ b) b
-      (silly_kept ways.silly_names silly b) (host_kept ways.machines machines b)
-      refl)) i
+      ap (Opaque Text name)
+      (by_name name (λ f. f ways b ≡ b) (rw silly refl) (rw machines refl) refl)) i
 
   pub texts_kept : (l : List Item) → map (with_text ways) l ≡ l
   texts_kept [] = refl
-  texts_kept (i ∷ l) = ap₂ (λ (j : Item) (m : List Item). j ∷ m) (text_kept i) (texts_kept l)
+  texts_kept (i ∷ l) = rw (text_kept i, texts_kept l) refl

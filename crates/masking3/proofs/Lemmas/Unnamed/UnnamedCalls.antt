@@ -218,12 +218,10 @@ call_unnamed m p =
 
 -- ---- its bytes
 
-IsSpliced : List Item → Type 0
+abbrev IsSpliced : List Item → Type 0
 IsSpliced m = unnamed_body (zero_spelling m) ≡ zero_spelling (unnamed_items m)
 
-call_bytes : (m : List Item) → FitsCall m
-    → unnamed_body (zero_spelling m) ≡ zero_spelling (unnamed_items m)
-unfolding IsSpliced
+call_bytes : (m : List Item) → FitsCall m → IsSpliced m
 call_bytes m p =
     let h = is_headed_call m p in
     let s = mtype_is (0 ∷ []) h.start h.start_fits in
@@ -240,11 +238,6 @@ call_bytes m p =
     (length (zero_spelling (stamped stamp name more))) stamp name
     (zero_spelling ((more ++ last) ++ h.back)) (omega (arith, few)) (omega (arith, short))
     ∙ rw same_name refl) h.head h.head_fits)
-
-by_way_bytes : (way : Way) (m : List Item) → FitsCall m
-    → body_by way (zero_spelling m) ≡ zero_spelling (named_by way m)
-by_way_bytes Keep m p = refl
-by_way_bytes way m p = call_bytes m p
 
 -- ---- and with masked texts
 
@@ -282,4 +275,7 @@ module _ (ways : Ways) (m : List Item) where
 
   pub named_bytes_of : FitsCall m
       → body_by ways.machines (zero_spelling texts) ≡ zero_spelling (named_call ways m)
-  named_bytes_of p = by_way_bytes ways.machines texts (call_with_texts ways m p)
+  named_bytes_of p =
+      elim (ways.machines)
+      as (λ way. body_by way (zero_spelling texts) ≡ zero_spelling (named_by way texts))
+      [ Keep ↦ refl | _ ↦ call_bytes texts (call_with_texts ways m p) ]

@@ -1,19 +1,14 @@
 -- Names of machines and masked texts, apart from the values that are masked.
-use Rattle.masking3.proofs.Common.{◌≡◌, ℕ, zero, suc, ◌-◌, true, false, List, [], ◌∷◌, map, refl, sym, ap, ◌∙◌, subst, arith, bytes_eq, Option, None, Some, bytes_eq-Decides, Item, Word, Opaque, Text, head_names, names, Entry, Call, Reply, by_test, Class, Spot, InCall, InReply, Way, Keep, Ways, class_of, class_of_word, class_value, masked_entry, masked_item, masked_items, masked_values, substitute, value_in, values, values_in, values_in_entry, with_value, TellsNoMore, with_text, after_first, emptied, less_by, named_by, named_entry, names_by, text_size, unnamed_credential, unnamed_items}
+use Rattle.masking3.proofs.Common.{◌≡◌, ℕ, zero, suc, ◌-◌, true, false, List, [], ◌∷◌, map, refl, sym, ap, ◌∙◌, subst, arith, bytes_eq, Option, None, Some, bytes_eq-Decides, Item, Word, Opaque, Text, head_names, names, Entry, Call, Reply, by_test, Class, Spot, InCall, InReply, Way, Keep, Ways, class_of, class_of_word, class_value, masked_entry, masked_item, masked_items, masked_values, substitute, value_in, values, values_in, values_in_entry, with_value, TellsNoMore, with_text, after_first, emptied, host_by, less_by, named_by, named_entry, names_by, text_size, unnamed_credential, unnamed_items}
 use Rattle.masking3.proofs.Lemmas.Classes.ClassLemmas.{seen_alike}
-use Rattle.masking3.proofs.Lemmas.Unnamed.TextsLemmas.{Empties, same_size, text_absorbed, text_emptied, text_less, texts_absorbed, texts_kept, texts_masked, texts_values}
+use Rattle.masking3.proofs.Lemmas.Unnamed.TextsLemmas.{same_size, text_absorbed, text_emptied, text_less, texts_absorbed, texts_kept, texts_masked, texts_values}
 
 -- ---- the length of a credential is of no class
 
-length_free : (spot : Spot) → class_of_word spot head_names.cred_length ≡ None
-unfolding names head_names
-length_free spot = refl
-
 pub free_length : (spot : Spot) (name : List ℕ) → bytes_eq name head_names.cred_length ≡ true
     → class_of_word spot name ≡ None
-free_length spot name t =
-    subst (λ (n : List ℕ). class_of_word spot n ≡ None)
-    (sym ((bytes_eq-Decides name head_names.cred_length).0 t)) (length_free spot)
+unfolding names head_names
+free_length spot name t = rw ((bytes_eq-Decides name head_names.cred_length).0 t) refl
 
 -- what is so where items stay, and where the name becomes empty, is so of each way
 pub any_way : (P : (List Item → List Item) → Type 0) → P (λ l. l) → P unnamed_items → (way : Way)
@@ -170,7 +165,8 @@ module _ (ways others : Ways) (machines : TellsNoMore ways.machines others.machi
   texts_later : (l : List Item) → map later (map before l) ≡ map later l
   texts_later = texts_absorbed ways others machines silly
 
-  after_later : Empties ways.machines → Empties others.machines → (n : ℕ) (l : List Item)
+  after_later : ((b : List ℕ) → host_by ways.machines b ≡ [])
+      → ((b : List ℕ) → host_by others.machines b ≡ []) → (n : ℕ) (l : List Item)
       → map later (after_first n unnamed_credential (map before l))
       ≡ after_first n unnamed_credential (map later l)
   after_later first second zero (i ∷ j ∷ k ∷ l) =
@@ -192,7 +188,7 @@ module _ (ways others : Ways) (machines : TellsNoMore ways.machines others.machi
   call_later Keep v e f t l = ap (named_by v) (texts_later l)
   call_later w Keep e f t l = absurd t
   call_later w v e f t l =
-      rw (after_later (rw e tt) (rw f tt) 7 l) (after_again 7 (map later l))
+      rw (after_later (λ b. rw e refl) (λ b. rw f refl) 7 l) (after_again 7 (map later l))
 
   entry_later : (e : Entry) → named_entry others (named_entry ways e) ≡ named_entry others e
   entry_later (Call items) =

@@ -54,18 +54,15 @@ module _ {ps vs : Pairs (List ℕ)} where
     texts_renamed none = none
     texts_renamed (more {x = i} {y = j} a p) = more (text_renamed i j a) (texts_renamed p)
 
-    texts_of_message : {xs : Pairs ℕ} {l m : List Item} → RenamesMessage ps vs xs l m
-        → RenamesMessage ps vs xs (map (with_text by) l) (map (with_text by) m)
-    texts_of_message (message b p) = message b (texts_renamed p)
-
     entries_renamed : {xs : Pairs ℕ} {xss : List (Pairs ℕ)} {a b : List Entry}
         → Renames ps vs xs xss a b → Renames ps vs xs xss (names_by by a) (names_by by b)
     entries_renamed ended = ended
     entries_renamed (begins r) = begins (entries_renamed r)
-    entries_renamed (calls m r) =
-        calls (message_renamed by.machines (texts_of_message m)) (entries_renamed r)
+    entries_renamed (calls (message b p) r) =
+        calls (message_renamed by.machines (message b (texts_renamed p))) (entries_renamed r)
     entries_renamed (turns r) = turns (entries_renamed r)
-    entries_renamed (replies m r) = replies (texts_of_message m) (entries_renamed r)
+    entries_renamed (replies (message b p) r) =
+        replies (message b (texts_renamed p)) (entries_renamed r)
     entries_renamed (closes r) = closes (entries_renamed r)
     entries_renamed (ends r) = ends (entries_renamed r)
 
