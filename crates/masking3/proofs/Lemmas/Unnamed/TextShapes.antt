@@ -1,7 +1,7 @@
 -- Messages with masked texts are messages of the same procedures, and no longer.
 use Rattle.capture3.proofs.Lemmas.Container.BytesOf.{all_bytes, checked}
 use Rattle.canon3.proofs.Lemmas.WellFormed.Messages.{IsHeaded}
-use Rattle.masking3.proofs.Common.{◌≡◌, ℕ, zero, suc, ◌<◌, ◌≤◌, ◌^◌, List, [], ◌∷◌, ◌++◌, length, map, replicate, refl, sym, ap, ap₂, ◌∙◌, arith, append-nil, length-append, ProcId, has_results, procedure_in, head_names, call_head, reply_head, arguments_of, results_of, xid_in, cond_either, Spot, InCall, InReply, Way, Keep, Ways, length-map, length-replicate, map-append, Shape, choose, opaque, nothing, both, linked, counted, sized, listed, links, Fits, HasParts, Part, parts_weaker, fixed_part, opaque_part, AreBytes-nil, all_mapped, FitsCall, FitsReply, call_next, headed_call_fits, headed_reply_fits, is_headed_call, is_headed_reply, reply_next, host_by, is_silly_name, silly_by, silly_zero, text_by, with_text, if◌then◌else◌, AllByRecursion, Item, Word, Opaque, Text, AreBytes, Spells, SpellsItem, residue, zero_spelling, zero_spelling_of, Layout, exactly, rest, after, FitsLayout, number_of_word, word_in, IsEach, all_in_message, joined_mapped, length_of_opaque, links_mapped, zero_spelled_one}
+use Rattle.masking3.proofs.Common.{◌≡◌, ℕ, zero, suc, ◌≤◌, List, [], ◌∷◌, ◌++◌, length, map, replicate, refl, sym, ap, ◌∙◌, arith, append-nil, length-append, ProcId, has_results, procedure_in, head_names, call_head, reply_head, arguments_of, results_of, xid_in, cond_either, Spot, InCall, InReply, Way, Keep, Ways, length-map, length-replicate, map-append, Shape, choose, opaque, nothing, both, linked, counted, sized, listed, Fits, HasParts, Part, parts_weaker, fixed_part, opaque_part, AreBytes-nil, all_mapped, FitsCall, FitsReply, call_next, headed_call_fits, headed_reply_fits, is_headed_call, is_headed_reply, reply_next, host_by, is_silly_name, silly_by, silly_zero, text_by, with_text, if◌then◌else◌, AllByRecursion, Item, Word, Text, AreBytes, Spells, SpellsItem, residue, zero_spelling, zero_spelling_of, Layout, exactly, rest, after, FitsLayout, number_of_word, word_in, IsEach, all_in_message, joined_mapped, length_of_opaque, links_mapped, zero_spelled_one}
 use Rattle.masking3.proofs.Lemmas.Masked.MaskedShapes.{KeepsSize, RowTakesMasks, TakesMasks, arguments_take, call_head_takes, mtype_takes, reply_head_takes, reply_takes}
 use Rattle.masking3.proofs.Lemmas.Unnamed.TextsLemmas.{by_name, by_text, text_shorter}
 
@@ -51,19 +51,14 @@ module _ (ways : Ways) where
   fits_texts spot (linked name s) items h p = (
     map with_texts p.0,
     all_mapped (Fits s) (Fits s) with_texts (λ part. fits_texts spot s part h.1) p.0 p.1,
-    ap with_texts p.2
-        ∙ (map-append (with_text ways) (links name p.0) (Word name 0 ∷ [])
-        ∙ ap (λ (l : List Item). l ++ Word name 0 ∷ [])
-        (links_mapped (with_text ways) name refl p.0)),
+    rw (p.2, map-append, links_mapped (with_text ways) name refl p.0) refl,
   )
   fits_texts spot (counted name max s) items h p =
       let size = length-map p.0 with_texts in (
         map with_texts p.0,
         all_mapped (Fits s) (Fits s) with_texts (λ part. fits_texts spot s part h.1) p.0 p.1,
         omega (arith, p.2, size),
-        ap with_texts p.3
-            ∙ ap₂ (λ (n : ℕ) (l : List Item). Word name n ∷ l) (sym size)
-            (joined_mapped (with_text ways) p.0),
+        rw (p.3, size, joined_mapped (with_text ways) p.0) refl,
       )
   fits_texts spot (sized name s) items h p =
       (p.0, p.1, p.2, rw (p.3, fitting_stay s p.0 h.1 p.1) refl)
@@ -77,13 +72,10 @@ module _ (ways : Ways) where
 
   -- ---- words stay
 
-  number_stays : (i : Item) → number_of_word (with_text ways i) ≡ number_of_word i
-  number_stays i =
-      by_text ways (λ i j. number_of_word j ≡ number_of_word i) (λ i. refl) (λ name b. refl) i
-
   words_stay : (l : List Item) (i : ℕ) → word_in (with_texts l) i ≡ word_in l i
   words_stay [] i = refl
-  words_stay (x ∷ l) zero = number_stays x
+  words_stay (x ∷ l) zero =
+      by_text ways (λ i j. number_of_word j ≡ number_of_word i) (λ i. refl) (λ name b. refl) x
   words_stay (x ∷ l) (suc i) = words_stay l i
 
   pub xid_with_texts : (l : List Item) → xid_in (with_texts l) ≡ xid_in l
@@ -182,13 +174,7 @@ module _ (ways : Ways) where
   item_length i =
       by_text ways (λ i j. length (zero_spelling_of j) ≤ length (zero_spelling_of i))
       (λ i. omega arith)
-      (λ name b.
-      omega (
-        arith,
-        text_shorter ways name b,
-        length_of_opaque b,
-        length_of_opaque (text_by ways name b),
-      )) i
+      (λ name b. omega (arith, text_shorter ways name b, length_of_opaque)) i
 
   pub length_with_texts : (l : List Item)
       → length (zero_spelling (with_texts ways l)) ≤ length (zero_spelling l)

@@ -1,5 +1,5 @@
 -- Masked texts, apart from the values that are masked.
-use Rattle.masking3.proofs.Common.{◌≡◌, ℕ, ◌+◌, ◌≤◌, Bool, true, false, List, [], ◌∷◌, ◌++◌, length, map, refl, sym, ap, ap₂, ◌∙◌, arith, ⊤, ◌==◌, bytes_eq, if◌then◌else◌, Option, None, Some, Decides-eqb, Item, Opaque, Text, residue, names, by_test, Class, Spot, Way, Keep, Zero, Number, Ways, class_of, class_value, TellsNoMore, masked_item, masked_items, substitute, value_in, values_in, with_value, next_spot, emptied, less_by, text_size, and_parts, host_by, is_silly_name, silly_by, silly_zero, text_by, with_text, zero_name}
+use Rattle.masking3.proofs.Common.{◌≡◌, ℕ, ◌+◌, ◌≤◌, List, [], ◌∷◌, length, map, refl, sym, ap, ◌∙◌, arith, ◌==◌, bytes_eq, Option, None, Some, Decides-eqb, Item, Opaque, Text, residue, names, by_test, Class, Spot, Way, Keep, Ways, class_of, class_value, TellsNoMore, masked_item, masked_items, substitute, values_in, with_value, next_spot, emptied, less_by, text_size, and_parts, host_by, is_silly_name, silly_by, text_by, with_text, zero_name}
 use Rattle.masking3.proofs.Lemmas.Classes.SpotLemmas.{still_after}
 
 -- ---- an item and its masked text
@@ -33,12 +33,7 @@ module _ (ways : Ways) where
       → values_in d spot (map (with_text ways) l) ≡ values_in d spot l
   texts_values d spot [] = refl
   texts_values d spot (i ∷ l) =
-      rw (
-        text_class spot i,
-        text_value i,
-        text_spot spot i,
-        texts_values d (next_spot spot i) l,
-      ) refl
+      simp (text_class, text_value, text_spot, texts_values d (next_spot spot i) l)
 
   -- ---- values may be masked first
 

@@ -1,7 +1,7 @@
 -- The body of a call without the name of its machine, from its items.
 use Rattle.std.proofs.Math.Bool.{and-false}
 use Rattle.std.proofs.Math.Seq.{drop-append-add, drop-append_seam}
-use Rattle.masking3.proofs.Common.{◌≡◌, ℕ, ◌+◌, ◌-◌, ◌≤◌, ◌<◌, ◌^◌, Bool, true, false, List, ◌++◌, length, drop, refl, sym, ap, ap₂, ◌∙◌, length-append, arith, replicate, ◌&&◌, nat_le, if◌then◌else◌, le-leb, length-replicate, big_number-reads_back, residue, word_bytes, has_name, head_less_by, name_room, unnamed_body}
+use Rattle.masking3.proofs.Common.{◌≡◌, ℕ, ◌+◌, ◌-◌, ◌≤◌, ◌<◌, ◌^◌, true, List, ◌++◌, length, drop, refl, ap₂, length-append, arith, replicate, nat_le, le-leb, length-replicate, big_number-reads_back, residue, word_bytes, has_name, head_less_by, name_room, unnamed_body}
 
 module _ (a b c d e f : ℕ) where
   abbrev front : ℕ → List ℕ → List ℕ
@@ -21,7 +21,8 @@ module _ (a b c d e f : ℕ) where
 
     abbrev named : List ℕ
     named =
-        front 1 (word_bytes n ++ (word_bytes stamp ++ ((word_bytes (length name) ++ padded) ++ back)))
+        front 1
+        (word_bytes n ++ (word_bytes stamp ++ ((word_bytes (length name) ++ padded) ++ back)))
 
     abbrev room : ℕ
     room = length name + residue (length name)
@@ -33,7 +34,7 @@ module _ (a b c d e f : ℕ) where
     padding = simp (length-append, length-replicate)
 
     whole : length named ≡ 40 + (room + length back)
-    whole = omega (arith, length-append padded back, padding)
+    whole = simp (length-append, length-replicate) (omega arith)
 
     room_named : length name < 2 ^ 32 → name_room named ≡ room
     room_named short =
@@ -43,8 +44,7 @@ module _ (a b c d e f : ℕ) where
     has short =
         let enough : 40 ≤ length named = omega (arith, whole) in
         let fits : name_room named ≤ length named - 40 = omega (arith, whole, room_named short) in
-        ap₂ (λ (x y : Bool). x && (true && y)) (le-leb 40 (length named) enough)
-        (le-leb (name_room named) (length named - 40) fits)
+        rw (le-leb 40 (length named) enough, le-leb (name_room named) (length named - 40) fits) refl
 
     rest : length name < 2 ^ 32 → drop (40 + name_room named) named ≡ back
     rest short =

@@ -1,7 +1,7 @@
 -- Calls with masked names are calls of the same procedures, and no longer.
 use Rattle.std.proofs.lemmas.Bool.Decides.{nat_tests}
 use Rattle.xdr3.proofs.Lemmas.Reading.Decided.{zero_spelled_all}
-use Rattle.masking3.proofs.Common.{◌≡◌, ℕ, zero, suc, ◌+◌, ◌-◌, ◌<◌, ◌≤◌, true, List, [], ◌∷◌, ◌++◌, length, refl, ap, sym, ◌∙◌, subst, arith, length-append, ◌==◌, IsTrue, bytes_eq, if◌then◌else◌, length-replicate, bytes_eq-Decides, procedure_in, head_names, arguments_of, xid_in, zero_spelled_one, FitsCall, headed_call_fits, is_headed_call, by_test, Way, Keep, Ways, Item, Word, Opaque, Var, Text, Spells, SpellsItem, residue, zero_spelling, zero_spelling_of, FitsLayout, word_in, Shape, ◌then◌, is_listed, listed, opaque, word, Fits, AreBytes-nil, after_first, emptied, length_of_opaque, less_by, named_by, named_call, text_size, unnamed_credential, unnamed_items, body_by, unnamed_body, auth_sys, call_head, credential, credential_flavors, gids, parameters, rpc_versions, verifier}
+use Rattle.masking3.proofs.Common.{◌≡◌, ℕ, zero, suc, ◌+◌, ◌-◌, ◌<◌, ◌≤◌, true, List, [], ◌∷◌, ◌++◌, length, refl, ap, sym, ◌∙◌, subst, arith, length-append, ◌==◌, IsTrue, bytes_eq, if◌then◌else◌, length-replicate, bytes_eq-Decides, procedure_in, head_names, arguments_of, xid_in, zero_spelled_one, FitsCall, headed_call_fits, is_headed_call, by_test, Keep, Ways, Item, Word, Opaque, Var, Text, Spells, SpellsItem, residue, zero_spelling, zero_spelling_of, FitsLayout, word_in, Shape, ◌then◌, is_listed, listed, opaque, word, Fits, AreBytes-nil, after_first, emptied, length_of_opaque, less_by, named_by, named_call, text_size, unnamed_credential, unnamed_items, body_by, unnamed_body, auth_sys, call_head, credential, credential_flavors, gids, parameters, rpc_versions, verifier}
 use Rattle.masking3.proofs.Lemmas.Masked.MaskedMessages.{mtype_is}
 use Rattle.masking3.proofs.Lemmas.Unnamed.TextShapes.{call_with_texts, length_with_texts, procedure_with_texts, spelled_with_texts, with_texts, xid_with_texts}
 use Rattle.masking3.proofs.Lemmas.Unnamed.UnnamedBodyLemmas.{not_spliced, spliced}
@@ -38,24 +38,20 @@ emptied_spelled (Opaque Text name b) bytes p =
     ([], omega arith, AreBytes-nil, refl, AreBytes-nil, refl)
 emptied_spelled i bytes p = zero_spelled_one i bytes p
 
+more_spelled : (i : Item) (l : List Item) → SpellsItem i (zero_spelling_of i)
+    → Spells l (zero_spelling l) → Spells (i ∷ l) (zero_spelling (i ∷ l))
+more_spelled i l p q = (_, _, p, q, refl)
+
 after_spelled : (n : ℕ) (l : List Item) (bytes : List ℕ) → Spells l bytes
     → Spells (after_first n unnamed_credential l)
     (zero_spelling (after_first n unnamed_credential l))
 after_spelled zero (i ∷ j ∷ k ∷ l) bytes p =
     let q = p.3 in
-    let r = q.3 in (
-      _,
-      _,
-      less_spelled (text_size k) i p.0 p.2,
-      (
-        _,
-        _,
-        zero_spelled_one j q.0 q.2,
-        (_, _, emptied_spelled k r.0 r.2, zero_spelled_all l r.1 r.3, refl),
-        refl,
-      ),
-      refl,
-    )
+    let r = q.3 in
+    more_spelled (less_by (text_size k) i) (j ∷ emptied k ∷ l)
+    (less_spelled (text_size k) i p.0 p.2) (more_spelled j (emptied k ∷ l)
+    (zero_spelled_one j q.0 q.2) (more_spelled (emptied k) l (emptied_spelled k r.0 r.2)
+    (zero_spelled_all l r.1 r.3)))
 after_spelled (suc n) (i ∷ l) bytes p =
     (_, _, zero_spelled_one i p.0 p.2, after_spelled n l p.1 p.3, refl)
 after_spelled n l bytes p = zero_spelled_all l bytes p

@@ -1,5 +1,5 @@
 -- Names of machines and masked texts, apart from the values that are masked.
-use Rattle.masking3.proofs.Common.{◌≡◌, ℕ, zero, suc, ◌-◌, true, false, List, [], ◌∷◌, map, refl, sym, ap, ◌∙◌, subst, arith, bytes_eq, Option, None, Some, bytes_eq-Decides, Item, Word, Opaque, Text, head_names, names, Entry, Call, Reply, by_test, Class, Spot, InCall, InReply, Way, Keep, Ways, class_of, class_of_word, class_value, masked_entry, masked_item, masked_items, masked_values, substitute, value_in, values, values_in, values_in_entry, with_value, TellsNoMore, with_text, after_first, emptied, host_by, less_by, named_by, named_entry, names_by, text_size, unnamed_credential, unnamed_items}
+use Rattle.masking3.proofs.Common.{◌≡◌, ℕ, zero, suc, ◌-◌, true, false, List, [], ◌∷◌, map, refl, sym, ap, ◌∙◌, arith, bytes_eq, Option, None, Some, bytes_eq-Decides, Item, Word, Opaque, Text, head_names, names, Entry, Call, Reply, by_test, Class, Spot, InCall, InReply, Way, Keep, Ways, class_of, class_of_word, class_value, masked_entry, masked_item, masked_items, masked_values, substitute, value_in, values, values_in, values_in_entry, with_value, TellsNoMore, with_text, after_first, emptied, host_by, less_by, named_by, named_entry, names_by, text_size, unnamed_credential, unnamed_items}
 use Rattle.masking3.proofs.Lemmas.Classes.ClassLemmas.{seen_alike}
 use Rattle.masking3.proofs.Lemmas.Unnamed.TextsLemmas.{same_size, text_absorbed, text_emptied, text_less, texts_absorbed, texts_kept, texts_masked, texts_values}
 
@@ -121,9 +121,8 @@ module _ (ways : Ways) (seen : Class → List ℕ) where
 pub values_of_named : (ways by : Ways) (entries : List Entry)
     → masked_values ways (names_by by entries) ≡ names_by by (masked_values ways entries)
 values_of_named ways by entries =
-    ap (λ (seen : Class → List ℕ). map (masked_entry ways seen) (names_by by entries))
-    (seen_alike (values (names_by by entries)) (values entries) (λ d. all_values d by entries))
-    ∙ entries_masked ways (values entries) by entries
+    rw (seen_alike (values (names_by by entries)) (values entries) (λ d. all_values d by entries))
+    (entries_masked ways (values entries) by entries)
 
 -- ---- once is enough
 
@@ -170,15 +169,8 @@ module _ (ways others : Ways) (machines : TellsNoMore ways.machines others.machi
       → map later (after_first n unnamed_credential (map before l))
       ≡ after_first n unnamed_credential (map later l)
   after_later first second zero (i ∷ j ∷ k ∷ l) =
-      rw (
-        text_less others (text_size (before k)) (before i),
-        same_size ways others first second k,
-        text_later i,
-        text_later j,
-        text_emptied others (before k),
-        text_later k,
-        texts_later l,
-      ) refl
+      rw (same_size ways others first second k, texts_later l)
+      (simp (text_less others, text_emptied others, text_later))
   after_later first second (suc n) (i ∷ l) = rw (text_later i, after_later first second n l) refl
   after_later first second n l = texts_later l
 

@@ -1,5 +1,5 @@
 -- Captures that are renamed, or whose values change, do so with masked names as well.
-use Rattle.masking3.proofs.Common.{◌≡◌, ℕ, zero, suc, List, map, refl, sym, ap, subst, bytes_eq, Option, None, Some, Item, Word, Opaque, Text, head_names, Entry, Pairs, by_test, Class, Spot, InCall, InReply, Way, Keep, Zero, Number, Ways, class_of, next_spot, with_text, after_first, emptied, less_by, named_by, named_entry, names_by, text_size, unnamed_credential, way_of, AreAlike, words, ChangesBy, ChangesOf, ChangesItem, ChangesItems, over, along, ChangesEntry, call, reply, IsPlain, RenamesItem, plain, Pairwise, none, more, RenamesMessage, message, Renames, ended, begins, calls, turns, replies, closes, ends, Same}
+use Rattle.masking3.proofs.Common.{◌≡◌, ℕ, zero, suc, List, map, refl, ap, subst, bytes_eq, Option, None, Some, Item, Word, Opaque, Text, head_names, Entry, Pairs, by_test, Class, Spot, InCall, InReply, Way, Keep, Zero, Number, Ways, class_of, next_spot, with_text, after_first, emptied, less_by, named_by, named_entry, names_by, text_size, unnamed_credential, way_of, AreAlike, words, ChangesBy, ChangesOf, ChangesItem, ChangesItems, over, along, ChangesEntry, call, reply, IsPlain, RenamesItem, plain, Pairwise, none, more, RenamesMessage, message, Renames, ended, begins, calls, turns, replies, closes, ends, Same}
 use Rattle.masking3.proofs.Lemmas.Unnamed.TextsLemmas.{by_text, text_spot}
 use Rattle.masking3.proofs.Lemmas.Unnamed.UnnamedLemmas.{IsNoLength, any_way, free_length, less_stays}
 
@@ -131,10 +131,8 @@ module _ (ways : Ways) (pairs : Class → Pairs ℕ) where
   less_changed : (n : ℕ) (i j : Item) → ChangesItem ways pairs InCall i j
       → ChangesItem ways pairs InCall (less_by n i) (less_by n j)
   less_changed n (Word name m) j h = by_test (bytes_eq name head_names.cred_length)
-      (λ t. let free = free_length InCall name t in
-      let same : Word name m ≡ j = subst (λ o. ChangesOf ways pairs o (Word name m) j) free h in
-      subst (λ o. ChangesOf ways pairs o (less_by n (Word name m)) (less_by n j)) (sym free)
-      (ap (less_by n) same))
+      (λ t.
+      rw (free_length InCall name t) (ap (less_by n) (rw (free_length InCall name t) at h)))
       (λ f.
       stays_changed (less_by n) IsNoLength (less_stays n) (less_alike n) InCall (Word name m) j f h)
   less_changed n i j h =
@@ -162,7 +160,7 @@ module _ (ways : Ways) (pairs : Class → Pairs ℕ) where
     texts_changed spot over = over
     texts_changed spot (along {i = i} {j = j} c p) =
         along (text_changed spot i j c)
-            (rw (text_spot by spot i) (texts_changed (next_spot spot i) p))
+        (rw (text_spot by spot i) (texts_changed (next_spot spot i) p))
 
     entry_changed : (a b : Entry) → ChangesEntry ways pairs a b
         → ChangesEntry ways pairs (named_entry by a) (named_entry by b)
