@@ -1,7 +1,7 @@
 -- Messages with masked texts are messages of the same procedures, and no longer.
 use Rattle.capture3.proofs.Lemmas.Container.BytesOf.{all_bytes, checked}
 use Rattle.canon3.proofs.Lemmas.WellFormed.Messages.{IsHeaded}
-use Rattle.masking3.proofs.Common.{◌≡◌, ℕ, zero, suc, ◌≤◌, List, [], ◌∷◌, ◌++◌, length, map, replicate, refl, sym, ap, ◌∙◌, arith, append-nil, length-append, ProcId, has_results, procedure_in, head_names, call_head, reply_head, arguments_of, results_of, xid_in, cond_either, Spot, InCall, InReply, Way, Keep, Ways, length-map, length-replicate, map-append, Shape, choose, opaque, nothing, both, linked, counted, sized, listed, Fits, HasParts, Part, parts_weaker, fixed_part, opaque_part, AreBytes-nil, all_mapped, FitsCall, FitsReply, call_next, headed_call_fits, headed_reply_fits, is_headed_call, is_headed_reply, reply_next, host_by, is_silly_name, silly_by, silly_zero, text_by, with_text, if◌then◌else◌, AllByRecursion, Item, Word, Text, AreBytes, Spells, SpellsItem, residue, zero_spelling, zero_spelling_of, Layout, exactly, rest, after, FitsLayout, number_of_word, word_in, IsEach, all_in_message, joined_mapped, length_of_opaque, links_mapped, zero_spelled_one}
+use Rattle.masking3.proofs.Common.{◌≡◌, ℕ, zero, suc, ◌≤◌, List, [], ◌∷◌, ◌++◌, length, map, replicate, refl, sym, ap, ◌∙◌, arith, append-nil, length-append, ProcId, procedure_in, head_names, call_head, reply_head, arguments_of, xid_in, cond_either, Spot, InCall, InReply, Way, Keep, Ways, length-map, length-replicate, map-append, Shape, choose, opaque, nothing, both, linked, counted, sized, listed, Fits, HasParts, Part, parts_weaker, fixed_part, opaque_part, AreBytes-nil, all_mapped, FitsCall, FitsReply, call_next, headed_call_fits, headed_reply_fits, is_headed_call, is_headed_reply, reply_next, host_by, is_silly_name, silly_by, silly_zero, text_by, with_text, AllByRecursion, Item, Word, Text, AreBytes, Spells, SpellsItem, residue, zero_spelling, zero_spelling_of, Layout, exactly, rest, after, FitsLayout, number_of_word, word_in, IsEach, all_in_message, joined_mapped, length_of_opaque, links_mapped, zero_spelled_one}
 use Rattle.masking3.proofs.Lemmas.Masked.MaskedShapes.{KeepsSize, RowTakesMasks, TakesMasks, arguments_take, call_head_takes, mtype_takes, reply_head_takes, reply_takes}
 use Rattle.masking3.proofs.Lemmas.Unnamed.TextsLemmas.{by_name, by_text, text_shorter}
 
@@ -84,9 +84,6 @@ module _ (ways : Ways) where
   pub procedure_with_texts : (l : List Item) → procedure_in (with_texts l) ≡ procedure_in l
   procedure_with_texts l = rw (words_stay l 3, words_stay l 4, words_stay l 5) refl
 
-  results_with_texts : (l : List Item) → has_results (with_texts l) ≡ has_results l
-  results_with_texts l = rw (words_stay l 2, words_stay l 5) refl
-
   -- ---- calls and replies
 
   module _ (spot : Spot) (s t : Shape) (next : List Item → Layout) (starts : TakesMasks spot s)
@@ -122,7 +119,7 @@ module _ (ways : Ways) where
       headed_reply_fits id (with_texts items) (headed_with_texts InReply
       (listed head_names.mtype (1 ∷ [])) reply_head (reply_next id) (mtype_takes InReply (1 ∷ []))
       (reply_head_takes InReply) (reply_takes InReply tt id)
-      (λ l. ap (λ b. if b then results_of id else exactly nothing) (results_with_texts l)) items
+      (λ l. rw (words_stay l 2, words_stay l 5) refl) items
       (is_headed_reply id items p))
 
 -- ---- spellings
@@ -132,13 +129,10 @@ zeros_are_bytes zero i = omega arith
 zeros_are_bytes (suc n) zero = omega arith
 zeros_are_bytes (suc n) (suc i) = zeros_are_bytes n i
 
-zero_is_bytes : AreBytes silly_zero
-unfolding all_bytes
-zero_is_bytes = checked silly_zero refl
-
 silly_bytes : (way : Way) (b : List ℕ) → AreBytes b → AreBytes (silly_by way b)
+unfolding all_bytes
 silly_bytes Keep b h = h
-silly_bytes way b h = cond_either AreBytes (is_silly_name b) zero_is_bytes h
+silly_bytes way b h = cond_either AreBytes (is_silly_name b) (checked silly_zero refl) h
 
 host_bytes : (way : Way) (b : List ℕ) → AreBytes b → AreBytes (host_by way b)
 host_bytes Keep b h = h

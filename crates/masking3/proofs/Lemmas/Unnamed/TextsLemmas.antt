@@ -89,19 +89,12 @@ text_shorter ways name b =
 
 -- ---- what has no bytes has none
 
-silly_of_none : (way : Way) → silly_by way [] ≡ []
-silly_of_none Keep = refl
-silly_of_none way = refl
-
-host_of_none : (way : Way) → host_by way [] ≡ []
-host_of_none Keep = refl
-host_of_none way = refl
-
 module _ (ways : Ways) where
   pub text_emptied : (i : Item) → with_text ways (emptied i) ≡ emptied (with_text ways i)
   text_emptied (Opaque Text name b) =
-      ap (Opaque Text name) (by_name name (λ f. f ways [] ≡ []) (silly_of_none ways.silly_names)
-      (host_of_none ways.machines) refl)
+      ap (Opaque Text name) (by_name name (λ f. f ways [] ≡ [])
+      (elim (ways.silly_names) as (λ way. silly_by way [] ≡ []) [ Keep ↦ refl | _ ↦ refl ])
+      (elim (ways.machines) as (λ way. host_by way [] ≡ []) [ Keep ↦ refl | _ ↦ refl ]) refl)
   text_emptied i = refl
 
   pub text_less : (size : ℕ) (i : Item)

@@ -15,14 +15,6 @@ words_stay (suc n) (x ∷ l) (suc i) low = words_stay n l i (omega (arith, low))
 words_stay zero l i low = absurd (omega (arith, low))
 words_stay n l i low = refl
 
-unnamed_procedure : (m : List Item) → procedure_in (unnamed_items m) ≡ procedure_in m
-unnamed_procedure m =
-    rw (
-      words_stay 7 m 3 (omega arith),
-      words_stay 7 m 4 (omega arith),
-      words_stay 7 m 5 (omega arith),
-    ) refl
-
 -- ---- spellings
 
 less_spelled : (size : ℕ) (i : Item) (bytes : List ℕ) → SpellsItem i bytes
@@ -151,7 +143,7 @@ size_less : (stamp : ℕ) (name : List ℕ) (more : List Item)
     ≡ length (zero_spelling (stamped stamp [] more))
 size_less stamp name more = simp (length-append, length-replicate) (omega arith)
 
--- other items of a head, and those that change
+-- what becomes of a head: other items that fit, of the same procedure
 abbrev UnnamedHead : List Item → Type 0
 UnnamedHead head =
     (other : List Item) × Fits call_head other
@@ -253,8 +245,13 @@ module _ (ways : Ways) (m : List Item) where
 
   pub named_procedure : procedure_in (named_call ways m) ≡ procedure_in m
   named_procedure =
-      any_way (λ f. procedure_in (f texts) ≡ procedure_in texts) refl (unnamed_procedure texts)
-      ways.machines ∙ procedure_with_texts ways m
+      any_way (λ f. procedure_in (f texts) ≡ procedure_in texts) refl
+      (rw (
+        words_stay 7 texts 3 (omega arith),
+        words_stay 7 texts 4 (omega arith),
+        words_stay 7 texts 5 (omega arith),
+      ) refl) ways.machines
+      ∙ procedure_with_texts ways m
 
   pub named_spelled : (bytes : List ℕ) → Spells m bytes
       → Spells (named_call ways m) (zero_spelling (named_call ways m))
