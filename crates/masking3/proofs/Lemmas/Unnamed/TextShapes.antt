@@ -119,8 +119,7 @@ module _ (ways : Ways) where
       headed_reply_fits id (with_texts items) (headed_with_texts InReply
       (listed head_names.mtype (1 ∷ [])) reply_head (reply_next id) (mtype_takes InReply (1 ∷ []))
       (reply_head_takes InReply) (reply_takes InReply tt id)
-      (λ l. rw (words_stay l 2, words_stay l 5) refl) items
-      (is_headed_reply id items p))
+      (λ l. rw (words_stay l 2, words_stay l 5) refl) items (is_headed_reply id items p))
 
 -- ---- spellings
 

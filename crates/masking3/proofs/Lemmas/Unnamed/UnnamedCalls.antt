@@ -245,12 +245,9 @@ module _ (ways : Ways) (m : List Item) where
 
   pub named_procedure : procedure_in (named_call ways m) ≡ procedure_in m
   named_procedure =
+      let stays = words_stay 7 texts in
       any_way (λ f. procedure_in (f texts) ≡ procedure_in texts) refl
-      (rw (
-        words_stay 7 texts 3 (omega arith),
-        words_stay 7 texts 4 (omega arith),
-        words_stay 7 texts 5 (omega arith),
-      ) refl) ways.machines
+      (rw (stays 3 (omega arith), stays 4 (omega arith), stays 5 (omega arith)) refl) ways.machines
       ∙ procedure_with_texts ways m
 
   pub named_spelled : (bytes : List ℕ) → Spells m bytes

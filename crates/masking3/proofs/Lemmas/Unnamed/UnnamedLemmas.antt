@@ -158,9 +158,6 @@ module _ (ways others : Ways) (machines : TellsNoMore ways.machines others.machi
   abbrev later : Item → Item
   later = with_text others
 
-  text_later : (i : Item) → later (before i) ≡ later i
-  text_later = text_absorbed ways others machines silly
-
   texts_later : (l : List Item) → map later (map before l) ≡ map later l
   texts_later = texts_absorbed ways others machines silly
 
@@ -170,8 +167,9 @@ module _ (ways others : Ways) (machines : TellsNoMore ways.machines others.machi
       ≡ after_first n unnamed_credential (map later l)
   after_later first second zero (i ∷ j ∷ k ∷ l) =
       rw (same_size ways others first second k, texts_later l)
-      (simp (text_less others, text_emptied others, text_later))
-  after_later first second (suc n) (i ∷ l) = rw (text_later i, after_later first second n l) refl
+      (simp (text_less others, text_emptied others, text_absorbed ways others machines silly))
+  after_later first second (suc n) (i ∷ l) =
+      rw (text_absorbed ways others machines silly i, after_later first second n l) refl
   after_later first second n l = texts_later l
 
   call_later : (w v : Way) → ways.machines ≡ w → others.machines ≡ v → TellsNoMore w v
