@@ -2,16 +2,16 @@
 //! are constants where attributes are read, so no name is compared when the program runs.
 
 ghost use Rattle.std.specs.Prelude.{◌≡◌, ◌≤◌, ◌+◌, ◌∷◌, List, [], IsTrue, Some, OnOk, drop, length, map, take};
-ghost use Rattle.byteorder.specs.Endian.{big_bytes, big_number};
+ghost use Rattle.byteorder.specs.Endian.{big_number};
 ghost use Rattle.xdr3.specs.Item.{Hyper, Word};
 ghost use Rattle.xdr3.specs.Visit.{Adds};
 ghost use Rattle.masking3.specs.Classes.{class_of_hyper};
-ghost use Rattle.masking3.specs.machinery.KnownFields.{IsKnown, attribute_fields, attributes_in, field_item, numbered_from, first_fields, next_fields, last_fields, with_run};
+ghost use Rattle.masking3.specs.machinery.KnownFields.{IsKnown, attribute_fields, attributes_in, field_item, first_fields, last_fields, next_fields, with_run};
 ghost use Rattle.masking3.specs.machinery.MaskingWriter.{MaskStands};
 ghost use Rattle.masking3.specs.machinery.UnnamedBody.{body_word};
 
 use crate::class::{Class, class_in_wcc};
-use crate::masking_writer::{MaskingWriter, Plan};
+use crate::masking_writer::{MaskingWriter, Plan, spelled_hyper};
 use crate::spot::Spot;
 use byteorder::{BigEndian, ByteOrder};
 use capture3::pack_chunk;
@@ -84,15 +84,6 @@ pub(crate) fn are_attributes(fields: &[PlainField]) -> bool
         && are_first_fields(&fields[..4])
         && are_next_fields(&fields[4..10])
         && are_last_fields(&fields[10..])
-}
-
-/// Returns the bytes of a number, the most significant first (RFC 4506, section 4.5).
-fn spelled_hyper(n: u64) -> [u8; 8]
-    ensures { result ≡ big_bytes 8 n }
-{
-    let mut hyper = [0; 8];
-    BigEndian::write_u64(&mut hyper, n);
-    hyper
 }
 
 impl<P: Plan, S: BuildHasher + Drop> MaskingWriter<P, S> {

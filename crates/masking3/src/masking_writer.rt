@@ -2,6 +2,7 @@
 
 ghost use Rattle.std.specs.Prelude.{◌≡◌, ◌≤◌, ◌++◌, ◌∷◌, List, [], None, Some, length, true, IfErr, OnErr, OnOk};
 ghost use Rattle.std.specs.Io.KnownBytes.{Appends};
+ghost use Rattle.byteorder.specs.Endian.{big_bytes};
 ghost use Rattle.xdr3.specs.Item.{Fixed, Handle as HandleKind, Hyper, Item, Opaque, Word};
 ghost use Rattle.xdr3.specs.Plain.{run_items, run_size};
 ghost use Rattle.xdr3.specs.Visit.{Adds};
@@ -132,11 +133,9 @@ impl<P: Plan, S: BuildHasher + Drop> MaskingWriter<P, S> {
         let class = fixed_class(self.spot, name);
         let value = BigEndian::read_u64(bytes);
         match self.classes.substitute(class, value)? {
-            Some(substitute) => {
-                let mut hyper = [0u8; 8];
-                BigEndian::write_u64(&mut hyper, u64::from(substitute));
-                self.writer.fixed(name, &hyper)
-            }
+            Some(substitute) => self
+                .writer
+                .fixed(name, &spelled_hyper(u64::from(substitute))),
             None => self.writer.fixed(name, bytes),
         }
     }
@@ -217,6 +216,15 @@ impl<P: Plan, S: BuildHasher + Drop> MaskingWriter<P, S> {
             Kind::Turn | Kind::Close | Kind::End => write_word(sink, 0),
         }
     }
+}
+
+/// Returns the bytes of a number, the most significant first (RFC 4506, section 4.5).
+pub(crate) fn spelled_hyper(n: u64) -> [u8; 8]
+    ensures { result ≡ big_bytes 8 n }
+{
+    let mut hyper = [0; 8];
+    BigEndian::write_u64(&mut hyper, n);
+    hyper
 }
 
 /// Writes a call, with the name of its machine as the way has it.

@@ -1,4 +1,4 @@
-use Rattle.masking3.proofs.Common.{refl, ap, sym, ◌∙◌, ◌++◌, [], append-nil, on_ok_weaker, big_bytes, with_text, with_value, Fixed}
+use Rattle.masking3.proofs.Common.{refl, ap, sym, ◌∙◌, on_ok_weaker, big_bytes, with_text, with_value, Fixed}
 use Rattle.masking3.proofs.Lemmas.Writing.WriterLemmas.{adds_of_class, stays_found}
 use Rattle.masking3.proofs.masking_writer.MaskingWriter.write_masked_fixed.Goals as goal
 
@@ -16,9 +16,8 @@ returns-in-Some g c =
           (λ seen h.
           ap (λ o. with_text c.args.self.now.classes.ways (with_value i o))
           (sym (c.in_ok-substitute.ensures.stands seen h) ∙ c.in-Some.is)
-          ∙ ap (Fixed c.args.name.now) (sym (c.write_u64.ensures
-          ∙ (ap (λ n. big_bytes 8 n ++ []) c.from.ensures
-          ∙ append-nil (big_bytes 8 c.in-Some.substitute))))))
+          ∙ ap (Fixed c.args.name.now)
+          (sym (c.spelled_hyper.ensures ∙ ap (big_bytes 8) c.from.ensures))))
           c.fixed.ensures.ok;
     }
 
