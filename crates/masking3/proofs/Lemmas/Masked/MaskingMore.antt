@@ -1,13 +1,13 @@
 -- Ways that mask more tell no more captures apart.
 use Rattle.masking3.proofs.Common.{◌≡◌, inl, inr, ℕ, List, [], refl, sym, subst, nat_eq, Option, None, Some, Decides-eqb, Item, Entry, Pairs, none, more, Same, by_test, Class, Spot, InCall, InReply, Way, Keep, Zero, Number, Ways, class_of, class_value, is_zero_that_stays, values, next_spot, names_by, way_of, Agree, agree-graph, graph, member-graph, AreAlike, ArePartners, ChangesBy, ChangesEntry, ChangesItems, ChangesOf, IsNumbered, SameBut, SameButValues, along, begin, call, close, end, over, reply, turn}
 use Rattle.masking3.specs.Laws.{KeepsAll, MasksAsMuch, MasksValuesAsMuch, TellsNoMore}
-use Rattle.masking3.proofs.Lemmas.Masked.MaskedLemmas.{AreAmong, EntryIsAmong, IsAmong, ItemsAreAmong, among_own}
-use Rattle.masking3.proofs.Lemmas.Masked.SameButLemmas.{AreAgreeing, Changes, agree_of, alike_linked, alike_put, alike_turned, from_agreeing, kept_of_same, same_of_kept, values_numbered}
+use Rattle.masking3.proofs.Lemmas.Masked.MaskedLemmas.{IsAmong}
+use Rattle.masking3.proofs.Lemmas.Masked.SameButLemmas.{AreAgreeing, agree_of, alike_met, alike_put, from_agreeing, kept_of_same, same_of_kept, values_numbered}
 use Rattle.masking3.proofs.Lemmas.Unnamed.UnnamedLemmas.{names_absorbed, names_kept}
 use Rattle.masking3.proofs.Lemmas.Unnamed.UnnamedRenamings.{changes_named, same_named}
 
 module _ (ways others : Ways) (much : MasksValuesAsMuch ways others) (all : List Entry)
-    (pairs : Class → Pairs ℕ) (agree : AreAgreeing ways pairs) where
+    (pairs : Class → Pairs ℕ) (agree : AreAgreeing pairs) where
   -- a value that stayed is its own partner
   abbrev pairs_by : Way → Class → Pairs ℕ
   pairs_by Keep d = graph (λ n. n) (values all d)
@@ -33,7 +33,7 @@ module _ (ways others : Ways) (much : MasksValuesAsMuch ways others) (all : List
 
   alike_itself : (spot : Spot) (d : Class) (i : Item) → class_of spot i ≡ Some d → AreAlike i i
   alike_itself spot d i is =
-      alike_linked (alike_put spot i d 0 is) (alike_turned (alike_put spot i d 0 is))
+      alike_met (alike_put spot i d 0 is) (alike_put spot i d 0 is)
 
   by_way_more : (w v : Way) → TellsNoMore w v → (spot : Spot) (d : Class) (i j : Item)
       → IsAmong (values all) spot i → class_of spot i ≡ Some d → ChangesBy w d (pairs d) i j
@@ -46,48 +46,21 @@ module _ (ways others : Ways) (much : MasksValuesAsMuch ways others) (all : List
       × ArePartners d (graph (λ n. n) (values all d)) (class_value i) (class_value k)) h
       (alike_itself spot d i is, own_partner spot d i among is)
   by_way_more Keep Zero t spot d i j among is h = subst (AreAlike i) h (alike_itself spot d i is)
-  by_way_more Number Keep t spot d i j among is h = absurd t
   by_way_more Number Number t spot d i j among is h = h
   by_way_more Number Zero t spot d i j among is h = h.0
-  by_way_more Zero Keep t spot d i j among is h = absurd t
-  by_way_more Zero Number t spot d i j among is h = absurd t
   by_way_more Zero Zero t spot d i j among is h = h
-
-  of_more : (spot : Spot) (o : Option Class) (i j : Item) → IsAmong (values all) spot i
-      → class_of spot i ≡ o → ChangesOf ways pairs o i j → ChangesOf others more_pairs o i j
-  of_more spot None i j among is h = h
-  of_more spot (Some d) i j among is h =
-      by_way_more (way_of ways d) (way_of others d) (much d) spot d i j among is h
-
-  message_more : (spot : Spot) {l m : List Item} → ItemsAreAmong (values all) spot l
-      → ChangesItems ways pairs spot l m → ChangesItems others more_pairs spot l m
-  message_more spot among over = over
-  message_more spot among (along {i = i} {j = j} c p) =
-      along (of_more spot (class_of spot i) i j among.0 refl c)
-      (message_more (next_spot spot i) among.1 p)
-
-  entry_more : (e f : Entry) → EntryIsAmong (values all) e → ChangesEntry ways pairs e f
-      → ChangesEntry others more_pairs e f
-  entry_more e f among begin = begin
-  entry_more e f among (call c) = call (message_more InCall among c)
-  entry_more e f among turn = turn
-  entry_more e f among (reply c) = reply (message_more InReply among c)
-  entry_more e f among close = close
-  entry_more e f among end = end
-
-  changes_more : {a b : List Entry} → AreAmong (values all) a → Changes ways pairs a b
-      → Changes others more_pairs a b
-  changes_more among none = none
-  changes_more among (more {x = e} {y = f} c p) =
-      more (entry_more e f among.0 c) (changes_more among.1 p)
+  by_way_more w v t spot d i j among is h = absurd t
 
 pub values_more : (ways others : Ways) (a b : List Entry) → MasksValuesAsMuch ways others
     → SameButValues ways a b → SameButValues others a b
 values_more ways others a b much s =
-    let agree = agree_of ways s.value_pairs s.values_one_to_one in
-    from_agreeing others a b s.changed (more_pairs ways others much a s.value_pairs agree)
-    (λ d. agree_by ways others much a s.value_pairs agree (way_of ways d) d)
-    (changes_more ways others much a s.value_pairs agree (among_own a) s.changes) s.same
+    let agree = agree_of s.value_pairs s.values_one_to_one in
+    from_agreeing (more_pairs ways others much a s.value_pairs agree)
+    (λ d. agree_by ways others much a s.value_pairs agree (way_of ways d) d) ways others
+    s.value_pairs a b s.changed
+    (λ spot d.
+    by_way_more ways others much a s.value_pairs agree (way_of ways d) (way_of others d) (much d)
+    spot d) s.changes s.same
 
 -- ---- and names
 
