@@ -1,5 +1,5 @@
 -- Messages with masked values are messages of the same procedures, of the same length.
-use Rattle.masking3.proofs.Common.{◌≡◌, ℕ, suc, ◌+◌, ◌<◌, ◌≤◌, ◌^◌, Bool, true, false, List, [], ◌∷◌, ◌++◌, length, refl, sym, ap, ap₂, ◌∙◌, subst, arith, length-append, append-nil, append_assoc, IsTrue, nat_eq, if◌then◌else◌, Option, None, Some, AllByRecursion, big_bytes, length-bytes_high_first, Item, Word, Hyper, Fixed, WriteVerf, Opaque, Rest, Var, Spells, SpellsItem, zero_spelling, zero_spelling_of, Layout, exactly, rest, after, FitsLayout, ProcId, has_results, procedure_in, head_names, names, arguments_of, results_of, Side, Client, Server, xid_in, max_bytes, Decides-eqb, Class, Spot, InCall, InReply, Way, Keep, Zero, Number, Ways, class_of_fixed, class_of_hyper, class_of_word, class_value, by_way, is_zero_that_stays, masked_item, masked_items, number_among, substitute, with_value, next_spot, way_of, HasParts, Part, parts_weaker, word_part, hyper_part, fixed_part, write_verf_part, rest_part, opaque_part, size_part, accept, call_head, credential, deny, reply_head, verifier, FitsCall, FitsReply, call_next, headed_call_fits, headed_reply_fits, is_headed_call, is_headed_reply, reply_next, Shape, ◌then◌, both, choose, counted, fixed, hyper, linked, listed, nothing, opaque, sized, word, write_verf, Fits, joined, links, before, rank, IsEach, all_in_message, are_bytes_of_number, zero_spelled_one, by_test, cond_either, equivalence, length-with_keys}
+use Rattle.masking3.proofs.Common.{◌≡◌, ℕ, suc, ◌+◌, ◌<◌, ◌≤◌, ◌^◌, Bool, true, false, List, [], ◌∷◌, ◌++◌, length, refl, sym, ap, ap₂, ◌∙◌, subst, arith, length-append, append-nil, append_assoc, IsTrue, nat_eq, if◌then◌else◌, Option, None, Some, AllByRecursion, big_bytes, length-bytes_high_first, Item, Word, Hyper, Fixed, WriteVerf, Opaque, Rest, Var, Spells, SpellsItem, zero_spelling, zero_spelling_of, Layout, exactly, rest, after, FitsLayout, ProcId, has_results, procedure_in, head_names, names, arguments_of, results_of, Side, Client, Server, xid_in, max_bytes, Decides-eqb, ⊤, class_of, class_of_word, Class, Spot, InCall, InReply, Way, Keep, Zero, Number, Ways, class_of_fixed, class_of_hyper, class_of_word, class_value, by_way, is_zero_that_stays, masked_item, masked_items, number_among, substitute, with_value, next_spot, way_of, HasParts, Part, parts_weaker, word_part, hyper_part, fixed_part, write_verf_part, rest_part, opaque_part, size_part, accept, call_head, credential, deny, reply_head, verifier, FitsCall, FitsReply, call_next, headed_call_fits, headed_reply_fits, is_headed_call, is_headed_reply, reply_next, Shape, ◌then◌, both, choose, counted, fixed, hyper, linked, listed, nothing, opaque, sized, word, write_verf, Fits, joined, links, before, rank, IsEach, all_in_message, are_bytes_of_number, zero_spelled_one, by_test, cond_either, equivalence, length-with_keys}
 use Rattle.masking3.proofs.Lemmas.Classes.SpotLemmas.{IsOn, masked_items-append, on_after, on_next, spot_after, xid_free}
 use Rattle.masking3.proofs.Lemmas.Masked.MaskedLemmas.{unmasked}
 use Rattle.masking3.proofs.Lemmas.Masked.MaskedShapes.{KeepsSize, RowTakesOn, TakesOn, TakesWord, arguments_take, call_head_takes, mtype_takes, reply_head_takes, reply_takes}
@@ -32,18 +32,14 @@ module _ (ways : Ways) (seen : Class → List ℕ) where
   word_with name n (Some m) = (m, refl)
 
   hyper_with : (name : List ℕ) (n : ℕ) (o : Option ℕ)
-      → (m : ℕ) × (with_value (Hyper name n) o ≡ Hyper name m)
+      → Fits (hyper name) (with_value (Hyper name n) o ∷ [])
   hyper_with name n None = (n, refl)
   hyper_with name n (Some m) = (m, refl)
 
   fixed_with : (name bytes : List ℕ) (o : Option ℕ)
-      → (others : List ℕ) × (with_value (Fixed name bytes) o ≡ Fixed name others)
+      → Fits (fixed name) (with_value (Fixed name bytes) o ∷ [])
   fixed_with name bytes None = (bytes, refl)
   fixed_with name bytes (Some m) = (big_bytes 8 m, refl)
-
-  word_under : (spot : Spot) (name : List ℕ) (n : ℕ)
-      → (m : ℕ) × (masked_item ways seen spot (Word name n) ≡ Word name m)
-  word_under spot name n = word_with name n (substitute ways seen (class_of_word spot name) n)
 
   -- a word that is accepted becomes one that is, and chooses the same
   chosen : (spot : Spot) (name : List ℕ) (accepted : ℕ → Bool) (next : ℕ → Shape) (o : Option Class)
@@ -53,54 +49,60 @@ module _ (ways : Ways) (seen : Class → List ℕ) where
   chosen spot name accepted next None is takes n a =
       (n, unmasked ways seen spot (Word name n) is, a, refl)
   chosen spot name accepted next (Some d) is takes n a =
-      let w = word_under spot name n in (w.0, w.1, takes.0 w.0, takes.1 w.0 ∙ sym (takes.1 n))
+      let w = word_with name n (substitute ways seen (class_of_word spot name) n) in
+      (w.0, w.1, takes.0 w.0, takes.1 w.0 ∙ sym (takes.1 n))
 
   -- ---- lengths stay
 
-  abbrev KeepsLength : Item → Type 0
-  KeepsLength i = (spot : Spot)
-      → length (zero_spelling_of (masked_item ways seen spot i)) ≡ length (zero_spelling_of i)
+  -- eight bytes are eight where they are spelled
+  abbrev HasEight : Item → Type 0
+  HasEight (Fixed name b) = length b ≡ 8
+  HasEight _ = ⊤
 
-  word_length : (name : List ℕ) (n : ℕ) → KeepsLength (Word name n)
-  word_length name n spot =
-      let w = word_under spot name n in
-      ap (λ i. length (zero_spelling_of i)) w.1
-      ∙ (length-bytes_high_first 4 w.0 ∙ sym (length-bytes_high_first 4 n))
+  length_with : (i : Item) (o : Option ℕ) → HasEight i
+      → length (zero_spelling_of (with_value i o)) ≡ length (zero_spelling_of i)
+  length_with i None h = refl
+  length_with (Word name n) (Some m) h =
+      length-bytes_high_first 4 m ∙ sym (length-bytes_high_first 4 n)
+  length_with (Hyper name n) (Some m) h =
+      length-bytes_high_first 8 m ∙ sym (length-bytes_high_first 8 n)
+  length_with (Fixed name b) (Some m) h = length-bytes_high_first 8 m ∙ sym h
+  length_with i (Some m) h = refl
 
-  hyper_length : (name : List ℕ) (n : ℕ) → KeepsLength (Hyper name n)
-  hyper_length name n spot =
-      let w = hyper_with name n (substitute ways seen (class_of_hyper spot name) n) in
-      ap (λ i. length (zero_spelling_of i)) w.1
-      ∙ (length-bytes_high_first 8 w.0 ∙ sym (length-bytes_high_first 8 n))
-
-  each_length : (part : Part) → KeepsSize part → IsEach KeepsLength part
-  each_length (word_part name reason) h = λ n. word_length name n
-  each_length (hyper_part name) h = λ n. hyper_length name n
-  each_length (fixed_part name) h = absurd h
-  each_length (write_verf_part name) h = λ bytes spot. refl
-  each_length (rest_part name) h = λ bytes spot. refl
-  each_length (opaque_part kind name max) h = λ bytes le spot. refl
-  each_length (size_part name s) h = λ n. word_length name n
-
-  all_lengths : (spot : Spot) (items : List Item) → AllByRecursion KeepsLength items
+  all_lengths : (spot : Spot) (items : List Item) → AllByRecursion HasEight items
       → length (zero_spelling (under spot items)) ≡ length (zero_spelling items)
   all_lengths spot [] h = refl
   all_lengths spot (i ∷ items) h =
-      let rest : List Item = under (next_spot spot i) items in
       omega (
         arith,
-        h.0 spot,
+        length_with i (substitute ways seen (class_of spot i) (class_value i)) h.0,
         all_lengths (next_spot spot i) items h.1,
         length-append (zero_spelling_of i) (zero_spelling items),
-        length-append (zero_spelling_of (masked_item ways seen spot i)) (zero_spelling rest),
+        length-append (zero_spelling_of (masked_item ways seen spot i))
+            (zero_spelling (under (next_spot spot i) items)),
       )
+
+  each_eight : (part : Part) → KeepsSize part → IsEach HasEight part
+  each_eight (fixed_part name) h = absurd h
+  each_eight (opaque_part kind name max) h = λ bytes le. tt
+  each_eight part h = λ x. tt
 
   fitting_lengths : (spot : Spot) (s : Shape) (items : List Item) → HasParts KeepsSize s
       → Fits s items → length (zero_spelling (under spot items)) ≡ length (zero_spelling items)
   fitting_lengths spot s items h p =
-      all_lengths spot items (all_in_message KeepsLength s (λ front. exactly nothing) items
-      (parts_weaker KeepsSize (IsEach KeepsLength) each_length s h) (λ front. tt)
+      all_lengths spot items (all_in_message HasEight s (λ front. exactly nothing) items
+      (parts_weaker KeepsSize (IsEach HasEight) each_eight s h) (λ front. tt)
       (items, [], p, refl, sym (append-nil items)))
+
+  spelled_eights : (items : List Item) (bytes : List ℕ) → Spells items bytes
+      → AllByRecursion HasEight items
+  spelled_eights [] bytes p = tt
+  spelled_eights (Fixed name b ∷ items) bytes p = (p.2.0, spelled_eights items p.1 p.3)
+  spelled_eights (i ∷ items) bytes p = (tt, spelled_eights items p.1 p.3)
+
+  pub message_length : (spot : Spot) (items : List Item) (bytes : List ℕ) → Spells items bytes
+      → length (zero_spelling (under spot items)) ≡ length (zero_spelling items)
+  message_length spot items bytes p = all_lengths spot items (spelled_eights items bytes p)
 
   -- ---- parts one after another, each from the spot that the move leads to
 
@@ -152,11 +154,12 @@ module _ (ways : Ways) (seen : Class → List ℕ) where
         let end : List Item = Word name 0 ∷ [] in
         ap₂ (λ (i : Item) (l : List Item). i ∷ l)
         (unmasked ways seen spot (Word name 1) (free spot on))
-        (ap (under next) (append_assoc part (links name parts) end)
-        ∙ masked_items-append ways seen next part (links name parts ++ end)
-        ∙ ap (λ (l : List Item). under next part ++ l) (links_under later stays parts)
-        ∙ sym
-        (append_assoc (under next part) (links name (masked_parts after_link later parts)) end))
+        (cc (
+          ap (under next) (append_assoc part (links name parts) end),
+          masked_items-append ways seen next part (links name parts ++ end),
+          links_under later stays parts,
+          append_assoc (under next part) (links name (masked_parts after_link later parts)) end,
+        ))
 
   -- ---- shapes stay
 
@@ -170,16 +173,12 @@ module _ (ways : Ways) (seen : Class → List ℕ) where
         c.2,
         subst (λ s. Fits s (under later p.1)) (sym c.3) (fits_under side later
             (on_next side spot (Word name p.0) on) (next p.0) p.1 (λ t o. (h t o).1 p.0) p.3),
-        ap (under spot) p.4 ∙ ap (λ (i : Item). i ∷ under later p.1) c.1,
+        rw (p.4, c.1) refl,
       )
   fits_under side spot on (hyper name) items h p =
-      let w = hyper_with name p.0 (substitute ways seen (class_of_hyper spot name) p.0) in
-      (w.0, ap (under spot) p.1 ∙ ap (λ (i : Item). i ∷ []) w.1)
+      rw p.1 (hyper_with name p.0 (substitute ways seen (class_of_hyper spot name) p.0))
   fits_under side spot on (fixed name) items h p =
-      let w =
-      fixed_with name p.0
-      (substitute ways seen (class_of_fixed name) (class_value (Fixed name p.0))) in
-      (w.0, ap (under spot) p.1 ∙ ap (λ (i : Item). i ∷ []) w.1)
+      rw p.1 (fixed_with name p.0 (substitute ways seen (class_of_fixed name) _))
   fits_under side spot on (write_verf name) items h p = (p.0, ap (under spot) p.1)
   fits_under side spot on (opaque kind name max) items h p = (p.0, p.1, ap (under spot) p.2)
   fits_under side spot on nothing items h p = ap (under spot) p
@@ -205,10 +204,8 @@ module _ (ways : Ways) (seen : Class → List ℕ) where
             (λ t o part. fits_under side t o s part (λ u k. (h u k).1)) later
             (on_next side spot (Word name (length p.0)) on) p.0 p.1,
         omega (arith, p.2, size),
-        ap (under spot) p.3
-            ∙ ap₂ (λ (i : Item) (l : List Item). i ∷ l)
-            (unmasked ways seen spot (Word name (length p.0)) (h spot on).0
-            ∙ ap (Word name) (sym size)) (joined_under later p.0),
+        rw p.3 (cc (unmasked ways seen spot (Word name (length p.0)) (h spot on).0, size,
+            joined_under later p.0)),
       )
   fits_under side spot on (sized name s) items h p =
       let later : Spot = next_spot spot (Word name (length (zero_spelling p.0))) in
@@ -217,10 +214,8 @@ module _ (ways : Ways) (seen : Class → List ℕ) where
         fits_under side later (on_next side spot (Word name (length (zero_spelling p.0))) on) s p.0
             (λ t o. (h t o).2) p.1,
         omega (arith, p.2, size),
-        ap (under spot) p.3
-            ∙ ap (λ (i : Item). i ∷ under later p.0) (unmasked ways seen spot
-            (Word name (length (zero_spelling p.0))) (h spot on).0
-            ∙ ap (Word name) (sym size)),
+        rw p.3 (cc (unmasked ways seen spot (Word name (length (zero_spelling p.0))) (h spot on).0,
+            size)),
       )
 
   row_under : (side : Side) (spot : Spot) → IsOn side spot → (layout : Layout) (items : List Item)
@@ -246,25 +241,11 @@ pub mtype_is : (types : List ℕ) (items : List Item) → Fits (listed head_name
     → (n : ℕ) × (items ≡ Word head_names.mtype n ∷ [])
 mtype_is types items p = (p.0, p.4 ∙ ap (λ (l : List Item). Word head_names.mtype p.0 ∷ l) p.3)
 
-record CallWords (head : List Item) : Type 0 where
-  version : ℕ
-  prog : ℕ
-  vers : ℕ
-  proc : ℕ
-  back : List Item
-  is : head
-      ≡ Word head_names.rpcvers version ∷ Word head_names.prog prog ∷ Word head_names.vers vers
-      ∷ Word head_names.proc proc ∷ back
-
-four_words : (version prog vers proc : ℕ) (head a b c back : List Item)
-    → head ≡ Word head_names.rpcvers version ∷ a → a ≡ Word head_names.prog prog ∷ b
-    → b ≡ Word head_names.vers vers ∷ c → c ≡ Word head_names.proc proc ∷ back
-    → head
+call_words : (head : List Item) → Fits call_head head
+    → (version prog vers proc : ℕ) × (back : List Item)
+    × (head
     ≡ Word head_names.rpcvers version ∷ Word head_names.prog prog ∷ Word head_names.vers vers
-    ∷ Word head_names.proc proc ∷ back
-four_words version prog vers proc head a b c back e f g h = cc
-
-call_words : (head : List Item) → Fits call_head head → CallWords head
+    ∷ Word head_names.proc proc ∷ back)
 unfolding call_head
 call_words head p =
     let a =
@@ -273,25 +254,7 @@ call_words head p =
     let b =
     first_word head_names.vers (word head_names.proc then credential then verifier) a.1 a.2 in
     let c = first_word head_names.proc (credential then verifier) b.1 b.2 in
-    record {
-      version = p.0;
-      prog = a.0;
-      vers = b.0;
-      proc = c.0;
-      back = c.1;
-      is = four_words p.0 a.0 b.0 c.0 head p.1 a.1 b.1 c.1 p.4 a.3 b.3 c.3;
-    }
-
--- the status of a reply's head, and where it is accepted the status after its verifier
-record ReplyWords (head : List Item) : Type 0 where
-  status : ℕ
-  back : List Item
-  is : head ≡ Word head_names.reply_stat status ∷ back
-  accepted : nat_eq status 0 ≡ true
-      → (flavor stat : ℕ) × (body : List ℕ) × (last : List Item)
-      × (back
-      ≡ Word head_names.verf_flavor flavor ∷ Opaque Var head_names.verf_body body
-      ∷ Word head_names.accept_stat stat ∷ last)
+    (p.0, a.0, b.0, c.0, c.1, cc (p.4, a.3, b.3, c.3))
 
 accepted_words : (items : List Item) → Fits (verifier then accept) items
     → (flavor stat : ℕ) × (body : List ℕ) × (last : List Item)
@@ -311,69 +274,29 @@ accepted_words items p =
           (v.4 ∙ ap (λ (l : List Item). Word head_names.verf_flavor v.0 ∷ l) v.3.2) a.4,
     )
 
-reply_words : (head : List Item) → Fits reply_head head → ReplyWords head
-unfolding reply_head
-reply_words head p = record {
-  status = p.0;
-  back = p.1;
-  is = p.4;
-  accepted =
-      λ zero.
-      accepted_words p.1
-      (subst (λ b. Fits (if b then (verifier then accept) else deny) p.1) zero p.3);
-}
-
 module _ (ways : Ways) (seen : Class → List ℕ) where
-  procedure_of_words : (a b : Spot) (x version prog vers proc mtype : ℕ)
-      (start head back : List Item) → start ≡ Word head_names.mtype mtype ∷ []
-      → head
-      ≡ Word head_names.rpcvers version ∷ Word head_names.prog prog ∷ Word head_names.vers vers
-      ∷ Word head_names.proc proc ∷ back
-      → procedure_in (Word head_names.xid x ∷ (under ways seen a start ++ under ways seen b head))
-      ≡ procedure_in (Word head_names.xid x ∷ (start ++ head))
-  unfolding names head_names
-  procedure_of_words a b x version prog vers proc mtype start head back e f = rw (e, f) refl
-
   procedure_stays : (a b : Spot) (x : ℕ) (start head : List Item)
       → Fits (listed head_names.mtype (0 ∷ [])) start → Fits call_head head
       → procedure_in (Word head_names.xid x ∷ (under ways seen a start ++ under ways seen b head))
       ≡ procedure_in (Word head_names.xid x ∷ (start ++ head))
+  unfolding names head_names
   procedure_stays a b x start head p q =
       let m = mtype_is (0 ∷ []) start p in
-      let w = call_words head q in
-      procedure_of_words a b x w.version w.prog w.vers w.proc m.0 start head w.back m.1 w.is
-
-  refused_results : (a b : Spot) (x status mtype : ℕ) (start head back : List Item)
-      → nat_eq status 0 ≡ false → start ≡ Word head_names.mtype mtype ∷ []
-      → head ≡ Word head_names.reply_stat status ∷ back
-      → has_results (Word head_names.xid x ∷ (under ways seen a start ++ under ways seen b head))
-      ≡ has_results (Word head_names.xid x ∷ (start ++ head))
-  unfolding names head_names
-  refused_results a b x status mtype start head back z e f = rw (e, f) (rw z refl)
-
-  accepted_results : (a b : Spot) (x status mtype flavor stat : ℕ) (body : List ℕ)
-      (start head back last : List Item) → start ≡ Word head_names.mtype mtype ∷ []
-      → head ≡ Word head_names.reply_stat status ∷ back
-      → back
-      ≡ Word head_names.verf_flavor flavor ∷ Opaque Var head_names.verf_body body
-      ∷ Word head_names.accept_stat stat ∷ last
-      → has_results (Word head_names.xid x ∷ (under ways seen a start ++ under ways seen b head))
-      ≡ has_results (Word head_names.xid x ∷ (start ++ head))
-  unfolding names head_names
-  accepted_results a b x status mtype flavor stat body start head back last e f g =
-      rw (e, f, g) refl
+      let w = call_words head q in rw (m.1, w.5) refl
 
   results_stay : (a b : Spot) (x : ℕ) (start head : List Item)
       → Fits (listed head_names.mtype (1 ∷ [])) start → Fits reply_head head
       → has_results (Word head_names.xid x ∷ (under ways seen a start ++ under ways seen b head))
       ≡ has_results (Word head_names.xid x ∷ (start ++ head))
+  unfolding names head_names reply_head
   results_stay a b x start head p q =
       let m = mtype_is (1 ∷ []) start p in
-      let w = reply_words head q in
-      by_test (nat_eq w.status 0)
-      (λ t. let k = w.accepted t in
-      accepted_results a b x w.status m.0 k.0 k.1 k.2 start head w.back k.3 m.1 w.is k.4)
-      (λ f. refused_results a b x w.status m.0 start head w.back f m.1 w.is)
+      by_test (nat_eq q.0 0)
+      (λ t. let k =
+      accepted_words q.1
+      (subst (λ b. Fits (if b then (verifier then accept) else deny) q.1) t q.3) in
+      rw (m.1, q.4, k.4) refl)
+      (λ f. rw (m.1, q.4, f) refl)
 
 module _ (ways : Ways) (seen : Class → List ℕ) (spot : Spot) where
   abbrev masks : List Item → List Item
@@ -397,121 +320,53 @@ module _ (ways : Ways) (seen : Class → List ℕ) (spot : Spot) where
       ∙ ap (λ (l : List Item). l ++ under ways seen (spot_after spot (start ++ head)) back)
       (masked_items-append ways seen spot start head))
 
-  xid_of_message : (x : ℕ) (items start head back : List Item)
-      → items ≡ Word head_names.xid x ∷ ((start ++ head) ++ back)
-      → xid_in (masks items) ≡ xid_in items
-  xid_of_message x items start head back is =
-      ap xid_in (message_is x items start head back is) ∙ sym (ap xid_in is)
-
   pub call_xid_under : (items : List Item) → FitsCall items → xid_in (masks items) ≡ xid_in items
-  call_xid_under items p =
-      let h = is_headed_call items p in xid_of_message h.number items h.start h.head h.back h.is
+  unfolding names head_names
+  call_xid_under items p = let h = is_headed_call items p in rw h.is refl
 
   pub reply_xid_under : (id : ProcId) (items : List Item) → FitsReply id items
       → xid_in (masks items) ≡ xid_in items
-  reply_xid_under id items p =
-      let h = is_headed_reply id items p in xid_of_message h.number items h.start h.head h.back h.is
-
-  procedure_of_message : (x version prog vers proc mtype : ℕ)
-      (items start head back last : List Item)
-      → items ≡ Word head_names.xid x ∷ ((start ++ head) ++ last)
-      → start ≡ Word head_names.mtype mtype ∷ []
-      → head
-      ≡ Word head_names.rpcvers version ∷ Word head_names.prog prog ∷ Word head_names.vers vers
-      ∷ Word head_names.proc proc ∷ back → procedure_in (masks items) ≡ procedure_in items
   unfolding names head_names
-  procedure_of_message x version prog vers proc mtype items start head back last e f g =
-      rw (e, f, g) refl
+  reply_xid_under id items p = let h = is_headed_reply id items p in rw h.is refl
 
   pub procedure_under : (items : List Item) → FitsCall items
       → procedure_in (masks items) ≡ procedure_in items
+  unfolding names head_names
   procedure_under items p =
       let h = is_headed_call items p in
       let m = mtype_is (0 ∷ []) h.start h.start_fits in
-      let w = call_words h.head h.head_fits in
-      procedure_of_message h.number w.version w.prog w.vers w.proc m.0 items h.start h.head w.back
-      h.back h.is m.1 w.is
+      let w = call_words h.head h.head_fits in rw (h.is, m.1, w.5) refl
 
-  -- ---- spellings
-
-  spelled_length : (i : Item) (bytes : List ℕ) → SpellsItem i bytes
-      → length (zero_spelling_of (masked_item ways seen spot i)) ≡ length (zero_spelling_of i)
-  spelled_length (Word name n) bytes p = word_length ways seen name n spot
-  spelled_length (Hyper name n) bytes p = hyper_length ways seen name n spot
-  spelled_length (Fixed name b) bytes p =
-      eight (substitute ways seen (class_of_fixed name) (class_value (Fixed name b)))
-    where
-      eight : (o : Option ℕ) → length (zero_spelling_of (with_value (Fixed name b) o)) ≡ length b
-      eight None = refl
-      eight (Some m) = length-bytes_high_first 8 m ∙ sym p.0
-  spelled_length (WriteVerf name b) bytes p = refl
-  spelled_length (Opaque kind name b) bytes p = refl
-  spelled_length (Rest name b) bytes p = refl
+-- ---- spellings
 
 module _ (ways : Ways) (seen : Class → List ℕ) where
-  pub message_length : (spot : Spot) (items : List Item) (bytes : List ℕ) → Spells items bytes
-      → length (zero_spelling (under ways seen spot items)) ≡ length (zero_spelling items)
-  message_length spot [] bytes p = refl
-  message_length spot (i ∷ items) bytes p =
-      let later : Spot = next_spot spot i in
-      omega (
-        arith,
-        spelled_length ways seen spot i p.0 p.2,
-        message_length later items p.1 p.3,
-        length-append (zero_spelling_of i) (zero_spelling items),
-        length-append (zero_spelling_of (masked_item ways seen spot i))
-            (zero_spelling (under ways seen later items)),
-      )
-
   module _ (few : (d : Class) → length (seen d) ≤ max_bytes) where
     number_small : (d : Class) (n : ℕ) → number_among (seen d) d n < 2 ^ 32
     number_small d n =
         cond_either (λ (m : ℕ). m < 2 ^ 32) (is_zero_that_stays d n) (omega arith)
         (let low = few d in omega (arith, rank_small n (seen d)))
 
-    way_small : (w : Way) (d : Class) (n m : ℕ) → by_way w (seen d) d n ≡ Some m → m < 2 ^ 32
-    way_small Keep d n m e = absurd cc
-    way_small Zero d n m e = let is : 0 ≡ m = cc in omega arith
-    way_small Number d n m e =
-        let is : number_among (seen d) d n ≡ m = cc in subst (λ k. k < 2 ^ 32) is (number_small d n)
+    abbrev IsSmall : Option ℕ → Type 0
+    IsSmall None = ⊤
+    IsSmall (Some m) = m < 2 ^ 32
 
-    substitute_small : (o : Option Class) (n m : ℕ) → substitute ways seen o n ≡ Some m → m < 2 ^ 32
-    substitute_small None n m e = absurd cc
-    substitute_small (Some d) n m e = way_small (way_of ways d) d n m e
+    way_small : (w : Way) (d : Class) (n : ℕ) → IsSmall (by_way w (seen d) d n)
+    way_small Keep d n = tt
+    way_small Zero d n = omega arith
+    way_small Number d n = number_small d n
 
-    word_spelled : (name : List ℕ) (n : ℕ) (o : Option ℕ) → ((m : ℕ) → o ≡ Some m → m < 2 ^ 32)
-        → n < 2 ^ 32
-        → SpellsItem (with_value (Word name n) o) (zero_spelling_of (with_value (Word name n) o))
-    word_spelled name n None low p = (p, refl)
-    word_spelled name n (Some m) low p = (low m refl, refl)
+    substitute_small : (o : Option Class) (n : ℕ) → IsSmall (substitute ways seen o n)
+    substitute_small None n = tt
+    substitute_small (Some d) n = way_small (way_of ways d) d n
 
-    hyper_spelled : (name : List ℕ) (n : ℕ) (o : Option ℕ) → ((m : ℕ) → o ≡ Some m → m < 2 ^ 32)
-        → n < 2 ^ 64
-        → SpellsItem (with_value (Hyper name n) o) (zero_spelling_of (with_value (Hyper name n) o))
-    hyper_spelled name n None low p = (p, refl)
-    hyper_spelled name n (Some m) low p = let small = low m refl in (omega arith, refl)
-
-    fixed_spelled : (name b bytes : List ℕ) (o : Option ℕ) → SpellsItem (Fixed name b) bytes
-        → SpellsItem (with_value (Fixed name b) o) (zero_spelling_of (with_value (Fixed name b) o))
-    fixed_spelled name b bytes None p = (p.0, p.1, refl)
-    fixed_spelled name b bytes (Some m) p =
+    with_spelled : (i : Item) (bytes : List ℕ) (o : Option ℕ) → IsSmall o → SpellsItem i bytes
+        → SpellsItem (with_value i o) (zero_spelling_of (with_value i o))
+    with_spelled i bytes None low p = zero_spelled_one i bytes p
+    with_spelled (Word name n) bytes (Some m) low p = (low, refl)
+    with_spelled (Hyper name n) bytes (Some m) low p = (omega arith, refl)
+    with_spelled (Fixed name b) bytes (Some m) low p =
         (length-bytes_high_first 8 m, are_bytes_of_number 8 m, refl)
-
-    item_spelled : (spot : Spot) (i : Item) (bytes : List ℕ) → SpellsItem i bytes
-        → SpellsItem (masked_item ways seen spot i)
-        (zero_spelling_of (masked_item ways seen spot i))
-    item_spelled spot (Word name n) bytes p =
-        word_spelled name n (substitute ways seen (class_of_word spot name) n)
-        (substitute_small (class_of_word spot name) n) p.0
-    item_spelled spot (Hyper name n) bytes p =
-        hyper_spelled name n (substitute ways seen (class_of_hyper spot name) n)
-        (substitute_small (class_of_hyper spot name) n) p.0
-    item_spelled spot (Fixed name b) bytes p =
-        fixed_spelled name b bytes
-        (substitute ways seen (class_of_fixed name) (class_value (Fixed name b))) p
-    item_spelled spot (WriteVerf name b) bytes p = zero_spelled_one (WriteVerf name b) bytes p
-    item_spelled spot (Opaque kind name b) bytes p = zero_spelled_one (Opaque kind name b) bytes p
-    item_spelled spot (Rest name b) bytes p = zero_spelled_one (Rest name b) bytes p
+    with_spelled i bytes (Some m) low p = zero_spelled_one i bytes p
 
     pub message_spelled : (spot : Spot) (items : List Item) (bytes : List ℕ) → Spells items bytes
         → Spells (under ways seen spot items) (zero_spelling (under ways seen spot items))
@@ -520,7 +375,8 @@ module _ (ways : Ways) (seen : Class → List ℕ) where
         let later : List Item = under ways seen (next_spot spot i) items in (
           zero_spelling_of (masked_item ways seen spot i),
           zero_spelling later,
-          item_spelled spot i p.0 p.2,
+          with_spelled i p.0 (substitute ways seen (class_of spot i) (class_value i))
+              (substitute_small (class_of spot i) (class_value i)) p.2,
           message_spelled (next_spot spot i) items p.1 p.3,
           refl,
         )
