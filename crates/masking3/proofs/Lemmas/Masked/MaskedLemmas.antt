@@ -32,8 +32,7 @@ AreAmong seen entries = AllByRecursion (EntryIsAmong seen) entries
 own_value : (d : Class) (spot : Spot) (i : Item) → class_of spot i ≡ Some d
     → is_zero_that_stays d (class_value i) ≡ false → Member (class_value i) (value_in d spot i)
 own_value d spot i is f =
-    subst (Member (class_value i))
-    (sym (ap (λ o. value_where d o (class_value i)) is ∙ value_given d (class_value i) f)) here
+    rw (is, value_given d (class_value i) f) here
 
 module _ (seen : Class → List ℕ) where
   pub items_among : (spot : Spot) (items : List Item)
@@ -51,12 +50,9 @@ module _ (seen : Class → List ℕ) where
   entry_among : (e : Entry)
       → ((d : Class) (x : ℕ) → Member x (values_in_entry d e) → Member x (seen d))
       → EntryIsAmong seen e
-  entry_among Begin within = tt
   entry_among (Call items) within = items_among InCall items within
-  entry_among Turn within = tt
   entry_among (Reply id items) within = items_among InReply items within
-  entry_among Close within = tt
-  entry_among End within = tt
+  entry_among _ within = tt
 
   all_among : (entries : List Entry)
       → ((d : Class) (x : ℕ) → Member x (values entries d) → Member x (seen d))
@@ -86,9 +82,8 @@ module _ (ways : Ways) (seen more : Class → List ℕ) where
   way_stays : (w : Way) (d : Class) (n : ℕ)
       → number_among (followed d) d n ≡ number_among (seen d) d n
       → by_way w (followed d) d n ≡ by_way w (seen d) d n
-  way_stays Keep d n e = refl
-  way_stays Zero d n e = refl
   way_stays Number d n e = ap Some e
+  way_stays w d n e = refl
 
   substitute_stays : (spot : Spot) (i : Item) (o : Option Class) → class_of spot i ≡ o
       → IsAmong seen spot i
@@ -105,23 +100,14 @@ module _ (ways : Ways) (seen more : Class → List ℕ) where
       → masked_items ways followed spot items ≡ masked_items ways seen spot items
   items_stay spot [] among = refl
   items_stay spot (i ∷ items) among =
-      ap₂ (λ (j : Item) (l : List Item). j ∷ l) (item_stays spot i among.0)
-      (items_stay (next_spot spot i) items among.1)
-
-  entry_stays : (e : Entry) → EntryIsAmong seen e
-      → masked_entry ways followed e ≡ masked_entry ways seen e
-  entry_stays Begin among = refl
-  entry_stays (Call items) among = ap Call (items_stay InCall items among)
-  entry_stays Turn among = refl
-  entry_stays (Reply id items) among = ap (Reply id) (items_stay InReply items among)
-  entry_stays Close among = refl
-  entry_stays End among = refl
+      cc (item_stays spot i among.0, items_stay (next_spot spot i) items among.1)
 
   entries_stay : (a : List Entry) → AreAmong seen a
       → map (masked_entry ways followed) a ≡ map (masked_entry ways seen) a
   entries_stay [] among = refl
-  entries_stay (e ∷ a) among =
-      ap₂ (λ (f : Entry) (l : List Entry). f ∷ l) (entry_stays e among.0) (entries_stay a among.1)
+  entries_stay (Call m ∷ a) among = cc (items_stay InCall m among.0, entries_stay a among.1)
+  entries_stay (Reply id m ∷ a) among = cc (items_stay InReply m among.0, entries_stay a among.1)
+  entries_stay (e ∷ a) among = cc (entries_stay a among.1)
 
 -- an item that has no class stays
 pub unmasked : (ways : Ways) (seen : Class → List ℕ) (spot : Spot) (i : Item)

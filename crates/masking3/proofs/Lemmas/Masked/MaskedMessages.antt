@@ -1,5 +1,6 @@
 -- Messages with masked values are messages of the same procedures, of the same length.
 use Rattle.masking3.proofs.Common.{◌≡◌, ℕ, suc, ◌+◌, ◌<◌, ◌≤◌, ◌^◌, Bool, true, false, List, [], ◌∷◌, ◌++◌, length, refl, sym, ap, ap₂, ◌∙◌, subst, arith, length-append, append-nil, append_assoc, IsTrue, nat_eq, if◌then◌else◌, Option, None, Some, AllByRecursion, big_bytes, length-bytes_high_first, Item, Word, Hyper, Fixed, WriteVerf, Opaque, Rest, Var, Spells, SpellsItem, zero_spelling, zero_spelling_of, Layout, exactly, rest, after, FitsLayout, ProcId, has_results, procedure_in, head_names, names, arguments_of, results_of, Side, Client, Server, xid_in, max_bytes, Decides-eqb, ⊤, class_of, class_of_word, Class, Spot, InCall, InReply, Way, Keep, Zero, Number, Ways, class_of_fixed, class_of_hyper, class_of_word, class_value, by_way, is_zero_that_stays, masked_item, masked_items, number_among, substitute, with_value, next_spot, way_of, HasParts, Part, parts_weaker, word_part, hyper_part, fixed_part, write_verf_part, rest_part, opaque_part, size_part, accept, call_head, credential, deny, reply_head, verifier, FitsCall, FitsReply, call_next, headed_call_fits, headed_reply_fits, is_headed_call, is_headed_reply, reply_next, Shape, ◌then◌, both, choose, counted, fixed, hyper, linked, listed, nothing, opaque, sized, word, write_verf, Fits, joined, links, before, rank, IsEach, all_in_message, are_bytes_of_number, zero_spelled_one, by_test, cond_either, equivalence, length-with_keys}
+use Rattle.canon3.proofs.Lemmas.WellFormed.Messages.{IsHeaded}
 use Rattle.masking3.proofs.Lemmas.Classes.SpotLemmas.{IsOn, masked_items-append, on_after, on_next, spot_after, xid_free}
 use Rattle.masking3.proofs.Lemmas.Masked.MaskedLemmas.{unmasked}
 use Rattle.masking3.proofs.Lemmas.Masked.MaskedShapes.{KeepsSize, RowTakesOn, TakesOn, TakesWord, arguments_take, call_head_takes, mtype_takes, reply_head_takes, reply_takes}
@@ -383,62 +384,52 @@ module _ (ways : Ways) (seen : Class → List ℕ) where
 
 -- ---- calls and replies
 
-module _ (ways : Ways) (seen : Class → List ℕ) where
-  pub call_under : (items : List Item) → FitsCall items → FitsCall (under ways seen InCall items)
-  call_under items p =
-      let h = is_headed_call items p in
-      let head_spot : Spot = spot_after InCall h.start in
-      let back_spot : Spot = spot_after InCall (h.start ++ h.head) in
-      headed_call_fits (under ways seen InCall items) (record {
+module _ (ways : Ways) (seen : Class → List ℕ) (side : Side) (spot : Spot) (on : IsOn side spot)
+    (types : List ℕ) (s : Shape) (next : List Item → Layout) where
+  headed_under : TakesOn side s → ((l : List Item) → RowTakesOn side (next l))
+      → ((b : Spot) (x : ℕ) (start head : List Item) → Fits (listed head_names.mtype types) start
+      → Fits s head
+      → next (Word head_names.xid x ∷ (under ways seen spot start ++ under ways seen b head))
+      ≡ next (Word head_names.xid x ∷ (start ++ head))) → (items : List Item)
+      → IsHeaded head_names.xid (listed head_names.mtype types) s next items
+      → IsHeaded head_names.xid (listed head_names.mtype types) s next (under ways seen spot items)
+  headed_under takes rows stays items h =
+      let head_spot : Spot = spot_after spot h.start in
+      let back_spot : Spot = spot_after spot (h.start ++ h.head) in
+      record {
         number = h.number;
-        start = under ways seen InCall h.start;
+        start = under ways seen spot h.start;
         head = under ways seen head_spot h.head;
         back = under ways seen back_spot h.back;
         start_fits =
-            fits_under ways seen Client InCall tt (listed head_names.mtype (0 ∷ [])) h.start
-            (λ t o. mtype_takes t (0 ∷ [])) h.start_fits;
+            fits_under ways seen side spot on (listed head_names.mtype types) h.start
+            (λ t o. mtype_takes t types) h.start_fits;
         head_fits =
-            fits_under ways seen Client head_spot (on_after Client InCall h.start tt) call_head
-            h.head call_head_takes h.head_fits;
+            fits_under ways seen side head_spot (on_after side spot h.start on) s h.head takes
+            h.head_fits;
         back_fits =
-            subst (λ id. FitsLayout (arguments_of id) (under ways seen back_spot h.back))
-            (sym (procedure_stays ways seen InCall head_spot h.number h.start h.head
-            h.start_fits h.head_fits))
-            (row_under ways seen Client back_spot (on_after Client InCall (h.start ++ h.head) tt)
-            (call_next (Word head_names.xid h.number ∷ (h.start ++ h.head))) h.back
-            (λ t o.
-            arguments_take t
-            (procedure_in (Word head_names.xid h.number ∷ (h.start ++ h.head))))
-            h.back_fits);
-        is = message_is ways seen InCall h.number items h.start h.head h.back h.is;
-      })
+            rw (stays head_spot h.number h.start h.head h.start_fits h.head_fits)
+            (row_under ways seen side back_spot (on_after side spot (h.start ++ h.head) on) _ h.back
+            (rows (Word head_names.xid h.number ∷ (h.start ++ h.head))) h.back_fits);
+        is = message_is ways seen spot h.number items h.start h.head h.back h.is;
+      }
+
+module _ (ways : Ways) (seen : Class → List ℕ) where
+  pub call_under : (items : List Item) → FitsCall items → FitsCall (under ways seen InCall items)
+  call_under items p =
+      headed_call_fits (under ways seen InCall items)
+      (headed_under ways seen Client InCall tt (0 ∷ []) call_head call_next call_head_takes
+      (λ l t o. arguments_take t (procedure_in l))
+      (λ b x start head q r.
+      ap arguments_of (procedure_stays ways seen InCall b x start head q r)) items
+      (is_headed_call items p))
 
   pub reply_under : (id : ProcId) (items : List Item) → FitsReply id items
       → FitsReply id (under ways seen InReply items)
   reply_under id items p =
-      let h = is_headed_reply id items p in
-      let head_spot : Spot = spot_after InReply h.start in
-      let back_spot : Spot = spot_after InReply (h.start ++ h.head) in
-      headed_reply_fits id (under ways seen InReply items) (record {
-        number = h.number;
-        start = under ways seen InReply h.start;
-        head = under ways seen head_spot h.head;
-        back = under ways seen back_spot h.back;
-        start_fits =
-            fits_under ways seen Server InReply tt (listed head_names.mtype (1 ∷ [])) h.start
-            (λ t o. mtype_takes t (1 ∷ [])) h.start_fits;
-        head_fits =
-            fits_under ways seen Server head_spot (on_after Server InReply h.start tt) reply_head
-            h.head (λ t o. reply_head_takes t) h.head_fits;
-        back_fits =
-            subst
-            (λ b.
-            FitsLayout (if b then results_of id else exactly nothing)
-            (under ways seen back_spot h.back)) (sym (results_stay ways seen InReply
-            head_spot h.number h.start h.head h.start_fits h.head_fits))
-            (row_under ways seen Server back_spot (on_after Server InReply (h.start ++ h.head) tt)
-            (reply_next id (Word head_names.xid h.number ∷ (h.start ++ h.head))) h.back
-            (λ t o. reply_takes t o id (Word head_names.xid h.number ∷ (h.start ++ h.head)))
-            h.back_fits);
-        is = message_is ways seen InReply h.number items h.start h.head h.back h.is;
-      })
+      headed_reply_fits id (under ways seen InReply items)
+      (headed_under ways seen Server InReply tt (1 ∷ []) reply_head (reply_next id)
+      (λ t o. reply_head_takes t) (λ l t o. reply_takes t o id l)
+      (λ b x start head q r.
+      ap (λ k. if k then results_of id else exactly nothing)
+      (results_stay ways seen InReply b x start head q r)) items (is_headed_reply id items p))
