@@ -1,5 +1,5 @@
 -- The masked form of a well-formed file is a well-formed file.
-use Rattle.masking3.proofs.Common.{◌≡◌, ℕ, ◌≤◌, List, [], ◌∷◌, ◌++◌, length, map, refl, sym, ap, ap₂, ◌∙◌, subst, arith, length-append, AllByRecursion, Item, zero_spelling, procedure_in, max_bytes, Entry, Begin, Call, Turn, Reply, Close, End, record_bytes, Class, Spot, InCall, InReply, Ways, masked, masked_entry, values, length-map, map-append, ReplyItems, xid_in, named_call, named_entry, AnswerCalls, HaveOneProcedure, IsIn, Typed, connection_entries, reply_entry, AreOfTheirBytes, AreConversing, Conversation, IsSpelledCall, IsSpelledReply, in_map, items_of_reply, length_of_record, map_in, of_all, reply_items, stream_of, weight, AreCapture, all_of, entries_of, holds, total_of_anew, total_weight, typed_anew, all_mapped, all_weaker}
+use Rattle.masking3.proofs.Common.{◌≡◌, ℕ, ◌≤◌, List, [], ◌∷◌, ◌++◌, length, map, refl, sym, ap, ap₂, ◌∙◌, subst, arith, length-append, AllByRecursion, Item, zero_spelling, procedure_in, max_bytes, Entry, Begin, Call, Turn, Close, End, record_bytes, Class, Spot, InCall, InReply, Ways, masked, masked_entry, values, length-map, map-append, ReplyItems, xid_in, named_call, named_entry, AnswerCalls, HaveOneProcedure, IsIn, Typed, connection_entries, reply_entry, AreOfTheirBytes, AreConversing, Conversation, IsSpelledCall, IsSpelledReply, in_map, items_of_reply, length_of_record, map_in, of_all, reply_items, stream_of, weight, AreCapture, all_of, entries_of, holds, total_of_anew, total_weight, typed_anew, all_mapped, all_weaker}
 use Rattle.std.proofs.lemmas.Simd.{map-map}
 use Rattle.capture3.specs.Capture.{total_size}
 use Rattle.masking3.proofs.Lemmas.Classes.FewValues.{few_of_file}
@@ -30,28 +30,21 @@ module _ (ways : Ways) (seen : Class → List ℕ) where
 
   -- ---- the entries of conversations
 
-  masked_calls : (calls : List (List Item))
-      → map masked_one (map Call calls) ≡ map Call (map calls_masked calls)
-  masked_calls [] = refl
-  masked_calls (m ∷ calls) = ap (λ (l : List Entry). Call (calls_masked m) ∷ l) (masked_calls calls)
-
-  masked_replies : (replies : List ReplyItems)
-      → map masked_one (map reply_entry replies) ≡ map reply_entry (map masked_reply replies)
-  masked_replies [] = refl
-  masked_replies (r ∷ replies) =
-      ap (λ (l : List Entry). Reply r.id (replies_masked r.items) ∷ l) (masked_replies replies)
-
   masked_connection : (c : Conversation)
       → map masked_one (connection_entries c.calls c.replies)
       ≡ connection_entries (map calls_masked c.calls) (map masked_reply c.replies)
   masked_connection c =
       let calls = map Call c.calls in
       let replies = map reply_entry c.replies in
-      map-append masked_one ((Begin ∷ calls) ++ (Turn ∷ replies)) (Close ∷ [])
-      ∙ ap (λ (l : List Entry). l ++ Close ∷ [])
-      (map-append masked_one (Begin ∷ calls) (Turn ∷ replies)
-      ∙ ap₂ (λ (l m : List Entry). (Begin ∷ l) ++ (Turn ∷ m)) (masked_calls c.calls)
-      (masked_replies c.replies))
+      let first : map masked_one calls ≡ map Call (map calls_masked c.calls) = simp map-map in
+      let second : map masked_one replies ≡ map reply_entry (map masked_reply c.replies) =
+      simp map-map in
+      cc (
+        map-append masked_one ((Begin ∷ calls) ++ (Turn ∷ replies)) (Close ∷ []),
+        map-append masked_one (Begin ∷ calls) (Turn ∷ replies),
+        first,
+        second,
+      )
 
   masked_entries : (cs : List Conversation)
       → map masked_one (entries_of cs) ≡ entries_of (map masked_conversation cs)
@@ -62,13 +55,31 @@ module _ (ways : Ways) (seen : Class → List ℕ) where
 
   masked_all : (cs : List Conversation)
       → map masked_one (all_of cs) ≡ all_of (map masked_conversation cs)
-  masked_all cs =
-      map-append masked_one (entries_of cs) (End ∷ [])
-      ∙ ap (λ (l : List Entry). l ++ End ∷ []) (masked_entries cs)
+  masked_all cs = cc (map-append masked_one (entries_of cs) (End ∷ []), masked_entries cs)
 
   -- ---- they converse
 
   module _ (few : (d : Class) → length (seen d) ≤ max_bytes) where
+    abbrev IsNoLonger : List Item → List Item → Type 0
+    IsNoLonger m n = length (zero_spelling n) ≤ length (zero_spelling m)
+
+    call_no_longer : (m : List Item) → IsSpelledCall m → IsNoLonger m (calls_masked m)
+    call_no_longer m s =
+        omega (
+          arith,
+          named_length ways (masks InCall m),
+          message_length ways seen InCall m (zero_spelling m) s.0.1,
+        )
+
+    reply_no_longer : (r : ReplyItems) → IsSpelledReply r
+        → IsNoLonger r.items (replies_masked r.items)
+    reply_no_longer r s =
+        omega (
+          arith,
+          length_with_texts ways (masks InReply r.items),
+          message_length ways seen InReply r.items (zero_spelling r.items) s.0.1,
+        )
+
     call_spelled : (m : List Item) → IsSpelledCall m → IsSpelledCall (calls_masked m)
     call_spelled m s = (
       (
@@ -76,12 +87,7 @@ module _ (ways : Ways) (seen : Class → List ℕ) where
         named_spelled ways (masks InCall m) (zero_spelling (masks InCall m))
             (message_spelled ways seen few InCall m (zero_spelling m) s.0.1),
       ),
-      omega (
-        arith,
-        named_length ways (masks InCall m),
-        message_length ways seen InCall m (zero_spelling m) s.0.1,
-        s.1,
-      ),
+      omega (arith, call_no_longer m s, s.1),
     )
 
     reply_spelled : (r : ReplyItems) → IsSpelledReply r → IsSpelledReply (masked_reply r)
@@ -92,12 +98,7 @@ module _ (ways : Ways) (seen : Class → List ℕ) where
             spelled_with_texts ways m (zero_spelling m)
                 (message_spelled ways seen few InReply r.items (zero_spelling r.items) s.0.1),
           ),
-          omega (
-            arith,
-            length_with_texts ways m,
-            message_length ways seen InReply r.items (zero_spelling r.items) s.0.1,
-            s.1,
-          ),
+          omega (arith, reply_no_longer r s, s.1),
         )
 
     module _ (c : Conversation) (h : AreConversing c) where
@@ -118,12 +119,9 @@ module _ (ways : Ways) (seen : Class → List ℕ) where
           let p = in_map calls_masked c.calls a i.0 i.1 i.2 in
           let q = in_map calls_masked c.calls b j.0 j.1 j.2 in
           let same : xid_in p.0 ≡ xid_in q.0 =
-          sym (call_xid p.0 p.1)
-          ∙ (sym (ap xid_in p.2) ∙ (e ∙ (ap xid_in q.2 ∙ call_xid q.0 q.1))) in
-          ap procedure_in p.2
-          ∙ (call_procedure p.0 p.1
-          ∙ (h.one_procedure p.0 q.0 p.1 q.1 same
-          ∙ (sym (call_procedure q.0 q.1) ∙ sym (ap procedure_in q.2))))
+          cc (call_xid p.0 p.1, ap xid_in p.2, e, ap xid_in q.2, call_xid q.0 q.1) in
+          rw (p.2, q.2, call_procedure p.0 p.1, call_procedure q.0 q.1)
+          (h.one_procedure p.0 q.0 p.1 q.1 same)
 
       answers : AnswerCalls (map calls_masked c.calls) (map masked_reply c.replies)
       answers reply i =
@@ -131,15 +129,11 @@ module _ (ways : Ways) (seen : Class → List ℕ) where
           let r = p.0 in
           let a = h.answers r p.1 in
           let s = of_all IsSpelledReply c.replies r h.replies_are p.1 in
-          let xid : xid_in (calls_masked a.0) ≡ xid_in reply.items =
-          call_xid a.0 a.1
-          ∙ (a.2
-          ∙ (sym (xid_with_texts ways (masks InReply r.items)
-          ∙ reply_xid_under ways seen InReply r.id r.items s.0.0)
-          ∙ sym (ap (λ (k : ReplyItems). xid_in k.items) p.2))) in (
+          let xid = xid_with_texts ways (masks InReply r.items) in
+          let before = reply_xid_under ways seen InReply r.id r.items s.0.0 in (
             calls_masked a.0,
             map_in calls_masked c.calls a.0 a.1,
-            xid,
+            cc (call_xid a.0 a.1, a.2, xid, before, ap (λ (k : ReplyItems). xid_in k.items) p.2),
             call_procedure a.0 a.1 ∙ (a.3 ∙ sym (ap (λ (k : ReplyItems). k.id) p.2)),
           )
 
@@ -155,9 +149,6 @@ module _ (ways : Ways) (seen : Class → List ℕ) where
       }
 
     -- ---- in no more bytes
-
-    abbrev IsNoLonger : List Item → List Item → Type 0
-    IsNoLonger m n = length (zero_spelling n) ≤ length (zero_spelling m)
 
     stream_length : (f : List Item → List Item) (l : List (List Item))
         → AllByRecursion (λ m. IsNoLonger m (f m)) l
@@ -178,23 +169,6 @@ module _ (ways : Ways) (seen : Class → List ℕ) where
         → reply_items (map masked_reply l) ≡ map replies_masked (reply_items l)
     items_under [] = refl
     items_under (r ∷ l) = ap (λ k. replies_masked r.items ∷ k) (items_under l)
-
-    call_no_longer : (m : List Item) → IsSpelledCall m → IsNoLonger m (calls_masked m)
-    call_no_longer m s =
-        omega (
-          arith,
-          named_length ways (masks InCall m),
-          message_length ways seen InCall m (zero_spelling m) s.0.1,
-        )
-
-    reply_no_longer : (r : ReplyItems) → IsSpelledReply r
-        → IsNoLonger r.items (replies_masked r.items)
-    reply_no_longer r s =
-        omega (
-          arith,
-          length_with_texts ways (masks InReply r.items),
-          message_length ways seen InReply r.items (zero_spelling r.items) s.0.1,
-        )
 
     no_heavier : (c : Conversation) → AreConversing c → weight (masked_conversation c) ≤ weight c
     no_heavier c h =

@@ -1,5 +1,5 @@
 -- What later values leave of the masked form, and how it grows.
-use Rattle.masking3.proofs.Common.{◌≡◌, ℕ, true, false, List, [], ◌∷◌, ◌++◌, map, refl, sym, ap, ap₂, ◌∙◌, subst, append_assoc, append-nil, ⊤, nat_eq, Option, None, Some, AllByRecursion, flat_map, Decides-eqb, flat_map-append, map-append, Item, Entry, Begin, Call, Turn, Reply, Close, End, AreFirst, Member, here, Class, Spot, InCall, InReply, Way, Keep, Zero, Number, Ways, class_of, position, class_value, next_spot, named_entry, names_by, way_of, bytes_of, entry_bytes, are_some, magic_unless, by_way, is_zero_that_stays, masked, masked_bytes, masked_entry, masked_item, masked_items, masked_values, number_among, substitute, value_in, value_where, values, values_in, values_in_entry, with_value, by_test, member-append_left, member-append_right, rank-append}
+use Rattle.masking3.proofs.Common.{◌≡◌, ℕ, true, false, List, [], ◌∷◌, ◌++◌, map, refl, sym, ap, ap₂, ◌∙◌, append_assoc, append-nil, ⊤, nat_eq, Option, None, Some, AllByRecursion, flat_map, Decides-eqb, flat_map-append, map-append, Item, Entry, Call, Reply, AreFirst, Member, here, Class, Spot, InCall, InReply, Way, Number, Ways, class_of, position, class_value, next_spot, named_entry, names_by, way_of, bytes_of, entry_bytes, are_some, magic_unless, by_way, is_zero_that_stays, masked, masked_bytes, masked_entry, masked_item, masked_items, masked_values, number_among, substitute, value_in, value_where, values, values_in, values_in_entry, with_value, by_test, member-append_left, member-append_right, rank-append}
 use Rattle.capture3.specs.Capture.{One, magic}
 use Rattle.masking3.proofs.Lemmas.Classes.ClassLemmas.{seen_alike}
 

@@ -1,6 +1,6 @@
 -- Each shape of the protocol takes masked values: a word of a class takes any value, and chooses
 -- nothing.
-use Rattle.masking3.proofs.Common.{◌≡◌, ℕ, Bool, true, false, List, refl, ⊤, ◌||◌, IsTrue, bytes_eq, nat_eq, if◌then◌else◌, Option, None, Some, Item, Text, Var, Layout, exactly, rest, after, HasParts, Part, fixed_part, opaque_part, ProcId, has_results, head_names, names, Side, Client, Server, Class, Spot, InCall, InReply, InDirectory, InWcc, class_of_word, Shape, ◌then◌, choose, counted, fixed, hyper, linked, listed, nothing, opaque, both, sized, word, accept, auth_stats, auth_sys, call_head, credential, deny, gids, parameters, reply_head, verifier, versions, arguments_of, is_mount, is_nfs, mount_arguments, mount_results_of, nfs_arguments, nfs_results, results_of}
+use Rattle.masking3.proofs.Common.{cond_either, ◌≡◌, ℕ, Bool, false, List, refl, ⊤, ◌||◌, IsTrue, bytes_eq, nat_eq, if◌then◌else◌, Option, None, Some, Item, Text, Layout, exactly, rest, after, HasParts, Part, fixed_part, opaque_part, ProcId, has_results, head_names, names, Side, Client, Server, Class, Spot, InCall, class_of_word, Shape, ◌then◌, choose, counted, hyper, linked, listed, nothing, both, sized, word, accept, auth_sys, call_head, credential, deny, gids, parameters, reply_head, verifier, arguments_of, is_mount, is_nfs, mount_arguments, mount_results_of, nfs_arguments, nfs_results, results_of}
 use Rattle.xdr3.specs.Shape.{optional}
 use Rattle.nfs3_types.specs.Shapes.{attributes, dir_op, export, exports, file_kind, flavor, group, guard, handle, mount_list, mount_ok, mounted, post_op_attr, post_op_fh, results, set_hyper, set_word, settable, time, time_how, times, wcc, wcc_attr}
 use Rattle.procs3.specs.Shapes.{access_args, access_ok, commit_ok, create_args, create_how, create_ok, device, dirpath, entry, entry_plus, file_range, fsinfo_ok, fsstat_ok, link_args, link_wcc, lookup_ok, mkdir_args, mknod_args, mknod_what, mount_results, pathconf_ok, read_ok, readdir_args, readdir_ok, readdirplus_args, readdirplus_ok, readlink_ok, rename_args, rename_wcc, setattr_args, symlink_args, write_args, write_ok}
@@ -41,40 +41,24 @@ RowTakesMasks spot (after s next) = ⊥
 attributes_at : (spot : Spot) → TakesMasks spot attributes
 unfolding attributes file_kind times time names head_names
 attributes_at InCall = assumption
-attributes_at InReply = assumption
-attributes_at InDirectory = assumption
-attributes_at InWcc = assumption
+attributes_at _ = assumption
 
 -- at any spot
 module _ (spot : Spot) where
-  takes_if : (b : Bool) (s t : Shape) → TakesMasks spot s → TakesMasks spot t
-      → TakesMasks spot (if b then s else t)
-  takes_if true s t h k = h
-  takes_if false s t h k = k
-
-  row_takes_if : (b : Bool) (s t : Layout) → RowTakesMasks spot s → RowTakesMasks spot t
-      → RowTakesMasks spot (if b then s else t)
-  row_takes_if true s t h k = h
-  row_takes_if false s t h k = k
-
   -- ---- parts
 
   optional_takes : (name : List ℕ) (s : Shape) → class_of_word spot name ≡ None → TakesMasks spot s
       → TakesMasks spot (optional name s)
   unfolding optional
-  optional_takes name s w h = (rw w tt, λ n. takes_if (nat_eq n 0) nothing s tt h)
+  optional_takes name s w h = (rw w tt, λ n. cond_either (TakesMasks spot) (nat_eq n 0) tt h)
 
   post_op_attr_takes : TakesMasks spot post_op_attr
   unfolding post_op_attr names head_names
   post_op_attr_takes = optional_takes names.attr attributes refl (attributes_at spot)
 
-  wcc_attr_takes : TakesMasks spot wcc_attr
-  unfolding wcc_attr time names head_names
-  wcc_attr_takes = assumption
-
   wcc_takes : TakesMasks spot wcc
-  unfolding wcc names head_names
-  wcc_takes = (optional_takes names.before wcc_attr refl wcc_attr_takes, post_op_attr_takes)
+  unfolding wcc wcc_attr time names head_names
+  wcc_takes = (optional_takes names.before wcc_attr refl (assumption), post_op_attr_takes)
 
   post_op_fh_takes : TakesMasks spot post_op_fh
   unfolding post_op_fh handle names head_names
@@ -84,7 +68,7 @@ module _ (spot : Spot) where
       → TakesMasks spot (time sec nsec) → TakesMasks spot (time_how name sec nsec)
   unfolding time_how
   time_how_takes name sec nsec w h =
-      (rw w tt, λ how. takes_if (nat_eq how 2) (time sec nsec) nothing h tt)
+      (rw w tt, λ how. cond_either (TakesMasks spot) (nat_eq how 2) h tt)
 
   settable_takes : TakesMasks spot settable
   unfolding settable set_word set_hyper time names head_names
@@ -101,79 +85,60 @@ module _ (spot : Spot) where
   unfolding guard time names head_names
   guard_takes = optional_takes names.check (time names.ctime_sec names.ctime_nsec) refl (assumption)
 
-  results_take : (done failed : Shape) → TakesMasks spot done → TakesMasks spot failed
-      → TakesMasks spot (results done failed)
-  unfolding results names head_names
-  results_take done failed h k = (tt, λ n. takes_if (nat_eq n 0) done failed h k)
-
   create_how_takes : TakesMasks spot create_how
   unfolding create_how names head_names
   create_how_takes =
-      (tt, λ how. takes_if (nat_eq how 2) (fixed names.createverf) settable tt settable_takes)
-
-  device_takes : TakesMasks spot device
-  unfolding device names head_names
-  device_takes = assumption settable_takes
+      (tt, λ how. cond_either (TakesMasks spot) (nat_eq how 2) tt settable_takes)
 
   mknod_what_takes : TakesMasks spot mknod_what
-  unfolding mknod_what names head_names
+  unfolding mknod_what device names head_names
   mknod_what_takes = (
     tt,
     λ kind.
-        takes_if (nat_eq kind 3 || nat_eq kind 4) device
-        (if nat_eq kind 6 || nat_eq kind 7 then settable else nothing) device_takes
-        (takes_if (nat_eq kind 6 || nat_eq kind 7) settable nothing settable_takes tt),
+        cond_either (TakesMasks spot) (nat_eq kind 3 || nat_eq kind 4) (assumption settable_takes)
+        (cond_either (TakesMasks spot) (nat_eq kind 6 || nat_eq kind 7) settable_takes tt),
   )
-
-  mount_results_take : TakesMasks spot mount_results
-  unfolding mount_results mount_ok handle flavor names head_names
-  mount_results_take = (tt, λ n. takes_if (nat_eq n 0) mount_ok nothing (assumption) tt)
 
   -- ---- the table of procedures
 
   arg_row : (b : Bool) (s : Shape) (more : Layout) → TakesMasks spot s → RowTakesMasks spot more
       → RowTakesMasks spot (if b then exactly s else more)
-  arg_row b s more h k = row_takes_if b (exactly s) more h k
+  arg_row b s more h k = cond_either (RowTakesMasks spot) b h k
 
   result_row : (b : Bool) (done failed : Shape) (more : Layout) → TakesMasks spot done
       → TakesMasks spot failed → RowTakesMasks spot more
       → RowTakesMasks spot (if b then exactly (results done failed) else more)
+  unfolding results names head_names
   result_row b done failed more h k l =
-      arg_row b (results done failed) more (results_take done failed h k) l
-
-  dir_op_takes : TakesMasks spot dir_op
-  unfolding dir_op handle
-  dir_op_takes = assumption
-
-  handle_takes : TakesMasks spot handle
-  unfolding handle
-  handle_takes = tt
+      cond_either (RowTakesMasks spot) b
+      (tt, λ n. cond_either (TakesMasks spot) (nat_eq n 0) h k) l
 
   nfs_arguments_take : (n : ℕ) → RowTakesMasks spot (nfs_arguments n)
-  unfolding access_args create_args file_range handle head_names link_args mkdir_args mknod_args
-      names readdir_args readdirplus_args rename_args setattr_args symlink_args write_args
+  unfolding access_args create_args dir_op file_range handle head_names link_args mkdir_args
+      mknod_args names readdir_args readdirplus_args rename_args setattr_args symlink_args
+          write_args
   nfs_arguments_take n =
       arg_row (nat_eq n 0) nothing _ tt (
-      arg_row (nat_eq n 1) handle _ handle_takes (
+      arg_row (nat_eq n 1) handle _ tt (
       arg_row (nat_eq n 2) setattr_args _ (assumption (settable_takes, guard_takes)) (
-      arg_row (nat_eq n 3) dir_op _ dir_op_takes (
+      arg_row (nat_eq n 3) dir_op _ (assumption) (
       arg_row (nat_eq n 4) access_args _ (assumption) (
-      arg_row (nat_eq n 5) handle _ handle_takes (
+      arg_row (nat_eq n 5) handle _ tt (
       arg_row (nat_eq n 6) file_range _ (assumption) (
       arg_row (nat_eq n 7) write_args _ (assumption) (
-      arg_row (nat_eq n 8) create_args _ (assumption (dir_op_takes, create_how_takes)) (
-      arg_row (nat_eq n 9) mkdir_args _ (assumption (dir_op_takes, settable_takes)) (
-      arg_row (nat_eq n 10) symlink_args _ (assumption (dir_op_takes, settable_takes)) (
-      arg_row (nat_eq n 11) mknod_args _ (assumption (dir_op_takes, mknod_what_takes)) (
-      arg_row (nat_eq n 12) dir_op _ dir_op_takes (
-      arg_row (nat_eq n 13) dir_op _ dir_op_takes (
-      arg_row (nat_eq n 14) rename_args _ (assumption dir_op_takes) (
-      arg_row (nat_eq n 15) link_args _ (assumption dir_op_takes) (
+      arg_row (nat_eq n 8) create_args _ (assumption create_how_takes) (
+      arg_row (nat_eq n 9) mkdir_args _ (assumption settable_takes) (
+      arg_row (nat_eq n 10) symlink_args _ (assumption settable_takes) (
+      arg_row (nat_eq n 11) mknod_args _ (assumption mknod_what_takes) (
+      arg_row (nat_eq n 12) dir_op _ (assumption) (
+      arg_row (nat_eq n 13) dir_op _ (assumption) (
+      arg_row (nat_eq n 14) rename_args _ (assumption) (
+      arg_row (nat_eq n 15) link_args _ (assumption) (
       arg_row (nat_eq n 16) readdir_args _ (assumption) (
       arg_row (nat_eq n 17) readdirplus_args _ (assumption) (
-      arg_row (nat_eq n 18) handle _ handle_takes (
-      arg_row (nat_eq n 19) handle _ handle_takes (
-      arg_row (nat_eq n 20) handle _ handle_takes (
+      arg_row (nat_eq n 18) handle _ tt (
+      arg_row (nat_eq n 19) handle _ tt (
+      arg_row (nat_eq n 20) handle _ tt (
       arg_row (nat_eq n 21) file_range _ (assumption) tt)))))))))))))))))))))
 
   mount_arguments_take : (n : ℕ) → RowTakesMasks spot (mount_arguments n)
@@ -189,53 +154,39 @@ module _ (spot : Spot) where
   pub arguments_take : (id : ProcId) → RowTakesMasks spot (arguments_of id)
   unfolding arguments_of
   arguments_take id =
-      row_takes_if (is_nfs id) (nfs_arguments id.proc_no) _ (nfs_arguments_take id.proc_no)
-      (row_takes_if (is_mount id) (mount_arguments id.proc_no) (rest names.rest)
-      (mount_arguments_take id.proc_no) tt)
+      cond_either (RowTakesMasks spot) (is_nfs id) (nfs_arguments_take id.proc_no)
+      (cond_either (RowTakesMasks spot) (is_mount id) (mount_arguments_take id.proc_no) tt)
 
   nfs_results_take : (n : ℕ) → RowTakesMasks spot (nfs_results n)
   unfolding access_ok commit_ok create_ok entry entry_plus fsinfo_ok fsstat_ok handle head_names
       link_wcc lookup_ok names pathconf_ok read_ok readdir_ok readdirplus_ok readlink_ok rename_wcc
       time write_ok
   nfs_results_take n =
+      let fh : TakesMasks spot post_op_fh = post_op_fh_takes in
+      let attr : TakesMasks spot post_op_attr = post_op_attr_takes in
+      let after : TakesMasks spot wcc = wcc_takes in
       arg_row (nat_eq n 0) nothing _ tt (
       result_row (nat_eq n 1) attributes nothing _ (attributes_at spot) tt (
-      result_row (nat_eq n 2) wcc wcc _ wcc_takes wcc_takes (
-      result_row (nat_eq n 3) lookup_ok post_op_attr _ (assumption post_op_attr_takes)
-      post_op_attr_takes (
-      result_row (nat_eq n 4) access_ok post_op_attr _ (assumption post_op_attr_takes)
-      post_op_attr_takes (
-      result_row (nat_eq n 5) readlink_ok post_op_attr _ (assumption post_op_attr_takes)
-      post_op_attr_takes (
-      result_row (nat_eq n 6) read_ok post_op_attr _ (assumption post_op_attr_takes)
-      post_op_attr_takes (
-      result_row (nat_eq n 7) write_ok wcc _ (assumption wcc_takes) wcc_takes (
-      result_row (nat_eq n 8) create_ok wcc
-      _ (assumption (post_op_fh_takes, post_op_attr_takes, wcc_takes)) wcc_takes (
-      result_row (nat_eq n 9) create_ok wcc
-      _ (assumption (post_op_fh_takes, post_op_attr_takes, wcc_takes)) wcc_takes (
-      result_row (nat_eq n 10) create_ok wcc
-      _ (assumption (post_op_fh_takes, post_op_attr_takes, wcc_takes)) wcc_takes (
-      result_row (nat_eq n 11) create_ok wcc
-      _ (assumption (post_op_fh_takes, post_op_attr_takes, wcc_takes)) wcc_takes (
-      result_row (nat_eq n 12) wcc wcc _ wcc_takes wcc_takes (
-      result_row (nat_eq n 13) wcc wcc _ wcc_takes wcc_takes (
-      result_row (nat_eq n 14) rename_wcc rename_wcc _ (assumption wcc_takes) (assumption wcc_takes)
-      (
-      result_row (nat_eq n 15) link_wcc link_wcc _ (assumption (post_op_attr_takes, wcc_takes))
-      (assumption (post_op_attr_takes, wcc_takes)) (
-      result_row (nat_eq n 16) readdir_ok post_op_attr _ (assumption post_op_attr_takes)
-      post_op_attr_takes (
-      result_row (nat_eq n 17) readdirplus_ok post_op_attr
-      _ (assumption (post_op_attr_takes, post_op_fh_takes)) post_op_attr_takes (
-      result_row (nat_eq n 18) fsstat_ok post_op_attr _ (assumption post_op_attr_takes)
-      post_op_attr_takes (
-      result_row (nat_eq n 19) fsinfo_ok post_op_attr _ (assumption post_op_attr_takes)
-      post_op_attr_takes (
-      result_row (nat_eq n 20) pathconf_ok post_op_attr _ (assumption post_op_attr_takes)
-      post_op_attr_takes (
-      result_row (nat_eq n 21) commit_ok wcc _ (assumption wcc_takes) wcc_takes
-      tt)))))))))))))))))))))
+      result_row (nat_eq n 2) wcc wcc _ after after (
+      result_row (nat_eq n 3) lookup_ok post_op_attr _ (assumption) attr (
+      result_row (nat_eq n 4) access_ok post_op_attr _ (assumption) attr (
+      result_row (nat_eq n 5) readlink_ok post_op_attr _ (assumption) attr (
+      result_row (nat_eq n 6) read_ok post_op_attr _ (assumption) attr (
+      result_row (nat_eq n 7) write_ok wcc _ (assumption) after (
+      result_row (nat_eq n 8) create_ok wcc _ (assumption) after (
+      result_row (nat_eq n 9) create_ok wcc _ (assumption) after (
+      result_row (nat_eq n 10) create_ok wcc _ (assumption) after (
+      result_row (nat_eq n 11) create_ok wcc _ (assumption) after (
+      result_row (nat_eq n 12) wcc wcc _ after after (
+      result_row (nat_eq n 13) wcc wcc _ after after (
+      result_row (nat_eq n 14) rename_wcc rename_wcc _ (assumption) (assumption) (
+      result_row (nat_eq n 15) link_wcc link_wcc _ (assumption) (assumption) (
+      result_row (nat_eq n 16) readdir_ok post_op_attr _ (assumption) attr (
+      result_row (nat_eq n 17) readdirplus_ok post_op_attr _ (assumption) attr (
+      result_row (nat_eq n 18) fsstat_ok post_op_attr _ (assumption) attr (
+      result_row (nat_eq n 19) fsinfo_ok post_op_attr _ (assumption) attr (
+      result_row (nat_eq n 20) pathconf_ok post_op_attr _ (assumption) attr (
+      result_row (nat_eq n 21) commit_ok wcc _ (assumption) after tt)))))))))))))))))))))
 
   -- ---- heads
 
@@ -243,26 +194,14 @@ module _ (spot : Spot) where
   unfolding verifier names head_names
   verifier_takes = assumption
 
-  accept_takes : TakesMasks spot accept
-  unfolding accept names head_names
-  accept_takes = (tt, λ n. takes_if (nat_eq n 2) versions nothing (assumption) tt)
-
-  deny_takes : TakesMasks spot deny
-  unfolding deny names head_names
-  deny_takes = (
-    tt,
-    λ n.
-        takes_if (nat_eq n 0) versions (listed head_names.auth_stat auth_stats) (assumption)
-        (assumption),
-  )
-
   pub reply_head_takes : TakesMasks spot reply_head
-  unfolding reply_head names head_names
+  unfolding reply_head accept deny names head_names
   reply_head_takes = (
     tt,
     λ n.
-        takes_if (nat_eq n 0) (verifier then accept) deny (verifier_takes, accept_takes)
-        deny_takes,
+        cond_either (TakesMasks spot) (nat_eq n 0)
+        (verifier_takes, (tt, λ m. cond_either (TakesMasks spot) (nat_eq m 2) (assumption) tt))
+        (tt, λ m. cond_either (TakesMasks spot) (nat_eq m 0) (assumption) (assumption)),
   )
 
   pub mtype_takes : (types : List ℕ) → TakesMasks spot (listed head_names.mtype types)
@@ -271,38 +210,24 @@ module _ (spot : Spot) where
 
 -- ---- a group of a credential has a class
 
-auth_sys_takes : TakesMasks InCall auth_sys
-unfolding auth_sys parameters gids names head_names
-auth_sys_takes = assumption
-
 credential_takes : TakesMasks InCall credential
-unfolding credential names head_names
-credential_takes = (
-  tt,
-  λ n.
-      takes_if InCall (nat_eq n 0) (opaque Var head_names.cred_body 400) auth_sys tt
-      auth_sys_takes,
-)
-
-call_head_in_call : TakesMasks InCall call_head
-unfolding call_head names head_names
-call_head_in_call = assumption (credential_takes, verifier_takes InCall)
+unfolding credential auth_sys parameters gids names head_names
+credential_takes = (tt, λ n. cond_either (TakesMasks InCall) (nat_eq n 0) tt (assumption))
 
 -- ---- a word for another group of an export has none
 
 exports_at : (spot : Spot) → IsOn Server spot → TakesMasks spot exports
 unfolding export exports group head_names names
 exports_at InCall on = absurd on
-exports_at InReply on = assumption
-exports_at InDirectory on = assumption
-exports_at InWcc on = assumption
+exports_at _ on = assumption
 
 module _ (spot : Spot) (on : IsOn Server spot) where
   mount_results_of_take : (n : ℕ) → RowTakesMasks spot (mount_results_of n)
-  unfolding head_names mount_list mounted names
+  unfolding flavor handle head_names mount_list mount_ok mount_results mounted names
   mount_results_of_take n =
       arg_row spot (nat_eq n 0) nothing _ tt (
-      arg_row spot (nat_eq n 1) mount_results _ (mount_results_take spot) (
+      arg_row spot (nat_eq n 1) mount_results
+      _ (tt, λ k. cond_either (TakesMasks spot) (nat_eq k 0) (assumption) tt) (
       arg_row spot (nat_eq n 2) mount_list _ (assumption) (
       arg_row spot (nat_eq n 3) nothing _ tt (
       arg_row spot (nat_eq n 4) nothing _ tt (
@@ -311,16 +236,14 @@ module _ (spot : Spot) (on : IsOn Server spot) where
   procedure_results_take : (id : ProcId) → RowTakesMasks spot (results_of id)
   unfolding results_of
   procedure_results_take id =
-      row_takes_if spot (is_nfs id) (nfs_results id.proc_no) _ (nfs_results_take spot id.proc_no)
-      (row_takes_if spot (is_mount id) (mount_results_of id.proc_no) (rest names.rest)
-      (mount_results_of_take id.proc_no) tt)
+      cond_either (RowTakesMasks spot) (is_nfs id) (nfs_results_take spot id.proc_no)
+      (cond_either (RowTakesMasks spot) (is_mount id) (mount_results_of_take id.proc_no) tt)
 
   -- what follows the head of a reply
   pub reply_takes : (id : ProcId) (items : List Item)
       → RowTakesMasks spot (if has_results items then results_of id else exactly nothing)
   reply_takes id items =
-      row_takes_if spot (has_results items) (results_of id) (exactly nothing)
-      (procedure_results_take id) tt
+      cond_either (RowTakesMasks spot) (has_results items) (procedure_results_take id) tt
 
 -- ---- at each spot of a side
 
@@ -331,7 +254,6 @@ abbrev pub RowTakesOn : Side → Layout → Type 0
 RowTakesOn side layout = (spot : Spot) → IsOn side spot → RowTakesMasks spot layout
 
 pub call_head_takes : TakesOn Client call_head
-call_head_takes InCall on = call_head_in_call
-call_head_takes InReply on = absurd on
-call_head_takes InDirectory on = absurd on
-call_head_takes InWcc on = absurd on
+unfolding call_head names head_names
+call_head_takes InCall on = assumption (credential_takes, verifier_takes InCall)
+call_head_takes _ on = absurd on

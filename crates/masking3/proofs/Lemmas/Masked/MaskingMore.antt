@@ -1,5 +1,5 @@
 -- Ways that mask more tell no more captures apart.
-use Rattle.masking3.proofs.Common.{◌≡◌, inl, inr, ℕ, List, [], refl, sym, subst, nat_eq, Option, None, Some, Decides-eqb, Item, Entry, Pairs, none, more, Same, by_test, Class, Spot, InCall, InReply, Way, Keep, Zero, Number, Ways, class_of, class_value, is_zero_that_stays, values, next_spot, names_by, way_of, Agree, agree-graph, graph, member-graph, AreAlike, ArePartners, ChangesBy, ChangesEntry, ChangesItems, ChangesOf, IsNumbered, SameBut, SameButValues, along, begin, call, close, end, over, reply, turn}
+use Rattle.masking3.proofs.Common.{◌≡◌, inl, inr, ℕ, List, [], sym, subst, nat_eq, Some, Decides-eqb, Item, Entry, Pairs, Same, by_test, Class, Spot, Way, Keep, Zero, Number, Ways, class_of, class_value, is_zero_that_stays, values, names_by, way_of, Agree, agree-graph, graph, member-graph, AreAlike, ArePartners, ChangesBy, IsNumbered, SameBut, SameButValues}
 use Rattle.masking3.specs.Laws.{KeepsAll, MasksAsMuch, MasksValuesAsMuch, TellsNoMore}
 use Rattle.masking3.proofs.Lemmas.Masked.MaskedLemmas.{IsAmong}
 use Rattle.masking3.proofs.Lemmas.Masked.SameButLemmas.{AreAgreeing, agree_of, alike_met, alike_put, from_agreeing, kept_of_same, same_of_kept, values_numbered}
