@@ -1,5 +1,5 @@
 -- What later values leave of the masked form, and how it grows.
-use Rattle.masking3.proofs.Common.{◌≡◌, ℕ, true, false, List, [], ◌∷◌, ◌++◌, map, refl, sym, ap, ap₂, ◌∙◌, append_assoc, append-nil, ⊤, nat_eq, Option, None, Some, AllByRecursion, flat_map, Decides-eqb, flat_map-append, map-append, Item, Entry, Call, Reply, AreFirst, Member, here, Class, Spot, InCall, InReply, Way, Number, Ways, class_of, position, class_value, next_spot, named_entry, names_by, way_of, bytes_of, entry_bytes, are_some, magic_unless, by_way, is_zero_that_stays, masked, masked_bytes, masked_entry, masked_item, masked_items, masked_values, number_among, substitute, value_in, value_where, values, values_in, values_in_entry, with_value, by_test, member-append_left, member-append_right, rank-append}
+use Rattle.masking3.proofs.Common.{◌≡◌, ℕ, false, List, [], ◌∷◌, ◌++◌, map, refl, sym, ap, ◌∙◌, append_assoc, append-nil, ⊤, nat_eq, Option, None, Some, AllByRecursion, flat_map, Decides-eqb, flat_map-append, map-append, Item, Entry, Call, Reply, AreFirst, Member, here, Class, Spot, InCall, InReply, Way, Number, Ways, class_of, position, class_value, next_spot, named_entry, names_by, way_of, bytes_of, entry_bytes, are_some, magic_unless, by_way, is_zero_that_stays, masked, masked_bytes, masked_entry, masked_item, masked_items, masked_values, number_among, substitute, value_in, value_where, values, values_in, values_in_entry, with_value, by_test, member-append_left, member-append_right, rank-append}
 use Rattle.capture3.specs.Capture.{One, magic}
 use Rattle.masking3.proofs.Lemmas.Classes.ClassLemmas.{seen_alike}
 
@@ -143,19 +143,14 @@ module _ (ways : Ways) where
       ap (names_by ways) (values-append a b)
       ∙ map-append (named_entry ways) (masked_values ways a) (values_after a b)
 
-  bytes_with : (l m : List Entry) → are_some l ≡ true
-      → bytes_of (l ++ m) ≡ bytes_of l ++ flat_map entry_bytes m
-  bytes_with [] m some = absurd cc
-  bytes_with (e ∷ l) m some =
-      ap (λ (b : List ℕ). magic One ++ b) (flat_map-append entry_bytes (e ∷ l) m)
-      ∙ sym (append_assoc (magic One) (flat_map entry_bytes (e ∷ l)) (flat_map entry_bytes m))
-
   form_some : (e : Entry) (a b : List Entry)
       → masked_bytes ways ((e ∷ a) ++ b)
       ≡ masked_bytes ways (e ∷ a) ++ flat_map entry_bytes (after (e ∷ a) b)
   form_some e a b =
       ap bytes_of (masked-append (e ∷ a) b)
-      ∙ bytes_with (masked ways (e ∷ a)) (after (e ∷ a) b) refl
+      ∙ ap (λ (l : List ℕ). magic One ++ l)
+      (flat_map-append entry_bytes (masked ways (e ∷ a)) (after (e ∷ a) b))
+      ∙ sym (append_assoc (magic One) (flat_map entry_bytes (masked ways (e ∷ a))) _)
 
   -- what the first entries are written as is a front of what all are
   pub form_fronts : (a b : List Entry) → AreFirst (a ++ b)
@@ -172,6 +167,5 @@ module _ (ways : Ways) where
       ≡ (masked_bytes ways a ++ magic_unless (are_some a)) ++ last_bytes a one
   form_grows [] one = ap (λ (l : List ℕ). magic One ++ l) (append-nil (last_bytes [] one))
   form_grows (e ∷ a) one =
-      form_some e a (one ∷ [])
-      ∙ ap₂ (λ (l m : List ℕ). l ++ m) (sym (append-nil (masked_bytes ways (e ∷ a))))
-      (append-nil (last_bytes (e ∷ a) one))
+      cc (form_some e a (one ∷ []), append-nil (masked_bytes ways (e ∷ a)),
+      append-nil (last_bytes (e ∷ a) one))

@@ -21,6 +21,56 @@ rank_small x l =
       length-before x l,
     )
 
+-- ---- the words that choose a layout
+
+pub first_word : (name : List ℕ) (s : Shape) (items : List Item) → Fits (both (word name) s) items
+    → (n : ℕ) × (back : List Item) × Fits s back × (items ≡ Word name n ∷ back)
+first_word name s items p = (
+  p.2.0,
+  p.1,
+  p.3,
+  p.4
+      ∙ ap (λ (l : List Item). l ++ p.1)
+      (p.2.4 ∙ ap (λ (l : List Item). Word name p.2.0 ∷ l) p.2.3),
+)
+
+pub mtype_is : (types : List ℕ) (items : List Item) → Fits (listed head_names.mtype types) items
+    → (n : ℕ) × (items ≡ Word head_names.mtype n ∷ [])
+mtype_is types items p = (p.0, p.4 ∙ ap (λ (l : List Item). Word head_names.mtype p.0 ∷ l) p.3)
+
+call_words : (head : List Item) → Fits call_head head
+    → (version prog vers proc : ℕ) × (back : List Item)
+    × (head
+    ≡ Word head_names.rpcvers version ∷ Word head_names.prog prog ∷ Word head_names.vers vers
+    ∷ Word head_names.proc proc ∷ back)
+unfolding call_head
+call_words head p =
+    let a =
+    first_word head_names.prog
+    (word head_names.vers then word head_names.proc then credential then verifier) p.1 p.3 in
+    let b =
+    first_word head_names.vers (word head_names.proc then credential then verifier) a.1 a.2 in
+    let c = first_word head_names.proc (credential then verifier) b.1 b.2 in
+    (p.0, a.0, b.0, c.0, c.1, cc (p.4, a.3, b.3, c.3))
+
+accepted_words : (items : List Item) → Fits (verifier then accept) items
+    → (flavor stat : ℕ) × (body : List ℕ) × (last : List Item)
+    × (items
+    ≡ Word head_names.verf_flavor flavor ∷ Opaque Var head_names.verf_body body
+    ∷ Word head_names.accept_stat stat ∷ last)
+unfolding verifier accept
+accepted_words items p =
+    let v = p.2 in
+    let a = p.3 in (
+      v.0,
+      a.0,
+      v.3.0,
+      a.1,
+      p.4
+          ∙ ap₂ (λ (l m : List Item). l ++ m)
+          (v.4 ∙ ap (λ (l : List Item). Word head_names.verf_flavor v.0 ∷ l) v.3.2) a.4,
+    )
+
 module _ (ways : Ways) (seen : Class → List ℕ) where
   abbrev pub under : Spot → List Item → List Item
   under spot items = masked_items ways seen spot items
@@ -225,60 +275,11 @@ module _ (ways : Ways) (seen : Class → List ℕ) where
   row_under side spot on (rest name) items h p = (p.0, ap (under spot) p.1)
   row_under side spot on (after s next) items h p = absurd (h spot on)
 
--- ---- the words that choose a layout
+  -- ---- the words of heads stay
 
-pub first_word : (name : List ℕ) (s : Shape) (items : List Item) → Fits (both (word name) s) items
-    → (n : ℕ) × (back : List Item) × Fits s back × (items ≡ Word name n ∷ back)
-first_word name s items p = (
-  p.2.0,
-  p.1,
-  p.3,
-  p.4
-      ∙ ap (λ (l : List Item). l ++ p.1)
-      (p.2.4 ∙ ap (λ (l : List Item). Word name p.2.0 ∷ l) p.2.3),
-)
-
-pub mtype_is : (types : List ℕ) (items : List Item) → Fits (listed head_names.mtype types) items
-    → (n : ℕ) × (items ≡ Word head_names.mtype n ∷ [])
-mtype_is types items p = (p.0, p.4 ∙ ap (λ (l : List Item). Word head_names.mtype p.0 ∷ l) p.3)
-
-call_words : (head : List Item) → Fits call_head head
-    → (version prog vers proc : ℕ) × (back : List Item)
-    × (head
-    ≡ Word head_names.rpcvers version ∷ Word head_names.prog prog ∷ Word head_names.vers vers
-    ∷ Word head_names.proc proc ∷ back)
-unfolding call_head
-call_words head p =
-    let a =
-    first_word head_names.prog
-    (word head_names.vers then word head_names.proc then credential then verifier) p.1 p.3 in
-    let b =
-    first_word head_names.vers (word head_names.proc then credential then verifier) a.1 a.2 in
-    let c = first_word head_names.proc (credential then verifier) b.1 b.2 in
-    (p.0, a.0, b.0, c.0, c.1, cc (p.4, a.3, b.3, c.3))
-
-accepted_words : (items : List Item) → Fits (verifier then accept) items
-    → (flavor stat : ℕ) × (body : List ℕ) × (last : List Item)
-    × (items
-    ≡ Word head_names.verf_flavor flavor ∷ Opaque Var head_names.verf_body body
-    ∷ Word head_names.accept_stat stat ∷ last)
-unfolding verifier accept
-accepted_words items p =
-    let v = p.2 in
-    let a = p.3 in (
-      v.0,
-      a.0,
-      v.3.0,
-      a.1,
-      p.4
-          ∙ ap₂ (λ (l m : List Item). l ++ m)
-          (v.4 ∙ ap (λ (l : List Item). Word head_names.verf_flavor v.0 ∷ l) v.3.2) a.4,
-    )
-
-module _ (ways : Ways) (seen : Class → List ℕ) where
   procedure_stays : (a b : Spot) (x : ℕ) (start head : List Item)
       → Fits (listed head_names.mtype (0 ∷ [])) start → Fits call_head head
-      → procedure_in (Word head_names.xid x ∷ (under ways seen a start ++ under ways seen b head))
+      → procedure_in (Word head_names.xid x ∷ (under a start ++ under b head))
       ≡ procedure_in (Word head_names.xid x ∷ (start ++ head))
   unfolding names head_names
   procedure_stays a b x start head p q =
@@ -287,7 +288,7 @@ module _ (ways : Ways) (seen : Class → List ℕ) where
 
   results_stay : (a b : Spot) (x : ℕ) (start head : List Item)
       → Fits (listed head_names.mtype (1 ∷ [])) start → Fits reply_head head
-      → has_results (Word head_names.xid x ∷ (under ways seen a start ++ under ways seen b head))
+      → has_results (Word head_names.xid x ∷ (under a start ++ under b head))
       ≡ has_results (Word head_names.xid x ∷ (start ++ head))
   unfolding names head_names reply_head
   results_stay a b x start head p q =
@@ -299,48 +300,44 @@ module _ (ways : Ways) (seen : Class → List ℕ) where
       rw (m.1, q.4, k.4) refl)
       (λ f. rw (m.1, q.4, f) refl)
 
-module _ (ways : Ways) (seen : Class → List ℕ) (spot : Spot) where
-  abbrev masks : List Item → List Item
-  masks items = under ways seen spot items
-
   -- ---- a message, its xid and its procedure
 
   -- with what is under way after its start and after its head
-  message_is : (x : ℕ) (items start head back : List Item)
+  message_is : (spot : Spot) (x : ℕ) (items start head back : List Item)
       → items ≡ Word head_names.xid x ∷ ((start ++ head) ++ back)
-      → masks items
+      → under spot items
       ≡ Word head_names.xid x
-      ∷ ((masks start ++ under ways seen (spot_after spot start) head)
-      ++ under ways seen (spot_after spot (start ++ head)) back)
-  message_is x items start head back is =
-      ap masks is
+      ∷ ((under spot start ++ under (spot_after spot start) head)
+      ++ under (spot_after spot (start ++ head)) back)
+  message_is spot x items start head back is =
+      ap (under spot) is
       ∙ ap₂ (λ (i : Item) (l : List Item). i ∷ l)
       (unmasked ways seen spot (Word head_names.xid x) (xid_free.classless spot))
-      (ap (λ (s : Spot). under ways seen s ((start ++ head) ++ back)) (xid_free.moves_not spot x)
+      (ap (λ (s : Spot). under s ((start ++ head) ++ back)) (xid_free.moves_not spot x)
       ∙ masked_items-append ways seen spot (start ++ head) back
-      ∙ ap (λ (l : List Item). l ++ under ways seen (spot_after spot (start ++ head)) back)
+      ∙ ap (λ (l : List Item). l ++ under (spot_after spot (start ++ head)) back)
       (masked_items-append ways seen spot start head))
 
-  pub call_xid_under : (items : List Item) → FitsCall items → xid_in (masks items) ≡ xid_in items
+  pub call_xid_under : (spot : Spot) (items : List Item) → FitsCall items
+      → xid_in (under spot items) ≡ xid_in items
   unfolding names head_names
-  call_xid_under items p = let h = is_headed_call items p in rw h.is refl
+  call_xid_under spot items p = let h = is_headed_call items p in rw h.is refl
 
-  pub reply_xid_under : (id : ProcId) (items : List Item) → FitsReply id items
-      → xid_in (masks items) ≡ xid_in items
+  pub reply_xid_under : (spot : Spot) (id : ProcId) (items : List Item) → FitsReply id items
+      → xid_in (under spot items) ≡ xid_in items
   unfolding names head_names
-  reply_xid_under id items p = let h = is_headed_reply id items p in rw h.is refl
+  reply_xid_under spot id items p = let h = is_headed_reply id items p in rw h.is refl
 
-  pub procedure_under : (items : List Item) → FitsCall items
-      → procedure_in (masks items) ≡ procedure_in items
+  pub procedure_under : (spot : Spot) (items : List Item) → FitsCall items
+      → procedure_in (under spot items) ≡ procedure_in items
   unfolding names head_names
-  procedure_under items p =
+  procedure_under spot items p =
       let h = is_headed_call items p in
       let m = mtype_is (0 ∷ []) h.start h.start_fits in
       let w = call_words h.head h.head_fits in rw (h.is, m.1, w.5) refl
 
--- ---- spellings
+  -- ---- spellings
 
-module _ (ways : Ways) (seen : Class → List ℕ) where
   module _ (few : (d : Class) → length (seen d) ≤ max_bytes) where
     number_small : (d : Class) (n : ℕ) → number_among (seen d) d n < 2 ^ 32
     number_small d n =
@@ -370,10 +367,10 @@ module _ (ways : Ways) (seen : Class → List ℕ) where
     with_spelled i bytes (Some m) low p = zero_spelled_one i bytes p
 
     pub message_spelled : (spot : Spot) (items : List Item) (bytes : List ℕ) → Spells items bytes
-        → Spells (under ways seen spot items) (zero_spelling (under ways seen spot items))
+        → Spells (under spot items) (zero_spelling (under spot items))
     message_spelled spot [] bytes p = refl
     message_spelled spot (i ∷ items) bytes p =
-        let later : List Item = under ways seen (next_spot spot i) items in (
+        let later : List Item = under (next_spot spot i) items in (
           zero_spelling_of (masked_item ways seen spot i),
           zero_spelling later,
           with_spelled i p.0 (substitute ways seen (class_of spot i) (class_value i))
@@ -382,54 +379,53 @@ module _ (ways : Ways) (seen : Class → List ℕ) where
           refl,
         )
 
--- ---- calls and replies
+  -- ---- calls and replies
 
-module _ (ways : Ways) (seen : Class → List ℕ) (side : Side) (spot : Spot) (on : IsOn side spot)
-    (types : List ℕ) (s : Shape) (next : List Item → Layout) where
-  headed_under : TakesOn side s → ((l : List Item) → RowTakesOn side (next l))
-      → ((b : Spot) (x : ℕ) (start head : List Item) → Fits (listed head_names.mtype types) start
-      → Fits s head
-      → next (Word head_names.xid x ∷ (under ways seen spot start ++ under ways seen b head))
-      ≡ next (Word head_names.xid x ∷ (start ++ head))) → (items : List Item)
-      → IsHeaded head_names.xid (listed head_names.mtype types) s next items
-      → IsHeaded head_names.xid (listed head_names.mtype types) s next (under ways seen spot items)
-  headed_under takes rows stays items h =
-      let head_spot : Spot = spot_after spot h.start in
-      let back_spot : Spot = spot_after spot (h.start ++ h.head) in
-      record {
-        number = h.number;
-        start = under ways seen spot h.start;
-        head = under ways seen head_spot h.head;
-        back = under ways seen back_spot h.back;
-        start_fits =
-            fits_under ways seen side spot on (listed head_names.mtype types) h.start
-            (λ t o. mtype_takes t types) h.start_fits;
-        head_fits =
-            fits_under ways seen side head_spot (on_after side spot h.start on) s h.head takes
-            h.head_fits;
-        back_fits =
-            rw (stays head_spot h.number h.start h.head h.start_fits h.head_fits)
-            (row_under ways seen side back_spot (on_after side spot (h.start ++ h.head) on) _ h.back
-            (rows (Word head_names.xid h.number ∷ (h.start ++ h.head))) h.back_fits);
-        is = message_is ways seen spot h.number items h.start h.head h.back h.is;
-      }
+  module _ (side : Side) (spot : Spot) (on : IsOn side spot) (types : List ℕ) (s : Shape)
+      (next : List Item → Layout) where
+    headed_under : TakesOn side s → ((l : List Item) → RowTakesOn side (next l))
+        → ((b : Spot) (x : ℕ) (start head : List Item) → Fits (listed head_names.mtype types) start
+        → Fits s head
+        → next (Word head_names.xid x ∷ (under spot start ++ under b head))
+        ≡ next (Word head_names.xid x ∷ (start ++ head))) → (items : List Item)
+        → IsHeaded head_names.xid (listed head_names.mtype types) s next items
+        → IsHeaded head_names.xid (listed head_names.mtype types) s next (under spot items)
+    headed_under takes rows stays items h =
+        let head_spot : Spot = spot_after spot h.start in
+        let back_spot : Spot = spot_after spot (h.start ++ h.head) in
+        record {
+          number = h.number;
+          start = under spot h.start;
+          head = under head_spot h.head;
+          back = under back_spot h.back;
+          start_fits =
+              fits_under side spot on (listed head_names.mtype types) h.start
+              (λ t o. mtype_takes t types) h.start_fits;
+          head_fits =
+              fits_under side head_spot (on_after side spot h.start on) s h.head takes
+              h.head_fits;
+          back_fits =
+              rw (stays head_spot h.number h.start h.head h.start_fits h.head_fits)
+              (row_under side back_spot (on_after side spot (h.start ++ h.head) on) _ h.back
+              (rows (Word head_names.xid h.number ∷ (h.start ++ h.head))) h.back_fits);
+          is = message_is spot h.number items h.start h.head h.back h.is;
+        }
 
-module _ (ways : Ways) (seen : Class → List ℕ) where
-  pub call_under : (items : List Item) → FitsCall items → FitsCall (under ways seen InCall items)
+  pub call_under : (items : List Item) → FitsCall items → FitsCall (under InCall items)
   call_under items p =
-      headed_call_fits (under ways seen InCall items)
-      (headed_under ways seen Client InCall tt (0 ∷ []) call_head call_next call_head_takes
+      headed_call_fits (under InCall items)
+      (headed_under Client InCall tt (0 ∷ []) call_head call_next call_head_takes
       (λ l t o. arguments_take t (procedure_in l))
       (λ b x start head q r.
-      ap arguments_of (procedure_stays ways seen InCall b x start head q r)) items
+      ap arguments_of (procedure_stays InCall b x start head q r)) items
       (is_headed_call items p))
 
   pub reply_under : (id : ProcId) (items : List Item) → FitsReply id items
-      → FitsReply id (under ways seen InReply items)
+      → FitsReply id (under InReply items)
   reply_under id items p =
-      headed_reply_fits id (under ways seen InReply items)
-      (headed_under ways seen Server InReply tt (1 ∷ []) reply_head (reply_next id)
+      headed_reply_fits id (under InReply items)
+      (headed_under Server InReply tt (1 ∷ []) reply_head (reply_next id)
       (λ t o. reply_head_takes t) (λ l t o. reply_takes t o id l)
       (λ b x start head q r.
       ap (λ k. if k then results_of id else exactly nothing)
-      (results_stay ways seen InReply b x start head q r)) items (is_headed_reply id items p))
+      (results_stay InReply b x start head q r)) items (is_headed_reply id items p))

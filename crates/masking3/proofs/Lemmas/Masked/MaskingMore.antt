@@ -1,5 +1,5 @@
 -- Ways that mask more tell no more captures apart.
-use Rattle.masking3.proofs.Common.{◌≡◌, inl, inr, ℕ, List, [], sym, subst, nat_eq, Some, Decides-eqb, Item, Entry, Pairs, Same, by_test, Class, Spot, Way, Keep, Zero, Number, Ways, class_of, class_value, is_zero_that_stays, values, names_by, way_of, Agree, agree-graph, graph, member-graph, AreAlike, ArePartners, ChangesBy, IsNumbered, SameBut, SameButValues}
+use Rattle.masking3.proofs.Common.{◌≡◌, inl, inr, ℕ, List, [], nat_eq, Some, Decides-eqb, Item, Entry, Pairs, Same, by_test, Class, Spot, Way, Keep, Zero, Number, Ways, class_of, class_value, is_zero_that_stays, values, names_by, way_of, Agree, agree-graph, graph, member-graph, AreAlike, ChangesBy, IsNumbered, SameBut, SameButValues}
 use Rattle.masking3.specs.Laws.{KeepsAll, MasksAsMuch, MasksValuesAsMuch, TellsNoMore}
 use Rattle.masking3.proofs.Lemmas.Masked.MaskedLemmas.{IsAmong}
 use Rattle.masking3.proofs.Lemmas.Masked.SameButLemmas.{AreAgreeing, agree_of, alike_met, alike_put, from_agreeing, kept_of_same, same_of_kept, values_numbered}
@@ -24,13 +24,6 @@ module _ (ways others : Ways) (much : MasksValuesAsMuch ways others) (all : List
   agree_by Number d = agree d
   agree_by Zero d = record { parts = λ p m. elim m [ ]; alike = λ p q m n. elim m [ ] }
 
-  own_partner : (spot : Spot) (d : Class) (i : Item) → IsAmong (values all) spot i
-      → class_of spot i ≡ Some d
-      → ArePartners d (graph (λ n. n) (values all d)) (class_value i) (class_value i)
-  own_partner spot d i among is =
-      by_test (is_zero_that_stays d (class_value i)) (λ t. inr (t, t))
-      (λ f. inl (member-graph (λ n. n) (among d is f)))
-
   alike_itself : (spot : Spot) (d : Class) (i : Item) → class_of spot i ≡ Some d → AreAlike i i
   alike_itself spot d i is =
       alike_met (alike_put spot i d 0 is) (alike_put spot i d 0 is)
@@ -40,12 +33,12 @@ module _ (ways others : Ways) (much : MasksValuesAsMuch ways others) (all : List
       → ChangesBy v d (pairs_by w d) i j
   by_way_more Keep Keep t spot d i j among is h = h
   by_way_more Keep Number t spot d i j among is h =
-      subst
-      (λ k.
-      AreAlike i k
-      × ArePartners d (graph (λ n. n) (values all d)) (class_value i) (class_value k)) h
-      (alike_itself spot d i is, own_partner spot d i among is)
-  by_way_more Keep Zero t spot d i j among is h = subst (AreAlike i) h (alike_itself spot d i is)
+      rw (← h) (
+        alike_itself spot d i is,
+        by_test (is_zero_that_stays d (class_value i)) (λ z. inr (z, z))
+            (λ f. inl (member-graph (λ n. n) (among d is f))),
+      )
+  by_way_more Keep Zero t spot d i j among is h = rw (← h) (alike_itself spot d i is)
   by_way_more Number Number t spot d i j among is h = h
   by_way_more Number Zero t spot d i j among is h = h.0
   by_way_more Zero Zero t spot d i j among is h = h
@@ -80,9 +73,8 @@ pub same_but_more : (ways others : Ways) (a b : List Entry) → MasksAsMuch ways
 same_but_more ways others a b much s =
     let absorbed = names_absorbed ways others much.1 much.2 in
     values_more ways others (names_by others a) (names_by others b) much.0
-    (subst (λ l. SameButValues ways l (names_by others b)) (absorbed a) (subst
-    (SameButValues ways (names_by others (names_by ways a))) (absorbed b)
-    (values_with_names ways others (names_by ways a) (names_by ways b) s)))
+    (rw (absorbed a, absorbed b) at (values_with_names ways others (names_by ways a)
+    (names_by ways b) s))
 
 -- ---- where nothing is masked
 
@@ -90,12 +82,10 @@ pub same_of_all_kept : (ways : Ways) → KeepsAll ways → (a b : List Entry) �
     → Same a b
 same_of_all_kept ways keeps a b s =
     let kept = names_kept ways keeps.1 keeps.2 in
-    same_of_kept ways keeps.0 a b (subst (λ l. SameButValues ways l b) (kept a)
-    (subst (SameButValues ways (names_by ways a)) (kept b) s))
+    same_of_kept ways keeps.0 a b (rw (kept a, kept b) at s)
 
 pub all_kept_of_same : (ways : Ways) → KeepsAll ways → (a b : List Entry) → Same a b
     → SameBut ways a b
 all_kept_of_same ways keeps a b s =
     let kept = names_kept ways keeps.1 keeps.2 in
-    subst (λ l. SameButValues ways l (names_by ways b)) (sym (kept a))
-    (subst (SameButValues ways a) (sym (kept b)) (kept_of_same ways keeps.0 a b s))
+    rw (kept a, kept b) (kept_of_same ways keeps.0 a b s)

@@ -1,6 +1,6 @@
 -- Two masked captures are the same exactly if the captures are the same but for the values that are
 -- masked.
-use Rattle.masking3.proofs.Common.{◌⊎◌, ◌+◌, append-nil, arith, big_bytes, big_number, big_number-reads_back, rank-le-length, zero_stays, ◌≡◌, inl, inr, ⊎_elim, ℕ, ◌<◌, ◌^◌, Bool, true, false, List, [], ◌∷◌, ◌++◌, length, map, refl, sym, ap, ap₂, ◌∙◌, subst, ⊤, ◌==◌, ◌&&◌, not, nat_eq, Option, None, Some, AllByRecursion, Decides-eqb, Item, Word, Hyper, Fixed, Entry, Begin, Call, Turn, Reply, Close, End, rank, Class, Spot, InCall, InReply, InDirectory, Way, Keep, Zero, Number, Ways, class_of, class_value, position, by_way, is_zero_that_stays, masked_values, masked_entry, masked_item, masked_items, number_among, substitute, value_in, value_where, values, values_in, with_value, next_spot, way_of, KeepsValues, AreAlike, words, hypers, eights, IsNumbered, ArePartners, ChangesBy, ChangesOf, ChangesItem, ChangesItems, over, along, ChangesEntry, begin, call, turn, reply, close, end, SameButValues, Member, here, there, Pairs, OneToOne, none, more, Same, Agree, agree-graph, graph, member-graph, by_test, member-append_cases, rank_paired, same_rank, IsPlain, RenamesItem, handle, plain, Pairwise, RenamesMessage, message, Renames, ended, begins, calls, turns, replies, closes, ends}
+use Rattle.masking3.proofs.Common.{◌⊎◌, ◌+◌, append-nil, arith, big_bytes, big_number, big_number-reads_back, rank-le-length, zero_stays, ◌≡◌, inl, inr, ⊎_elim, ℕ, ◌<◌, ◌^◌, Bool, true, false, List, [], ◌∷◌, length, map, refl, sym, ap, ◌∙◌, subst, ⊤, ◌==◌, ◌&&◌, not, nat_eq, Option, None, Some, AllByRecursion, Decides-eqb, Item, Word, Hyper, Fixed, Entry, Begin, Call, Turn, Reply, Close, End, rank, Class, Spot, InCall, InReply, InDirectory, Way, Keep, Zero, Number, Ways, class_of, class_value, position, by_way, is_zero_that_stays, masked_values, masked_entry, masked_item, masked_items, number_among, substitute, value_in, value_where, values, values_in, with_value, next_spot, way_of, KeepsValues, AreAlike, words, hypers, eights, IsNumbered, ArePartners, ChangesBy, ChangesOf, ChangesItem, ChangesItems, over, along, ChangesEntry, begin, call, turn, reply, close, end, SameButValues, Member, here, there, Pairs, OneToOne, none, more, Same, Agree, agree-graph, graph, member-graph, by_test, member-append_cases, rank_paired, same_rank, IsPlain, RenamesItem, handle, plain, Pairwise, RenamesMessage, message, Renames, ended, begins, calls, turns, replies, closes, ends}
 use Rattle.canon3.specs.Renaming.{verifier}
 use Rattle.canon3.proofs.Lemmas.Canonical.OneFormLemmas.{In}
 use Rattle.canon3.proofs.Lemmas.Numbers.RankLemmas.{pairwise-append}
@@ -13,8 +13,7 @@ use Rattle.masking3.proofs.Lemmas.Masked.MaskedLemmas.{AreAmong, IsAmong, ItemsA
 
 alike_class : (spot : Spot) {i j : Item} → AreAlike i j → class_of spot j ≡ class_of spot i
 alike_class spot words = refl
-alike_class spot hypers = refl
-alike_class spot eights = refl
+alike_class spot _ = refl
 
 pub alike_met : {i j k : Item} → AreAlike i j → AreAlike k j → AreAlike i k
 alike_met words words = words
@@ -23,8 +22,7 @@ alike_met eights eights = eights
 
 alike_with : (i j : Item) (m : ℕ) → AreAlike i j → with_value i (Some m) ≡ with_value j (Some m)
 alike_with i j m words = refl
-alike_with i j m hypers = refl
-alike_with i j m eights = refl
+alike_with i j m _ = refl
 
 pub alike_put : (spot : Spot) (i : Item) (d : Class) (m : ℕ) → class_of spot i ≡ Some d
     → AreAlike i (with_value i (Some m))
@@ -35,8 +33,7 @@ alike_put spot _ d m is = absurd cc
 
 alike_plain : {i j : Item} → AreAlike i j → IsPlain i
 alike_plain words = tt
-alike_plain hypers = tt
-alike_plain eights = tt
+alike_plain _ = tt
 
 -- ---- an item with another value
 
@@ -190,10 +187,8 @@ module _ (ways : Ways) (ps qs : Class → Pairs ℕ) (first : AreAgreeing ps) (s
   partners_met : (d : Class) (l m n : ℕ) → ArePartners d (ps d) l m → ArePartners d (qs d) n m
       → ArePartners d (met d) l n
   partners_met d l m n (inl x) (inl y) = inl (member-linked nat_eq Decides-eqb x (member-turned y))
-  partners_met d l m n (inl x) (inr y) =
-      let other = ((first d).parts (l, m) x).1 in absurd (cc (other, y.1))
-  partners_met d l m n (inr x) (inl y) =
-      let other = ((second d).parts (n, m) y).1 in absurd (cc (other, x.1))
+  partners_met d l m n (inl x) (inr y) = absurd (cc (((first d).parts (l, m) x).1, y.1))
+  partners_met d l m n (inr x) (inl y) = absurd (cc (((second d).parts (n, m) y).1, x.1))
   partners_met d l m n (inr x) (inr y) = inr (x.0, y.0)
 
   by_way_met : (w : Way) (d : Class) (i j k : Item) → ChangesBy w d (ps d) i j
@@ -236,14 +231,12 @@ module _ (ways : Ways) (ps qs : Class → Pairs ℕ) (first : AreAgreeing ps) (s
         → (m : List Item) × ChangesItems ways met spot a m × Pairwise (RenamesItem us vs) m c
     items_met spot over none over = ([], over, none)
     items_met spot (along {i = i} {j = j} g p) (more r q)
-        (along {i = k} {j = l} {a = c} {b = d} h s) =
+        (along {i = k} {j = l} h s) =
         let spots : next_spot spot k ≡ next_spot spot i =
         changed_spot ways qs spot k l h
         ∙ sym (changed_spot ways ps spot i j g ∙ renamed_spot spot j l r) in
         let one = item_met spot i j k l g r h in
-        let all =
-        items_met (next_spot spot i) p q
-        (subst (λ (t : Spot). ChangesItems ways qs t c d) spots s) in
+        let all = items_met (next_spot spot i) p q (rw spots at s) in
         (one.0 ∷ all.0, along one.1 all.1, more one.2 all.2)
 
     message_met : (spot : Spot) {xs : Pairs ℕ} {a b c d : List Item} → StartsFree b
@@ -251,16 +244,13 @@ module _ (ways : Ways) (ps qs : Class → Pairs ℕ) (first : AreAgreeing ps) (s
         → ChangesItems ways qs spot c d
         → (m : List Item) × ChangesItems ways met spot a m × RenamesMessage us vs xs m c
     message_met spot {xs = xs} free (message {name = name} {x = x} {y = y} b q) (along {i = i} g p)
-        (along {i = k} {a = c} {b = d} h s) =
+        (along {i = k} {a = c} h s) =
         let e = same_before ways ps spot i (Word name x) (free.classless spot) g in
         let f = same_before ways qs spot k (Word name y) (free.classless spot) h in
         let spots : next_spot spot k ≡ next_spot spot i =
-        ap (next_spot spot) f
-        ∙ free.moves_not spot y
-        ∙ sym (ap (next_spot spot) e ∙ free.moves_not spot x) in
-        let all =
-        items_met (next_spot spot i) p q
-        (subst (λ (t : Spot). ChangesItems ways qs t c d) spots s) in (
+        cc (ap (next_spot spot) e, ap (next_spot spot) f, free.moves_not spot x,
+        free.moves_not spot y) in
+        let all = items_met (next_spot spot i) p q (rw spots at s) in (
           Word name x ∷ all.0,
           along (stays_met spot i (Word name x) (free.classless spot) g) all.1,
           subst (λ j. RenamesMessage us vs xs (Word name x ∷ all.0) (j ∷ c)) (sym f)
@@ -426,35 +416,24 @@ module _ (ways : Ways) (pairs : Class → Pairs ℕ) (agree : AreAgreeing pairs)
       → Pairwise (In (pairs d)) (value_where d o (class_value i)) (value_where d o (class_value j))
   of_beside d way None i j h = none
   of_beside d way (Some e) i j h = by_test (position d == position e)
-      (λ t.
-      subst
-      (λ c.
-      ChangesBy (way_of ways c) c (pairs c) i j
-      → Pairwise (In (pairs d)) (value_where d (Some c) (class_value i))
-      (value_where d (Some c) (class_value j)))
-      (same_class d e ((Decides-eqb (position d) (position e)).0 t))
-      (λ g. let by : ChangesBy Number d (pairs d) i j =
-      subst (λ w. ChangesBy w d (pairs d) i j) way g in
-      partners_beside d (class_value i) (class_value j) by.1) h)
+      (λ t. let same = sym (same_class d e ((Decides-eqb (position d) (position e)).0 t)) in
+      let by = rw (same, way) at h in
+      rw same (partners_beside d (class_value i) (class_value j) by.1))
       (λ f. rw f none)
 
   item_beside : (d : Class) → way_of ways d ≡ Number → (spot : Spot) (i j : Item)
       → ChangesItem ways pairs spot i j
       → Pairwise (In (pairs d)) (value_in d spot i) (value_in d spot j)
   item_beside d way spot i j h =
-      subst (λ o. Pairwise (In (pairs d)) (value_in d spot i) (value_where d o (class_value j)))
-      (sym (changed_class ways pairs spot i j h))
-      (of_beside d way (class_of spot i) i j h)
+      rw (changed_class ways pairs spot i j h) (of_beside d way (class_of spot i) i j h)
 
   items_beside : (d : Class) → way_of ways d ≡ Number → (spot : Spot) {m n : List Item}
       → ChangesItems ways pairs spot m n
       → Pairwise (In (pairs d)) (values_in d spot m) (values_in d spot n)
   items_beside d way spot over = none
-  items_beside d way spot (along {i = i} {j = j} {a = a} {b = b} c p) =
-      let later : Spot = next_spot spot i in
-      pairwise-append (item_beside d way spot i j c) (subst
-      (λ (s : Spot). Pairwise (In (pairs d)) (values_in d later a) (values_in d s b))
-      (changed_spot ways pairs spot i j c) (items_beside d way later p))
+  items_beside d way spot (along {i = i} {j = j} c p) =
+      pairwise-append (item_beside d way spot i j c)
+      (rw (← changed_spot ways pairs spot i j c) (items_beside d way (next_spot spot i) p))
 
   values_beside : (d : Class) → way_of ways d ≡ Number → {a b : List Entry} → Changes ways pairs a b
       → Pairwise (In (pairs d)) (values a d) (values b d)
@@ -498,10 +477,9 @@ module _ (ways : Ways) (pairs : Class → Pairs ℕ) (agree : AreAgreeing pairs)
     message_one : (spot : Spot) {m n : List Item} → ChangesItems ways pairs spot m n
         → masked_items ways first spot m ≡ masked_items ways second spot n
     message_one spot over = refl
-    message_one spot (along {i = i} {j = j} {b = b} c p) =
-        let spots = ap (λ (s : Spot). masked_items ways second s b)
-        (changed_spot ways pairs spot i j c) in
-        cc (item_one spot i j c, message_one (next_spot spot i) p, spots)
+    message_one spot (along {i = i} {j = j} c p) =
+        rw (← changed_spot ways pairs spot i j c)
+        (cc (item_one spot i j c, message_one (next_spot spot i) p))
 
     entries_one : {a b : List Entry} → Changes ways pairs a b
         → map (masked_entry ways first) a ≡ map (masked_entry ways second) b
@@ -521,15 +499,14 @@ module _ (ways : Ways) {ps vs : Pairs (List ℕ)} where
   item_values : (d : Class) (spot : Spot) (i j : Item) → RenamesItem ps vs i j
       → value_in d spot i ≡ value_in d spot j
   item_values d spot i j (handle m) = refl
-  item_values d spot i j (verifier m) = refl
-  item_values d spot i j (plain item f) = refl
+  item_values d spot i j r = refl
 
   items_values : (d : Class) (spot : Spot) {m n : List Item} → Pairwise (RenamesItem ps vs) m n
       → values_in d spot m ≡ values_in d spot n
   items_values d spot none = refl
-  items_values d spot (more {x = i} {y = j} {ys = b} r p) =
-      ap₂ (λ (l m : List ℕ). l ++ m) (item_values d spot i j r) (items_values d (next_spot spot i) p
-      ∙ ap (λ (s : Spot). values_in d s b) (renamed_spot spot i j r))
+  items_values d spot (more {x = i} {y = j} r p) =
+      rw (← renamed_spot spot i j r)
+          (cc (item_values d spot i j r, items_values d (next_spot spot i) p))
 
   message_values : (d : Class) (spot : Spot) {xs : Pairs ℕ} {m n : List Item} → StartsFree m
       → RenamesMessage ps vs xs m n → values_in d spot m ≡ values_in d spot n
@@ -540,11 +517,9 @@ module _ (ways : Ways) {ps vs : Pairs (List ℕ)} where
       → AllByRecursion HasFreeXid a → Renames ps vs xs xss a b → values a d ≡ values b d
   entries_values d h ended = refl
   entries_values d h (begins r) = entries_values d h.1 r
-  entries_values d h (calls c r) =
-      ap₂ (λ (k l : List ℕ). k ++ l) (message_values d InCall h.0 c) (entries_values d h.1 r)
+  entries_values d h (calls c r) = cc (message_values d InCall h.0 c, entries_values d h.1 r)
   entries_values d h (turns r) = entries_values d h.1 r
-  entries_values d h (replies c r) =
-      ap₂ (λ (k l : List ℕ). k ++ l) (message_values d InReply h.0 c) (entries_values d h.1 r)
+  entries_values d h (replies c r) = cc (message_values d InReply h.0 c, entries_values d h.1 r)
   entries_values d h (closes r) = entries_values d h.1 r
   entries_values d h (ends r) = entries_values d h.1 r
 
