@@ -1,25 +1,10 @@
 -- Messages with masked values are messages of the same procedures, of the same length.
-use Rattle.masking3.proofs.Common.{◌≡◌, ℕ, suc, ◌+◌, ◌<◌, ◌≤◌, ◌^◌, Bool, List, [], ◌∷◌, ◌++◌, length, refl, sym, ap, ap₂, ◌∙◌, subst, arith, length-append, append-nil, append_assoc, IsTrue, nat_eq, if◌then◌else◌, Option, None, Some, AllByRecursion, big_bytes, length-bytes_high_first, Item, Word, Hyper, Fixed, Opaque, Var, Spells, SpellsItem, zero_spelling, zero_spelling_of, Layout, exactly, rest, after, FitsLayout, ProcId, has_results, procedure_in, head_names, names, arguments_of, results_of, Side, Client, Server, xid_in, max_bytes, Decides-eqb, ⊤, class_of, class_of_word, Class, Spot, InCall, InReply, Way, Keep, Zero, Number, Ways, class_of_fixed, class_of_hyper, class_of_word, class_value, by_way, is_zero_that_stays, masked_item, masked_items, number_among, substitute, with_value, next_spot, way_of, HasParts, Part, parts_weaker, fixed_part, opaque_part, accept, call_head, credential, deny, reply_head, verifier, FitsCall, FitsReply, call_next, headed_call_fits, headed_reply_fits, is_headed_call, is_headed_reply, reply_next, Shape, ◌then◌, both, choose, counted, fixed, hyper, linked, listed, nothing, opaque, sized, word, write_verf, Fits, joined, links, before, rank, IsEach, all_in_message, are_bytes_of_number, zero_spelled_one, by_test, cond_either, equivalence, length-with_keys}
+use Rattle.masking3.proofs.Common.{◌≡◌, ℕ, suc, ◌<◌, ◌≤◌, ◌^◌, Bool, List, [], ◌∷◌, ◌++◌, length, refl, sym, ap, ◌∙◌, subst, arith, length-append, append-nil, append_assoc, IsTrue, nat_eq, if◌then◌else◌, Option, None, Some, AllByRecursion, big_bytes, length-bytes_high_first, Item, Word, Hyper, Fixed, Opaque, Var, Spells, SpellsItem, zero_spelling, zero_spelling_of, Layout, exactly, rest, after, FitsLayout, ProcId, has_results, procedure_in, head_names, names, arguments_of, results_of, Side, Client, Server, xid_in, max_bytes, Decides-eqb, ⊤, class_of, Class, Spot, InCall, InReply, Way, Keep, Zero, Number, Ways, class_of_fixed, class_of_hyper, class_of_word, class_value, by_way, is_zero_that_stays, masked_item, masked_items, number_among, substitute, with_value, next_spot, way_of, HasParts, Part, parts_weaker, fixed_part, opaque_part, accept, call_head, credential, deny, reply_head, verifier, FitsCall, FitsReply, call_next, headed_call_fits, headed_reply_fits, is_headed_call, is_headed_reply, reply_next, Shape, ◌then◌, both, choose, counted, fixed, hyper, linked, listed, nothing, opaque, sized, word, write_verf, Fits, joined, links, before, IsEach, all_in_message, are_bytes_of_number, zero_spelled_one, by_test, cond_either, equivalence, length-with_keys}
 use Rattle.canon3.proofs.Lemmas.WellFormed.Messages.{IsHeaded}
+use Rattle.capture3.proofs.Lemmas.Connections.RankLemmas.{length-before}
 use Rattle.masking3.proofs.Lemmas.Classes.SpotLemmas.{IsOn, masked_items-append, on_after, on_next, spot_after, xid_free}
 use Rattle.masking3.proofs.Lemmas.Masked.MaskedLemmas.{unmasked}
 use Rattle.masking3.proofs.Lemmas.Masked.MaskedShapes.{KeepsSize, RowTakesOn, TakesOn, TakesWord, arguments_take, call_head_takes, mtype_takes, reply_head_takes, reply_takes}
-
--- ---- numbers are small
-
-length-before : (x : ℕ) (l : List ℕ) → length (before nat_eq x l) ≤ length l
-length-before x [] = omega arith
-length-before x (y ∷ l) =
-    cond_either (λ (k : List ℕ). length k ≤ length (y ∷ l)) (nat_eq x y) (omega arith)
-    (omega (arith, length-before x l))
-
-rank_small : (x : ℕ) (l : List ℕ) → rank nat_eq x l ≤ 1 + length l
-rank_small x l =
-    omega (
-      arith,
-      length-with_keys nat_eq (equivalence nat_eq Decides-eqb) (before nat_eq x l) [],
-      length-before x l,
-    )
 
 -- ---- the words that choose a layout
 
@@ -29,14 +14,12 @@ first_word name s items p = (
   p.2.0,
   p.1,
   p.3,
-  p.4
-      ∙ ap (λ (l : List Item). l ++ p.1)
-      (p.2.4 ∙ ap (λ (l : List Item). Word name p.2.0 ∷ l) p.2.3),
+  rw (p.4, p.2.4, p.2.3) refl,
 )
 
 pub mtype_is : (types : List ℕ) (items : List Item) → Fits (listed head_names.mtype types) items
     → (n : ℕ) × (items ≡ Word head_names.mtype n ∷ [])
-mtype_is types items p = (p.0, p.4 ∙ ap (λ (l : List Item). Word head_names.mtype p.0 ∷ l) p.3)
+mtype_is types items p = (p.0, rw (p.4, p.3) refl)
 
 call_words : (head : List Item) → Fits call_head head
     → (version prog vers proc : ℕ) × (back : List Item)
@@ -61,15 +44,7 @@ accepted_words : (items : List Item) → Fits (verifier then accept) items
 unfolding verifier accept
 accepted_words items p =
     let v = p.2 in
-    let a = p.3 in (
-      v.0,
-      a.0,
-      v.3.0,
-      a.1,
-      p.4
-          ∙ ap₂ (λ (l m : List Item). l ++ m)
-          (v.4 ∙ ap (λ (l : List Item). Word head_names.verf_flavor v.0 ∷ l) v.3.2) a.4,
-    )
+    let a = p.3 in (v.0, a.0, v.3.0, a.1, rw (p.4, v.4, v.3.2, a.4) refl)
 
 module _ (ways : Ways) (seen : Class → List ℕ) where
   abbrev pub under : Spot → List Item → List Item
@@ -155,62 +130,47 @@ module _ (ways : Ways) (seen : Class → List ℕ) where
       → length (zero_spelling (under spot items)) ≡ length (zero_spelling items)
   message_length spot items bytes p = all_lengths spot items (spelled_eights items bytes p)
 
-  -- ---- parts one after another, each from the spot that the move leads to
+  -- ---- parts one after another
 
-  module _ (move : Spot → Spot) where
-    abbrev masked_parts : Spot → List (List Item) → List (List Item)
-    masked_parts spot [] = []
-    masked_parts spot (part ∷ parts) =
-        under (move spot) part ∷ masked_parts (spot_after (move spot) part) parts
+  module _ (side : Side) (P : List Item → Type 0) (fits : (spot : Spot) → IsOn side spot
+      → (part : List Item) → P part → P (under spot part)) where
+    joined_under : (spot : Spot) → IsOn side spot → (parts : List (List Item))
+        → AllByRecursion P parts
+        → (others : List (List Item)) × AllByRecursion P others × (length others ≡ length parts)
+        × (under spot (joined parts) ≡ joined others)
+    joined_under spot on [] h = ([], tt, refl, refl)
+    joined_under spot on (part ∷ parts) h =
+        let later = joined_under (spot_after spot part) (on_after side spot part on) parts h.1 in (
+          under spot part ∷ later.0,
+          (fits spot on part h.0, later.1),
+          ap suc later.2,
+          cc (masked_items-append ways seen spot part (joined parts), later.3),
+        )
 
-    length-masked_parts : (spot : Spot) (parts : List (List Item))
-        → length (masked_parts spot parts) ≡ length parts
-    length-masked_parts spot [] = refl
-    length-masked_parts spot (part ∷ parts) =
-        ap suc (length-masked_parts (spot_after (move spot) part) parts)
-
-    module _ (side : Side) (stays : (spot : Spot) → IsOn side spot → IsOn side (move spot))
-        (P : List Item → Type 0) (fits : (spot : Spot) → IsOn side spot → (part : List Item)
-        → P part → P (under spot part)) where
-      all_parts : (spot : Spot) → IsOn side spot → (parts : List (List Item))
-          → AllByRecursion P parts → AllByRecursion P (masked_parts spot parts)
-      all_parts spot on [] h = tt
-      all_parts spot on (part ∷ parts) h = (
-        fits (move spot) (stays spot on) part h.0,
-        all_parts (spot_after (move spot) part) (on_after side (move spot) part (stays spot on))
-            parts h.1,
-      )
-
-  joined_under : (spot : Spot) (parts : List (List Item))
-      → under spot (joined parts) ≡ joined (masked_parts (λ s. s) spot parts)
-  joined_under spot [] = refl
-  joined_under spot (part ∷ parts) =
-      masked_items-append ways seen spot part (joined parts)
-      ∙ ap (λ (l : List Item). under spot part ++ l) (joined_under (spot_after spot part) parts)
-
-  module _ (side : Side) (name : List ℕ)
-      (free : (spot : Spot) → IsOn side spot → class_of_word spot name ≡ None) where
-    abbrev after_link : Spot → Spot
-    after_link spot = next_spot spot (Word name 1)
-
-    links_under : (spot : Spot) → IsOn side spot → (parts : List (List Item))
-        → under spot (links name parts ++ Word name 0 ∷ [])
-        ≡ links name (masked_parts after_link spot parts) ++ Word name 0 ∷ []
-    links_under spot on [] =
-        ap (λ (i : Item). i ∷ []) (unmasked ways seen spot (Word name 0) (free spot on))
-    links_under spot on (part ∷ parts) =
-        let next : Spot = after_link spot in
-        let later : Spot = spot_after next part in
-        let stays = on_after side next part (on_next side spot (Word name 1) on) in
-        let end : List Item = Word name 0 ∷ [] in
-        ap₂ (λ (i : Item) (l : List Item). i ∷ l)
-        (unmasked ways seen spot (Word name 1) (free spot on))
-        (cc (
-          ap (under next) (append_assoc part (links name parts) end),
-          masked_items-append ways seen next part (links name parts ++ end),
-          links_under later stays parts,
-          append_assoc (under next part) (links name (masked_parts after_link later parts)) end,
-        ))
+    links_under : (name : List ℕ)
+        → ((spot : Spot) → IsOn side spot → class_of_word spot name ≡ None) → (spot : Spot)
+        → IsOn side spot → (parts : List (List Item)) → AllByRecursion P parts
+        → (others : List (List Item)) × AllByRecursion P others
+        × (under spot (links name parts ++ Word name 0 ∷ [])
+        ≡ links name others ++ Word name 0 ∷ [])
+    links_under name free spot on [] h =
+        ([], tt, cc (unmasked ways seen spot (Word name 0) (free spot on)))
+    links_under name free spot on (part ∷ parts) h =
+        let next : Spot = next_spot spot (Word name 1) in
+        let moved = on_next side spot (Word name 1) on in
+        let later =
+        links_under name free (spot_after next part) (on_after side next part moved) parts h.1 in
+        let end : List Item = Word name 0 ∷ [] in (
+          under next part ∷ later.0,
+          (fits next moved part h.0, later.1),
+          cc (
+            unmasked ways seen spot (Word name 1) (free spot on),
+            ap (under next) (append_assoc part (links name parts) end),
+            masked_items-append ways seen next part (links name parts ++ end),
+            later.2,
+            append_assoc (under next part) (links name later.0) end,
+          ),
+        )
 
   -- ---- shapes stay
 
@@ -241,32 +201,29 @@ module _ (ways : Ways) (seen : Class → List ℕ) where
         fits_under side later (on_after side spot p.0 on) b p.1 (λ t o. (h t o).1) p.3,
         ap (under spot) p.4 ∙ masked_items-append ways seen spot p.0 p.1,
       )
-  fits_under side spot on (linked name s) items h p = (
-    masked_parts (λ t. next_spot t (Word name 1)) spot p.0,
-    all_parts (λ t. next_spot t (Word name 1)) side (λ t o. on_next side t (Word name 1) o) (Fits s)
-        (λ t o part. fits_under side t o s part (λ u k. (h u k).1)) spot on p.0 p.1,
-    ap (under spot) p.2 ∙ links_under side name (λ t o. (h t o).0) spot on p.0,
-  )
+  fits_under side spot on (linked name s) items h p =
+      let k =
+      links_under side (Fits s) (λ t o part. fits_under side t o s part (λ u k. (h u k).1)) name
+      (λ t o. (h t o).0) spot on p.0 p.1 in
+      (k.0, k.1, ap (under spot) p.2 ∙ k.2)
   fits_under side spot on (counted name max s) items h p =
-      let later : Spot = next_spot spot (Word name (length p.0)) in
-      let size = length-masked_parts (λ t. t) later p.0 in (
-        masked_parts (λ t. t) later p.0,
-        all_parts (λ t. t) side (λ t o. o) (Fits s)
-            (λ t o part. fits_under side t o s part (λ u k. (h u k).1)) later
-            (on_next side spot (Word name (length p.0)) on) p.0 p.1,
-        omega (arith, p.2, size),
-        rw p.3 (cc (unmasked ways seen spot (Word name (length p.0)) (h spot on).0, size,
-            joined_under later p.0)),
+      let count : Item = Word name (length p.0) in
+      let k =
+      joined_under side (Fits s) (λ t o part. fits_under side t o s part (λ u k. (h u k).1))
+      (next_spot spot count) (on_next side spot count on) p.0 p.1 in (
+        k.0,
+        k.1,
+        omega (arith, p.2, k.2),
+        rw p.3 (cc (unmasked ways seen spot count (h spot on).0, k.2, k.3)),
       )
   fits_under side spot on (sized name s) items h p =
-      let later : Spot = next_spot spot (Word name (length (zero_spelling p.0))) in
-      let size = fitting_lengths later s p.0 (h spot on).1 p.1 in (
+      let size : Item = Word name (length (zero_spelling p.0)) in
+      let later : Spot = next_spot spot size in
+      let e = fitting_lengths later s p.0 (h spot on).1 p.1 in (
         under later p.0,
-        fits_under side later (on_next side spot (Word name (length (zero_spelling p.0))) on) s p.0
-            (λ t o. (h t o).2) p.1,
-        omega (arith, p.2, size),
-        rw p.3 (cc (unmasked ways seen spot (Word name (length (zero_spelling p.0))) (h spot on).0,
-            size)),
+        fits_under side later (on_next side spot size on) s p.0 (λ t o. (h t o).2) p.1,
+        omega (arith, p.2, e),
+        rw p.3 (cc (unmasked ways seen spot size (h spot on).0, e)),
       )
 
   row_under : (side : Side) (spot : Spot) → IsOn side spot → (layout : Layout) (items : List Item)
@@ -310,13 +267,13 @@ module _ (ways : Ways) (seen : Class → List ℕ) where
       ∷ ((under spot start ++ under (spot_after spot start) head)
       ++ under (spot_after spot (start ++ head)) back)
   message_is spot x items start head back is =
-      ap (under spot) is
-      ∙ ap₂ (λ (i : Item) (l : List Item). i ∷ l)
-      (unmasked ways seen spot (Word head_names.xid x) (xid_free.classless spot))
-      (ap (λ (s : Spot). under s ((start ++ head) ++ back)) (xid_free.moves_not spot x)
-      ∙ masked_items-append ways seen spot (start ++ head) back
-      ∙ ap (λ (l : List Item). l ++ under (spot_after spot (start ++ head)) back)
-      (masked_items-append ways seen spot start head))
+      rw (
+        is,
+        unmasked ways seen spot (Word head_names.xid x) (xid_free.classless spot),
+        xid_free.moves_not spot x,
+        masked_items-append ways seen spot (start ++ head) back,
+        masked_items-append ways seen spot start head,
+      ) refl
 
   pub call_xid_under : (spot : Spot) (items : List Item) → FitsCall items
       → xid_in (under spot items) ≡ xid_in items
@@ -342,7 +299,11 @@ module _ (ways : Ways) (seen : Class → List ℕ) where
     number_small : (d : Class) (n : ℕ) → number_among (seen d) d n < 2 ^ 32
     number_small d n =
         cond_either (λ (m : ℕ). m < 2 ^ 32) (is_zero_that_stays d n) (omega arith)
-        (let low = few d in omega (arith, rank_small n (seen d)))
+        (let low = few d in
+        let fewer = length-before nat_eq (equivalence nat_eq Decides-eqb) n (seen d) in
+        omega (arith,
+                length-with_keys nat_eq (equivalence nat_eq Decides-eqb) (before nat_eq n (seen d))
+                    []))
 
     abbrev IsSmall : Option ℕ → Type 0
     IsSmall None = ⊤
