@@ -1,5 +1,5 @@
 -- The masked form of a well-formed file is a well-formed file.
-use Rattle.masking3.proofs.Common.{◌≡◌, ℕ, ◌≤◌, List, [], ◌∷◌, ◌++◌, length, map, refl, sym, ap, ap₂, ◌∙◌, subst, arith, length-append, AllByRecursion, Item, zero_spelling, procedure_in, max_bytes, Entry, Begin, Call, Turn, Close, End, record_bytes, Class, Spot, InCall, InReply, Ways, masked, masked_entry, values, length-map, map-append, ReplyItems, xid_in, named_call, named_entry, AnswerCalls, HaveOneProcedure, IsIn, Typed, connection_entries, reply_entry, AreOfTheirBytes, AreConversing, Conversation, IsSpelledCall, IsSpelledReply, in_map, items_of_reply, length_of_record, map_in, of_all, reply_items, stream_of, weight, AreCapture, all_of, entries_of, holds, total_of_anew, total_weight, typed_anew, all_mapped, all_weaker}
+use Rattle.masking3.proofs.Common.{◌≡◌, ℕ, ◌≤◌, List, [], ◌∷◌, ◌++◌, length, map, refl, sym, ap, ◌∙◌, subst, arith, length-append, AllByRecursion, Item, zero_spelling, procedure_in, max_bytes, Entry, Begin, Call, Turn, Close, End, record_bytes, Class, Spot, InCall, InReply, Ways, masked, masked_entry, values, length-map, map-append, ReplyItems, xid_in, named_call, named_entry, AnswerCalls, HaveOneProcedure, IsIn, Typed, connection_entries, reply_entry, AreOfTheirBytes, AreConversing, Conversation, IsSpelledCall, IsSpelledReply, in_map, items_of_reply, length_of_record, map_in, of_all, reply_items, stream_of, weight, AreCapture, all_of, entries_of, holds, total_of_anew, total_weight, typed_anew, all_mapped, all_weaker}
 use Rattle.std.proofs.lemmas.Simd.{map-map}
 use Rattle.capture3.specs.Capture.{total_size}
 use Rattle.masking3.proofs.Lemmas.Classes.FewValues.{few_of_file}
@@ -50,8 +50,8 @@ module _ (ways : Ways) (seen : Class → List ℕ) where
       → map masked_one (entries_of cs) ≡ entries_of (map masked_conversation cs)
   masked_entries [] = refl
   masked_entries (c ∷ cs) =
-      map-append masked_one (connection_entries c.calls c.replies) (entries_of cs)
-      ∙ ap₂ (λ (l m : List Entry). l ++ m) (masked_connection c) (masked_entries cs)
+      cc (map-append masked_one (connection_entries c.calls c.replies) (entries_of cs),
+      masked_connection c, masked_entries cs)
 
   masked_all : (cs : List Conversation)
       → map masked_one (all_of cs) ≡ all_of (map masked_conversation cs)
@@ -165,13 +165,11 @@ module _ (ways : Ways) (seen : Class → List ℕ) where
           length_of_record (zero_spelling (f m)),
         )
 
-    items_under : (l : List ReplyItems)
-        → reply_items (map masked_reply l) ≡ map replies_masked (reply_items l)
-    items_under [] = refl
-    items_under (r ∷ l) = ap (λ k. replies_masked r.items ∷ k) (items_under l)
-
     no_heavier : (c : Conversation) → AreConversing c → weight (masked_conversation c) ≤ weight c
     no_heavier c h =
+        let same : reply_items (map masked_reply c.replies)
+        ≡ map replies_masked (reply_items c.replies) =
+        simp map-map in
         omega (
           arith,
           stream_length calls_masked c.calls (all_weaker IsSpelledCall
@@ -179,7 +177,7 @@ module _ (ways : Ways) (seen : Class → List ℕ) where
           stream_length replies_masked (reply_items c.replies) (all_mapped IsSpelledReply
               (λ m. IsNoLonger m (replies_masked m)) items_of_reply reply_no_longer c.replies
               h.replies_are),
-          ap (λ l. length (stream_of l)) (items_under c.replies),
+          ap (λ l. length (stream_of l)) same,
         )
 
     total_no_heavier : (cs : List Conversation) → AllByRecursion AreConversing cs
@@ -204,10 +202,10 @@ masked_is_file ways file all typed =
     let few : (d : Class) → length (seen d) ≤ max_bytes = λ d. few_of_file d file all typed in
     let ds = map (masked_conversation ways seen) h.cs in
     let are = capture_masked ways seen few h.cs h.are in
-    let once : masked ways all ≡ map (masked_one ways seen) all =
-    map-map (named_entry ways) (masked_entry ways seen) all in
     let e : masked ways all ≡ all_of ds =
-    once ∙ ap (map (masked_one ways seen)) h.is ∙ masked_all ways seen h.cs in
+    map-map (named_entry ways) (masked_entry ways seen) all
+    ∙ ap (map (masked_one ways seen)) h.is
+    ∙ masked_all ways seen h.cs in
     subst (λ l. AreOfTheirBytes l (total_size typed.connections)) (sym e) (
       typed_anew ds are,
       omega (

@@ -29,11 +29,6 @@ EntryIsAmong seen _ = ⊤
 abbrev pub AreAmong : (Class → List ℕ) → List Entry → Type 0
 AreAmong seen entries = AllByRecursion (EntryIsAmong seen) entries
 
-own_value : (d : Class) (spot : Spot) (i : Item) → class_of spot i ≡ Some d
-    → is_zero_that_stays d (class_value i) ≡ false → Member (class_value i) (value_in d spot i)
-own_value d spot i is f =
-    rw (is, value_given d (class_value i) f) here
-
 module _ (seen : Class → List ℕ) where
   pub items_among : (spot : Spot) (items : List Item)
       → ((d : Class) (x : ℕ) → Member x (values_in d spot items) → Member x (seen d))
@@ -42,7 +37,8 @@ module _ (seen : Class → List ℕ) where
   items_among spot (i ∷ items) within = (
     (λ d is f.
         within d (class_value i)
-        (member-append_left (values_in d (next_spot spot i) items) (own_value d spot i is f))),
+        (member-append_left (values_in d (next_spot spot i) items)
+        (rw (is, value_given d (class_value i) f) here))),
     items_among (next_spot spot i) items
         (λ d x m. within d x (member-append_right (value_in d spot i) m)),
   )
@@ -72,13 +68,6 @@ module _ (ways : Ways) (seen more : Class → List ℕ) where
   abbrev followed : Class → List ℕ
   followed d = seen d ++ more d
 
-  number_stays : (spot : Spot) (i : Item) (d : Class) → IsAmong seen spot i
-      → class_of spot i ≡ Some d
-      → number_among (followed d) d (class_value i) ≡ number_among (seen d) d (class_value i)
-  number_stays spot i d among is = by_test (is_zero_that_stays d (class_value i))
-      (λ t. rw t refl)
-      (λ f. rw f (rank-append nat_eq Decides-eqb (more d) (among d is f)))
-
   way_stays : (w : Way) (d : Class) (n : ℕ)
       → number_among (followed d) d n ≡ number_among (seen d) d n
       → by_way w (followed d) d n ≡ by_way w (seen d) d n
@@ -90,17 +79,16 @@ module _ (ways : Ways) (seen more : Class → List ℕ) where
       → substitute ways followed o (class_value i) ≡ substitute ways seen o (class_value i)
   substitute_stays spot i None is among = refl
   substitute_stays spot i (Some d) is among =
-      way_stays (way_of ways d) d (class_value i) (number_stays spot i d among is)
-
-  item_stays : (spot : Spot) (i : Item) → IsAmong seen spot i
-      → masked_item ways followed spot i ≡ masked_item ways seen spot i
-  item_stays spot i among = ap (with_value i) (substitute_stays spot i (class_of spot i) refl among)
+      way_stays (way_of ways d) d (class_value i) (by_test (is_zero_that_stays d (class_value i))
+      (λ t. rw t refl)
+      (λ f. rw f (rank-append nat_eq Decides-eqb (more d) (among d is f))))
 
   pub items_stay : (spot : Spot) (items : List Item) → ItemsAreAmong seen spot items
       → masked_items ways followed spot items ≡ masked_items ways seen spot items
   items_stay spot [] among = refl
   items_stay spot (i ∷ items) among =
-      cc (item_stays spot i among.0, items_stay (next_spot spot i) items among.1)
+      let stays = substitute_stays spot i (class_of spot i) refl among.0 in
+      cc (stays, items_stay (next_spot spot i) items among.1)
 
   entries_stay : (a : List Entry) → AreAmong seen a
       → map (masked_entry ways followed) a ≡ map (masked_entry ways seen) a

@@ -233,17 +233,14 @@ module _ (spot : Spot) (on : IsOn Server spot) where
       arg_row spot (nat_eq n 4) nothing _ tt (
       arg_row spot (nat_eq n 5) exports _ (exports_at spot on) tt)))))
 
-  procedure_results_take : (id : ProcId) → RowTakesMasks spot (results_of id)
-  unfolding results_of
-  procedure_results_take id =
-      cond_either (RowTakesMasks spot) (is_nfs id) (nfs_results_take spot id.proc_no)
-      (cond_either (RowTakesMasks spot) (is_mount id) (mount_results_of_take id.proc_no) tt)
-
   -- what follows the head of a reply
   pub reply_takes : (id : ProcId) (items : List Item)
       → RowTakesMasks spot (if has_results items then results_of id else exactly nothing)
+  unfolding results_of
   reply_takes id items =
-      cond_either (RowTakesMasks spot) (has_results items) (procedure_results_take id) tt
+      cond_either (RowTakesMasks spot) (has_results items) (cond_either (RowTakesMasks spot)
+      (is_nfs id) (nfs_results_take spot id.proc_no) (cond_either (RowTakesMasks spot)
+      (is_mount id) (mount_results_of_take id.proc_no) tt)) tt
 
 -- ---- at each spot of a side
 

@@ -1,6 +1,6 @@
 -- Two masked captures are the same exactly if the captures are the same but for the values that are
 -- masked.
-use Rattle.masking3.proofs.Common.{◌⊎◌, ◌+◌, append-nil, arith, big_bytes, big_number, big_number-reads_back, rank-le-length, zero_stays, ◌≡◌, inl, inr, ⊎_elim, ℕ, ◌<◌, ◌^◌, Bool, true, false, List, [], ◌∷◌, length, map, refl, sym, ap, ◌∙◌, subst, ⊤, ◌==◌, ◌&&◌, not, nat_eq, Option, None, Some, AllByRecursion, Decides-eqb, Item, Word, Hyper, Fixed, Entry, Begin, Call, Turn, Reply, Close, End, rank, Class, Spot, InCall, InReply, InDirectory, Way, Keep, Zero, Number, Ways, class_of, class_value, position, by_way, is_zero_that_stays, masked_values, masked_entry, masked_item, masked_items, number_among, substitute, value_in, value_where, values, values_in, with_value, next_spot, way_of, KeepsValues, AreAlike, words, hypers, eights, IsNumbered, ArePartners, ChangesBy, ChangesOf, ChangesItem, ChangesItems, over, along, ChangesEntry, begin, call, turn, reply, close, end, SameButValues, Member, here, there, Pairs, OneToOne, none, more, Same, Agree, agree-graph, graph, member-graph, by_test, member-append_cases, rank_paired, same_rank, IsPlain, RenamesItem, handle, plain, Pairwise, RenamesMessage, message, Renames, ended, begins, calls, turns, replies, closes, ends}
+use Rattle.masking3.proofs.Common.{and_parts, ◌⊎◌, ◌+◌, append-nil, arith, big_bytes, big_number, big_number-reads_back, rank-le-length, zero_stays, ◌≡◌, inl, inr, ⊎_elim, ℕ, ◌<◌, ◌^◌, true, false, List, [], ◌∷◌, length, map, refl, sym, ap, ◌∙◌, subst, ⊤, ◌==◌, ◌&&◌, not, nat_eq, Option, None, Some, AllByRecursion, Decides-eqb, Item, Word, Hyper, Fixed, Entry, Begin, Call, Turn, Reply, Close, End, rank, Class, Spot, InCall, InReply, InDirectory, Way, Keep, Zero, Number, Ways, class_of, class_value, position, by_way, is_zero_that_stays, masked_values, masked_entry, masked_item, masked_items, number_among, substitute, value_in, value_where, values, values_in, with_value, next_spot, way_of, KeepsValues, AreAlike, words, hypers, eights, IsNumbered, ArePartners, ChangesBy, ChangesOf, ChangesItem, ChangesItems, over, along, ChangesEntry, begin, call, turn, reply, close, end, SameButValues, Member, here, there, Pairs, OneToOne, none, more, Same, Agree, agree-graph, graph, member-graph, by_test, member-append_cases, rank_paired, same_rank, IsPlain, RenamesItem, handle, plain, Pairwise, RenamesMessage, message, Renames, ended, begins, calls, turns, replies, closes, ends}
 use Rattle.canon3.specs.Renaming.{verifier}
 use Rattle.canon3.proofs.Lemmas.Canonical.OneFormLemmas.{In}
 use Rattle.canon3.proofs.Lemmas.Numbers.RankLemmas.{pairwise-append}
@@ -281,11 +281,6 @@ module _ (ways : Ways) (ps qs : Class → Pairs ℕ) (first : AreAgreeing ps) (s
 
 -- ---- the masked form is a change
 
-and_not : (a z : Bool) → (a && not z) ≡ true → z ≡ false
-and_not true true e = absurd cc
-and_not true false e = refl
-and_not false z e = absurd cc
-
 one_member : {x n : ℕ} → Member x (n ∷ []) → x ≡ n
 one_member here = refl
 one_member (there m) = elim m [ ]
@@ -296,8 +291,8 @@ value_numbered d None n x m = elim m [ ]
 value_numbered d (Some e) n x m =
     by_test ((position d == position e) && not (is_zero_that_stays d n))
     (λ t. let is : x ≡ n = one_member (rw t at m) in
-    subst (IsNumbered d) (sym is)
-    (and_not (position d == position e) (is_zero_that_stays d n) t))
+    rw is (by_test (is_zero_that_stays d n)
+    (λ z. absurd (cc (rw z at (and_parts (position d == position e) _ t).1))) (λ z. z)))
     (λ f. let no : Member x [] = rw f at m in elim no [ ])
 
 in_message_numbered : (d : Class) (spot : Spot) (items : List Item) (x : ℕ)
@@ -349,23 +344,15 @@ module _ (ways : Ways) (seen : Class → List ℕ)
       (λ f. let low = rank-le-length nat_eq Decides-eqb (among d is f) in
       rw f (omega (arith, few, low)))
 
-  by_class : (spot : Spot) (i : Item) (d : Class) (w : Way) → class_of spot i ≡ Some d
-      → way_of ways d ≡ w
-      → masked_item ways seen spot i ≡ with_value i (by_way w (seen d) d (class_value i))
-  by_class spot i d w is way =
-      rw is (ap (λ v. with_value i (by_way v (seen d) d (class_value i))) way)
-
   by_way_masked : (spot : Spot) (i : Item) → IsAmong seen spot i → (d : Class)
       → class_of spot i ≡ Some d → (w : Way) → way_of ways d ≡ w
       → ChangesBy w d (number_pairs seen d) i (masked_item ways seen spot i)
-  by_way_masked spot i among d is Keep way = sym (by_class spot i d Keep is way)
-  by_way_masked spot i among d is Zero way =
-      rw (by_class spot i d Zero is way) (alike_put spot i d 0 is)
+  by_way_masked spot i among d is Keep way = rw (is, way) refl
+  by_way_masked spot i among d is Zero way = rw (is, way) (alike_put spot i d 0 is)
   by_way_masked spot i among d is Number way =
-      let number = number_among (seen d) d (class_value i) in
-      rw (by_class spot i d Number is way) (
-        alike_put spot i d number is,
-        rw (value_put spot i number d (small spot d i among is (room d way)) is)
+      rw (is, way) (
+        alike_put spot i d _ is,
+        rw (value_put spot i _ d (small spot d i among is (room d way)) is)
             (partner spot d i among is),
       )
 
