@@ -4,20 +4,13 @@ use Rattle.masking3.proofs.Lemmas.Masked.SameButLemmas.{masked_alike, number_pai
 use Rattle.masking3.proofs.Lemmas.Unnamed.UnnamedLemmas.{names_again, names_kept, values_of_named}
 
 -- the masked values are a change, which leaves the masked form
-values_again : (ways : Ways) (entries : List Entry) → HasRoomForNumbers entries
-    → masked_values ways (masked_values ways entries) ≡ masked_values ways entries
-values_again ways entries room =
-    sym (masked_alike ways (number_pairs (values entries)) (numbers_agree entries)
-    (own_masked ways entries (λ c n. room c)))
-
--- ---- and names
-
 pub again : (ways : Ways) (entries : List Entry) → HasRoomForNumbers entries
     → StaysMasked ways entries
 again ways entries room =
     ap (names_by ways) (values_of_named ways ways (masked_values ways entries))
     ∙ names_again ways (masked_values ways (masked_values ways entries))
-    ∙ ap (names_by ways) (values_again ways entries room)
+    ∙ ap (names_by ways) (sym (masked_alike ways (number_pairs (values entries))
+    (numbers_agree entries) (own_masked ways entries (λ c n. room c))))
 
 pub all_kept : (ways : Ways) → KeepsAll ways → (entries : List Entry)
     → masked ways entries ≡ entries

@@ -103,12 +103,6 @@ pub unmasked : (ways : Ways) (seen : Class → List ℕ) (spot : Spot) (i : Item
 unmasked ways seen spot i none =
     ap (λ o. with_value i (substitute ways seen o (class_value i))) none
 
--- the values of entries, and of more after them
-pub values_split : (a b : List Entry) → values (a ++ b) ≡ (λ d. values a d ++ values b d)
-values_split a b =
-    seen_alike (values (a ++ b)) (λ d. values a d ++ values b d)
-    (λ d. flat_map-append (values_in_entry d) a b)
-
 -- ---- the form grows
 
 module _ (ways : Ways) where
@@ -123,7 +117,9 @@ module _ (ways : Ways) where
   values-append a b =
       map-append (masked_entry ways (values (a ++ b))) a b
       ∙ ap (λ (l : List Entry). l ++ values_after a b)
-      (ap (λ (seen : Class → List ℕ). map (masked_entry ways seen) a) (values_split a b)
+      (ap (λ (seen : Class → List ℕ). map (masked_entry ways seen) a)
+          (seen_alike (values (a ++ b)) (λ d. values a d ++ values b d)
+      (λ d. flat_map-append (values_in_entry d) a b))
       ∙ entries_stay ways (values a) (values b) a (among_own a))
 
   pub masked-append : (a b : List Entry) → masked ways (a ++ b) ≡ masked ways a ++ after a b

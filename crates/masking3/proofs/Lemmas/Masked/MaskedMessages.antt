@@ -1,5 +1,5 @@
 -- Messages with masked values are messages of the same procedures, of the same length.
-use Rattle.masking3.proofs.Common.{◌≡◌, ℕ, suc, ◌<◌, ◌≤◌, ◌^◌, Bool, List, [], ◌∷◌, ◌++◌, length, refl, sym, ap, ◌∙◌, subst, arith, length-append, append-nil, append_assoc, IsTrue, nat_eq, if◌then◌else◌, Option, None, Some, AllByRecursion, big_bytes, length-bytes_high_first, Item, Word, Hyper, Fixed, Opaque, Var, Spells, SpellsItem, zero_spelling, zero_spelling_of, Layout, exactly, rest, after, FitsLayout, ProcId, has_results, procedure_in, head_names, names, arguments_of, results_of, Side, Client, Server, xid_in, max_bytes, Decides-eqb, ⊤, class_of, Class, Spot, InCall, InReply, Way, Keep, Zero, Number, Ways, class_of_fixed, class_of_hyper, class_of_word, class_value, by_way, is_zero_that_stays, masked_item, masked_items, number_among, substitute, with_value, next_spot, way_of, HasParts, Part, parts_weaker, fixed_part, opaque_part, accept, call_head, credential, deny, reply_head, verifier, FitsCall, FitsReply, call_next, headed_call_fits, headed_reply_fits, is_headed_call, is_headed_reply, reply_next, Shape, ◌then◌, both, choose, counted, fixed, hyper, linked, listed, nothing, opaque, sized, word, write_verf, Fits, joined, links, before, IsEach, all_in_message, are_bytes_of_number, zero_spelled_one, by_test, cond_either, equivalence, length-with_keys}
+use Rattle.masking3.proofs.Common.{◌≡◌, ℕ, suc, ◌<◌, ◌≤◌, ◌^◌, Bool, List, [], ◌∷◌, ◌++◌, length, refl, sym, ap, ◌∙◌, subst, arith, length-append, append-nil, append_assoc, IsTrue, nat_eq, if◌then◌else◌, Option, None, Some, AllByRecursion, big_bytes, length-bytes_high_first, Item, Word, Hyper, Fixed, Opaque, Var, Spells, SpellsItem, zero_spelling, zero_spelling_of, Layout, exactly, rest, after, FitsLayout, ProcId, has_results, procedure_in, head_names, names, arguments_of, results_of, Side, Client, Server, xid_in, max_bytes, Decides-eqb, ⊤, class_of, Class, Spot, InCall, InReply, Way, Keep, Zero, Number, Ways, class_of_fixed, class_of_hyper, class_of_word, class_value, by_way, is_zero_that_stays, masked_item, masked_items, substitute, with_value, next_spot, way_of, Part, parts_weaker, fixed_part, opaque_part, accept, call_head, credential, deny, reply_head, verifier, FitsCall, FitsReply, call_next, headed_call_fits, headed_reply_fits, is_headed_call, is_headed_reply, reply_next, Shape, ◌then◌, both, choose, counted, fixed, hyper, linked, listed, nothing, opaque, sized, word, write_verf, Fits, joined, links, before, IsEach, all_in_message, are_bytes_of_number, zero_spelled_one, by_test, cond_either, equivalence, length-with_keys}
 use Rattle.canon3.proofs.Lemmas.WellFormed.Messages.{IsHeaded}
 use Rattle.capture3.proofs.Lemmas.Connections.RankLemmas.{length-before}
 use Rattle.masking3.proofs.Lemmas.Classes.SpotLemmas.{IsOn, masked_items-append, on_after, on_next, spot_after, xid_free}
@@ -113,13 +113,6 @@ module _ (ways : Ways) (seen : Class → List ℕ) where
   each_eight (opaque_part kind name max) h = λ bytes le. tt
   each_eight part h = λ x. tt
 
-  fitting_lengths : (spot : Spot) (s : Shape) (items : List Item) → HasParts KeepsSize s
-      → Fits s items → length (zero_spelling (under spot items)) ≡ length (zero_spelling items)
-  fitting_lengths spot s items h p =
-      all_lengths spot items (all_in_message HasEight s (λ front. exactly nothing) items
-      (parts_weaker KeepsSize (IsEach HasEight) each_eight s h) (λ front. tt)
-      (items, [], p, refl, sym (append-nil items)))
-
   spelled_eights : (items : List Item) (bytes : List ℕ) → Spells items bytes
       → AllByRecursion HasEight items
   spelled_eights [] bytes p = tt
@@ -219,7 +212,10 @@ module _ (ways : Ways) (seen : Class → List ℕ) where
   fits_under side spot on (sized name s) items h p =
       let size : Item = Word name (length (zero_spelling p.0)) in
       let later : Spot = next_spot spot size in
-      let e = fitting_lengths later s p.0 (h spot on).1 p.1 in (
+      let e =
+      all_lengths later p.0 (all_in_message HasEight s (λ front. exactly nothing) p.0
+      (parts_weaker KeepsSize (IsEach HasEight) each_eight s (h spot on).1) (λ front. tt)
+      (p.0, [], p.1, refl, sym (append-nil p.0))) in (
         under later p.0,
         fits_under side later (on_next side spot size on) s p.0 (λ t o. (h t o).2) p.1,
         omega (arith, p.2, e),
@@ -296,15 +292,6 @@ module _ (ways : Ways) (seen : Class → List ℕ) where
   -- ---- spellings
 
   module _ (few : (d : Class) → length (seen d) ≤ max_bytes) where
-    number_small : (d : Class) (n : ℕ) → number_among (seen d) d n < 2 ^ 32
-    number_small d n =
-        cond_either (λ (m : ℕ). m < 2 ^ 32) (is_zero_that_stays d n) (omega arith)
-        (let low = few d in
-        let fewer = length-before nat_eq (equivalence nat_eq Decides-eqb) n (seen d) in
-        omega (arith,
-                length-with_keys nat_eq (equivalence nat_eq Decides-eqb) (before nat_eq n (seen d))
-                    []))
-
     abbrev IsSmall : Option ℕ → Type 0
     IsSmall None = ⊤
     IsSmall (Some m) = m < 2 ^ 32
@@ -312,7 +299,12 @@ module _ (ways : Ways) (seen : Class → List ℕ) where
     way_small : (w : Way) (d : Class) (n : ℕ) → IsSmall (by_way w (seen d) d n)
     way_small Keep d n = tt
     way_small Zero d n = omega arith
-    way_small Number d n = number_small d n
+    way_small Number d n =
+        cond_either (λ (m : ℕ). m < 2 ^ 32) (is_zero_that_stays d n) (omega arith)
+        (let low = few d in
+        let fewer = length-before nat_eq (equivalence nat_eq Decides-eqb) n (seen d) in
+        omega (arith, length-with_keys nat_eq (equivalence nat_eq Decides-eqb)
+        (before nat_eq n (seen d)) []))
 
     substitute_small : (o : Option Class) (n : ℕ) → IsSmall (substitute ways seen o n)
     substitute_small None n = tt

@@ -81,10 +81,6 @@ module _ (spot : Spot) where
     time_how_takes names.set_mtime names.mtime_sec names.mtime_nsec refl (assumption),
   )
 
-  guard_takes : TakesMasks spot guard
-  unfolding guard time names head_names
-  guard_takes = optional_takes names.check (time names.ctime_sec names.ctime_nsec) refl (assumption)
-
   create_how_takes : TakesMasks spot create_how
   unfolding create_how names head_names
   create_how_takes =
@@ -114,13 +110,15 @@ module _ (spot : Spot) where
       (tt, λ n. cond_either (TakesMasks spot) (nat_eq n 0) h k) l
 
   nfs_arguments_take : (n : ℕ) → RowTakesMasks spot (nfs_arguments n)
-  unfolding access_args create_args dir_op file_range handle head_names link_args mkdir_args
-      mknod_args names readdir_args readdirplus_args rename_args setattr_args symlink_args
+  unfolding access_args create_args dir_op file_range guard handle head_names link_args mkdir_args
+      mknod_args names time readdir_args readdirplus_args rename_args setattr_args symlink_args
           write_args
   nfs_arguments_take n =
       arg_row (nat_eq n 0) nothing _ tt (
       arg_row (nat_eq n 1) handle _ tt (
-      arg_row (nat_eq n 2) setattr_args _ (assumption (settable_takes, guard_takes)) (
+      arg_row (nat_eq n 2) setattr_args
+      _ (assumption (settable_takes, optional_takes names.check (time names.ctime_sec
+      names.ctime_nsec) refl (assumption))) (
       arg_row (nat_eq n 3) dir_op _ (assumption) (
       arg_row (nat_eq n 4) access_args _ (assumption) (
       arg_row (nat_eq n 5) handle _ tt (

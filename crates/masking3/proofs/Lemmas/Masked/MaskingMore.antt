@@ -6,16 +6,12 @@ use Rattle.masking3.proofs.Lemmas.Masked.SameButLemmas.{AreAgreeing, agree_of, a
 use Rattle.masking3.proofs.Lemmas.Unnamed.UnnamedLemmas.{names_absorbed, names_kept}
 use Rattle.masking3.proofs.Lemmas.Unnamed.UnnamedRenamings.{changes_named, same_named}
 
-module _ (ways others : Ways) (much : MasksValuesAsMuch ways others) (all : List Entry)
-    (pairs : Class → Pairs ℕ) (agree : AreAgreeing pairs) where
+module _ (all : List Entry) (pairs : Class → Pairs ℕ) (agree : AreAgreeing pairs) where
   -- a value that stayed is its own partner
   abbrev pairs_by : Way → Class → Pairs ℕ
   pairs_by Keep d = graph (λ n. n) (values all d)
   pairs_by Number d = pairs d
   pairs_by Zero d = []
-
-  abbrev more_pairs : Class → Pairs ℕ
-  more_pairs d = pairs_by (way_of ways d) d
 
   agree_by : (w : Way) (d : Class) → Agree nat_eq (IsNumbered d) (pairs_by w d)
   agree_by Keep d =
@@ -48,12 +44,10 @@ pub values_more : (ways others : Ways) (a b : List Entry) → MasksValuesAsMuch 
     → SameButValues ways a b → SameButValues others a b
 values_more ways others a b much s =
     let agree = agree_of s.value_pairs s.values_one_to_one in
-    from_agreeing (more_pairs ways others much a s.value_pairs agree)
-    (λ d. agree_by ways others much a s.value_pairs agree (way_of ways d) d) ways others
-    s.value_pairs a b s.changed
-    (λ spot d.
-    by_way_more ways others much a s.value_pairs agree (way_of ways d) (way_of others d) (much d)
-    spot d) s.changes s.same
+    from_agreeing (λ d. pairs_by a s.value_pairs agree (way_of ways d) d)
+    (λ d. agree_by a s.value_pairs agree (way_of ways d) d) ways others s.value_pairs a b s.changed
+    (λ spot d. by_way_more a s.value_pairs agree (way_of ways d) (way_of others d) (much d) spot d)
+    s.changes s.same
 
 -- ---- and names
 

@@ -54,9 +54,6 @@ plain_with i (Some m) f = f
 
 -- ---- zeros
 
-zero_still : (d : Class) (n : ℕ) → is_zero_that_stays d n ≡ true → is_zero_that_stays d 0 ≡ true
-zero_still d n e = by_test (zero_stays d) (λ t. rw t refl) (λ f. absurd (cc (rw f at e)))
-
 no_zero : (d : Class) (m : ℕ) → is_zero_that_stays d (1 + m) ≡ false
 no_zero d m = by_test (zero_stays d) (λ t. rw t (by_test (1 + m == 0)
     (λ z. let none : 1 + m ≡ 0 = (Decides-eqb (1 + m) 0).0 z in absurd (omega arith)) (λ f. f)))
@@ -92,16 +89,11 @@ module _ (ways : Ways) (pairs : Class → Pairs ℕ) where
   changed_spot spot i j h =
       spot_of_changed spot (class_of spot i) i j refl (changed_class spot i j h) h
 
-  plain_before : (spot : Spot) (i j : Item) → ChangesItem ways pairs spot i j → IsPlain j
-      → IsPlain i
-  plain_before spot i j h f =
-      ⊎_elim (λ e. subst IsPlain (sym e) f) alike_plain (changed_is (class_of spot i) i j h)
-
   -- what is of no class was the same before
   same_before : (spot : Spot) (i j : Item) → class_of spot j ≡ None
       → ChangesItem ways pairs spot i j → i ≡ j
   same_before spot i j is h =
-      subst (λ o. ChangesOf ways pairs o i j) (sym (changed_class spot i j h) ∙ is) h
+      rw (sym (changed_class spot i j h) ∙ is) at h
 
 -- ---- a message begins with a word of no class, after which the spot is the same
 
@@ -117,10 +109,8 @@ HasFreeXid _ = ⊤
 module _ (ways : Ways) (pairs : Class → Pairs ℕ) where
   starts_free : (spot : Spot) {m n : List Item} → StartsFree m → ChangesItems ways pairs spot m n
       → StartsFree n
-  starts_free spot {m = Word name x ∷ items} free (along {j = j} {b = js} c p) =
-      let stays : Word name x ≡ j =
-      subst (λ o. ChangesOf ways pairs o (Word name x) j) (free.classless spot) c in
-      subst (λ k. StartsFree (k ∷ js)) stays free
+  starts_free spot {m = Word name x ∷ items} free (along {b = js} c p) =
+      subst (λ k. StartsFree (k ∷ js)) (rw (free.classless spot) at c) free
   starts_free spot free p = absurd free
 
   free_too : {a b : List Entry} → AllByRecursion HasFreeXid a
@@ -219,7 +209,8 @@ module _ (ways : Ways) (ps qs : Class → Pairs ℕ) (first : AreAgreeing ps) (s
       k,
       of_met (class_of spot i) i item k g (subst (λ o. ChangesOf ways qs o k item)
           (sym (changed_class ways qs spot k item h) ∙ changed_class ways ps spot i item g) h),
-      plain k (plain_before ways qs spot k item h f),
+      plain k (⊎_elim (λ e. subst IsPlain (sym e) f) alike_plain
+          (changed_is ways qs (class_of spot k) k item h)),
     )
     item_met spot i j k l g (handle m) h =
         (j, stays_met spot i j refl g, rw (same_before ways qs spot k l refl h) (handle m))
@@ -334,7 +325,7 @@ module _ (ways : Ways) (seen : Class → List ℕ)
       → ArePartners d (number_pairs seen d) (class_value i)
       (number_among (seen d) d (class_value i))
   partner spot d i among is = by_test (is_zero_that_stays d (class_value i))
-      (λ t. inr (t, rw t (zero_still d (class_value i) t)))
+      (λ t. inr (t, rw t (rw (and_parts (zero_stays d) _ t).0 refl)))
       (λ f. inl (rw f (member-graph (number_of seen d) (among d is f))))
 
   small : (spot : Spot) (d : Class) (i : Item) → IsAmong seen spot i → class_of spot i ≡ Some d
@@ -575,8 +566,7 @@ agree_of pairs one d = agree-from nat_eq Decides-eqb (one d)
 pub same_from_same_but : (ways : Ways) (a b : List Entry) → AllByRecursion HasFreeXid a
     → SameButValues ways a b → Same (masked_values ways a) (masked_values ways b)
 same_from_same_but ways a b free s =
-    subst (λ (l : List Entry). Same l (masked_values ways b)) (sym (masked_alike ways s.value_pairs
-    (agree_of s.value_pairs s.values_one_to_one) s.changes))
+    rw (masked_alike ways s.value_pairs (agree_of s.value_pairs s.values_one_to_one) s.changes)
     (same_masked ways s.changed b (free_too ways s.value_pairs free s.changes) s.same)
 
 -- each pair one time
