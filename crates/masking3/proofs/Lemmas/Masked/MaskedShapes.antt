@@ -114,40 +114,13 @@ module _ (spot : Spot) where
       mknod_args names time readdir_args readdirplus_args rename_args setattr_args symlink_args
           write_args
   nfs_arguments_take n =
-      arg_row (nat_eq n 0) nothing _ tt (
-      arg_row (nat_eq n 1) handle _ tt (
-      arg_row (nat_eq n 2) setattr_args
-      _ (assumption (settable_takes, optional_takes names.check (time names.ctime_sec
-      names.ctime_nsec) refl (assumption))) (
-      arg_row (nat_eq n 3) dir_op _ (assumption) (
-      arg_row (nat_eq n 4) access_args _ (assumption) (
-      arg_row (nat_eq n 5) handle _ tt (
-      arg_row (nat_eq n 6) file_range _ (assumption) (
-      arg_row (nat_eq n 7) write_args _ (assumption) (
-      arg_row (nat_eq n 8) create_args _ (assumption create_how_takes) (
-      arg_row (nat_eq n 9) mkdir_args _ (assumption settable_takes) (
-      arg_row (nat_eq n 10) symlink_args _ (assumption settable_takes) (
-      arg_row (nat_eq n 11) mknod_args _ (assumption mknod_what_takes) (
-      arg_row (nat_eq n 12) dir_op _ (assumption) (
-      arg_row (nat_eq n 13) dir_op _ (assumption) (
-      arg_row (nat_eq n 14) rename_args _ (assumption) (
-      arg_row (nat_eq n 15) link_args _ (assumption) (
-      arg_row (nat_eq n 16) readdir_args _ (assumption) (
-      arg_row (nat_eq n 17) readdirplus_args _ (assumption) (
-      arg_row (nat_eq n 18) handle _ tt (
-      arg_row (nat_eq n 19) handle _ tt (
-      arg_row (nat_eq n 20) handle _ tt (
-      arg_row (nat_eq n 21) file_range _ (assumption) tt)))))))))))))))))))))
+      let guarded : TakesMasks spot guard =
+      optional_takes names.check (time names.ctime_sec names.ctime_nsec) refl (assumption) in
+      search (arg_row, settable_takes, create_how_takes, mknod_what_takes) depth 60 fits 20000
 
   mount_arguments_take : (n : ℕ) → RowTakesMasks spot (mount_arguments n)
   unfolding dirpath
-  mount_arguments_take n =
-      arg_row (nat_eq n 0) nothing _ tt (
-      arg_row (nat_eq n 1) dirpath _ tt (
-      arg_row (nat_eq n 2) nothing _ tt (
-      arg_row (nat_eq n 3) dirpath _ tt (
-      arg_row (nat_eq n 4) nothing _ tt (
-      arg_row (nat_eq n 5) nothing _ tt tt)))))
+  mount_arguments_take n = search arg_row depth 14
 
   pub arguments_take : (id : ProcId) → RowTakesMasks spot (arguments_of id)
   unfolding arguments_of
@@ -160,31 +133,8 @@ module _ (spot : Spot) where
       link_wcc lookup_ok names pathconf_ok read_ok readdir_ok readdirplus_ok readlink_ok rename_wcc
       time write_ok
   nfs_results_take n =
-      let fh : TakesMasks spot post_op_fh = post_op_fh_takes in
-      let attr : TakesMasks spot post_op_attr = post_op_attr_takes in
-      let after : TakesMasks spot wcc = wcc_takes in
-      arg_row (nat_eq n 0) nothing _ tt (
-      result_row (nat_eq n 1) attributes nothing _ (attributes_at spot) tt (
-      result_row (nat_eq n 2) wcc wcc _ after after (
-      result_row (nat_eq n 3) lookup_ok post_op_attr _ (assumption) attr (
-      result_row (nat_eq n 4) access_ok post_op_attr _ (assumption) attr (
-      result_row (nat_eq n 5) readlink_ok post_op_attr _ (assumption) attr (
-      result_row (nat_eq n 6) read_ok post_op_attr _ (assumption) attr (
-      result_row (nat_eq n 7) write_ok wcc _ (assumption) after (
-      result_row (nat_eq n 8) create_ok wcc _ (assumption) after (
-      result_row (nat_eq n 9) create_ok wcc _ (assumption) after (
-      result_row (nat_eq n 10) create_ok wcc _ (assumption) after (
-      result_row (nat_eq n 11) create_ok wcc _ (assumption) after (
-      result_row (nat_eq n 12) wcc wcc _ after after (
-      result_row (nat_eq n 13) wcc wcc _ after after (
-      result_row (nat_eq n 14) rename_wcc rename_wcc _ (assumption) (assumption) (
-      result_row (nat_eq n 15) link_wcc link_wcc _ (assumption) (assumption) (
-      result_row (nat_eq n 16) readdir_ok post_op_attr _ (assumption) attr (
-      result_row (nat_eq n 17) readdirplus_ok post_op_attr _ (assumption) attr (
-      result_row (nat_eq n 18) fsstat_ok post_op_attr _ (assumption) attr (
-      result_row (nat_eq n 19) fsinfo_ok post_op_attr _ (assumption) attr (
-      result_row (nat_eq n 20) pathconf_ok post_op_attr _ (assumption) attr (
-      result_row (nat_eq n 21) commit_ok wcc _ (assumption) after tt)))))))))))))))))))))
+      search (result_row, arg_row, attributes_at, post_op_fh_takes, post_op_attr_takes, wcc_takes)
+      depth 60 fits 20000
 
   -- ---- heads
 
