@@ -50,8 +50,11 @@ module _ (ways : Ways) (seen : Class → List ℕ) where
       → map masked_one (entries_of cs) ≡ entries_of (map masked_conversation cs)
   masked_entries [] = refl
   masked_entries (c ∷ cs) =
-      cc (map-append masked_one (connection_entries c.calls c.replies) (entries_of cs),
-      masked_connection c, masked_entries cs)
+      cc (
+        map-append masked_one (connection_entries c.calls c.replies) (entries_of cs),
+        masked_connection c,
+        masked_entries cs,
+      )
 
   masked_all : (cs : List Conversation)
       → map masked_one (all_of cs) ≡ all_of (map masked_conversation cs)

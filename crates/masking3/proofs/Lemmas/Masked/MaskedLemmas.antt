@@ -118,7 +118,7 @@ module _ (ways : Ways) where
       map-append (masked_entry ways (values (a ++ b))) a b
       ∙ ap (λ (l : List Entry). l ++ values_after a b)
       (ap (λ (seen : Class → List ℕ). map (masked_entry ways seen) a)
-          (seen_alike (values (a ++ b)) (λ d. values a d ++ values b d)
+      (seen_alike (values (a ++ b)) (λ d. values a d ++ values b d)
       (λ d. flat_map-append (values_in_entry d) a b))
       ∙ entries_stay ways (values a) (values b) a (among_own a))
 
@@ -151,5 +151,8 @@ module _ (ways : Ways) where
       ≡ (masked_bytes ways a ++ magic_unless (are_some a)) ++ last_bytes a one
   form_grows [] one = ap (λ (l : List ℕ). magic One ++ l) (append-nil (last_bytes [] one))
   form_grows (e ∷ a) one =
-      cc (form_some e a (one ∷ []), append-nil (masked_bytes ways (e ∷ a)),
-      append-nil (last_bytes (e ∷ a) one))
+      cc (
+        form_some e a (one ∷ []),
+        append-nil (masked_bytes ways (e ∷ a)),
+        append-nil (last_bytes (e ∷ a) one),
+      )

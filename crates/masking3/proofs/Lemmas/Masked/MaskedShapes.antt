@@ -1,6 +1,6 @@
 -- Each shape of the protocol takes masked values: a word of a class takes any value, and chooses
 -- nothing.
-use Rattle.masking3.proofs.Common.{cond_either, ◌≡◌, ℕ, Bool, false, List, refl, ⊤, ◌||◌, IsTrue, bytes_eq, nat_eq, if◌then◌else◌, Option, None, Some, Item, Text, Layout, exactly, rest, after, HasParts, Part, fixed_part, opaque_part, ProcId, has_results, head_names, names, Side, Client, Server, Class, Spot, InCall, class_of_word, Shape, ◌then◌, choose, counted, hyper, linked, listed, nothing, both, sized, word, accept, auth_sys, call_head, credential, deny, gids, parameters, reply_head, verifier, arguments_of, is_mount, is_nfs, mount_arguments, mount_results_of, nfs_arguments, nfs_results, results_of}
+use Rattle.masking3.proofs.Common.{cond_either, ◌≡◌, ℕ, Bool, false, List, refl, ⊤, ◌||◌, IsTrue, bytes_eq, nat_eq, if◌then◌else◌, Option, None, Some, Item, Text, Layout, exactly, rest, after, HasParts, Part, fixed_part, opaque_part, ProcId, has_results, head_names, names, Side, Client, Server, Class, Spot, InCall, class_of_word, Shape, ◌then◌, choose, counted, hyper, linked, listed, nothing, both, sized, word, accept, auth_sys, call_head, credential, deny, gids, parameters, reply_head, verifier, arguments_of, is_mount, is_nfs, mount_results_of, nfs_arguments, nfs_results, results_of}
 use Rattle.xdr3.specs.Shape.{optional}
 use Rattle.nfs3_types.specs.Shapes.{attributes, dir_op, export, exports, file_kind, flavor, group, guard, handle, mount_list, mount_ok, mounted, post_op_attr, post_op_fh, results, set_hyper, set_word, settable, time, time_how, times, wcc, wcc_attr}
 use Rattle.procs3.specs.Shapes.{access_args, access_ok, commit_ok, create_args, create_how, create_ok, device, dirpath, entry, entry_plus, file_range, fsinfo_ok, fsstat_ok, link_args, link_wcc, lookup_ok, mkdir_args, mknod_args, mknod_what, mount_results, pathconf_ok, read_ok, readdir_args, readdir_ok, readdirplus_args, readdirplus_ok, readlink_ok, rename_args, rename_wcc, setattr_args, symlink_args, write_args, write_ok}
@@ -112,21 +112,17 @@ module _ (spot : Spot) where
   nfs_arguments_take : (n : ℕ) → RowTakesMasks spot (nfs_arguments n)
   unfolding access_args create_args dir_op file_range guard handle head_names link_args mkdir_args
       mknod_args names time readdir_args readdirplus_args rename_args setattr_args symlink_args
-          write_args
+      write_args
   nfs_arguments_take n =
       let guarded : TakesMasks spot guard =
       optional_takes names.check (time names.ctime_sec names.ctime_nsec) refl (assumption) in
-      search (arg_row, settable_takes, create_how_takes, mknod_what_takes) depth 60 fits 20000
-
-  mount_arguments_take : (n : ℕ) → RowTakesMasks spot (mount_arguments n)
-  unfolding dirpath
-  mount_arguments_take n = search arg_row depth 14
+      search (arg_row, settable_takes, create_how_takes, mknod_what_takes) depth 40 fits 10000
 
   pub arguments_take : (id : ProcId) → RowTakesMasks spot (arguments_of id)
-  unfolding arguments_of
+  unfolding arguments_of dirpath
   arguments_take id =
       cond_either (RowTakesMasks spot) (is_nfs id) (nfs_arguments_take id.proc_no)
-      (cond_either (RowTakesMasks spot) (is_mount id) (mount_arguments_take id.proc_no) tt)
+      (cond_either (RowTakesMasks spot) (is_mount id) (search arg_row depth 12) tt)
 
   nfs_results_take : (n : ℕ) → RowTakesMasks spot (nfs_results n)
   unfolding access_ok commit_ok create_ok entry entry_plus fsinfo_ok fsstat_ok handle head_names
@@ -134,7 +130,7 @@ module _ (spot : Spot) where
       time write_ok
   nfs_results_take n =
       search (result_row, arg_row, attributes_at, post_op_fh_takes, post_op_attr_takes, wcc_takes)
-      depth 60 fits 20000
+      depth 40 fits 10000
 
   -- ---- heads
 
@@ -173,13 +169,9 @@ module _ (spot : Spot) (on : IsOn Server spot) where
   mount_results_of_take : (n : ℕ) → RowTakesMasks spot (mount_results_of n)
   unfolding flavor handle head_names mount_list mount_ok mount_results mounted names
   mount_results_of_take n =
-      arg_row spot (nat_eq n 0) nothing _ tt (
-      arg_row spot (nat_eq n 1) mount_results
-      _ (tt, λ k. cond_either (TakesMasks spot) (nat_eq k 0) (assumption) tt) (
-      arg_row spot (nat_eq n 2) mount_list _ (assumption) (
-      arg_row spot (nat_eq n 3) nothing _ tt (
-      arg_row spot (nat_eq n 4) nothing _ tt (
-      arg_row spot (nat_eq n 5) exports _ (exports_at spot on) tt)))))
+      let found : TakesMasks spot mount_results =
+      (tt, λ k. cond_either (TakesMasks spot) (nat_eq k 0) (assumption) tt) in
+      search (arg_row spot, exports_at spot on) depth 20 fits 5000
 
   -- what follows the head of a reply
   pub reply_takes : (id : ProcId) (items : List Item)

@@ -56,7 +56,7 @@ plain_with i (Some m) f = f
 
 no_zero : (d : Class) (m : ℕ) → is_zero_that_stays d (1 + m) ≡ false
 no_zero d m = by_test (zero_stays d) (λ t. rw t (by_test (1 + m == 0)
-    (λ z. let none : 1 + m ≡ 0 = (Decides-eqb (1 + m) 0).0 z in absurd (omega arith)) (λ f. f)))
+    (λ z. absurd (omega (arith, (Decides-eqb (1 + m) 0).0 z))) (λ f. f)))
     (λ f. rw f refl)
 
 -- ---- what any change leaves
@@ -168,8 +168,8 @@ module _ {us vs : Pairs (List ℕ)} where
   renamed_spot InDirectory i j (verifier m) = refl
   renamed_spot spot i j r = refl
 
-module _ (ways : Ways) (ps qs : Class → Pairs ℕ) (first : AreAgreeing ps) (second : AreAgreeing qs)
-    where
+module _ (ways : Ways) (ps qs : Class → Pairs ℕ) (first : AreAgreeing ps)
+    (second : AreAgreeing qs) where
   -- values that have the same partner
   abbrev met : Class → Pairs ℕ
   met d = linked nat_eq (ps d) (turned (qs d))
@@ -239,8 +239,12 @@ module _ (ways : Ways) (ps qs : Class → Pairs ℕ) (first : AreAgreeing ps) (s
         let e = same_before ways ps spot i (Word name x) (free.classless spot) g in
         let f = same_before ways qs spot k (Word name y) (free.classless spot) h in
         let spots : next_spot spot k ≡ next_spot spot i =
-        cc (ap (next_spot spot) e, ap (next_spot spot) f, free.moves_not spot x,
-        free.moves_not spot y) in
+        cc (
+          ap (next_spot spot) e,
+          ap (next_spot spot) f,
+          free.moves_not spot x,
+          free.moves_not spot y,
+        ) in
         let all = items_met (next_spot spot i) p q (rw spots at s) in (
           Word name x ∷ all.0,
           along (stays_met spot i (Word name x) (free.classless spot) g) all.1,
@@ -484,7 +488,7 @@ module _ (ways : Ways) {ps vs : Pairs (List ℕ)} where
   items_values d spot none = refl
   items_values d spot (more {x = i} {y = j} r p) =
       rw (← renamed_spot spot i j r)
-          (cc (item_values d spot i j r, items_values d (next_spot spot i) p))
+      (cc (item_values d spot i j r, items_values d (next_spot spot i) p))
 
   message_values : (d : Class) (spot : Spot) {xs : Pairs ℕ} {m n : List Item} → StartsFree m
       → RenamesMessage ps vs xs m n → values_in d spot m ≡ values_in d spot n
