@@ -301,13 +301,9 @@ module _ (ways : Ways) (seen : Class → List ℕ) where
     way_small Zero d n = omega arith
     way_small Number d n =
         cond_either (λ (m : ℕ). m < 2 ^ 32) (is_zero_that_stays d n) (omega arith)
-        (let low = few d in
-        let fewer = length-before nat_eq (equivalence nat_eq Decides-eqb) n (seen d) in
-        omega (
-          arith,
-          length-with_keys nat_eq (equivalence nat_eq Decides-eqb)
-              (before nat_eq n (seen d)) [],
-        ))
+        (let same = equivalence nat_eq Decides-eqb in
+        let fewer = length-before nat_eq same n (seen d) in
+        omega (arith, few d, length-with_keys nat_eq same (before nat_eq n (seen d)) []))
 
     substitute_small : (o : Option Class) (n : ℕ) → IsSmall (substitute ways seen o n)
     substitute_small None n = tt

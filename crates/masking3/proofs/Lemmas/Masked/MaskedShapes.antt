@@ -116,13 +116,13 @@ module _ (spot : Spot) where
   nfs_arguments_take n =
       let guarded : TakesMasks spot guard =
       optional_takes names.check (time names.ctime_sec names.ctime_nsec) refl (assumption) in
-      search (arg_row, settable_takes, create_how_takes, mknod_what_takes) depth 40 fits 10000
+      search (arg_row, settable_takes, create_how_takes, mknod_what_takes) depth 80 fits 20000
 
   pub arguments_take : (id : ProcId) → RowTakesMasks spot (arguments_of id)
   unfolding arguments_of dirpath
   arguments_take id =
       cond_either (RowTakesMasks spot) (is_nfs id) (nfs_arguments_take id.proc_no)
-      (cond_either (RowTakesMasks spot) (is_mount id) (search arg_row depth 12) tt)
+      (cond_either (RowTakesMasks spot) (is_mount id) (search arg_row depth 24) tt)
 
   nfs_results_take : (n : ℕ) → RowTakesMasks spot (nfs_results n)
   unfolding access_ok commit_ok create_ok entry entry_plus fsinfo_ok fsstat_ok handle head_names
@@ -130,7 +130,7 @@ module _ (spot : Spot) where
       time write_ok
   nfs_results_take n =
       search (result_row, arg_row, attributes_at, post_op_fh_takes, post_op_attr_takes, wcc_takes)
-      depth 40 fits 10000
+      depth 80 fits 20000
 
   -- ---- heads
 
