@@ -24,6 +24,7 @@ pub mod Kept
 pub mod Entries
 pub mod MessageScan
 pub mod Handing
+pub mod Lending
 pub mod Rank
 pub mod OpenXids
 pub mod Numbering

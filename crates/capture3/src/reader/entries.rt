@@ -68,7 +68,9 @@ pub struct Entries<'r, R, S: BuildHasher + Drop> {
 }
 
 impl<'r, R: Source, S: BuildHasher + Drop> Entries<'r, R, S> {
+    ghost use Rattle.std.specs.Borrow.{sem};
     ghost use Rattle.capture3.specs.Kept.{IsLent, kind_lent};
+    ghost use Rattle.capture3.specs.Lending.{EndsAs};
     ghost use Rattle.capture3.specs.Entries.{block_size, failure_of, IsOver, KeepsErrors, last_of, loan_of, source_of, UsesSource};
     ghost use Rattle.capture3.specs.Handing.{HandsOutGiven};
     ghost use Rattle.capture3.specs.Numbering.{number_after, number_lent};
@@ -146,6 +148,28 @@ impl<'r, R: Source, S: BuildHasher + Drop> Entries<'r, R, S> {
             },
             Stage::Over => Ok(None),
             Stage::Failed(error) => Err(error),
+        }
+    }
+
+    /// Reads the next entry, as `next`, and lends it until the next call; `None` after the last one.
+    ///
+    /// # Errors
+    ///
+    /// Those of `next`.
+    #[inline(always)]
+    pub fn visit<V: Visit>(&mut self, visitor: &mut V) -> Result<Option<EntryRef<'_>>, Error>
+        // What the reader ends as, and what is lent.
+        ensures* ends { sem 𝓛 (EndsAs R.row S.row S.Hasher.row S.BuildHasher S.Hasher.Hasher R.told V.stands R.failures self.entry visitor.old visitor.new result) }
+
+        // What is known while the entry is used.
+        ensures untold { IfOk result (λ next. next ≡ None → visitor.new ≡ visitor.old) }
+        ensures left { IfOk result (λ next. IsSome next → 0 < entries_left self.old) }
+        ensures write { IfErr result (λ error. error ≢ Error.Write) }
+    {
+        match self.next(visitor) {
+            Ok(Some(_)) => Ok(self.entry()),
+            Ok(None) => Ok(None),
+            Err(error) => Err(error),
         }
     }
 
