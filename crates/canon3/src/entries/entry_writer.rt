@@ -269,12 +269,8 @@ fn write_next<R: Source, W: Sink, E: EntryWriter, S: BuildHasher + Drop>(
     ensures devices { ReadsAndWrites R.failures entries.old entries.new (W.failures sink.old)
         (W.failures sink.new) result }
 {
-    match entries.next(writer)? {
-        Some(_) => match entries.entry() {
-            Some(entry) => write_one(counts, sink, writer, entry),
-            // An entry was just returned.
-            None => unreachable!(),
-        },
+    match entries.visit(writer)? {
+        Some(entry) => write_one(counts, sink, writer, entry),
         None => Ok(false),
     }
 }
