@@ -14,6 +14,7 @@ ghost use Rattle.capture3.specs.Typed.{Typed};
 ghost use Rattle.canon3.specs.machinery.Tally.{BeginsTallying, TalliesOn, TalliesToTheEnd, IsTallying, Tallies};
 
 use crate::entries::entry_counts::EntryCounts;
+use crate::entries::entry_kind::kind_of;
 use crate::numbers::handles::HandleTable;
 use capture3::{Entries, Error, Hashers, Source, new_block};
 use std::alloc::Global;
@@ -147,9 +148,9 @@ impl<S: BuildHasher + Drop> Tally<S> {
         // The device.
         ensures reads { ReadsOne R.failures entries.old entries.new result }
     {
-        match entries.next(&mut self.handles)? {
-            Some(kind) => {
-                self.counts.add(kind);
+        match entries.visit(&mut self.handles)? {
+            Some(entry) => {
+                self.counts.add(kind_of(entry));
                 Ok(true)
             }
             None => Ok(false),
