@@ -23,6 +23,7 @@ pub mod Examples
 pub mod Kept
 pub mod Entries
 pub mod MessageScan
+pub mod MessageValues
 pub mod Handing
 pub mod Lending
 pub mod Rank

@@ -15,3 +15,4 @@ pub mod StreamsInMemory
 pub mod FileStanding
 pub mod Spelled
 pub mod ContainerMachine
+pub mod UnspelledMessages

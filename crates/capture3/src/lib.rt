@@ -17,6 +17,7 @@ pub use device::source::{FromRead, Given, Source};
 pub use device::trail::Trail;
 pub use fault::{Error, Fault, Place, Side};
 pub use message::silent::Silent;
+pub use message::values::{CallMsg, ReplyMsg};
 pub use reader::entries::{Entries, new_block};
 pub use reader::entry::{CallRef, Entry, EntryRef, KeptCall, KeptReply, Kind, ReplyRef};
 pub use reader::hashers::Hashers;

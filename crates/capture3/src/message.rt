@@ -3,8 +3,10 @@
 pub(crate) mod calls;
 pub(crate) mod counted_calls;
 pub(crate) mod counting;
+pub(crate) mod reading;
 pub(crate) mod scan;
 pub(crate) mod silent;
+pub(crate) mod values;
 
 ghost use Rattle.std.specs.Prelude.{◌≡◌};
 

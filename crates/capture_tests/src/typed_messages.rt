@@ -9,7 +9,7 @@ use capture3::{Entry, pack_chunk, pack_header, parse};
 use nfs3_types::Res;
 use rpc_head::ProcId;
 use std::alloc::{AllocError, Global};
-use typed3::{Args, Results, read_call, read_reply};
+use procs3::{Args, Results};
 use xdr3::{GetError, Input, Reason, Stop, Walk, Writer};
 
 /// The arguments of a WRITE of the bytes hi to the handle aa, from offset 9 on, FILE_SYNC (2).
@@ -121,13 +121,13 @@ fn kept_messages_are_read(rt: HostRuntime) {
     for entry in &entries {
         match entry {
             Entry::Call(kept) => {
-                let call = ok(&rt, read_call(alloc, kept.lend()));
+                let call = ok(&rt, kept.read(alloc));
                 assert_same!(rt; call.xid, 0xdead_beef);
                 assert_holds!(rt; call.head.id == nfs(0));
                 assert_holds!(rt; matches!(call.args, Args::Null));
             }
             Entry::Reply(kept) => {
-                let reply = ok(&rt, read_reply(alloc, kept.lend()));
+                let reply = ok(&rt, kept.read(alloc));
                 assert_same!(rt; reply.xid, 0xdead_beef);
                 assert_holds!(rt; matches!(&reply.results, Some(Results::Null)));
             }
@@ -208,7 +208,7 @@ fn a_kept_reply_is_read_as_its_results(rt: HostRuntime) {
     let Some(Entry::Reply(kept)) = entries.get(3) else {
         panic!(rt; "no reply")
     };
-    let read = ok(&rt, read_reply(alloc, kept.lend()));
+    let read = ok(&rt, kept.read(alloc));
     let direct = ok(&rt, results(alloc, nfs(17), &READDIRPLUS));
     let (Some(Results::ReadDirPlus(Res::Done(read))), Results::ReadDirPlus(Res::Done(direct))) = (
         &read.results,
@@ -238,8 +238,8 @@ fn two_calls_of_one_xid_are_read_alike(rt: HostRuntime) {
     else {
         panic!(rt; "no calls")
     };
-    let first = ok(&rt, read_call(alloc, first.lend()));
-    let second = ok(&rt, read_call(alloc, second.lend()));
+    let first = ok(&rt, first.read(alloc));
+    let second = ok(&rt, second.read(alloc));
     assert_same!(rt; (first.xid, second.xid), (9, 9));
     let (Args::Lookup(one), Args::Lookup(other)) = (&first.args, &second.args) else {
         panic!(rt; "no LOOKUP")

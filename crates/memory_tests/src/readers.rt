@@ -4,7 +4,6 @@ use crate::samples::{COMMIT, MIXED, hashers};
 use capture3::{Entries, Entry, Error, MemSource, Silent, new_block, parse};
 use std::alloc::Global;
 use std::process::Abort;
-use typed3::{read_call, read_reply};
 
 #[test]
 fn a_capture_is_parsed(rt: HostRuntime) {
@@ -32,13 +31,13 @@ fn is_parsed(rt: &impl Abort, alloc: Global, capture: &[u8]) {
 fn message_is_read(rt: &impl Abort, alloc: Global, entry: &Entry) {
     match entry {
         Entry::Call(kept) => {
-            if read_call(alloc, kept.lend()).is_err() {
-                assert!(rt; read_call(alloc, kept.lend()).is_ok());
+            if kept.read(alloc).is_err() {
+                assert!(rt; kept.read(alloc).is_ok());
             }
         }
         Entry::Reply(kept) => {
-            if read_reply(alloc, kept.lend()).is_err() {
-                assert!(rt; read_reply(alloc, kept.lend()).is_ok());
+            if kept.read(alloc).is_err() {
+                assert!(rt; kept.read(alloc).is_ok());
             }
         }
         Entry::Begin | Entry::Turn | Entry::Close | Entry::End => {}

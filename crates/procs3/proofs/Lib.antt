@@ -1,3 +1,4 @@
 pub mod ProtocolParts
 pub mod ProcedureParts
 pub mod HeadParts
+pub mod Common

@@ -2,9 +2,9 @@
 use Rattle.std.specs.Prelude.{◌≡◌, ℕ, List}
 use Rattle.nfs3_types.specs.declared.values.directory.DirOp.{DirOp}
 use Rattle.capture3.specs.Bodies.{IsCall}
-use Rattle.typed3.specs.declared.args.Args.TheVariants.{Lookup}
-use Rattle.typed3.specs.declared.message.CallMsg.{CallMsg}
-use Rattle.typed3.specs.Messages.{call_items}
+use Rattle.procs3.specs.declared.values.args.Args.TheVariants.{Lookup}
+use Rattle.capture3.specs.declared.message.values.CallMsg.{CallMsg}
+use Rattle.capture3.specs.MessageValues.{call_items}
 
 -- the body is a LOOKUP call's, and the name that of its arguments (RFC 1813, section 3.3.3)
 pub record LooksUp (body name : List ℕ) : Type 0 where

@@ -6,3 +6,5 @@ pub mod Layouts
 pub mod MessageReasons
 pub mod MessageScanLemmas
 pub mod SpelledLemmas
+pub mod ValueNames
+pub mod ValueLemmas

@@ -1,6 +1,6 @@
 //! The entries of a capture.
 
-ghost use Rattle.std.specs.Prelude.{◌≡◌, ◌≤◌, List, length, IfOk, OnOk};
+ghost use Rattle.std.specs.Prelude.{◌≡◌, ◌≤◌, List, length, is_some, IfOk, IfSome, OnOk};
 ghost use Rattle.record_mark.specs.RecordMark.{max_body};
 ghost use Rattle.xdr3.specs.Item.{Item};
 ghost use Rattle.capture3.specs.Bodies.{IsCall, IsReply, xid_in};
@@ -8,7 +8,9 @@ ghost use Rattle.capture3.specs.MessageScan.{TellsCall, TellsReply};
 ghost use Rattle.capture3.specs.machinery.Spelled.{SpellsCall, SpellsReply};
 
 use crate::message::calls::{NumberedCall, OneCall};
+use crate::message::reading::{call_in, reply_in};
 use crate::message::scan::{scan_call, scan_reply};
+use crate::message::values::{CallMsg, ReplyMsg};
 use rpc_head::{ProcId, start};
 use std::alloc::{AllocError, Global};
 use xdr3::{GetError, Input, Visit};
@@ -90,6 +92,30 @@ pub enum Entry {
 }
 
 impl<'a> CallRef<'a> {
+    ghost use Rattle.procs3.specs.Names.{name_of_procedure};
+    ghost use Rattle.procs3.specs.Variants.{args_name};
+    ghost use Rattle.capture3.specs.MessageValues.{call_items};
+
+    /// Returns the call that the body encodes, with the arguments of its procedure (RFC 5531, section
+    /// 9). It borrows from the body.
+    ///
+    /// # Errors
+    ///
+    /// `AllocError` only if an allocation failed.
+    pub fn read(&self, alloc: Global) -> Result<CallMsg<'a>, AllocError>
+        ensures call { IfOk result (λ message. IsCall self.now.body.now (call_items message)) }
+        ensures procedure { IfOk result (λ message. message.head.id ≡ self.now.id) }
+        ensures variant { IfOk result
+            (λ message. args_name message.args ≡ name_of_procedure message.head.id) }
+    {
+        match call_in(alloc, self.body) {
+            Ok(message) => Ok(message),
+            Err(GetError::Memory) => Err(AllocError),
+            // The body was read as a message before.
+            Err(GetError::Stop(_)) => unreachable!(),
+        }
+    }
+
     /// Returns the xid (RFC 5531, section 9).
     pub fn xid(&self) -> u32
         ensures { (items : List Item) → IsCall self.now.body.now items → result ≡ xid_in items }
@@ -127,6 +153,33 @@ impl<'a> CallRef<'a> {
 }
 
 impl<'a> ReplyRef<'a> {
+    ghost use Rattle.procs3.specs.Names.{name_of_procedure};
+    ghost use Rattle.procs3.specs.Variants.{results_name};
+    ghost use Rattle.capture3.specs.MessageValues.{answered_items, is_success};
+
+    /// Returns the reply that the body encodes, with the results of its procedure if and only if it
+    /// is an accepted success (RFC 5531, section 9). It borrows from the body.
+    ///
+    /// # Errors
+    ///
+    /// `AllocError` only if an allocation failed.
+    pub fn read(&self, alloc: Global) -> Result<ReplyMsg<'a>, AllocError>
+        ensures reply { IfOk result
+            (λ message. IsReply self.now.body.now (answered_items message)) }
+        ensures procedure { IfOk result (λ message. message.id ≡ self.now.id) }
+        ensures success { IfOk result
+            (λ message. is_some message.results ≡ is_success message.head) }
+        ensures variant { IfOk result (λ message. IfSome message.results
+            (λ results. results_name results ≡ name_of_procedure message.id)) }
+    {
+        match reply_in(alloc, self.id, self.body) {
+            Ok(message) => Ok(message),
+            Err(GetError::Memory) => Err(AllocError),
+            // The body was read as a message before.
+            Err(GetError::Stop(_)) => unreachable!(),
+        }
+    }
+
     /// Returns the xid (RFC 5531, section 9).
     pub fn xid(&self) -> u32
         ensures { (items : List Item) → IsReply self.now.body.now
@@ -181,6 +234,25 @@ impl<'a> ReplyRef<'a> {
 }
 
 impl KeptCall {
+    ghost use Rattle.procs3.specs.Names.{name_of_procedure};
+    ghost use Rattle.procs3.specs.Variants.{args_name};
+    ghost use Rattle.capture3.specs.MessageValues.{call_items};
+
+    /// Returns the call that the body encodes, with the arguments of its procedure (RFC 5531, section
+    /// 9). It borrows from the body.
+    ///
+    /// # Errors
+    ///
+    /// `AllocError` only if an allocation failed.
+    pub fn read(&self, alloc: Global) -> Result<CallMsg<'_>, AllocError>
+        ensures call { IfOk result (λ message. IsCall self.now.body.items (call_items message)) }
+        ensures procedure { IfOk result (λ message. message.head.id ≡ self.now.id) }
+        ensures variant { IfOk result
+            (λ message. args_name message.args ≡ name_of_procedure message.head.id) }
+    {
+        self.lend().read(alloc)
+    }
+
     /// Borrows the call.
     pub fn lend(&self) -> CallRef<'_>
         ensures id { result.id ≡ self.now.id }
@@ -196,6 +268,28 @@ impl KeptCall {
 }
 
 impl KeptReply {
+    ghost use Rattle.procs3.specs.Names.{name_of_procedure};
+    ghost use Rattle.procs3.specs.Variants.{results_name};
+    ghost use Rattle.capture3.specs.MessageValues.{answered_items, is_success};
+
+    /// Returns the reply that the body encodes, with the results of its procedure if and only if it
+    /// is an accepted success (RFC 5531, section 9). It borrows from the body.
+    ///
+    /// # Errors
+    ///
+    /// `AllocError` only if an allocation failed.
+    pub fn read(&self, alloc: Global) -> Result<ReplyMsg<'_>, AllocError>
+        ensures reply { IfOk result
+            (λ message. IsReply self.now.body.items (answered_items message)) }
+        ensures procedure { IfOk result (λ message. message.id ≡ self.now.id) }
+        ensures success { IfOk result
+            (λ message. is_some message.results ≡ is_success message.head) }
+        ensures variant { IfOk result (λ message. IfSome message.results
+            (λ results. results_name results ≡ name_of_procedure message.id)) }
+    {
+        self.lend().read(alloc)
+    }
+
     /// Borrows the reply.
     pub fn lend(&self) -> ReplyRef<'_>
         ensures id { result.id ≡ self.now.id }

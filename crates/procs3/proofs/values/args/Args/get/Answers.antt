@@ -1,0 +1,14 @@
+use Rattle.procs3.proofs.Common.{layout_is_read, layout_given_within, args_items}
+use Rattle.procs3.specs.Table.{arguments_of}
+use Rattle.procs3.proofs.values.args.Args.get.Goals as goal
+
+pub returns-clause-relations : goal.returns-clause-relations
+returns-clause-relations c =
+    layout_is_read (arguments_of c.args.id) args_items c.args.input.now c.of_procedure.new.input
+    c.of_procedure.result c.at.ensures.bytes c.at.ensures.within c.of_procedure.ensures.read
+
+pub returns-clause-limit : goal.returns-clause-limit
+returns-clause-limit c =
+    layout_given_within (arguments_of c.args.id) args_items c.args.input.now.body
+    c.args.input.now.at c.of_procedure.new.input.at c.of_procedure.result c.at.ensures.bytes
+    c.at.ensures.within c.at.ensures.limit c.of_procedure.ensures.read

@@ -1,3 +1,0 @@
--- Lemmas of messages as values.
-pub mod MessageLemmas
-pub mod Common

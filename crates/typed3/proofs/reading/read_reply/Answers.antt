@@ -1,7 +1,0 @@
-use Rattle.typed3.proofs.Common.{∥∥₁_elim, ⊥_prop}
-use Rattle.typed3.proofs.reading.read_reply.Goals as goal
-
-pub unreachable-requires : goal.unreachable-requires
-unreachable-requires c =
-    ∥∥₁_elim c.args.reply.spells ⊥_prop
-    (λ s. c.in-Err-Stop.ensures.err c.in-Err-Stop.field-0-0 c.in-Err-Stop.field-0-is s.0 s.1)
