@@ -26,6 +26,8 @@ pub mod MessageScan
 pub mod MessageValues
 pub mod Handing
 pub mod Lending
+pub mod ReadAs
+pub mod ReadEntries
 pub mod Rank
 pub mod OpenXids
 pub mod Numbering

@@ -21,4 +21,5 @@ pub use message::values::{CallMsg, ReplyMsg};
 pub use reader::entries::{Entries, new_block};
 pub use reader::entry::{CallRef, Entry, EntryRef, KeptCall, KeptReply, Kind, ReplyRef};
 pub use reader::hashers::Hashers;
+pub use reader::read_entry::ReadEntry;
 pub use reader::whole::parse;

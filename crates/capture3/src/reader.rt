@@ -4,4 +4,5 @@ pub(crate) mod entries;
 pub(crate) mod entry;
 pub(crate) mod hashers;
 pub(crate) mod pairing;
+pub(crate) mod read_entry;
 pub(crate) mod whole;

@@ -17,8 +17,10 @@ use crate::device::DeviceFailed;
 use crate::device::source::Source;
 use crate::fault::{Error, Fault, Noted, Place};
 use crate::message::counted_calls::CountedCalls;
+use crate::message::silent::Silent;
 use crate::reader::entry::{EntryRef, Kind};
 use crate::reader::pairing::Pairing;
+use crate::reader::read_entry::ReadEntry;
 use std::alloc::{AllocError, Global};
 use std::hash::BuildHasher;
 use xdr3::{Reason, Visit};
@@ -71,6 +73,8 @@ impl<'r, R: Source, S: BuildHasher + Drop> Entries<'r, R, S> {
     ghost use Rattle.std.specs.Borrow.{sem};
     ghost use Rattle.capture3.specs.Kept.{IsLent, kind_lent};
     ghost use Rattle.capture3.specs.Lending.{EndsAs};
+    ghost use Rattle.capture3.specs.ReadAs.{IsReadAs, kind_read};
+    ghost use Rattle.capture3.specs.ReadEntries.{EndsRead};
     ghost use Rattle.capture3.specs.Entries.{block_size, failure_of, IsOver, KeepsErrors, last_of, loan_of, source_of, UsesSource};
     ghost use Rattle.capture3.specs.Handing.{HandsOutGiven};
     ghost use Rattle.capture3.specs.Numbering.{number_after, number_lent};
@@ -96,6 +100,29 @@ impl<'r, R: Source, S: BuildHasher + Drop> Entries<'r, R, S> {
             pairing: Pairing::new(alloc, CountedCalls::new(alloc, hasher)),
             stage: Stage::Reading,
         }
+    }
+
+    /// Returns a reader with a block of its own. It reads nothing yet. The hasher is for the calls
+    /// of a connection by their xids, and affects no result.
+    ///
+    /// # Errors
+    ///
+    /// `AllocError` if the block could not be allocated. Then nothing was read.
+    pub fn new(
+        alloc: Global,
+        hasher: S,
+        source: &'r mut R,
+    ) -> Result<Entries<'r, R, S>, AllocError>
+        ensures stands { IfOk result (λ entries. StandsFor R.told entries [] []) }
+        ensures unread { IfOk result (λ entries. source_of entries ≡ source.old) }
+        ensures going { IfOk result (λ entries. failure_of entries ≡ None) }
+        ensures unlent { IfOk result (λ entries. last_of entries ≡ None) }
+        ensures block { IfOk result (λ entries. block_size entries ≡ BLOCK) }
+        ensures same_reference { IfOk result
+            (λ entries. loan_of entries ≡ source.entry.ghost_name) }
+    {
+        let block = new_block(alloc)?;
+        Ok(Entries::through(alloc, hasher, source, block))
     }
 
     /// Returns the source, as the reads left it.
@@ -170,6 +197,42 @@ impl<'r, R: Source, S: BuildHasher + Drop> Entries<'r, R, S> {
             Ok(Some(_)) => Ok(self.entry()),
             Ok(None) => Ok(None),
             Err(error) => Err(error),
+        }
+    }
+
+    /// Reads the next entry and lends it until the next call, with its call as a value; `None` after
+    /// the last one.
+    ///
+    /// # Errors
+    ///
+    /// Those of `next`, which are returned from then on. `Memory` also if memory ran out for the
+    /// value: then the reader goes on after that entry.
+    pub fn next_value(&mut self, alloc: Global) -> Result<Option<ReadEntry<'_>>, Error>
+        ensures* ends { sem 𝓛 (EndsRead R.row S.row S.Hasher.row S.BuildHasher S.Hasher.Hasher R.told R.failures self.entry result) }
+    {
+        match self.next(&mut Silent) {
+            Ok(Some(_)) => match self.read_last(alloc) {
+                Ok(next) => Ok(next),
+                Err(_) => Err(Error::Memory),
+            },
+            Ok(None) => Ok(None),
+            Err(error) => Err(error),
+        }
+    }
+
+    /// Returns the entry that `next` returned last, with its call as a value.
+    fn read_last(&self, alloc: Global) -> Result<Option<ReadEntry<'_>>, AllocError>
+        ensures kind { IfOk result (λ next. kind_read next ≡ last_of self.now) }
+        ensures value { (given : List ℕ) (handed : List spec.Entry) (entry : spec.Entry)
+            → StandsFor R.told self.now given (handed ++ entry ∷ [])
+            → IfOk result (λ next. IfSome next (λ read. IsReadAs read entry)) }
+    {
+        match self.entry() {
+            Some(lent) => match lent.read(alloc) {
+                Ok(read) => Ok(Some(read)),
+                Err(error) => Err(error),
+            },
+            None => Ok(None),
         }
     }
 
