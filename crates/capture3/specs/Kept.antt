@@ -64,14 +64,13 @@ AreKept [] entries = entries ≡ []
 AreKept (one ∷ more) entries = (entry : Entry) × (rest : List Entry) × (entries ≡ entry ∷ rest)
     × IsKept one entry × AreKept more rest
 
--- a kept entry has the kind of a lent one, and of a message the same procedure, number and bytes
+-- a kept entry has the kind of a lent one, and of a message the same procedure and bytes
 abbrev pub IsCopy : EntryRef → kept.Entry → Type 0
 IsCopy lent.Begin variants.Begin = Unit {0}
-IsCopy (lent.Call call) (variants.Call copy) = (copy.id ≡ call.id) × (copy.number ≡ call.number)
+IsCopy (lent.Call call) (variants.Call copy) = (copy.id ≡ call.id)
     × (copy.body.items ≡ call.body.now)
 IsCopy lent.Turn variants.Turn = Unit {0}
 IsCopy (lent.Reply reply) (variants.Reply copy) = (copy.id ≡ reply.id)
-    × (copy.number ≡ reply.number)
     × (copy.body.items ≡ reply.body.now)
 IsCopy lent.Close variants.Close = Unit {0}
 IsCopy lent.End variants.End = Unit {0}

@@ -9,17 +9,62 @@ ghost use Rattle.xdr3.specs.View.{MovesOn};
 ghost use Rattle.capture3.specs.Bodies.{IsCall, IsReply};
 ghost use Rattle.capture3.specs.machinery.Messages.{results_after};
 ghost use Rattle.capture3.specs.MessageValues.{answered_items, call_items, is_success, items_after_head};
+ghost use Rattle.capture3.specs.machinery.Spelled.{SpellsCall, SpellsReply};
 ghost use Rattle.capture3.specs.machinery.UnspelledMessages.{SpellsNoCall, SpellsNoReply};
 ghost use Rattle.procs3.specs.Variants.{args_name, results_name};
 
 use crate::message::values::{CallMsg, ReplyMsg};
 use procs3::{Args, Results};
 use rpc_head::{Accept, CallHead, ProcId, ReplyHead, start};
-use std::alloc::Global;
+use std::alloc::{AllocError, Global};
 use xdr3::{GetError, Input, Reason, Stop, Xdr};
 
+/// Reads a body that spells a call of this procedure.
+pub(crate) fn read_call<'a>(
+    alloc: Global,
+    id: ProcId,
+    body: &'a [u8],
+) -> Result<CallMsg<'a>, AllocError>
+    requires short { length body.now ≤ body_limit }
+    requires spells { ∥ SpellsCall id body.now ∥₁ }
+    ensures call { IfOk result (λ message. IsCall body.now (call_items message)) }
+    ensures procedure { IfOk result (λ message. message.head.id ≡ id) }
+    ensures variant { IfOk result
+        (λ message. args_name message.args ≡ name_of_procedure message.head.id) }
+{
+    match call_in(alloc, body) {
+        Ok(message) => Ok(message),
+        Err(GetError::Memory) => Err(AllocError),
+        // The body was read as a message before.
+        Err(GetError::Stop(_)) => unreachable!(),
+    }
+}
+
+/// Reads a body that spells a reply to a call of this procedure.
+pub(crate) fn read_reply<'a>(
+    alloc: Global,
+    id: ProcId,
+    body: &'a [u8],
+) -> Result<ReplyMsg<'a>, AllocError>
+    requires short { length body.now ≤ body_limit }
+    requires spells { ∥ SpellsReply id body.now ∥₁ }
+    ensures reply { IfOk result (λ message. IsReply body.now (answered_items message)) }
+    ensures procedure { IfOk result (λ message. message.id ≡ id) }
+    ensures success { IfOk result
+        (λ message. is_some message.results ≡ is_success message.head) }
+    ensures variant { IfOk result (λ message. IfSome message.results
+        (λ results. results_name results ≡ name_of_procedure message.id)) }
+{
+    match reply_in(alloc, id, body) {
+        Ok(message) => Ok(message),
+        Err(GetError::Memory) => Err(AllocError),
+        // The body was read as a message before.
+        Err(GetError::Stop(_)) => unreachable!(),
+    }
+}
+
 /// Reads a body as a call.
-pub(crate) fn call_in<'a>(alloc: Global, body: &'a [u8]) -> Result<CallMsg<'a>, GetError>
+fn call_in<'a>(alloc: Global, body: &'a [u8]) -> Result<CallMsg<'a>, GetError>
     requires { length body.now ≤ body_limit }
     ensures call { IfOk result (λ call. IsCall body.now (call_items call)) }
     ensures variant { IfOk result (λ call. args_name call.args ≡ name_of_procedure call.head.id) }
@@ -41,7 +86,7 @@ pub(crate) fn call_in<'a>(alloc: Global, body: &'a [u8]) -> Result<CallMsg<'a>, 
 }
 
 /// Reads a body as a reply to a call of this procedure.
-pub(crate) fn reply_in<'a>(alloc: Global, id: ProcId, body: &'a [u8]) -> Result<ReplyMsg<'a>, GetError>
+fn reply_in<'a>(alloc: Global, id: ProcId, body: &'a [u8]) -> Result<ReplyMsg<'a>, GetError>
     requires { length body.now ≤ body_limit }
     ensures reply { IfOk result (λ reply. IsReply body.now (answered_items reply)) }
     ensures procedure { IfOk result (λ reply. reply.id ≡ id) }

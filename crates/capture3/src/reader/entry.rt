@@ -8,7 +8,7 @@ ghost use Rattle.capture3.specs.MessageScan.{TellsCall, TellsReply};
 ghost use Rattle.capture3.specs.machinery.Spelled.{SpellsCall, SpellsReply};
 
 use crate::message::calls::{NumberedCall, OneCall};
-use crate::message::reading::{call_in, reply_in};
+use crate::message::reading::{read_call, read_reply};
 use crate::message::scan::{scan_call, scan_reply};
 use crate::message::values::{CallMsg, ReplyMsg};
 use rpc_head::{ProcId, start};
@@ -59,21 +59,19 @@ pub enum EntryRef<'a> {
     End,
 }
 
-/// An owned call: its procedure, its number (see `CallRef`), and the body that encodes it.
+/// An owned call: its procedure, and the body that encodes it.
 #[derive(Drop)]
 pub struct KeptCall {
     pub id: ProcId,
-    pub number: u32,
     pub body: Vec<u8>,
     pub ghost short: { length body.items ≤ max_body },
     pub ghost spells: { ∥ SpellsCall id body.items ∥₁ },
 }
 
-/// An owned reply: the procedure and the number of its call, and the body that encodes it.
+/// An owned reply: the procedure of its call, and the body that encodes it.
 #[derive(Drop)]
 pub struct KeptReply {
     pub id: ProcId,
-    pub number: u32,
     pub body: Vec<u8>,
     pub ghost short: { length body.items ≤ max_body },
     pub ghost spells: { ∥ SpellsReply id body.items ∥₁ },
@@ -108,12 +106,7 @@ impl<'a> CallRef<'a> {
         ensures variant { IfOk result
             (λ message. args_name message.args ≡ name_of_procedure message.head.id) }
     {
-        match call_in(alloc, self.body) {
-            Ok(message) => Ok(message),
-            Err(GetError::Memory) => Err(AllocError),
-            // The body was read as a message before.
-            Err(GetError::Stop(_)) => unreachable!(),
-        }
+        read_call(alloc, self.id, self.body)
     }
 
     /// Returns the xid (RFC 5531, section 9).
@@ -130,12 +123,11 @@ impl<'a> CallRef<'a> {
     /// Returns the call with a body of its own.
     pub fn keep(&self, alloc: Global) -> Result<KeptCall, AllocError>
         ensures id { IfOk result (λ kept. kept.id ≡ self.now.id) }
-        ensures number { IfOk result (λ kept. kept.number ≡ self.now.number) }
         ensures body { IfOk result (λ kept. kept.body.items ≡ self.now.body.now) }
     {
-        let CallRef { id, number, .. } = *self;
+        let id = self.id;
         let body = Vec::from_slice(alloc, self.body)?;
-        Ok(KeptCall { id, number, body })
+        Ok(KeptCall { id, body })
     }
 
     /// Passes the items of the call to a visitor, in one pass over its body. It fails only if
@@ -172,12 +164,7 @@ impl<'a> ReplyRef<'a> {
         ensures variant { IfOk result (λ message. IfSome message.results
             (λ results. results_name results ≡ name_of_procedure message.id)) }
     {
-        match reply_in(alloc, self.id, self.body) {
-            Ok(message) => Ok(message),
-            Err(GetError::Memory) => Err(AllocError),
-            // The body was read as a message before.
-            Err(GetError::Stop(_)) => unreachable!(),
-        }
+        read_reply(alloc, self.id, self.body)
     }
 
     /// Returns the xid (RFC 5531, section 9).
@@ -195,12 +182,11 @@ impl<'a> ReplyRef<'a> {
     /// Returns the reply with a body of its own.
     pub fn keep(&self, alloc: Global) -> Result<KeptReply, AllocError>
         ensures id { IfOk result (λ kept. kept.id ≡ self.now.id) }
-        ensures number { IfOk result (λ kept. kept.number ≡ self.now.number) }
         ensures body { IfOk result (λ kept. kept.body.items ≡ self.now.body.now) }
     {
-        let ReplyRef { id, number, .. } = *self;
+        let id = self.id;
         let body = Vec::from_slice(alloc, self.body)?;
-        Ok(KeptReply { id, number, body })
+        Ok(KeptReply { id, body })
     }
 
     /// Passes the items of the reply to a visitor, in one pass over its body. It fails only if
@@ -250,20 +236,7 @@ impl KeptCall {
         ensures variant { IfOk result
             (λ message. args_name message.args ≡ name_of_procedure message.head.id) }
     {
-        self.lend().read(alloc)
-    }
-
-    /// Borrows the call.
-    pub fn lend(&self) -> CallRef<'_>
-        ensures id { result.id ≡ self.now.id }
-        ensures number { result.number ≡ self.now.number }
-        ensures body { result.body.now ≡ self.now.body.items }
-    {
-        CallRef {
-            id: self.id,
-            number: self.number,
-            body: &self.body,
-        }
+        read_call(alloc, self.id, &self.body)
     }
 }
 
@@ -287,20 +260,7 @@ impl KeptReply {
         ensures variant { IfOk result (λ message. IfSome message.results
             (λ results. results_name results ≡ name_of_procedure message.id)) }
     {
-        self.lend().read(alloc)
-    }
-
-    /// Borrows the reply.
-    pub fn lend(&self) -> ReplyRef<'_>
-        ensures id { result.id ≡ self.now.id }
-        ensures number { result.number ≡ self.now.number }
-        ensures body { result.body.now ≡ self.now.body.items }
-    {
-        ReplyRef {
-            id: self.id,
-            number: self.number,
-            body: &self.body,
-        }
+        read_reply(alloc, self.id, &self.body)
     }
 }
 

@@ -1,13 +1,12 @@
 //! A whole capture in memory.
 
-ghost use Rattle.std.specs.Prelude.{◌≡◌, ◌≢◌, ◌≤◌, ℕ, [], List, map, IfErr, IfOk, vec_len};
+ghost use Rattle.std.specs.Prelude.{◌≢◌, ◌≤◌, ℕ, List, IfErr, IfOk, vec_len};
 ghost use Rattle.capture3.specs.Capture.{max_connections};
 ghost use Rattle.capture3.specs.Chunks.{max_bytes};
 ghost use Rattle.capture3.specs.Entries.{OnRefused};
 ghost use Rattle.capture3.specs.Entry as spec;
 ghost use Rattle.capture3.specs.FirstFault.{FirstFault};
 ghost use Rattle.capture3.specs.Kept.{AreKept, begun};
-ghost use Rattle.capture3.specs.Numbering.{number_kept, numbers_after};
 ghost use Rattle.capture3.specs.Laws.{spelled};
 ghost use Rattle.capture3.specs.Laws.{most_entries};
 ghost use Rattle.capture3.specs.Typed.{Typed};
@@ -31,8 +30,6 @@ pub fn parse(alloc: Global, bytes: &[u8]) -> Result<Vec<Entry>, Error>
     ensures entries { IfOk result
         (λ kept. (entries : List spec.Entry) × Typed bytes.now entries
         × AreKept kept.items entries) }
-    ensures numbered { IfOk result (λ kept. (entries : List spec.Entry) → Typed bytes.now entries
-        → map number_kept kept.items ≡ numbers_after [] entries) }
     ensures fault { OnRefused result (FirstFault bytes.now) }
     ensures read { IfErr result (λ error. error ≢ Error.Read) }
     ensures write { IfErr result (λ error. error ≢ Error.Write) }

@@ -6,7 +6,7 @@ use Rattle.capture3.specs.declared.reader.entry.Entry.TheVariants as variants
 use Rattle.capture3.specs.declared.reader.entry.EntryRef.{EntryRef}
 use Rattle.capture3.specs.declared.reader.entry.EntryRef.TheVariants as lent
 use Rattle.capture3.specs.Kept.{IsCopy, IsLent}
-use Rattle.capture3.specs.Numbering.{number_after, number_kept, number_lent, numbers_after, rank_among}
+use Rattle.capture3.specs.Numbering.{number_after, number_lent, rank_among}
 use Rattle.capture3.proofs.Lemmas.Connections.KnownLemmas.{equality}
 use Rattle.capture3.proofs.Lemmas.Connections.RankLemmas.{length-before, length-with_keys}
 
@@ -98,35 +98,3 @@ lent_number one front entry number few is own has =
         ∙ ap (rank_among xs) (sym is.2)
     by_kind lent.Close xs few is own has = ap (rank_among xs) (sym is)
     by_kind lent.End xs few is own has = ap (rank_among xs) (sym is)
-
--- a copy has the number of what was copied
-pub copy_number : (one : EntryRef) (copy : kept.Entry) → IsCopy one copy
-    → number_kept copy ≡ number_lent one
-copy_number lent.Begin variants.Begin is = refl
-copy_number (lent.Call call) (variants.Call copy) is = ap (λ (n : ℕ). Some n) is.1
-copy_number lent.Turn variants.Turn is = refl
-copy_number (lent.Reply reply) (variants.Reply copy) is = ap (λ (n : ℕ). Some n) is.1
-copy_number lent.Close variants.Close is = refl
-copy_number lent.End variants.End is = refl
-copy_number _ _ is = absurd is
-
-numbers_push : (front entries : List Entry) (entry : Entry)
-    → numbers_after front (entries ++ entry ∷ [])
-    ≡ numbers_after front entries ++ number_after (front ++ entries) entry ∷ []
-numbers_push front [] entry =
-    ap (λ (l : List Entry). number_after l entry ∷ []) (sym (append-nil front))
-numbers_push front (one ∷ entries) entry =
-    ap (λ (l : List (Option ℕ)). number_after front one ∷ l)
-    (numbers_push (front ++ one ∷ []) entries entry
-    ∙ rw (append_assoc front (one ∷ []) entries))
-
--- the numbers of kept entries, with one more
-pub numbered_more : (items : List kept.Entry) (model : List Entry) (one : kept.Entry)
-    (entry : Entry) → number_kept one ≡ number_after model entry
-    → map number_kept items ≡ numbers_after [] model
-    → map number_kept (items ++ one ∷ []) ≡ numbers_after [] (model ++ entry ∷ [])
-numbered_more items model one entry own are =
-    map-append number_kept items (one ∷ [])
-    ∙ ap (λ (l : List (Option ℕ)). l ++ number_kept one ∷ []) are
-    ∙ ap (λ (n : Option ℕ). numbers_after [] model ++ n ∷ []) own
-    ∙ sym (numbers_push [] model entry)

@@ -9,10 +9,8 @@ use Rattle.capture3.specs.declared.container.position.WordOf.TheVariants as word
 use Rattle.capture3.specs.declared.container.position.Version as declared
 use Rattle.capture3.specs.Kept.{IsKept, AreKept, begun}
 use Rattle.capture3.specs.Entries.{OnRefused}
-use Rattle.capture3.specs.Numbering.{number_after, number_kept, numbers_after}
 use Rattle.capture3.specs.OpenXids.{open_xids}
 use Rattle.capture3.specs.machinery.Pairing.{HasNumber}
-use Rattle.capture3.proofs.Lemmas.Connections.NumberingLemmas.{numbered_more}
 use Rattle.capture3.specs.machinery.ContainerMachine.{left_of_magic, Opened, Magic, Digit, Mark, Length, Chunk, Mixed, Ended}
 use Rattle.capture3.proofs.Lemmas.Container.ContainerLemmas.{taken_more}
 use Rattle.capture3.proofs.Lemmas.Container.KeptStreamsLemmas.{first_of}
@@ -171,7 +169,6 @@ judged_all c table bytes all model is none h =
 
 abbrev pub Keeps : Container → Known → List ℕ → List kept.Entry → Type 0
 Keeps c table bytes items = (model : List Entry) × HasCome c table bytes model × AreKept items model
-    × (map number_kept items ≡ numbers_after [] model)
 
 module _ {V : Type 0} (stands : V → List Item → Type 0) (was now : V) (number : ℕ) (c : Container)
     (bytes : List ℕ) (n m : ℕ) (table : Known) (items : List kept.Entry)
@@ -182,20 +179,17 @@ module _ {V : Type 0} (stands : V → List Item → Type 0) (was now : V) (numbe
       (take n bytes ++ take m (take (length bytes - n) (drop n bytes))) model
 
   pub keeps_on : (came : Option Kind) → came ≡ None → Goes came → AreKept items model
-      → map number_kept items ≡ numbers_after [] model → Keeps c table (take (n + m) bytes) items
-  keeps_on None e goes are own = (model, come_more c bytes n m table model goes, are, own)
-  keeps_on (Some kind) e goes are own = absurd (cc)
+      → Keeps c table (take (n + m) bytes) items
+  keeps_on None e goes are = (model, come_more c bytes n m table model goes, are)
+  keeps_on (Some kind) e goes are = absurd (cc)
 
   -- with the entry that is whole
   pub keeps_more : (came : Option Kind) (kind : Kind) (one : kept.Entry) → came ≡ Some kind
       → Goes came → ((entry : Entry) → IsHeld kind c.joiner.taking entry → IsKept one entry)
-      → ((entry : Entry) → IsHeld kind c.joiner.taking entry
-      → HasNumber number (open_xids [] (model ++ entry ∷ [])) entry
-      → number_kept one ≡ number_after model entry)
-      → AreKept items model → map number_kept items ≡ numbers_after [] model
+      → AreKept items model
       → Keeps c table (take (n + m) bytes) (items ++ one ∷ [])
-  keeps_more None kind one e goes keeps counts are own = absurd (cc)
-  keeps_more (Some new) kind one e (entry, held, has, adds, come) keeps counts are own =
+  keeps_more None kind one e goes keeps are = absurd (cc)
+  keeps_more (Some new) kind one e (entry, held, has, adds, come) keeps are =
       let same : new ≡ kind = cc in
       let still : IsHeld kind c.joiner.taking entry =
       subst (λ (k : Kind). IsHeld k c.joiner.taking entry) same held in (
@@ -203,7 +197,6 @@ module _ {V : Type 0} (stands : V → List Item → Type 0) (was now : V) (numbe
         come_more c bytes n m table (model ++ entry ∷ []) come,
         kept_snoc items model one entry are
             (keeps entry still),
-        numbered_more items model one entry (counts entry still has) own,
       )
 
 -- ---- what kept entries begin

@@ -5,8 +5,6 @@ use Rattle.capture3.proofs.Lemmas.Reader.PassedOn.{error_is}
 use Rattle.capture3.specs.declared.reader.entry.Entry.TheVariants as variants
 use Rattle.capture3.specs.declared.reader.entry.Entry as kept
 use Rattle.std.proofs.Common.{map}
-use Rattle.capture3.specs.Numbering.{number_kept, numbers_after}
-use Rattle.capture3.proofs.Lemmas.Connections.NumberingLemmas.{copy_number, lent_number, numbered_more}
 use Rattle.capture3.proofs.Lemmas.Files.Verdicts.{typed_once}
 use Rattle.capture3.proofs.Lemmas.Reader.WholeFiles.{begun_is, kept_length, cut_at, first_fault, judged_all, kept_snoc, keeps_more, keeps_on, not_some, typed_at}
 use Rattle.capture3.proofs.reader.whole.parse.Goals as goal
@@ -29,19 +27,7 @@ loop-taken-preserved-in-Continue-branch-2 c =
           (c.in-Ok.ensures.machine (take c.loop-taken.taken c.args.bytes.now) invariant.machine.0
           invariant.machine.1)
           (λ entry h. c.in_ok-entry-in-Ok.ensures.kept entry (c.lend.ensures.lent entry h))
-          (λ entry h has.
-          copy_number c.lend.result _ c.in_ok-entry-in-Ok.ensures.copy
-          ∙ lent_number c.lend.result invariant.machine.0 entry c.next.new.self.number
-          (omega (
-            arith,
-            invariant.room,
-            c.in-Ok.ensures.room,
-            cost,
-            kept_length _ _ invariant.machine.2,
-            c.loop-taken.entries.ok.0,
-          ))
-          (c.lend.ensures.lent entry h) c.lend.ensures.number has)
-          invariant.machine.2 invariant.machine.3);
+          invariant.machine.2);
     }
 
 pub loop-taken-preserved : goal.loop-taken-preserved
@@ -57,7 +43,7 @@ loop-taken-preserved c =
           keeps_on _ _ _ c.next.new.self.number _ c.args.bytes.now c.loop-taken.taken c.in-Ok.count
           _ c.loop-taken.entries.items invariant.machine.0 _ c.in_default.is
           (c.in-Ok.ensures.machine (take c.loop-taken.taken c.args.bytes.now) invariant.machine.0
-          invariant.machine.1) invariant.machine.2 invariant.machine.3;
+          invariant.machine.1) invariant.machine.2;
     }
 
 pub returns-in-Err-clause-fault : goal.returns-in-Err-clause-fault
@@ -81,16 +67,6 @@ returns-clause-entries c =
       rw c.in_ok-push.ensures.items
           (kept_snoc c.loop-taken.entries.items invariant.machine.0 _ End invariant.machine.2 refl),
     )
-
-pub returns-clause-numbered : goal.returns-clause-numbered
-unfolding returns-clause-entries
-returns-clause-numbered c entries typed =
-    let invariant = c.loop-taken.invariant in
-    let of = returns-clause-entries c in
-    ap (λ (items : List kept.Entry). map number_kept items) c.in_ok-push.ensures.items
-    ∙ numbered_more c.loop-taken.entries.items invariant.machine.0 variants.End End refl
-    invariant.machine.3
-    ∙ ap (numbers_after []) (typed_once c.args.bytes.now of.0 entries of.1 typed)
 
 pub returns-clause-connections : goal.returns-clause-connections
 returns-clause-connections c =

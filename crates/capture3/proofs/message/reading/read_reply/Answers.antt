@@ -1,7 +1,7 @@
 use Rattle.capture3.proofs.Lemmas.Messages.ValueNames.{∥∥₁_elim, ⊥_prop}
-use Rattle.capture3.proofs.reader.entry.ReplyRef.read.Goals as goal
+use Rattle.capture3.proofs.message.reading.read_reply.Goals as goal
 
 pub unreachable-requires : goal.unreachable-requires
 unreachable-requires c =
-    ∥∥₁_elim c.args.self.now.spells ⊥_prop
+    ∥∥₁_elim c.requires.spells ⊥_prop
     (λ s. c.in-Err-Stop.ensures.err c.in-Err-Stop.field-0-0 c.in-Err-Stop.field-0-is s.0 s.1)

@@ -1,7 +1,7 @@
 use Rattle.capture3.proofs.Common.{sym, subst, List, ℕ, SpellsCall}
-use Rattle.capture3.proofs.reader.entry.KeptCall.lend.Goals as goal
+use Rattle.capture3.proofs.reader.entry.KeptCall.read.Goals as goal
 
-pub invariant_of-result-clause-spells : goal.invariant_of-result-clause-spells
-invariant_of-result-clause-spells c =
+pub read_call-requires-clause-spells : goal.read_call-requires-clause-spells
+read_call-requires-clause-spells c =
     subst (λ (body : List ℕ). ∥ SpellsCall c.args.self.now.id body ∥₁) (sym c.deref.ensures.value)
     c.args.self.now.spells
