@@ -206,14 +206,12 @@ pub(crate) fn message_is_told(rt: &impl Abort, alloc: Global, lent: EntryRef<'_>
     }
 }
 
-#[test]
-fn kept_messages_are_told(rt: HostRuntime) {
-    for entry in ok(&rt, parse(rt.alloc(), &NULL)).iter() {
-        match entry {
-            Entry::Call(kept) => message_is_told(&rt, rt.alloc(), EntryRef::Call(kept.lend())),
-            Entry::Reply(kept) => message_is_told(&rt, rt.alloc(), EntryRef::Reply(kept.lend())),
-            Entry::Begin | Entry::Turn | Entry::Close | Entry::End => {}
-        }
+/// A kept message is read as a value with its xid.
+pub(crate) fn kept_is_read(rt: &impl Abort, alloc: Global, entry: &Entry) {
+    match entry {
+        Entry::Call(kept) => assert_same!(rt; ok(rt, kept.read(alloc)).xid, 0xdead_beef),
+        Entry::Reply(kept) => assert_same!(rt; ok(rt, kept.read(alloc)).xid, 0xdead_beef),
+        Entry::Begin | Entry::Turn | Entry::Close | Entry::End => {}
     }
 }
 

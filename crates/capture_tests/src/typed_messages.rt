@@ -7,9 +7,9 @@ use crate::asserts::{assert_holds, assert_same, ok};
 use crate::sample::NULL;
 use capture3::{Entry, pack_chunk, pack_header, parse};
 use nfs3_types::Res;
+use procs3::{Args, Results};
 use rpc_head::ProcId;
 use std::alloc::{AllocError, Global};
-use procs3::{Args, Results};
 use xdr3::{GetError, Input, Reason, Stop, Walk, Writer};
 
 /// The arguments of a WRITE of the bytes hi to the handle aa, from offset 9 on, FILE_SYNC (2).

@@ -1,9 +1,9 @@
 //! Captures of version 2: the chunks of both sides in one list, and nothing of a connection is judged before its side word 0.
 
 use crate::asserts::{assert_holds, assert_same, ok};
-use crate::captures::{NAMES, file_fault, message_is_told, name, name_of, read_names, reader};
+use crate::captures::{NAMES, file_fault, kept_is_read, message_is_told, name, name_of, read_names, reader};
 use crate::sample::{CLIENT_FIRST, NULL, SERVER_FIRST};
-use capture3::{Entry, EntryRef, Error, Fault, Kind, MemSource, Place, Side, Silent, parse};
+use capture3::{Error, Fault, Kind, MemSource, Place, Side, Silent, parse};
 use std::alloc::{AllocError, Global};
 use std::process::Abort;
 use xdr3::{Reason, Writer};
@@ -65,15 +65,7 @@ fn chunks_in_either_order(rt: HostRuntime) {
         assert_same!(rt; entries.len(), NAMES.len());
         for (entry, wanted) in entries.iter().zip(NAMES.iter()) {
             assert_same!(rt; name(entry), *wanted);
-            match entry {
-                Entry::Call(kept) => message_is_told(&rt, rt.alloc(), EntryRef::Call(kept.lend())),
-                Entry::Reply(kept) => message_is_told(
-                    &rt,
-                    rt.alloc(),
-                    EntryRef::Reply(kept.lend()),
-                ),
-                Entry::Begin | Entry::Turn | Entry::Close | Entry::End => {}
-            }
+            kept_is_read(&rt, rt.alloc(), entry);
         }
     }
 }
