@@ -288,12 +288,8 @@ impl<S: BuildHasher + Drop> Comparison<S> {
         ensures reads { ReadsBoth A.failures B.failures first.old first.new
             second.old second.new result }
     {
-        match first.next(&mut self.first) {
-            Ok(Some(_)) => match first.entry() {
-                Some(entry) => self.compare_second_entry(entry, second),
-                // An entry was just returned.
-                None => unreachable!(),
-            },
+        match first.visit(&mut self.first) {
+            Ok(Some(entry)) => self.compare_second_entry(entry, second),
             Ok(None) => Ok(Some(Finding::Ended)),
             Err(error) => Err(SameError {
                 which: Which::First,
@@ -324,12 +320,8 @@ impl<S: BuildHasher + Drop> Comparison<S> {
         // The device.
         ensures reads { ReadsSecond B.failures second.old second.new result }
     {
-        match second.next(&mut self.second) {
-            Ok(Some(_)) => match second.entry() {
-                Some(other) => Ok(self.compare(entry, other)?.map(Finding::Parted)),
-                // An entry was just returned.
-                None => unreachable!(),
-            },
+        match second.visit(&mut self.second) {
+            Ok(Some(other)) => Ok(self.compare(entry, other)?.map(Finding::Parted)),
             Ok(None) => Ok(Some(Finding::Ended)),
             Err(error) => refused(error),
         }

@@ -2,29 +2,29 @@ use Rattle.canon3.proofs.Common.{source_of, items_of}
 use Rattle.canon3.proofs.Lemmas.Comparison.ComparisonLemmas.{first_stops, hands, stepped, told_first}
 use Rattle.canon3.proofs.comparison.Comparison.step.Goals as goal
 
-pub returns-in-Some-clause-steps : goal.returns-in-Some-clause-steps
-returns-in-Some-clause-steps g c start other_start u =
-    let new = c.next.new.self in
+pub returns-in-Ok-Some-clause-steps : goal.returns-in-Ok-Some-clause-steps
+returns-in-Ok-Some-clause-steps g c start other_start u =
+    let new = c.visit.follows.lender-at-none in
+    let ends = rw (c.in-Ok-Some.is, c.in-Ok-Some.field-0-is) at c.visit.follows.holds-at-none in
     let (e, is, first, adds, given) =
-    rw c.in-Ok-Some.field-0-is at
-    (hands _ _ start _ _ _ _ u.a u.first_given _
-    (c.in-Ok-Some.ensures.answers u.first_given.given u.a u.first_given.stands)) in
+    hands _ _ start _ _ _ _ u.a u.first_given _
+    (ends.answers u.first_given.given u.a u.first_given.stands) in
     let so_far =
-    told_first c.args.self.now u.a u.b c.next.new.visitor (items_of e) adds u.compared in
+    told_first c.args.self.now u.a u.b c.visit.new.visitor (items_of e) adds u.compared in
     stepped g.A.Source.told g.B.Source.told start other_start new c.compare_second_entry.new.second
     c.compare_second_entry.new.self u.a u.b e given c.compare_second_entry.result
     (c.compare_second_entry.ensures.meets start (g.A.Source.told (source_of new)) other_start u.a
     u.b e (
-      c.in-Some.ensures.lent given.given u.a e given.stands,
-      c.in-Some.ensures.numbered given.given u.a e given.stands,
+      ends.lent given.given u.a e given.stands,
+      ends.numbered given.given u.a e given.stands,
     ) first so_far u.second_given)
 
 pub returns-in-Ok-None-clause-steps : goal.returns-in-Ok-None-clause-steps
 returns-in-Ok-None-clause-steps g c start other_start u =
     let (all, given) =
-    rw c.in-Ok-None.field-0-is at
+    rw (c.in-Ok-None.is, c.in-Ok-None.field-0-is) at
     (hands _ _ start _ _ _ _ u.a u.first_given _
-    (c.in-Ok-None.ensures.answers u.first_given.given u.a u.first_given.stands)) in
+    (c.visit.follows.holds-at-none.answers u.first_given.given u.a u.first_given.stands)) in
     record {
       a = u.a;
       b = u.b;
@@ -37,7 +37,10 @@ returns-in-Ok-None-clause-steps g c start other_start u =
 
 pub returns-in-Err-clause-steps : goal.returns-in-Err-clause-steps
 returns-in-Err-clause-steps g c start other_start u =
-    first_stops start (g.A.Source.told (source_of c.next.new.self)) other_start
-    (g.B.Source.told (source_of c.args.second.now)) c.in-Err.error
-    (hands _ _ start _ _ _ _ u.a u.first_given _
-    (c.in-Err.ensures.answers u.first_given.given u.a u.first_given.stands))
+    let met =
+        rw c.in-Err.is at
+        (hands _ _ start _ _ _ _ u.a u.first_given _
+        (c.visit.follows.holds-at-none.answers u.first_given.given u.a u.first_given.stands))
+    in
+    first_stops start (g.A.Source.told (source_of c.visit.follows.lender-at-none)) other_start
+    (g.B.Source.told (source_of c.args.second.now)) c.in-Err.error met
