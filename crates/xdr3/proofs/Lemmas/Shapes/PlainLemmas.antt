@@ -1,11 +1,12 @@
 -- Runs of words and numbers of eight bytes.
-use Rattle.xdr3.proofs.Common.{◌≡◌, ℕ, ◌+◌, ◌-◌, ◌<◌, ◌≤◌, List, [], ◌∷◌, ◌++◌, ltb, length, get_or, take, drop, Ok, Err, refl, sym, ap, subst, ◌∙◌, arith, flat_map-append, big_bytes, Short, Stop, AreBytes, Item, zero_spelling, zero_spelling_of, reading, run_at, Scans, Stops, MovesOn, View, Adds, ltb-false, lt-ltb, le-ltb, drop-drop, drop_all, drop_more, drop-take, length-drop, length-take, take-append-drop, big_from-take}
+use Rattle.xdr3.proofs.Common.{◌≡◌, ℕ, ◌+◌, ◌-◌, ◌<◌, ◌≤◌, List, [], ◌∷◌, ◌++◌, ltb, length, get_or, take, drop, Ok, Err, refl, sym, ap, subst, ◌∙◌, arith, flat_map-append, big_bytes, Short, Stop, AreBytes, Item, zero_spelling, zero_spelling_of, reading, run_at, Scans, Stops, MovesOn, View, Adds, AddsSome, ltb-false, lt-ltb, le-ltb, drop-drop, drop_all, drop_more, drop-take, length-drop, length-take, take-append-drop, big_from-take}
 use Rattle.xdr3.specs.declared.plain.PlainField.{PlainField}
 use Rattle.xdr3.specs.declared.plain.PlainField.TheVariants as fields
 use Rattle.xdr3.specs.declared.reason.GetError.TheVariants as errors
 use Rattle.xdr3.specs.Plain.{plain_item, run_items, run_shape, run_size, shape_of, width}
 use Rattle.xdr3.proofs.Lemmas.Reading.Bytes.{AreBytes-drop, AreBytes-take, guard_ok, wide4, wide8}
-use Rattle.xdr3.proofs.Lemmas.Shapes.Walks.{adds_joined, adds_nothing}
+use Rattle.xdr3.specs.Visit.{Keeps}
+use Rattle.xdr3.proofs.Lemmas.Shapes.Walks.{adds_joined, adds_nothing, some_after, some_none}
 
 -- ---- one field
 
@@ -150,11 +151,14 @@ pub record IsTelling {V : Type 0} (stands : V → List Item → Type 0) (all : L
   pub size : length rest ≡ run_size (drop i all)
   pub adds : (new : V) → Adds stands now new (run_items (drop i all) rest)
       → Adds stands old new (run_items all bytes)
+  pub adds_some : (new : V) → AddsSome stands now new (run_items (drop i all) rest)
+      → AddsSome stands old new (run_items all bytes)
 
 pub telling_begins : {V : Type 0} (stands : V → List Item → Type 0) (all : List PlainField)
     (bytes : List ℕ) (old : V) → length bytes ≡ run_size all
     → IsTelling stands all bytes bytes old old 0
-telling_begins stands all bytes old h = record { size = h; adds = λ new a. a }
+telling_begins stands all bytes old h =
+    record { size = h; adds = λ new a. a; adds_some = λ new a. a }
 
 pub telling_next : {V : Type 0} (stands : V → List Item → Type 0) (all : List PlainField)
     (bytes rest later : List ℕ) (old now next after : V) (i : ℕ) (field d : PlainField)
@@ -172,7 +176,18 @@ telling_next stands all bytes rest later old now next after i field d t h is tol
           t.adds new (rw more (adds_joined stands now next new (plain_item field rest ∷ [])
           (run_items (drop (i + 1) all) (drop (width field) rest))
           (run_items (field ∷ drop (i + 1) all) rest) told a refl));
+      adds_some =
+          λ new a.
+          t.adds_some new (rw more (some_after stands now next new (plain_item field rest ∷ [])
+          (run_items (drop (i + 1) all) (drop (width field) rest))
+          (run_items (field ∷ drop (i + 1) all) rest) told a refl));
     })
+
+pub telling_stops : {V : Type 0} (stands : V → List Item → Type 0) (all : List PlainField)
+    (bytes rest : List ℕ) (old now new : V) (i : ℕ) → IsTelling stands all bytes rest old now i
+    → Keeps stands now new → AddsSome stands old new (run_items all bytes)
+telling_stops stands all bytes rest old now new i t k =
+    t.adds_some new (some_none stands now new (run_items (drop i all) rest) k)
 
 pub telling_ends : {V : Type 0} (stands : V → List Item → Type 0) (all : List PlainField)
     (bytes rest : List ℕ) (old now : V) (i : ℕ) → IsTelling stands all bytes rest old now i

@@ -1,6 +1,7 @@
 use Rattle.std.proofs.Common.{◌∙◌, ap}
 use Rattle.std.proofs.lemmas.List.{take_rest}
-use Rattle.xdr3.proofs.Lemmas.Shapes.PlainLemmas.{telling_ends, telling_next}
+use Rattle.xdr3.proofs.Lemmas.Shapes.PlainLemmas.{telling_ends, telling_next, telling_stops}
+use Rattle.xdr3.proofs.Lemmas.Shapes.Walks.{on_err}
 use Rattle.xdr3.proofs.visit.Visit.plain.Goals as goal
 use Rattle.xdr3.proofs.visit.Visit.plain.Goals.{in-Word+in_ok-word-in-Word, in-Hyper+in_ok-hyper-in-Hyper}
 
@@ -30,4 +31,17 @@ returns g c =
           telling_ends g.Self.Visit.stands c.args.fields.now c.args.bytes.now c.loop-field.rest.now
           c.args.self.now c.loop-field.self c.loop-field.field-index c.loop-field.invariant
           c.loop-field-test.false;
+      err = tt;
     }
+
+pub returns-in_err-word-in-Word-clause-err : goal.returns-in_err-word-in-Word-clause-err
+returns-in_err-word-in-Word-clause-err g c =
+    on_err _ (telling_stops g.Self.Visit.stands c.args.fields.now c.args.bytes.now
+    c.loop-field.rest.now c.args.self.now c.loop-field.self c.word.new.self
+    c.loop-field.field-index c.loop-field.invariant c.in_err-word-in-Word.ensures.err)
+
+pub returns-in_err-hyper-in-Hyper-clause-err : goal.returns-in_err-hyper-in-Hyper-clause-err
+returns-in_err-hyper-in-Hyper-clause-err g c =
+    on_err _ (telling_stops g.Self.Visit.stands c.args.fields.now c.args.bytes.now
+    c.loop-field.rest.now c.args.self.now c.loop-field.self c.hyper.new.self
+    c.loop-field.field-index c.loop-field.invariant c.in_err-hyper-in-Hyper.ensures.err)
