@@ -20,7 +20,7 @@ pub use Rattle.capture3.specs.declared.fault.Place.{Place}
 pub use Rattle.capture3.specs.declared.fault.Side.{Side}
 pub use Rattle.capture3.specs.declared.fault.Side.TheVariants.{Client, Server}
 pub use Rattle.capture3.specs.declared.reader.entries.Entries.{Entries}
-pub use Rattle.capture3.specs.declared.reader.entry.EntryRef.{EntryRef}
+pub use Rattle.capture3.specs.declared.reader.entry.LentEntry.{LentEntry}
 pub use Rattle.capture3.specs.declared.reader.entry.Kind.{Kind}
 pub use Rattle.capture3.specs.machinery.EntriesHistory.{StandsFor, entries_left}
 pub use Rattle.nfs3_types.specs.Handle.{handle_bytes}
@@ -55,7 +55,7 @@ pub use Rattle.canon3.specs.Bytes.{bytes_of, chunk_bytes, entry_bytes, message_b
 pub use Rattle.canon3.specs.Canonical.{canonical, numbered, numbered_item, numbered_message}
 pub use Rattle.canon3.specs.CanonicalStream.{entries_after, items_after, message_after}
 pub use Rattle.canon3.specs.EntryCounts.{counted_steps}
-pub use Rattle.canon3.specs.EntryWriter.{IsLentAfter}
+pub use Rattle.capture3.specs.Numbering.{IsLentAfter}
 pub use Rattle.canon3.specs.Examples.{p, q}
 pub use Rattle.canon3.specs.HandleTable.{Gathers, HoldsHandles, same_handle}
 pub use Rattle.canon3.specs.Laws.{AreFirst}

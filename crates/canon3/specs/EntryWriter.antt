@@ -13,12 +13,11 @@ use Rattle.capture3.specs.Reached.{Reached}
 use Rattle.capture3.specs.Typed.{Typed}
 use Rattle.canon3.specs.declared.entries.entry_counts.EntryCounts.{EntryCounts}
 use Rattle.canon3.specs.declared.summary.Summary.{Summary}
-use Rattle.capture3.specs.declared.reader.entry.EntryRef.{EntryRef}
+use Rattle.capture3.specs.declared.reader.entry.LentEntry.{LentEntry}
 use Rattle.canon3.specs.Laws.{AreFirst}
 use Rattle.canon3.specs.EntryCounts.{AreCounted}
 use Rattle.canon3.specs.Summary.{IsSummary}
-use Rattle.capture3.specs.Kept.{IsLent}
-use Rattle.capture3.specs.Numbering.{number_after, number_lent}
+use Rattle.capture3.specs.Numbering.{IsLentAfter}
 use Rattle.canon3.specs.SinkWrites.{AppendsFront}
 
 module _ (form : List Entry → List ℕ) where
@@ -82,10 +81,6 @@ abbrev pub KeepsPrefixes : (List Entry → List ℕ) → Type 0
 KeepsPrefixes form = (entries more : List Entry) → AreFirst (entries ++ more)
     → (rest : List ℕ) × (form (entries ++ more) ≡ form entries ++ rest)
 
--- the entry that is lent after these, with its number
-abbrev pub IsLentAfter : (before : List Entry) → EntryRef → Entry → Type 0
-IsLentAfter before lent entry = IsLent lent entry × (number_lent lent ≡ number_after before entry)
-
 -- a writer of a form, the items that stand for the entries that it wrote, and whether it can go on
 module _ {T : Type 0} (form : List Entry → List ℕ) (before : List Entry → List Item)
     (stands : T → List Item → Type 0) (going : T → Type 0) where
@@ -98,7 +93,7 @@ module _ {T : Type 0} (form : List Entry → List ℕ) (before : List Entry → 
 
   -- One lent entry more of a well-formed capture is written, or cut, whose items the writer was
   -- told after those of the entries before. The sink had some bytes, and has others now.
-  abbrev pub WritesOne : (was now : T) → EntryCounts → EntryRef → (between new : Option (List ℕ))
+  abbrev pub WritesOne : (was now : T) → EntryCounts → LentEntry → (between new : Option (List ℕ))
       → {X : Type 0} → Result X Error → Type 0
   WritesOne was now counts lent between new result =
       (old : Option (List ℕ)) (entries : List Entry) (one : Entry)

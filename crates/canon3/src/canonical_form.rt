@@ -11,7 +11,8 @@ ghost use Rattle.canon3.specs.Laws.{AreFirst};
 ghost use Rattle.canon3.specs.machinery.MessageWriter.{WriterStands, told_after, values_of};
 ghost use Rattle.capture3.specs.Told.{GavePrefix};
 ghost use Rattle.canon3.specs.CanonicalForm.{canonical_bytes, RewritesGiven, WritesNoMore};
-ghost use Rattle.canon3.specs.EntryWriter.{IsLentAfter, WritesAll};
+ghost use Rattle.canon3.specs.EntryWriter.{WritesAll};
+ghost use Rattle.capture3.specs.Numbering.{IsLentAfter};
 ghost use Rattle.canon3.specs.machinery.FormSteps.{Follows};
 ghost use Rattle.capture3.specs.Entry.{items_of};
 ghost use Rattle.canon3.specs.WriteErrors.{CountsWriting, IsOfWriting};
@@ -24,7 +25,7 @@ use crate::entries::entry_counts::EntryCounts;
 use crate::entries::entry_writer::{CountingWriter, EntryWriter, write_entries};
 use crate::sink::Sink;
 use crate::summary::Summary;
-use capture3::{EntryRef, Error, Hashers, Source};
+use capture3::{LentEntry, Error, Hashers, Source};
 use std::alloc::Global;
 use std::hash::BuildHasher;
 
@@ -71,7 +72,7 @@ pub fn canon<R: Source, W: Sink, S: BuildHasher + Drop>(
 fn write_after_magic<S: BuildHasher + Drop, W: Sink>(
     message_writer: &mut MessageWriter<S>,
     sink: &mut W,
-    entry: EntryRef<'_>,
+    entry: LentEntry<'_>,
 ) -> Result<(), Error>
     ensures follows { (entries : List spec.Entry) (one : spec.Entry)
         → IsLentAfter entries entry.entry one
@@ -106,7 +107,7 @@ impl<S: BuildHasher + Drop> EntryWriter for MessageWriter<S> {
         &mut self,
         counts: &EntryCounts,
         sink: &mut W,
-        entry: EntryRef<'_>,
+        entry: LentEntry<'_>,
     ) -> Result<(), Error> {
         write_magic(counts, sink)?;
         write_after_magic(self, sink, entry)

@@ -13,7 +13,7 @@ ghost use Rattle.canon3.specs.machinery.ComparisonSteps.{Compares, FindsOut, Has
 ghost use Rattle.canon3.specs.machinery.Reading.{ReadsBoth, ReadsOne, ReadsSecond};
 ghost use Rattle.canon3.specs.Laws.{AreFirst};
 ghost use Rattle.canon3.specs.Progress.{steps_of};
-ghost use Rattle.canon3.specs.EntryWriter.{IsLentAfter};
+ghost use Rattle.capture3.specs.Numbering.{IsLentAfter};
 ghost use Rattle.capture3.specs.Entry.{items_of};
 
 use crate::canonical_form::message_writer::MessageWriter;
@@ -21,7 +21,7 @@ use crate::canonical_form::spelling::{are_alike, spelling_of_entry};
 use crate::comparison::verdict::{SameError, Verdict, Which, out_of_memory_in};
 use crate::entries::entry_kind::kind_of;
 use crate::entries::progress::Progress;
-use capture3::{Entries, EntryRef, Error, Fault, Hashers, Place, Silent, Source, new_block};
+use capture3::{Entries, LentEntry, Error, Fault, Hashers, Place, Silent, Source, new_block};
 use std::alloc::Global;
 use std::hash::BuildHasher;
 
@@ -216,7 +216,7 @@ fn read_next<R: Source, S: BuildHasher + Drop>(
     ensures going { OnOk result (failure_of entries.new ≡ None) }
     ensures reads { ReadsOne R.failures entries.old entries.new result }
 {
-    Ok(entries.next(&mut Silent)?.is_some())
+    Ok(entries.visit(&mut Silent)?.is_some())
 }
 
 /// Two captures that are read side by side, each with numbers of its own.
@@ -301,7 +301,7 @@ impl<S: BuildHasher + Drop> Comparison<S> {
     /// Takes the second's entry beside the first's, whose items were visited.
     fn compare_second_entry<B: Source>(
         &mut self,
-        entry: EntryRef<'_>,
+        entry: LentEntry<'_>,
         second: &mut Entries<'_, B, S>,
     ) -> Result<Option<Finding>, SameError>
         requires going { failure_of second.old ≡ None }
@@ -331,8 +331,8 @@ impl<S: BuildHasher + Drop> Comparison<S> {
     /// are alike.
     fn compare(
         &mut self,
-        entry: EntryRef<'_>,
-        other: EntryRef<'_>,
+        entry: LentEntry<'_>,
+        other: LentEntry<'_>,
     ) -> Result<Option<Place>, SameError>
         requires room { steps_of self.old.progress + 1 < 2 ^ 32 }
         ensures compares { (a b : List spec.Entry) (e f : spec.Entry)

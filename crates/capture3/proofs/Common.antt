@@ -54,7 +54,7 @@ pub use Rattle.capture3.specs.Connections.{BadSide, ConnectionShows, Context, In
 pub use Rattle.capture3.specs.Entry.{End, Entry}
 pub use Rattle.capture3.specs.FileMachine.{Parsing, concluded, emitted, file_next, file_start, last_entries, parsed, parsing_in, reached, verdict, verdict_of, marked}
 pub use Rattle.capture3.specs.FirstFault.{AfterConnections, ByteAfterEnd, ConnectionIsTooMany, DiffersFromMagic, FirstFault, IsClean, MagicDiffers, MarkIsBad, Rule, Shows, WithinConnection}
-pub use Rattle.capture3.specs.Laws.{AreWithinLimits, begins, most_bytes, HasItsPlace, HasOneVerdict, HaveSameEntries, IsCutShort, IsJudgedInTurn, IsJudgedOnce, IsWithinVersion, spelled}
+pub use Rattle.capture3.specs.Laws.{AreWithinLimits, begins, most_bytes, HasItsPlace, HasOneVerdict, HaveSameEntries, IsCutShort, IsJudgedInTurn, IsJudgedOnce, IsOfVersion, IsWithinVersion, spelled}
 pub use Rattle.capture3.specs.Reached.{AreFirstReached, AreWhole, BetweenConnections, InConnection, InMagic, IsLongestClean, Opens, Reached, ReachesInside}
 pub use Rattle.capture3.specs.Records.{AreMessages, FirstRecordFault, Holds, HoldsSoFar, Judgement, NextIsCut, NextIsTooLong, RecordFault, RefusesNext, StreamShows, fault_at, IsCut, RefusesRecord}
 pub use Rattle.capture3.specs.SideMachine.{SideCloses, SideEnd, SideRefuses, Siding, side_next, siding_from, siding_in, awaiting, closing, counted}

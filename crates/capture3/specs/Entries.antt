@@ -12,10 +12,10 @@ use Rattle.capture3.specs.declared.reader.entry.Kind.{Kind}
 use Rattle.capture3.specs.declared.fault.Error.{Error}
 use Rattle.capture3.specs.declared.fault.Error.TheVariants as errors
 use Rattle.capture3.specs.declared.fault.Fault.{Fault}
-use Rattle.capture3.specs.Capture.{Two, max_connections}
+use Rattle.capture3.specs.Capture.{One, Two, max_connections}
 use Rattle.capture3.specs.Entry.{Entry, End}
 use Rattle.capture3.specs.FirstFault.{FirstFault}
-use Rattle.capture3.specs.Laws.{begins, most_bytes, most_entries}
+use Rattle.capture3.specs.Laws.{IsOfVersion, begins, most_bytes, most_entries}
 use Rattle.capture3.specs.Reached.{AreFirstReached, Reached}
 use Rattle.capture3.specs.Typed.{Typed, IsWellFormed}
 
@@ -91,13 +91,14 @@ module _ {R S H : Type 0} {builds : BuildHasher.Ghosts S H} {hashes : Hasher.Gho
     pub same_reference : loan_of new ≡ loan_of old
 
   -- The entries that were handed out and the connections that they begin are at most as many as a
-  -- capture has. The bytes given are at most one block more than the longest capture has, also if
-  -- the source never ends.
+  -- capture has. The bytes given are at most one block more than the longest capture has, or the
+  -- longest of version 1 if they are of that version, also if the source never ends.
   pub record KeepsLimits (entries : Entries R S H builds hashes) (given : List ℕ)
       (handed : List Entry) : Type 0 where
     pub few : length handed ≤ most_entries
     pub connections : begins handed ≤ max_connections
     pub most : length given ≤ most_bytes Two + block_size entries
+    pub most_of_one : IsOfVersion One given → length given ≤ most_bytes One + block_size entries
 
   -- what the entry is that was handed out last
   abbrev pub last_of : Entries R S H builds hashes → Option Kind

@@ -4,8 +4,8 @@ use Rattle.xdr3.specs.Item.{Item}
 use Rattle.rpc_head.specs.Messages.{procedure_in}
 use Rattle.capture3.specs.declared.reader.entry.Entry as kept
 use Rattle.capture3.specs.declared.reader.entry.Entry.TheVariants as variants
-use Rattle.capture3.specs.declared.reader.entry.EntryRef.{EntryRef}
-use Rattle.capture3.specs.declared.reader.entry.EntryRef.TheVariants as lent
+use Rattle.capture3.specs.declared.reader.entry.LentEntry.{LentEntry}
+use Rattle.capture3.specs.declared.reader.entry.LentEntry.TheVariants as lent
 use Rattle.capture3.specs.declared.reader.entry.Kind.{Kind}
 use Rattle.capture3.specs.declared.reader.entry.Kind.TheVariants as kinds
 use Rattle.capture3.specs.Bodies.{IsCall, IsReply}
@@ -22,7 +22,7 @@ IsOfKind kinds.Close entry = entry ≡ Close
 IsOfKind kinds.End entry = entry ≡ End
 
 -- what a lent entry is
-abbrev pub kind_of : EntryRef → Kind
+abbrev pub kind_of : LentEntry → Kind
 kind_of lent.Begin = kinds.Begin
 kind_of (lent.Call call) = kinds.Call call.id
 kind_of lent.Turn = kinds.Turn
@@ -30,12 +30,12 @@ kind_of (lent.Reply reply) = kinds.Reply reply.id
 kind_of lent.Close = kinds.Close
 kind_of lent.End = kinds.End
 
-abbrev pub kind_lent : Option EntryRef → Option Kind
+abbrev pub kind_lent : Option LentEntry → Option Kind
 kind_lent None = None
 kind_lent (Some entry) = Some (kind_of entry)
 
 -- A lent message's body spells the entry's items, for its procedure (RFC 5531, section 9).
-abbrev pub IsLent : EntryRef → Entry → Type 0
+abbrev pub IsLent : LentEntry → Entry → Type 0
 IsLent lent.Begin entry = entry ≡ Begin
 IsLent (lent.Call call) entry = (items : List Item) × IsCall call.body.now items
     × (call.id ≡ procedure_in items) × (entry ≡ Call items)
@@ -65,7 +65,7 @@ AreKept (one ∷ more) entries = (entry : Entry) × (rest : List Entry) × (entr
     × IsKept one entry × AreKept more rest
 
 -- a kept entry has the kind of a lent one, and of a message the same procedure and bytes
-abbrev pub IsCopy : EntryRef → kept.Entry → Type 0
+abbrev pub IsCopy : LentEntry → kept.Entry → Type 0
 IsCopy lent.Begin variants.Begin = Unit {0}
 IsCopy (lent.Call call) (variants.Call copy) = (copy.id ≡ call.id)
     × (copy.body.items ≡ call.body.now)

@@ -1,15 +1,16 @@
 -- The numbers of messages: their xids (RFC 5531, section 9) by the order of first appearance in a
 -- connection.
-use Rattle.std.specs.Prelude.{ℕ, nat_eq, List, [], ◌∷◌, ◌++◌, Option, Some, None}
-use Rattle.capture3.specs.declared.reader.entry.EntryRef.{EntryRef}
-use Rattle.capture3.specs.declared.reader.entry.EntryRef.TheVariants as lent
+use Rattle.std.specs.Prelude.{◌≡◌, ℕ, nat_eq, List, [], ◌∷◌, ◌++◌, Option, Some, None}
+use Rattle.capture3.specs.declared.reader.entry.LentEntry.{LentEntry}
+use Rattle.capture3.specs.declared.reader.entry.LentEntry.TheVariants as lent
 use Rattle.capture3.specs.Bodies.{xid_in}
 use Rattle.capture3.specs.Entry.{Entry, Call, Reply}
+use Rattle.capture3.specs.Kept.{IsLent}
 use Rattle.capture3.specs.OpenXids.{open_xids}
 use Rattle.capture3.specs.Rank.{rank}
 
 -- the number of a lent message
-abbrev pub number_lent : EntryRef → Option ℕ
+abbrev pub number_lent : LentEntry → Option ℕ
 number_lent (lent.Call call) = Some call.number
 number_lent (lent.Reply reply) = Some reply.number
 number_lent _ = None
@@ -24,3 +25,7 @@ rank_among xids _ = None
 -- connection's calls so far. A call counts itself.
 abbrev pub number_after : (before : List Entry) → Entry → Option ℕ
 number_after before entry = rank_among (open_xids [] (before ++ entry ∷ [])) entry
+
+-- the entry that is lent after these, with its number
+abbrev pub IsLentAfter : (before : List Entry) → LentEntry → Entry → Type 0
+IsLentAfter before lent entry = IsLent lent entry × (number_lent lent ≡ number_after before entry)

@@ -3,13 +3,13 @@ use Rattle.std.specs.Prelude.{◌≡◌, Option, Some, None, List}
 use Rattle.xdr3.specs.Item.{Item}
 use Rattle.capture3.specs.declared.reader.entry.Kind.{Kind}
 use Rattle.capture3.specs.declared.reader.entry.Kind.TheVariants as kinds
-use Rattle.capture3.specs.declared.reader.read_entry.ReadEntry.{ReadEntry}
-use Rattle.capture3.specs.declared.reader.read_entry.ReadEntry.TheVariants as read
+use Rattle.capture3.specs.declared.reader.entry_ref.EntryRef.{EntryRef}
+use Rattle.capture3.specs.declared.reader.entry_ref.EntryRef.TheVariants as read
 use Rattle.capture3.specs.Bodies.{IsReply}
 use Rattle.capture3.specs.Entry.{Entry, Begin, Call, Turn, Reply, Close, End}
 use Rattle.capture3.specs.MessageValues.{call_items}
 
-abbrev pub kind_of_read : ReadEntry → Kind
+abbrev pub kind_of_read : EntryRef → Kind
 kind_of_read read.Begin = kinds.Begin
 kind_of_read (read.Call call) = kinds.Call call.head.id
 kind_of_read read.Turn = kinds.Turn
@@ -17,12 +17,12 @@ kind_of_read (read.Reply reply) = kinds.Reply reply.id
 kind_of_read read.Close = kinds.Close
 kind_of_read read.End = kinds.End
 
-abbrev pub kind_read : Option ReadEntry → Option Kind
+abbrev pub kind_read : Option EntryRef → Option Kind
 kind_read None = None
 kind_read (Some entry) = Some (kind_of_read entry)
 
 -- A call has the entry's items; a lent reply's body spells them.
-abbrev pub IsReadAs : ReadEntry → Entry → Type 0
+abbrev pub IsReadAs : EntryRef → Entry → Type 0
 IsReadAs read.Begin entry = entry ≡ Begin
 IsReadAs (read.Call call) entry = entry ≡ Call (call_items call)
 IsReadAs read.Turn entry = entry ≡ Turn

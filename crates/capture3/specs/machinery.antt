@@ -14,5 +14,6 @@ pub mod KeptStreams
 pub mod StreamsInMemory
 pub mod FileStanding
 pub mod Spelled
+pub mod Stepping
 pub mod ContainerMachine
 pub mod UnspelledMessages

@@ -1,4 +1,5 @@
-//! Laws over the definitions of captures alone. They do nothing: each is what a function without a result ensures.
+//! Laws over the definitions of captures alone.
+    They do nothing: each is what a function without a result ensures.
 
 ghost use Rattle.std.specs.Prelude.{◌≡◌, ◌↔◌, ◌≤◌, ℕ, List, ◌++◌, length, Ok, Err};
 ghost use Rattle.xdr3.specs.Item.{AreBytes, Item};
@@ -8,21 +9,29 @@ ghost use Rattle.capture3.specs.Bodies.{ReplyItems};
 ghost use Rattle.capture3.specs.Capture.{IsCapture, Version};
 ghost use Rattle.capture3.specs.SidedChunks.{Streams};
 ghost use Rattle.capture3.specs.Connections.{calls_in_turn, replies_to};
-ghost use Rattle.capture3.specs.Entries.{KeepsLimits};
+ghost use Rattle.capture3.specs.Entries.{AreAllBeforeEnd, KeepsLimits};
 ghost use Rattle.capture3.specs.machinery.EntriesHistory.{StandsFor};
 ghost use Rattle.capture3.specs.Entry.{Entry};
 ghost use Rattle.capture3.specs.FirstFault.{FirstFault, IsClean};
-ghost use Rattle.capture3.specs.Laws.{AreWithinLimits, HasItsPlace, HasOneVerdict, HaveSameEntries, IsCutShort, IsJudgedInTurn, IsJudgedOnce, IsWithinVersion, most_bytes};
+ghost use
+    Rattle.capture3.specs.Laws.{AreWithinLimits, HasItsPlace, HasOneVerdict, HaveSameEntries,
+        IsCutShort, IsJudgedInTurn, IsJudgedOnce, IsWithinVersion, most_bytes};
 ghost use Rattle.capture3.specs.FileMachine.{file_next, parsed, reached, verdict};
-ghost use Rattle.capture3.specs.Reached.{Reached};
+ghost use Rattle.capture3.specs.Reached.{AreFirstReached, Reached};
 ghost use Rattle.capture3.specs.Typed.{Typed};
 ghost use Rattle.std.specs.Prelude.{[], ◌∷◌};
-ghost use Rattle.xdr3.specs.declared.reason.Reason.TheVariants.{AfterEnd, BadEnum, BadMark, CaptureCut, TooManyBytes, WrongSide};
+ghost use
+    Rattle.xdr3.specs.declared.reason.Reason.TheVariants.{AfterEnd, BadEnum, BadMark, CaptureCut,
+        TooManyBytes, WrongSide};
 ghost use Rattle.capture3.specs.declared.fault.Place.TheVariants.{Record};
 ghost use Rattle.capture3.specs.declared.fault.Side.TheVariants.{Client, Server};
 ghost use Rattle.capture3.specs.Entry.{Begin, Call, Close, End, Turn};
-ghost use Rattle.capture3.specs.Examples.{bad_mtype, bad_mtype_cut, magic_1, null_call_items, null_capture, null_entries, word_0, word_1};
-ghost use Rattle.capture3.specs.Examples.{bad_mtype_mixed, bad_mtype_mixed_cut, call_answered_by_call, client_chunk, magic_2, null_mixed, null_mixed_swapped, server_chunk, word_3};
+ghost use
+    Rattle.capture3.specs.Examples.{bad_mtype, bad_mtype_cut, magic_1, null_call_items,
+        null_capture, null_entries, word_0, word_1};
+ghost use
+    Rattle.capture3.specs.Examples.{bad_mtype_mixed, bad_mtype_mixed_cut, call_answered_by_call,
+        client_chunk, magic_2, null_mixed, null_mixed_swapped, server_chunk, word_3};
 ghost use Rattle.capture3.specs.Sides.{file_fault};
 
 use crate::device::source::Source;
@@ -89,8 +98,8 @@ pub fn longest()
     ensures clean { (bytes : List ℕ) → AreBytes bytes → IsClean bytes → IsWithinVersion bytes }
 {}
 
-/// Whatever a source does, a reader keeps the limits: on the entries that it returns, on the connections
-/// that they begin, and on the bytes that it reads.
+/// Whatever a source does, a reader keeps the limits: on the entries that it returns, on the
+/// connections that they begin, and on the bytes that it reads, of version 1 beside those of both.
 pub fn reader_keeps_limits<R: Source, S: BuildHasher + Drop>(_entries: &Entries<'_, R, S>)
     ensures { (given : List ℕ) (handed : List Entry) → StandsFor R.told _entries.now given handed
         → KeepsLimits _entries.now given handed }
@@ -110,6 +119,14 @@ pub fn machine()
 /// The pieces in which the bytes come do not matter.
 pub fn pieces()
     ensures { (front back : List ℕ) → parsed (front ++ back) ≡ after file_next (parsed front) back }
+{}
+
+/// The entries that a prefix reaches, without a capture's end, are the first of those that all
+/// bytes reach. So what a reader returns of the bytes that it has read stays right, whatever bytes
+/// follow.
+pub fn reached_in_turn()
+    ensures { (front back : List ℕ) (entries : List Entry) → AreBytes (front ++ back)
+        → AreAllBeforeEnd front entries → AreFirstReached (front ++ back) entries }
 {}
 
 /// What small captures are: one NULL call and its reply, the smallest file, and some with faults;

@@ -2,7 +2,7 @@
 
 pub(crate) mod entries;
 pub(crate) mod entry;
+pub(crate) mod entry_ref;
 pub(crate) mod hashers;
 pub(crate) mod pairing;
-pub(crate) mod read_entry;
 pub(crate) mod whole;

@@ -3,8 +3,8 @@
 use crate::asserts::{assert_holds, assert_same, ok};
 use crate::sample::NULL;
 use capture3::{
-    DeviceFailed, Entries, Entry, EntryRef, Error, Fault, FromRead, Kind, MemSource, Place, Silent,
-    Source, new_block, pack_chunk, pack_header, parse,
+    DeviceFailed, Entries, Entry, EntryRef, Error, Fault, FromRead, LentEntry, MemSource, Place,
+    Silent, Source, pack_chunk, pack_header, parse,
 };
 use rpc_head::ProcId;
 use std::alloc::Global;
@@ -35,14 +35,14 @@ pub(crate) fn name(entry: &Entry) -> &'static str {
     }
 }
 
-pub(crate) fn name_of(kind: Kind) -> &'static str {
-    match kind {
-        Kind::Begin => "begin",
-        Kind::Call(_) => "call",
-        Kind::Turn => "turn",
-        Kind::Reply(_) => "reply",
-        Kind::Close => "close",
-        Kind::End => "end",
+pub(crate) fn name_of(entry: LentEntry<'_>) -> &'static str {
+    match entry {
+        LentEntry::Begin => "begin",
+        LentEntry::Call(_) => "call",
+        LentEntry::Turn => "turn",
+        LentEntry::Reply(_) => "reply",
+        LentEntry::Close => "close",
+        LentEntry::End => "end",
     }
 }
 
@@ -130,14 +130,13 @@ pub(crate) fn file_fault(at: usize, reason: Reason) -> Error {
     })
 }
 
-/// A reader of the source, through a block as it is advised.
+/// A reader of the source, with a block of its own.
 pub(crate) fn reader<'r, R: Source>(
     rt: &impl Abort,
     alloc: Global,
     source: &'r mut R,
 ) -> Entries<'r, R, BuildHasherDefault<FoldHasher>> {
-    let block = new_block(alloc).expect(rt, "no memory");
-    Entries::through(alloc, hasher(), source, block)
+    Entries::new(alloc, hasher(), source).expect(rt, "no memory")
 }
 
 /// The names of the entries up to the end or to an error. Each is answered again.
@@ -149,14 +148,14 @@ pub(crate) fn read_names<S: Source>(
     let mut entries = reader(rt, alloc, source);
     let mut names = Vec::new(alloc);
     for _ in 0..10 {
-        match entries.next(&mut Silent) {
-            Ok(Some(kind)) => ok(&rt, names.push(name_of(kind))),
+        match entries.visit(&mut Silent) {
+            Ok(Some(entry)) => ok(&rt, names.push(name_of(entry))),
             Ok(None) => {
-                assert_holds!(rt; matches!(entries.next(&mut Silent), Ok(None)));
+                assert_holds!(rt; matches!(entries.visit(&mut Silent), Ok(None)));
                 return (names, None);
             }
             Err(error) => {
-                match entries.next(&mut Silent) {
+                match entries.visit(&mut Silent) {
                     Ok(_) => panic!(rt; "goes on after {error:?}"),
                     Err(again) => assert_same!(rt; again, error),
                 }
@@ -189,20 +188,20 @@ fn entries_in_blocks(rt: HostRuntime) {
 }
 
 /// A message that is told to a visitor that writes is its body again.
-pub(crate) fn message_is_told(rt: &impl Abort, alloc: Global, lent: EntryRef<'_>) {
+pub(crate) fn message_is_told(rt: &impl Abort, alloc: Global, lent: LentEntry<'_>) {
     let mut told = Writer::new(alloc);
     match lent {
-        EntryRef::Call(call) => {
+        LentEntry::Call(call) => {
             assert_same!(rt; call.xid(), 0xdead_beef);
             ok(rt, call.scan(&mut told));
             assert_holds!(rt; told.bytes() == call.body);
         }
-        EntryRef::Reply(reply) => {
+        LentEntry::Reply(reply) => {
             assert_same!(rt; reply.xid(), 0xdead_beef);
             ok(rt, reply.scan(&mut told));
             assert_holds!(rt; told.bytes() == reply.body);
         }
-        EntryRef::Begin | EntryRef::Turn | EntryRef::Close | EntryRef::End => {}
+        LentEntry::Begin | LentEntry::Turn | LentEntry::Close | LentEntry::End => {}
     }
 }
 
@@ -215,22 +214,39 @@ pub(crate) fn kept_is_read(rt: &impl Abort, alloc: Global, entry: &Entry) {
     }
 }
 
-/// None is lent before the first entry and after an error, here of the read of byte 70.
+/// The entries before a failed read, here of byte 70, are lent and kept.
 #[test]
 fn lent_messages_are_told(rt: HostRuntime) {
     let mut source = MemSource::new(&NULL, 10, 8);
     let mut entries = reader(&rt, rt.alloc(), &mut source);
-    assert_holds!(rt; entries.entry().is_none());
     for wanted in ["begin", "call", "turn"] {
-        ok(&rt, entries.next(&mut Silent));
-        let Some(lent) = entries.entry() else {
+        let Some(lent) = ok(&rt, entries.visit(&mut Silent)) else {
             panic!(rt; "none is lent")
         };
         assert_same!(rt; name(&ok(&rt, lent.keep(rt.alloc()))), wanted);
         message_is_told(&rt, rt.alloc(), lent);
     }
-    assert_holds!(rt; entries.next(&mut Silent).is_err());
-    assert_holds!(rt; entries.entry().is_none());
+    assert_holds!(rt; entries.visit(&mut Silent).is_err());
+}
+
+/// Each entry is lent with its message: a call as its value, a reply by its body.
+#[test]
+fn entries_as_values(rt: HostRuntime) {
+    let mut source = MemSource::new(&NULL, 10, 0);
+    let mut entries = reader(&rt, rt.alloc(), &mut source);
+    let mut messages = 0_u32;
+    while let Some(entry) = ok(&rt, entries.next()) {
+        let (xid, id) = match entry {
+            EntryRef::Call(call) => (call.xid, call.head.id),
+            EntryRef::Reply(reply) => (ok(&rt, reply.read(rt.alloc())).xid, reply.id),
+            EntryRef::Begin | EntryRef::Turn | EntryRef::Close | EntryRef::End => continue,
+        };
+        assert_same!(rt; xid, 0xdead_beef);
+        assert_holds!(rt; id == NULL_PROCEDURE);
+        messages = messages.saturating_add(1);
+    }
+    assert_same!(rt; messages, 2);
+    assert_holds!(rt; matches!(entries.next(), Ok(None)));
 }
 
 /// A visitor that writes what it is told writes the call's body, bytes 20 to 59, and the reply's, bytes 72
@@ -241,17 +257,17 @@ fn messages_are_told_one_by_one(rt: HostRuntime) {
     let mut entries = reader(&rt, rt.alloc(), &mut source);
     for wanted in NAMES {
         let mut told = Writer::new(rt.alloc());
-        let Some(kind) = ok(&rt, entries.next(&mut told)) else {
+        let Some(entry) = ok(&rt, entries.visit(&mut told)) else {
             panic!(rt; "too few entries")
         };
-        assert_same!(rt; name_of(kind), wanted);
-        match kind {
-            Kind::Call(id) => {
-                assert_holds!(rt; id == NULL_PROCEDURE);
+        assert_same!(rt; name_of(entry), wanted);
+        match entry {
+            LentEntry::Call(call) => {
+                assert_holds!(rt; call.id == NULL_PROCEDURE);
                 assert_holds!(rt; told.bytes() == &NULL[20..60]);
             }
-            Kind::Reply(id) => {
-                assert_holds!(rt; id == NULL_PROCEDURE);
+            LentEntry::Reply(reply) => {
+                assert_holds!(rt; reply.id == NULL_PROCEDURE);
                 assert_holds!(rt; told.bytes() == &NULL[72..96]);
             }
             _ => assert_holds!(rt; told.bytes().is_empty()),
@@ -306,12 +322,12 @@ fn calls_with_many_xids(rt: HostRuntime) {
     let mut entries = reader(&rt, rt.alloc(), &mut source);
     let mut calls = 0_u32;
     for _ in 0..20_004 {
-        if let Some(Kind::Call(_)) = ok(&rt, entries.next(&mut Silent)) {
+        if let Some(LentEntry::Call(_)) = ok(&rt, entries.visit(&mut Silent)) {
             calls = calls.saturating_add(1);
         }
     }
     assert_same!(rt; calls, 20_000);
-    assert_holds!(rt; matches!(entries.next(&mut Silent), Ok(None)));
+    assert_holds!(rt; matches!(entries.visit(&mut Silent), Ok(None)));
 }
 
 #[test]

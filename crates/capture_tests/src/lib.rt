@@ -6,6 +6,8 @@ mod asserts;
 #[cfg(test)]
 mod captures;
 #[cfg(test)]
+mod reasons;
+#[cfg(test)]
 mod sample;
 #[cfg(test)]
 mod typed_messages;

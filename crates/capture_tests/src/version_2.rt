@@ -3,7 +3,7 @@
 use crate::asserts::{assert_holds, assert_same, ok};
 use crate::captures::{NAMES, file_fault, kept_is_read, message_is_told, name, name_of, read_names, reader};
 use crate::sample::{CLIENT_FIRST, NULL, SERVER_FIRST};
-use capture3::{Error, Fault, Kind, MemSource, Place, Side, Silent, parse};
+use capture3::{Error, Fault, LentEntry, MemSource, Place, Side, Silent, parse};
 use std::alloc::{AllocError, Global};
 use std::process::Abort;
 use xdr3::{Reason, Writer};
@@ -98,22 +98,19 @@ fn messages_are_told_and_lent(rt: HostRuntime) {
     let mut entries = reader(&rt, rt.alloc(), &mut source);
     for wanted in NAMES {
         let mut told = Writer::new(rt.alloc());
-        let Some(kind) = ok(&rt, entries.next(&mut told)) else {
+        let Some(lent) = ok(&rt, entries.visit(&mut told)) else {
             panic!(rt; "too few entries")
         };
-        assert_same!(rt; name_of(kind), wanted);
-        match kind {
-            Kind::Call(_) => assert_holds!(rt; told.bytes() == &NULL[20..60]),
-            Kind::Reply(_) => assert_holds!(rt; told.bytes() == &NULL[72..96]),
+        assert_same!(rt; name_of(lent), wanted);
+        match lent {
+            LentEntry::Call(_) => assert_holds!(rt; told.bytes() == &NULL[20..60]),
+            LentEntry::Reply(_) => assert_holds!(rt; told.bytes() == &NULL[72..96]),
             _ => assert_holds!(rt; told.bytes().is_empty()),
         }
-        let Some(lent) = entries.entry() else {
-            panic!(rt; "none is lent")
-        };
         assert_same!(rt; name(&ok(&rt, lent.keep(rt.alloc()))), wanted);
         message_is_told(&rt, rt.alloc(), lent);
     }
-    assert_holds!(rt; matches!(entries.next(&mut Silent), Ok(None)));
+    assert_holds!(rt; matches!(entries.visit(&mut Silent), Ok(None)));
 }
 
 /// A bad mtype is told at the side word 0, and what the container shows before that is told first.

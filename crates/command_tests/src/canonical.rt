@@ -1,7 +1,7 @@
 //! Numbers, sinks and canonical forms.
 
 use crate::asserts::{assert_same, ok};
-use crate::samples::{commits, hashers};
+use crate::samples::{NULL, NUMBERED_NULL, commits, hashers};
 use canon3::{MemSink, Numbers, Sink, Summary, ToWrite, canon, write_all, write_both};
 use capture3::{DeviceFailed, Error, Fault, MemSource, Place};
 use std::alloc::AllocError;
@@ -155,4 +155,50 @@ fn a_failed_flush(rt: HostRuntime) {
     let mut sink = ok(&rt, MemSink::new(rt.alloc(), 999, 999, 8));
     assert_same!(rt; canon_of(&rt, &bytes, 0, &mut sink), Err(Error::Write));
     assert_same!(rt; sink.bytes(), numbered.as_slice());
+}
+
+// What a command does with the NULL capture, read and written a byte a call.
+
+/// How many bytes of the form the entries have that this many bytes of the capture reach: the begin
+/// of the connection, the call, the turn to the server's stream, the reply, and the close.
+fn due_within(read: usize) -> usize {
+    let mut due = 0;
+    for end in [12, 60, 64, 96, 100] {
+        if end <= read {
+            due = end;
+        }
+    }
+    due
+}
+
+/// Returns the answer, and checks that so many bytes of the form were written.
+fn assert_written(
+    rt: &HostRuntime,
+    block: usize,
+    failing: (u64, u64),
+    wanted: (Error, usize),
+) {
+    let (read, write) = failing;
+    let mut sink = ok(rt, MemSink::new(rt.alloc(), 999, 1, write));
+    let mut source = MemSource::new(&NULL, block, read);
+    let answer = canon(rt.alloc(), hashers(), &mut source, &mut sink);
+    assert_same!(rt; (failing, answer), (failing, Err(wanted.0)));
+    assert_same!(rt; (failing, sink.bytes()), (failing, &NUMBERED_NULL[..wanted.1.min(104)]));
+}
+
+#[test]
+fn each_read_of_a_byte_fails(rt: HostRuntime) {
+    for fail in 1..106usize {
+        let due = due_within(fail - 1);
+        assert_written(&rt, 1, (fail as u64, 0), (Error::Read, due));
+    }
+    assert_written(&rt, 64, (2, 0), (Error::Read, 64));
+}
+
+/// The 105th call is the flush.
+#[test]
+fn each_write_of_a_byte_fails(rt: HostRuntime) {
+    for fail in 1..106usize {
+        assert_written(&rt, 1, (0, fail as u64), (Error::Write, fail - 1));
+    }
 }

@@ -62,6 +62,7 @@ impl BuildHasher for Seeded {
 fn alike<S: BuildHasher + Copy>(hasher: S) -> Hashers<S> {
     Hashers {
         calls: hasher,
+        xids: hasher,
         handles: hasher,
         verfs: hasher,
     }

@@ -1,7 +1,7 @@
 //! Sinks over writers of which a call fails.
 
 use crate::asserts::{assert_same, ok};
-use crate::samples::{commits, hashers};
+use crate::samples::{NULL, NUMBERED_NULL, commits, hashers};
 use canon3::{Sink, Summary, ToWrite, canon};
 use capture3::{DeviceFailed, Error, MemSource};
 use std::io::{self, ErrorKind, Write};
@@ -98,4 +98,42 @@ fn each_call_of_a_writer_fails(rt: HostRuntime) {
     };
     let writer = Faulty::at(11, Failing::WithAnError);
     assert_same!(rt; canon_into(&rt, &bytes, writer), Ok(summary));
+}
+
+/// A writer that takes a byte a call, and then nothing.
+#[derive(Drop)]
+struct Bytewise {
+    bytes: Vec<u8>,
+    left: usize,
+}
+
+impl Write for Bytewise {
+    fn write(&mut self, buf: &[u8]) -> io::Result<usize> {
+        if self.left == 0 || buf.is_empty() {
+            return Ok(0);
+        }
+        self.left -= 1;
+        match self.bytes.push(buf[0]) {
+            Ok(()) => Ok(1),
+            Err(_) => Err(ErrorKind::OutOfMemory.into()),
+        }
+    }
+
+    fn flush(&mut self) -> io::Result<()> {
+        Ok(())
+    }
+}
+
+/// A write that takes no byte fails as one with an error does: what was written before stays.
+#[test]
+fn each_write_takes_nothing(rt: HostRuntime) {
+    for left in 0..104usize {
+        let bytes = Vec::new(rt.alloc());
+        let mut sink = ToWrite::new(Bytewise { bytes, left });
+        let mut source = MemSource::new(&NULL, 1, 0);
+        let answer = canon(rt.alloc(), hashers(), &mut source, &mut sink);
+        assert_same!(rt; (left, answer), (left, Err(Error::Write)));
+        let written = sink.inner().bytes.as_slice();
+        assert_same!(rt; (left, written), (left, &NUMBERED_NULL[..left]));
+    }
 }

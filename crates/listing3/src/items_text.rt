@@ -84,8 +84,10 @@ impl ItemsText {
     }
 }
 
-#[tactic(auto, unfolding(xdr3::specs::Visit::Adds, xdr3::specs::Visit::Keeps))]
+#[tactic(auto, using(xdr3::proofs::Lemmas::Shapes::Walks::some_none), unfolding(xdr3::specs::Visit::Adds, xdr3::specs::Visit::Keeps))]
 impl Visit for ItemsText {
+    ghost use Rattle.xdr3.specs.Plain.{run_items};
+    ghost use Rattle.xdr3.specs.Visit.{AddsSome};
     ghost use Rattle.listing3.specs.machinery.ItemsText.{TextStands};
 
     ghost stands = { TextStands };
@@ -143,7 +145,13 @@ impl Visit for ItemsText {
     }
 
     #[inline(always)]
-    fn plain(&mut self, fields: &[PlainField], bytes: &[u8]) -> Result<(), AllocError> {
+    fn plain(&mut self, fields: &[PlainField], bytes: &[u8]) -> Result<(), AllocError>
+        ensures ok { OnOk result
+            (Adds TextStands self.old self.new (run_items fields.now bytes.now)) }
+        ensures err { OnErr result
+            (AddsSome TextStands self.old self.new (run_items fields.now bytes.now)) }
+        ensures stays { OnErr result (self.new ≡ self.old) }
+    {
         self.text.plain(fields, bytes)?;
         self.seen = self.seen.wrapping_add(bytes.len());
         Ok(())

@@ -4,7 +4,7 @@ ghost use Rattle.std.specs.Prelude.{◌≡◌, ◌≤◌, ◌<◌, ◌+◌, ◌*
 ghost use Rattle.std.specs.Io.KnownBytes.{Appends};
 ghost use Rattle.xdr3.specs.Item.{Handle as HandleKind, Item, Opaque, Spells, Word};
 ghost use Rattle.xdr3.specs.Plain.{run_items, run_size};
-ghost use Rattle.xdr3.specs.Visit.{Adds, Keeps};
+ghost use Rattle.xdr3.specs.Visit.{Adds, AddsSome, Keeps};
 ghost use Rattle.rpc_head.specs.Names.{head_names};
 ghost use Rattle.capture3.specs.Entry as spec;
 ghost use Rattle.capture3.specs.Entry.{items_of};
@@ -24,7 +24,7 @@ use crate::items_text::{ItemsText, encoded_size};
 use crate::line_text::LineText;
 use byteorder::{BigEndian, ByteOrder};
 use canon3::{CountingWriter, EntryCounts, EntryWriter, HandleTable, Sink, kind_of, write_both};
-use capture3::{EntryRef, Error, Kind};
+use capture3::{LentEntry, Error, Kind};
 use procs3::proc_name;
 use rpc_head::ProcId;
 use std::alloc::{AllocError, Global};
@@ -55,13 +55,13 @@ fn name_of_procedure(id: ProcId) -> &'static str
 
 /// Returns the body of a message, which spells its items. Any other entry has neither.
 #[inline(always)]
-fn body_of(entry: EntryRef<'_>) -> &[u8]
+fn body_of(entry: LentEntry<'_>) -> &[u8]
     ensures { (one : spec.Entry) → IsLent entry.entry one → Spells (items_of one) result.now }
 {
     match entry {
-        EntryRef::Call(call) => call.body,
-        EntryRef::Reply(reply) => reply.body,
-        EntryRef::Begin | EntryRef::Turn | EntryRef::Close | EntryRef::End => &[],
+        LentEntry::Call(call) => call.body,
+        LentEntry::Reply(reply) => reply.body,
+        LentEntry::Begin | LentEntry::Turn | LentEntry::Close | LentEntry::End => &[],
     }
 }
 
@@ -118,6 +118,8 @@ impl<H: Gathering + Drop> LineWriter<H> {
         requires begins { self.old.xid ≡ None }
         ensures ok { OnOk result
             (Adds (LineStands H.stands) self.old self.new (run_items fields.now bytes.now)) }
+        ensures err { OnErr result
+            (AddsSome (LineStands H.stands) self.old self.new (run_items fields.now bytes.now)) }
     {
         let Some((first, more)) = fields.split_first() else {
             return Ok(());
@@ -319,7 +321,7 @@ impl<H: Gathering + Drop> EntryWriter for LineWriter<H> {
         &mut self,
         counts: &EntryCounts,
         sink: &mut W,
-        entry: EntryRef<'_>,
+        entry: LentEntry<'_>,
     ) -> Result<(), Error> {
         let written = self.write_entry(counts, sink, kind_of(entry), body_of(entry));
         self.begin_message();

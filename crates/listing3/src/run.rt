@@ -1,6 +1,6 @@
 //! Text of runs of words and hypers, written into a buffer.
 
-ghost use Rattle.std.specs.Prelude.{◌≡◌, ◌≤◌, ◌+◌, ◌*◌, ◌++◌, length, take, decimal, vec_len, IfOk, IsTrue};
+ghost use Rattle.std.specs.Prelude.{◌≡◌, ◌≤◌, ◌+◌, ◌*◌, ◌++◌, length, take, decimal, vec_len, IfOk, IsTrue, OnErr};
 ghost use Rattle.std.specs.List.{All};
 ghost use Rattle.xdr3.specs.Plain.{plain_item, run_items, run_size, width};
 ghost use Rattle.listing3.specs.Listing.{opening, shown_item, shown_items};
@@ -34,6 +34,7 @@ pub(crate) fn put_run(
     ensures within { IfOk result (λ end. end ≤ vec_len room.new) }
     ensures ok { IfOk result (λ end. take end room.new.items
         ≡ take at room.old.items ++ shown_items (run_items fields.now bytes.now)) }
+    ensures err { OnErr result (take at room.new.items ≡ take at room.old.items) }
     ensures len { vec_len room.old ≤ vec_len room.new }
 {
     if !are_short(fields) {
@@ -72,6 +73,7 @@ fn put_each(
     ensures within { IfOk result (λ end. end ≤ vec_len room.new) }
     ensures ok { IfOk result (λ end. take end room.new.items
         ≡ take at room.old.items ++ shown_items (run_items fields.now bytes.now)) }
+    ensures err { OnErr result (take at room.new.items ≡ take at room.old.items) }
     ensures len { vec_len room.old ≤ vec_len room.new }
 {
     let mut end = at;

@@ -14,7 +14,7 @@ use crate::ways::Ways;
 use canon3::{
     CountingWriter, EntryCounts, EntryWriter, Sink, Summary, kind_of, write_entries, write_magic,
 };
-use capture3::{EntryRef, Error, Source};
+use capture3::{LentEntry, Error, Source};
 use std::alloc::Global;
 use std::hash::BuildHasher;
 use std::marker::Brand;
@@ -93,7 +93,7 @@ impl<P: Plan, S: BuildHasher + Drop> EntryWriter for MaskingWriter<P, S> {
         &mut self,
         counts: &EntryCounts,
         sink: &mut W,
-        entry: EntryRef<'_>,
+        entry: LentEntry<'_>,
     ) -> Result<(), Error> {
         if self.failed {
             return Err(Error::Memory);

@@ -1,7 +1,7 @@
 //! Readers of a capture, and of messages as values.
 
 use crate::samples::{COMMIT, MIXED, hashers};
-use capture3::{Entries, Entry, Error, MemSource, Silent, new_block, parse};
+use capture3::{Entries, Entry, Error, MemSource, Silent, parse};
 use std::alloc::Global;
 use std::process::Abort;
 
@@ -54,20 +54,18 @@ fn entries_of_version_2_are_read_one_by_one(rt: HostRuntime) {
     are_read(&rt, rt.alloc(), &MIXED);
 }
 
-/// A reader that met a refused growth answers it for good, and lends nothing.
+/// A reader whose allocation failed returns that for good.
 fn are_read(rt: &impl Abort, alloc: Global, capture: &[u8]) {
-    let Ok(block) = new_block(alloc) else {
+    let mut source = MemSource::new(capture, 7, 0);
+    let Ok(mut entries) = Entries::new(alloc, hashers().calls, &mut source) else {
         return;
     };
-    let mut source = MemSource::new(capture, 7, 0);
-    let mut entries = Entries::through(alloc, hashers().calls, &mut source, block);
     for _ in 0..6 {
-        if let Err(error) = entries.next(&mut Silent) {
+        if let Err(error) = entries.visit(&mut Silent) {
             assert_eq!(rt; error, Error::Memory);
-            assert!(rt; entries.next(&mut Silent).err() == Some(Error::Memory));
-            assert!(rt; entries.entry().is_none());
+            assert!(rt; entries.visit(&mut Silent).err() == Some(Error::Memory));
             return;
         }
     }
-    assert!(rt; matches!(entries.next(&mut Silent), Ok(None)));
+    assert!(rt; matches!(entries.visit(&mut Silent), Ok(None)));
 }

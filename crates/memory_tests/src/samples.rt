@@ -27,6 +27,7 @@ pub(crate) const MIXED: [u8; 156] = [
 pub(crate) fn hashers() -> Hashers<BuildHasherDefault<FoldHasher>> {
     Hashers {
         calls: BuildHasherDefault::default(),
+        xids: BuildHasherDefault::default(),
         handles: BuildHasherDefault::default(),
         verfs: BuildHasherDefault::default(),
     }

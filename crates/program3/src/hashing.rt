@@ -46,8 +46,11 @@ impl SecretHasher {
 ///
 /// That of the system if it gives no random bytes.
 pub fn hashers(rt: &HostRuntime) -> io::Result<Hashers<SecretHasher>> {
+    let calls = SecretHasher::new(rt)?;
     Ok(Hashers {
-        calls: SecretHasher::new(rt)?,
+        calls,
+        // No table of its own takes it.
+        xids: calls,
         handles: SecretHasher::new(rt)?,
         verfs: SecretHasher::new(rt)?,
     })

@@ -7,7 +7,7 @@ ghost use Rattle.nfs3_types.specs.Handle.{handle_bytes};
 ghost use Rattle.uses.specs.Comparing.{HandlesPart, HasHandles, IsFirstOther, RefusesOneOf};
 
 use canon3::{SameError, Which};
-use capture3::{Entries, Error, Source, new_block};
+use capture3::{Entries, Error, Source};
 use nfs3_types::Handle;
 use std::alloc::{AllocError, Global};
 use std::hash::BuildHasher;
@@ -105,13 +105,9 @@ pub fn handles_of<R: Source, S: BuildHasher + Drop>(
     ensures refused { (bytes : List ℕ) → (R.told source.old).left ≡ Some bytes
         → OnRefused result (FirstFault bytes) }
 {
-    let block = match new_block(alloc) {
-        Ok(block) => block,
-        Err(_) => return Err(Error::Memory),
-    };
-    let mut entries = Entries::through(alloc, hasher, source, block);
+    let mut entries = Entries::new(alloc, hasher, source)?;
     let mut handles = Handles::new(alloc);
-    while let Some(_) = entries.next(&mut handles)? {}
+    while let Some(_) = entries.visit(&mut handles)? {}
     Ok(handles)
 }
 

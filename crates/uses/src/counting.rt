@@ -1,11 +1,13 @@
 //! How many calls of one procedure a capture has.
 
-ghost use Rattle.std.specs.Prelude.{◌≡◌, ◌↔◌, ℕ, List, Some, IfOk, IsTrue};
+ghost use Rattle.std.specs.Prelude.{◌≡◌, ℕ, List, Some, IfOk};
 ghost use Rattle.capture3.specs.Entries.{OnRefused};
+ghost use Rattle.capture3.specs.Entry as spec;
 ghost use Rattle.capture3.specs.FirstFault.{FirstFault};
-ghost use Rattle.uses.specs.Counting.{CountsCalls};
+ghost use Rattle.capture3.specs.ReadAs.{IsReadAs};
+ghost use Rattle.uses.specs.Counting.{CountsCalls, is_call_of};
 
-use capture3::{Entries, Error, Kind, Silent, Source, new_block};
+use capture3::{Entries, EntryRef, Error, Source};
 use rpc_head::ProcId;
 use std::alloc::Global;
 use std::hash::BuildHasher;
@@ -35,23 +37,26 @@ pub fn count_calls<R: Source, S: BuildHasher + Drop>(
     ensures refused { (bytes : List ℕ) → (R.told source.old).left ≡ Some bytes
         → OnRefused result (FirstFault bytes) }
 {
-    let block = match new_block(alloc) {
-        Ok(block) => block,
-        Err(_) => return Err(Error::Memory),
-    };
-    let mut entries = Entries::through(alloc, hasher, source, block);
+    let mut entries = Entries::new(alloc, hasher, source)?;
     let mut count: u64 = 0;
-    while let Some(kind) = entries.next(&mut Silent)? {
-        if is_call(kind, procedure) {
+    while let Some(entry) = entries.next()? {
+        if is_call(entry, procedure) {
             count += 1;
         }
     }
     Ok(count)
 }
 
-/// Returns whether an entry of this kind is a call of the procedure.
-pub(crate) fn is_call(kind: Kind, procedure: ProcId) -> bool
-    ensures { IsTrue result ↔ (kind ≡ Kind.Call procedure) }
+/// Returns whether an entry is a call of the procedure.
+fn is_call(entry: EntryRef<'_>, procedure: ProcId) -> bool
+    ensures { (one : spec.Entry) → IsReadAs entry.entry one → result ≡ is_call_of procedure one }
 {
-    kind == Kind::Call(procedure)
+    match entry {
+        EntryRef::Call(call) => call.head.id == procedure,
+        EntryRef::Begin
+        | EntryRef::Turn
+        | EntryRef::Reply(_)
+        | EntryRef::Close
+        | EntryRef::End => false,
+    }
 }

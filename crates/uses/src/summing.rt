@@ -4,11 +4,11 @@ ghost use Rattle.std.specs.Prelude.{◌≡◌, ◌∷◌, ◌++◌, ℕ, List, [
 ghost use Rattle.capture3.specs.Entries.{OnRefused};
 ghost use Rattle.capture3.specs.Entry.{Entry, items_of};
 ghost use Rattle.capture3.specs.FirstFault.{FirstFault};
-ghost use Rattle.capture3.specs.Kept.{IsOfKind};
-ghost use Rattle.uses.specs.Summing.{HasSummed, IsSum, SumsWrites};
+ghost use Rattle.capture3.specs.Kept.{IsLent};
+ghost use Rattle.uses.specs.Counting.{is_call_of};
+ghost use Rattle.uses.specs.Summing.{HasSummed, IsSum, SumsWrites, writing};
 
-use crate::counting::is_call;
-use capture3::{Entries, Error, Kind, Source, new_block};
+use capture3::{Entries, Error, LentEntry, Source};
 use rpc_head::ProcId;
 use std::alloc::{AllocError, Global};
 use std::hash::BuildHasher;
@@ -96,26 +96,38 @@ pub fn bytes_to_write<R: Source, S: BuildHasher + Drop>(
     ensures refused { (bytes : List ℕ) → (R.told source.old).left ≡ Some bytes
         → OnRefused result (FirstFault bytes) }
 {
-    let block = match new_block(alloc) {
-        Ok(block) => block,
-        Err(_) => return Err(Error::Memory),
-    };
-    let mut entries = Entries::through(alloc, hasher, source, block);
+    let mut entries = Entries::new(alloc, hasher, source)?;
     let mut sum: u64 = 0;
     let mut data = DataBytes::new();
-    while let Some(kind) = entries.next(&mut data)? {
-        sum = with_entry(sum, kind, &data);
+    while let Some(entry) = entries.visit(&mut data)? {
+        let writes = is_write(entry);
+        sum = with_entry(sum, writes, &data);
         data = DataBytes::new();
     }
     Ok(sum)
 }
 
-/// Adds what an entry of this kind has, whose items were visited.
-fn with_entry(sum: u64, kind: Kind, visitor: &DataBytes) -> u64
-    ensures { (entries : List Entry) (entry : Entry) → IsSum sum entries → IsOfKind kind entry
-        → HasSummed visitor.now (items_of entry) → IsSum result (entries ++ entry ∷ []) }
+/// Returns whether an entry is a WRITE call.
+fn is_write(entry: LentEntry<'_>) -> bool
+    ensures { (one : Entry) → IsLent entry.entry one → result ≡ is_call_of writing one }
 {
-    if is_call(kind, WRITE) {
+    match entry {
+        LentEntry::Call(call) => call.id == WRITE,
+        LentEntry::Begin
+        | LentEntry::Turn
+        | LentEntry::Reply(_)
+        | LentEntry::Close
+        | LentEntry::End => false,
+    }
+}
+
+/// Adds what an entry has whose items were visited, if it is a WRITE call.
+fn with_entry(sum: u64, writes: bool, visitor: &DataBytes) -> u64
+    ensures { (entries : List Entry) (one : Entry) → IsSum sum entries
+        → writes ≡ is_call_of writing one → HasSummed visitor.now (items_of one)
+        → IsSum result (entries ++ one ∷ []) }
+{
+    if writes {
         sum.saturating_add(visitor.sum)
     } else {
         sum

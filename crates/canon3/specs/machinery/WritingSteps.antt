@@ -12,11 +12,12 @@ use Rattle.capture3.specs.machinery.EntriesHistory.{StandsFor}
 use Rattle.capture3.specs.Entry.{Entry, items_of}
 use Rattle.capture3.specs.Typed.{Typed}
 use Rattle.canon3.specs.declared.entries.entry_counts.EntryCounts.{EntryCounts}
-use Rattle.capture3.specs.declared.reader.entry.EntryRef.{EntryRef}
+use Rattle.capture3.specs.declared.reader.entry.LentEntry.{LentEntry}
 use Rattle.canon3.specs.Laws.{AreFirst}
 use Rattle.canon3.specs.EntryCounts.{AreCounted}
 use Rattle.canon3.specs.SinkWrites.{AppendsFront}
-use Rattle.canon3.specs.EntryWriter.{IsLentAfter, IsStoppedBy}
+use Rattle.canon3.specs.EntryWriter.{IsStoppedBy}
+use Rattle.capture3.specs.Numbering.{IsLentAfter}
 
 -- a writer of a form, the items that stand for the entries that it wrote, and whether it can go on
 module _ {T : Type 0} (form : List Entry → List ℕ) (before : List Entry → List Item)
@@ -36,7 +37,7 @@ module _ {T : Type 0} (form : List Entry → List ℕ) (before : List Entry → 
   HasMore writer counts old new entries (Err error) = AppendsFront old new (form entries)
 
   -- one entry more is written, and came, or it is cut
-  abbrev pub WritesMore : (was now : T) → (counts after : EntryCounts) → EntryRef
+  abbrev pub WritesMore : (was now : T) → (counts after : EntryCounts) → LentEntry
       → (between new : Option (List ℕ)) → {X : Type 0} → Result X Error → Type 0
   WritesMore was now counts after lent between new result =
       (old : Option (List ℕ)) (entries : List Entry) (one : Entry)

@@ -5,12 +5,12 @@ ghost use Rattle.capture3.specs.Entry as spec;
 ghost use Rattle.canon3.specs.Laws.{AreFirst};
 ghost use Rattle.canon3.specs.machinery.MessageWriter.{Before, HoldsBefore, WriterStands, message_of, told_after, values_of};
 ghost use Rattle.canon3.specs.machinery.Spelling.{HasSpelled, spelling_of};
-ghost use Rattle.canon3.specs.EntryWriter.{IsLentAfter};
+ghost use Rattle.capture3.specs.Numbering.{IsLentAfter};
 ghost use Rattle.capture3.specs.Entry.{items_of};
 
 use crate::canonical_form::message_writer::{MessageWriter, after_xid};
 use crate::comparison::verdict::{SameError, Which, out_of_memory_in};
-use capture3::{EntryRef, Error};
+use capture3::{LentEntry, Error};
 use std::alloc::AllocError;
 use std::hash::BuildHasher;
 
@@ -30,7 +30,7 @@ pub(crate) enum Spelling<'a> {
 #[inline(always)]
 pub(crate) fn spelling_of_entry<'a, S: BuildHasher + Drop>(
     message_writer: &mut MessageWriter<S>,
-    entry: EntryRef<'a>,
+    entry: LentEntry<'a>,
 ) -> Result<Spelling<'a>, AllocError>
     ensures { (entries : List spec.Entry) (one : spec.Entry)
         → IsLentAfter entries entry.entry one
@@ -40,16 +40,16 @@ pub(crate) fn spelling_of_entry<'a, S: BuildHasher + Drop>(
 {
     message_writer.unless_failed()?;
     match entry {
-        EntryRef::Begin => Ok(Spelling::One),
-        EntryRef::Call(call) => {
+        LentEntry::Begin => Ok(Spelling::One),
+        LentEntry::Call(call) => {
             message_writer.xid = call.number;
             Ok(Spelling::Message(call.body))
         }
-        EntryRef::Reply(reply) => {
+        LentEntry::Reply(reply) => {
             message_writer.xid = reply.number;
             Ok(Spelling::Message(reply.body))
         }
-        EntryRef::Turn | EntryRef::Close | EntryRef::End => Ok(Spelling::Zero),
+        LentEntry::Turn | LentEntry::Close | LentEntry::End => Ok(Spelling::Zero),
     }
 }
 

@@ -3,18 +3,18 @@
 ghost use Rattle.std.specs.Prelude.{◌≡◌};
 ghost use Rattle.capture3.specs.Kept.{kind_of};
 
-use capture3::{EntryRef, Kind};
+use capture3::{LentEntry, Kind};
 
 /// Returns the kind of a borrowed entry, with the procedure if it is a message.
-pub fn kind_of(entry: EntryRef<'_>) -> Kind
+pub fn kind_of(entry: LentEntry<'_>) -> Kind
     ensures { result ≡ kind_of entry.entry }
 {
     match entry {
-        EntryRef::Begin => Kind::Begin,
-        EntryRef::Call(call) => Kind::Call(call.id),
-        EntryRef::Turn => Kind::Turn,
-        EntryRef::Reply(reply) => Kind::Reply(reply.id),
-        EntryRef::Close => Kind::Close,
-        EntryRef::End => Kind::End,
+        LentEntry::Begin => Kind::Begin,
+        LentEntry::Call(call) => Kind::Call(call.id),
+        LentEntry::Turn => Kind::Turn,
+        LentEntry::Reply(reply) => Kind::Reply(reply.id),
+        LentEntry::Close => Kind::Close,
+        LentEntry::End => Kind::End,
     }
 }

@@ -21,7 +21,7 @@ use crate::entries::entry_counts::EntryCounts;
 use crate::entries::entry_kind::kind_of;
 use crate::sink::Sink;
 use crate::summary::{MessageCounts, Summary};
-use capture3::{Entries, EntryRef, Error, Source, new_block};
+use capture3::{Entries, LentEntry, Error, Source, new_block};
 use std::alloc::Global;
 use std::hash::BuildHasher;
 use xdr3::Visit;
@@ -50,7 +50,7 @@ pub trait EntryWriter: Visit {
         &mut self,
         counts: &EntryCounts,
         sink: &mut W,
-        entry: EntryRef<'_>,
+        entry: LentEntry<'_>,
     ) -> Result<(), Error>
         requires { counted_steps counts.now + 1 < 2 ^ 32 }
         ensures writes { WritesOne form before Self.stands going self.old self.new counts.now
@@ -280,7 +280,7 @@ fn write_one<W: Sink, E: EntryWriter>(
     counts: &mut EntryCounts,
     sink: &mut W,
     writer: &mut E,
-    entry: EntryRef<'_>,
+    entry: LentEntry<'_>,
 ) -> Result<bool, Error>
     requires { counted_steps counts.old + 1 < 2 ^ 32 }
 

@@ -2,6 +2,7 @@
 pub mod ReachedLemmas
 pub mod ReachedMore
 pub mod ReachedBeforeFaults
+pub mod ReachedInTurn
 pub mod Growing
 pub mod EmittedEntries
 pub mod Limits

@@ -5,5 +5,6 @@ pub mod FileStandingLemmas
 pub mod WholeEntries
 pub mod WholeFiles
 pub mod Lending
+pub mod LendingLemmas
 pub mod PassedOn
 pub mod ToldLemmas

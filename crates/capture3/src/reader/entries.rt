@@ -18,9 +18,9 @@ use crate::device::source::Source;
 use crate::fault::{Error, Fault, Noted, Place};
 use crate::message::counted_calls::CountedCalls;
 use crate::message::silent::Silent;
-use crate::reader::entry::{EntryRef, Kind};
+use crate::reader::entry::{Kind, LentEntry};
+use crate::reader::entry_ref::EntryRef;
 use crate::reader::pairing::Pairing;
-use crate::reader::read_entry::ReadEntry;
 use std::alloc::{AllocError, Global};
 use std::hash::BuildHasher;
 use xdr3::{Reason, Visit};
@@ -50,6 +50,8 @@ enum Stage {
 /// connection, up to its end.
 #[derive(Drop)]
 pub struct Entries<'r, R, S: BuildHasher + Drop> {
+    // For the values of calls.
+    alloc: Global,
     source: &'r mut R,
     // The bytes from `start` to `end` are not judged yet.
     block: Vec<u8>,
@@ -77,6 +79,7 @@ impl<'r, R: Source, S: BuildHasher + Drop> Entries<'r, R, S> {
     ghost use Rattle.capture3.specs.ReadEntries.{EndsRead};
     ghost use Rattle.capture3.specs.Entries.{block_size, failure_of, IsOver, KeepsErrors, last_of, loan_of, source_of, UsesSource};
     ghost use Rattle.capture3.specs.Handing.{HandsOutGiven};
+    ghost use Rattle.capture3.specs.machinery.Stepping.{IsNextOfKind};
     ghost use Rattle.capture3.specs.Numbering.{number_after, number_lent};
     ghost use Rattle.capture3.specs.machinery.EntriesHistory.{entries_left, HandsOutOrGoesOn, FillsOrEnds, HasRead, IsUsedUp, LendsOrFails, NotesFailure, ReadsNothing, JudgesOn, ReadsOnce, StandsFor, Turns};
 
@@ -92,6 +95,7 @@ impl<'r, R: Source, S: BuildHasher + Drop> Entries<'r, R, S> {
         ensures same_reference { loan_of result ≡ source.entry.ghost_name }
     {
         Entries {
+            alloc,
             source,
             block,
             start: 0,
@@ -108,11 +112,7 @@ impl<'r, R: Source, S: BuildHasher + Drop> Entries<'r, R, S> {
     /// # Errors
     ///
     /// `AllocError` if the block could not be allocated. Then nothing was read.
-    pub fn new(
-        alloc: Global,
-        hasher: S,
-        source: &'r mut R,
-    ) -> Result<Entries<'r, R, S>, AllocError>
+    pub fn new(alloc: Global, hasher: S, source: &'r mut R) -> Result<Entries<'r, R, S>, AllocError>
         ensures stands { IfOk result (λ entries. StandsFor R.told entries [] []) }
         ensures unread { IfOk result (λ entries. source_of entries ≡ source.old) }
         ensures going { IfOk result (λ entries. failure_of entries ≡ None) }
@@ -134,9 +134,39 @@ impl<'r, R: Source, S: BuildHasher + Drop> Entries<'r, R, S> {
         source
     }
 
-    /// Reads the next entry and returns its kind, or `None` after the last one. While a message is
-    /// read, each of its items is passed to the visitor; other entries have no items. Once it has
-    /// returned `None` it always does, and reads nothing more.
+    /// Reads the next entry and lends it until the next call; `None` after the last one. A call is
+    /// lent as its value. A reply is lent by its body, because its lists own memory; its `read`
+    /// returns the value. Once it has returned `None` it always does, and reads nothing more.
+    ///
+    /// # Errors
+    ///
+    /// - `Refused` with the first fault if the capture is not well formed.
+    /// - `Read` if a read failed.
+    /// - `Memory` if an allocation failed.
+    ///
+    /// It never returns `Write`. The same error is returned from then on, and nothing is read; but
+    /// if memory ran out for the value of a call, the next call goes on after that entry.
+    pub fn next(&mut self) -> Result<Option<EntryRef<'_>>, Error>
+        // What the reader ends as, and what is lent.
+        ensures* ends { sem 𝓛 (EndsRead R.row S.row S.Hasher.row S.BuildHasher S.Hasher.Hasher R.told R.failures self.entry result) }
+
+        // What is known while the entry is used.
+        ensures left { IfOk result (λ next. IsSome next → 0 < entries_left self.old) }
+        ensures write { IfErr result (λ error. error ≢ Error.Write) }
+    {
+        match self.step(&mut Silent) {
+            Ok(Some(_)) => match self.read_last() {
+                Ok(next) => Ok(next),
+                Err(_) => Err(Error::Memory),
+            },
+            Ok(None) => Ok(None),
+            Err(error) => Err(error),
+        }
+    }
+
+    /// Reads the next entry, passes its items to a visitor in the same pass, and lends the entry
+    /// until the next call; `None` after the last one. An entry that is no message has no items. Once
+    /// it has returned `None` it always does, and reads nothing more.
     ///
     /// # Errors
     ///
@@ -147,12 +177,30 @@ impl<'r, R: Source, S: BuildHasher + Drop> Entries<'r, R, S> {
     /// It never returns `Write`. After an error the contents of the visitor are unspecified, the
     /// same error is returned from then on, and nothing is read.
     #[inline(always)]
-    pub fn next<V: Visit>(&mut self, visitor: &mut V) -> Result<Option<Kind>, Error>
+    pub fn visit<V: Visit>(&mut self, visitor: &mut V) -> Result<Option<LentEntry<'_>>, Error>
+        // What the reader ends as, and what is lent.
+        ensures* ends { sem 𝓛 (EndsAs R.row S.row S.Hasher.row S.BuildHasher S.Hasher.Hasher R.told V.stands R.failures self.entry visitor.old visitor.new result) }
+
+        // What is known while the entry is used.
+        ensures untold { IfOk result (λ next. next ≡ None → visitor.new ≡ visitor.old) }
+        ensures left { IfOk result (λ next. IsSome next → 0 < entries_left self.old) }
+        ensures write { IfErr result (λ error. error ≢ Error.Write) }
+    {
+        match self.step(visitor) {
+            Ok(Some(_)) => Ok(self.entry()),
+            Ok(None) => Ok(None),
+            Err(error) => Err(error),
+        }
+    }
+
+    /// Reads the next entry and notes its kind, which it returns; `None` after the last one.
+    #[inline(always)]
+    fn step<V: Visit>(&mut self, visitor: &mut V) -> Result<Option<Kind>, Error>
         // What is returned, and which entry is lent.
         ensures answers { (given : List ℕ) (handed : List spec.Entry)
             → StandsFor R.told self.old given handed
-            → HandsOutGiven R.told V.stands self.old self.new visitor.old visitor.new given handed
-            result }
+            → HandsOutGiven R.told (IsNextOfKind V.stands visitor.old visitor.new) self.old self.new
+            given handed result }
         ensures end { result ≡ Ok (Some Kind.End) → IsOver self.new }
         ensures over { IsOver self.old → (result ≡ Ok None) × (self.new ≡ self.old) }
         ensures last { IfOk result (λ next. IsSome next → last_of self.new ≡ next) }
@@ -178,57 +226,15 @@ impl<'r, R: Source, S: BuildHasher + Drop> Entries<'r, R, S> {
         }
     }
 
-    /// Reads the next entry, as `next`, and lends it until the next call; `None` after the last one.
-    ///
-    /// # Errors
-    ///
-    /// Those of `next`.
-    #[inline(always)]
-    pub fn visit<V: Visit>(&mut self, visitor: &mut V) -> Result<Option<EntryRef<'_>>, Error>
-        // What the reader ends as, and what is lent.
-        ensures* ends { sem 𝓛 (EndsAs R.row S.row S.Hasher.row S.BuildHasher S.Hasher.Hasher R.told V.stands R.failures self.entry visitor.old visitor.new result) }
-
-        // What is known while the entry is used.
-        ensures untold { IfOk result (λ next. next ≡ None → visitor.new ≡ visitor.old) }
-        ensures left { IfOk result (λ next. IsSome next → 0 < entries_left self.old) }
-        ensures write { IfErr result (λ error. error ≢ Error.Write) }
-    {
-        match self.next(visitor) {
-            Ok(Some(_)) => Ok(self.entry()),
-            Ok(None) => Ok(None),
-            Err(error) => Err(error),
-        }
-    }
-
-    /// Reads the next entry and lends it until the next call, with its call as a value; `None` after
-    /// the last one.
-    ///
-    /// # Errors
-    ///
-    /// Those of `next`, which are returned from then on. `Memory` also if memory ran out for the
-    /// value: then the reader goes on after that entry.
-    pub fn next_value(&mut self, alloc: Global) -> Result<Option<ReadEntry<'_>>, Error>
-        ensures* ends { sem 𝓛 (EndsRead R.row S.row S.Hasher.row S.BuildHasher S.Hasher.Hasher R.told R.failures self.entry result) }
-    {
-        match self.next(&mut Silent) {
-            Ok(Some(_)) => match self.read_last(alloc) {
-                Ok(next) => Ok(next),
-                Err(_) => Err(Error::Memory),
-            },
-            Ok(None) => Ok(None),
-            Err(error) => Err(error),
-        }
-    }
-
-    /// Returns the entry that `next` returned last, with its call as a value.
-    fn read_last(&self, alloc: Global) -> Result<Option<ReadEntry<'_>>, AllocError>
+    /// Lends the last entry, with its call as a value.
+    fn read_last(&self) -> Result<Option<EntryRef<'_>>, AllocError>
         ensures kind { IfOk result (λ next. kind_read next ≡ last_of self.now) }
         ensures value { (given : List ℕ) (handed : List spec.Entry) (entry : spec.Entry)
             → StandsFor R.told self.now given (handed ++ entry ∷ [])
             → IfOk result (λ next. IfSome next (λ read. IsReadAs read entry)) }
     {
         match self.entry() {
-            Some(lent) => match lent.read(alloc) {
+            Some(lent) => match lent.read(self.alloc) {
                 Ok(read) => Ok(Some(read)),
                 Err(error) => Err(error),
             },
@@ -236,9 +242,8 @@ impl<'r, R: Source, S: BuildHasher + Drop> Entries<'r, R, S> {
         }
     }
 
-    /// Borrows the entry that `next` returned last, until the next call. Returns `None` before the
-    /// first entry and after an error.
-    pub fn entry(&self) -> Option<EntryRef<'_>>
+    /// Lends the last entry. Returns `None` before the first entry and after an error.
+    fn entry(&self) -> Option<LentEntry<'_>>
         ensures kind { kind_lent result ≡ last_of self.now }
         ensures lent { (given : List ℕ) (handed : List spec.Entry) (entry : spec.Entry)
             → StandsFor R.told self.now given (handed ++ entry ∷ [])

@@ -50,7 +50,7 @@ pub struct ReplyRef<'a> {
 
 /// An entry that borrows from the current record.
 #[derive(Clone, Copy)]
-pub enum EntryRef<'a> {
+pub enum LentEntry<'a> {
     Begin,
     Call(CallRef<'a>),
     Turn,
@@ -264,7 +264,7 @@ impl KeptReply {
     }
 }
 
-impl<'a> EntryRef<'a> {
+impl<'a> LentEntry<'a> {
     ghost use Rattle.capture3.specs.Entry as spec;
     ghost use Rattle.capture3.specs.Kept.{IsCopy, IsKept, IsLent};
 
@@ -275,18 +275,18 @@ impl<'a> EntryRef<'a> {
             → IfOk result (λ kept. IsKept kept entry) }
     {
         match self {
-            EntryRef::Begin => Ok(Entry::Begin),
-            EntryRef::Call(call) => {
+            LentEntry::Begin => Ok(Entry::Begin),
+            LentEntry::Call(call) => {
                 let kept = call.keep(alloc)?;
                 Ok(Entry::Call(kept))
             }
-            EntryRef::Turn => Ok(Entry::Turn),
-            EntryRef::Reply(reply) => {
+            LentEntry::Turn => Ok(Entry::Turn),
+            LentEntry::Reply(reply) => {
                 let kept = reply.keep(alloc)?;
                 Ok(Entry::Reply(kept))
             }
-            EntryRef::Close => Ok(Entry::Close),
-            EntryRef::End => Ok(Entry::End),
+            LentEntry::Close => Ok(Entry::Close),
+            LentEntry::End => Ok(Entry::End),
         }
     }
 }

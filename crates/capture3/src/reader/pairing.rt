@@ -17,7 +17,7 @@ use crate::fault::{Error, Noted, Place, Side};
 use crate::message::calls::CallTable;
 use crate::message::scan::{scan_call, scan_reply};
 use crate::message::stop;
-use crate::reader::entry::{CallRef, EntryRef, Kind, ReplyRef};
+use crate::reader::entry::{CallRef, Kind, LentEntry, ReplyRef};
 use std::alloc::Global;
 use xdr3::{GetError, Reason, Visit};
 
@@ -107,7 +107,7 @@ impl<C: CallTable + Drop> Pairing<C> {
     }
 
     /// Borrows the entry that `next` took last, which is of this kind.
-    pub(crate) fn lend(&self, kind: Kind) -> EntryRef<'_>
+    pub(crate) fn lend(&self, kind: Kind) -> LentEntry<'_>
         requires last { self.now.last ≡ Some kind }
         ensures kind { kind_of result ≡ kind }
         ensures lent { (entry : spec.Entry) → IsHeld kind self.now.container.joiner.taking entry
@@ -115,20 +115,20 @@ impl<C: CallTable + Drop> Pairing<C> {
         ensures number { IfSome (number_lent result) (λ number. number ≡ self.now.number) }
     {
         match kind {
-            Kind::Begin => EntryRef::Begin,
-            Kind::Call(id) => EntryRef::Call(CallRef {
+            Kind::Begin => LentEntry::Begin,
+            Kind::Call(id) => LentEntry::Call(CallRef {
                 id,
                 number: self.number,
                 body: self.container.body(),
             }),
-            Kind::Turn => EntryRef::Turn,
-            Kind::Reply(id) => EntryRef::Reply(ReplyRef {
+            Kind::Turn => LentEntry::Turn,
+            Kind::Reply(id) => LentEntry::Reply(ReplyRef {
                 id,
                 number: self.number,
                 body: self.container.body(),
             }),
-            Kind::Close => EntryRef::Close,
-            Kind::End => EntryRef::End,
+            Kind::Close => LentEntry::Close,
+            Kind::End => LentEntry::End,
         }
     }
 

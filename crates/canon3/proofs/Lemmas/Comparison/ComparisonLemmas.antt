@@ -4,7 +4,9 @@ use Rattle.std.specs.Option.{is_some, IsSomeAnd, MatchOption}
 use Rattle.std.specs.declared.hash.BuildHasher as BuildHasher
 use Rattle.std.specs.declared.hash.Hasher as Hasher
 use Rattle.capture3.specs.declared.fault.Error.TheVariants as errors
+use Rattle.capture3.specs.declared.reader.entry.LentEntry.{LentEntry}
 use Rattle.capture3.specs.Handing.{HandsOutGiven}
+use Rattle.capture3.specs.Lending.{IsNextLent}
 use Rattle.canon3.specs.declared.comparison.Comparison.{Comparison}
 use Rattle.canon3.specs.declared.comparison.Finding.{Finding}
 use Rattle.canon3.specs.declared.comparison.Finding.TheVariants as findings
@@ -137,22 +139,21 @@ module _ {R S H V : Type 0} {builds : BuildHasher.Ghosts S H} {hashes : Hasher.G
     (telling : R → Told) (stands : V → List Item → Type 0) (start : Told)
     (old new : Entries R S H builds hashes) (was now : V) (handed : List Entry) where
   -- what a call of it says of what the source gave, and of the visitor
-  abbrev pub Hands : Result (Option Kind) Error → Type 0
-  Hands (Ok (Some kind)) = (entry : Entry) × IsOfKind kind entry × AreFirst (handed ++ entry ∷ [])
-      × Adds stands was now (items_of entry)
-      × HasGiven telling start new (handed ++ entry ∷ [])
+  abbrev pub Hands : Result (Option LentEntry) Error → Type 0
+  Hands (Ok (Some lent)) = (entry : Entry) × IsNextLent stands was now handed lent entry
+      × AreFirst (handed ++ entry ∷ []) × HasGiven telling start new (handed ++ entry ∷ [])
   Hands (Ok None) =
       GaveAll start (telling (source_of new)) handed × HasGiven telling start new handed
   Hands (Err error) = SaysOfGiven start (telling (source_of new)) error
 
-  pub hands : (h : HasGiven telling start old handed) (result : Result (Option Kind) Error)
-      → HandsOutGiven telling stands old new was now h.given handed result → Hands result
-  hands h (Ok (Some kind)) a =
-      let (entry, is, reached, adds, stands_for) = a.hands_out in (
+  pub hands : (h : HasGiven telling start old handed) (result : Result (Option LentEntry) Error)
+      → HandsOutGiven telling (IsNextLent stands was now) old new h.given handed result
+      → Hands result
+  hands h (Ok (Some lent)) a =
+      let (entry, is, reached, stands_for) = a.hands_out in (
         entry,
         is,
         first_reached (h.given ++ a.more) (handed ++ entry ∷ []) reached,
-        adds,
         record {
           given = h.given ++ a.more;
           consumed = gave_on start h.consumed a;
@@ -180,11 +181,10 @@ module _ {R S H : Type 0} {builds : BuildHasher.Ghosts S H} {hashes : Hasher.Gho
 pub read_on : {R S H V : Type 0} {builds : BuildHasher.Ghosts S H} {hashes : Hasher.Ghosts H}
     (telling : R → Told) (stands : V → List Item → Type 0) (start : Told)
     (old new : Entries R S H builds hashes) (was now : V) (handed : List Entry)
-    (h : HasGivenOn telling start old handed) (next : Option Kind)
+    (h : HasGivenOn telling start old handed) (next : Option LentEntry)
     → Hands telling stands start old new was now (handed ++ h.more) (Ok next)
     → ReadsOn telling start new handed (Ok (is_some next))
-read_on telling stands start old new was now handed h (Some kind)
-    (entry, is, first, adds, given) =
+read_on telling stands start old new was now handed h (Some lent) (entry, is, first, given) =
     record {
       more = h.more ++ entry ∷ [];
       all = subst (HasGiven telling start new) (append_assoc handed h.more (entry ∷ [])) given;

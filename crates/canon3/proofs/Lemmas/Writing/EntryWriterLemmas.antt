@@ -1,11 +1,11 @@
 -- What is written of the entries that a reader hands out.
 use Rattle.std.proofs.Common.{⊎_elim, ◌≡◌, ℕ, Bool, true, false, List, [], ◌∷◌, ◌++◌, refl, subst, sym, Option, Result, Ok, Err, IfErr, IfOk, arith}
 use Rattle.std.specs.Prelude.{IsTrue}
-use Rattle.canon3.proofs.Common.{Gave, Told, IsPrefixOf, shown_of_all, Appends, Item, Entries, Error, Entry, Kind, AppendsFront, Appends-nil, IsMetBy, source_of, StandsFor, EntryRef, AreFirstReached, Reached, reached_by_machine, EntryCounts}
+use Rattle.canon3.proofs.Common.{Gave, Told, IsPrefixOf, shown_of_all, Appends, Item, Entries, Error, Entry, Kind, AppendsFront, Appends-nil, IsMetBy, source_of, StandsFor, LentEntry, AreFirstReached, Reached, reached_by_machine, EntryCounts}
 use Rattle.std.specs.declared.hash.BuildHasher as BuildHasher
 use Rattle.std.specs.declared.hash.Hasher as Hasher
 use Rattle.capture3.specs.declared.fault.Error.TheVariants as errors
-use Rattle.capture3.specs.declared.reader.entry.EntryRef.TheVariants as lent
+use Rattle.capture3.specs.declared.reader.entry.LentEntry.TheVariants as lent
 use Rattle.capture3.specs.Kept.{IsLent, IsOfKind, kind_of}
 use Rattle.canon3.specs.EntryWriter.{IsStoppedBy, KeepsPrefixes, WritesAllCounted, WritesGivenCounted}
 use Rattle.canon3.specs.machinery.WritingSteps.{WritesOn, HasMore}
@@ -14,7 +14,7 @@ use Rattle.canon3.proofs.Lemmas.Order.Reaching.{reached_first}
 use Rattle.canon3.proofs.Lemmas.Writing.SinkWritesLemmas.{front_of_first, whole_front}
 
 -- a lent entry is of its kind
-of_its_kind : (one : EntryRef) (entry : Entry) → IsLent one entry → IsOfKind (kind_of one) entry
+pub of_its_kind : (one : LentEntry) (entry : Entry) → IsLent one entry → IsOfKind (kind_of one) entry
 of_its_kind lent.Begin entry is = is
 of_its_kind (lent.Call call) entry (items, fits, asks, is) = (items, asks, is)
 of_its_kind lent.Turn entry is = is
@@ -22,7 +22,7 @@ of_its_kind (lent.Reply reply) entry (items, fits, is) = (items, is)
 of_its_kind lent.Close entry is = is
 of_its_kind lent.End entry is = is
 
-pub lent_kind : (one : EntryRef) (kind : Kind) (entry : Entry) → kind ≡ kind_of one
+pub lent_kind : (one : LentEntry) (kind : Kind) (entry : Entry) → kind ≡ kind_of one
     → IsLent one entry → IsOfKind kind entry
 lent_kind one kind entry is lends =
     subst (λ k. IsOfKind k entry) (sym is) (of_its_kind one entry lends)

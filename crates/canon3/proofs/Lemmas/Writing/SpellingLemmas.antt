@@ -1,12 +1,12 @@
 -- What an entry is written as in the canonical form.
-use Rattle.canon3.proofs.Common.{◌≡◌, ◌<◌, ◌≤◌, ◌^◌, ◌⊎◌, inl, inr, ℕ, List, [], ◌∷◌, ◌++◌, length, length-append, append-nil, drop, sym, ap, ◌∙◌, arith, Some, nat_eq, max_body, Item, Spells, Word, word_bytes, zero_spelling, Entry, Begin, Call, Turn, Reply, Close, End, items_of, MessageWriter, chunk_bytes, message_bytes, record_bytes, open_xids, xid_in, xid_of, AreFirst, rank, IsLentAfter, handles, handles_in, verifiers, verifiers_in, EntryRef, items_after, message_after, bytes_after, spelling_of, HasSpelled, AreFew, told_after, HoldsBefore, IsGoing, IsNotedAs, WriterStands, values_of}
+use Rattle.canon3.proofs.Common.{◌≡◌, ◌<◌, ◌≤◌, ◌^◌, ◌⊎◌, inl, inr, ℕ, List, [], ◌∷◌, ◌++◌, length, length-append, append-nil, drop, sym, ap, ◌∙◌, arith, Some, nat_eq, max_body, Item, Spells, Word, word_bytes, zero_spelling, Entry, Begin, Call, Turn, Reply, Close, End, items_of, MessageWriter, chunk_bytes, message_bytes, record_bytes, open_xids, xid_in, xid_of, AreFirst, rank, IsLentAfter, handles, handles_in, verifiers, verifiers_in, LentEntry, items_after, message_after, bytes_after, spelling_of, HasSpelled, AreFew, told_after, HoldsBefore, IsGoing, IsNotedAs, WriterStands, values_of}
 use Rattle.patches.specs.Patches.{patched}
 use Rattle.capture3.specs.Numbering.{number_after}
 use Rattle.canon3.specs.declared.canonical_form.spelling.Spelling.{Spelling}
 use Rattle.canon3.specs.declared.canonical_form.spelling.Spelling.TheVariants.{Zero, One, Message}
 use Rattle.capture3.specs.declared.reader.entry.CallRef.{CallRef}
 use Rattle.capture3.specs.declared.reader.entry.ReplyRef.{ReplyRef}
-use Rattle.capture3.specs.declared.reader.entry.EntryRef.TheVariants as lent
+use Rattle.capture3.specs.declared.reader.entry.LentEntry.TheVariants as lent
 use Rattle.canon3.specs.machinery.MessageWriter.{message_of}
 use Rattle.capture3.proofs.Lemmas.Connections.NumberingLemmas.{open-append}
 use Rattle.canon3.proofs.Lemmas.Order.First.{first_in_order}
@@ -78,7 +78,7 @@ module _ {S H : Type 0} (n : MessageWriter S H) (entries : List Entry) where
 
   -- ---- a lent entry of each kind
 
-  pub begin_spelled : (entry : EntryRef) (one : Entry) → entry ≡ lent.Begin
+  pub begin_spelled : (entry : LentEntry) (one : Entry) → entry ≡ lent.Begin
       → IsLentAfter entries entry one → IsGoing n
       → WriterStands n (told_after (values_of entries) (items_of one))
       → HasSpelled n One entries one
@@ -86,7 +86,7 @@ module _ {S H : Type 0} (n : MessageWriter S H) (entries : List Entry) where
       let this : one ≡ Begin = rw is at of.0 in
       rw this (word_held Begin One (sym (append-nil (word_bytes 1))))
 
-  pub word_spelled : (entry : EntryRef) (one : Entry)
+  pub word_spelled : (entry : LentEntry) (one : Entry)
       → (entry ≡ lent.Turn) ⊎ ((entry ≡ lent.Close) ⊎ (entry ≡ lent.End))
       → IsLentAfter entries entry one → IsGoing n
       → WriterStands n (told_after (values_of entries) (items_of one))
@@ -101,7 +101,7 @@ module _ {S H : Type 0} (n : MessageWriter S H) (entries : List Entry) where
       let this : one ≡ End = rw is at of.0 in
       rw this (word_held End Zero (sym (append-nil (word_bytes 0))))
 
-  pub call_spelled : (entry : EntryRef) (one : Entry) (call : CallRef) → entry ≡ lent.Call call
+  pub call_spelled : (entry : LentEntry) (one : Entry) (call : CallRef) → entry ≡ lent.Call call
       → IsLentAfter entries entry one → AreFirst (entries ++ one ∷ []) → IsGoing n
       → WriterStands n (told_after (values_of entries) (items_of one))
       → HasSpelled (record n { xid = call.number }) (Message call.body) entries one
@@ -122,7 +122,7 @@ module _ {S H : Type 0} (n : MessageWriter S H) (entries : List Entry) where
             (are_few entries (Call items) first) going stands;
       })
 
-  pub reply_spelled : (entry : EntryRef) (one : Entry) (reply : ReplyRef)
+  pub reply_spelled : (entry : LentEntry) (one : Entry) (reply : ReplyRef)
       → entry ≡ lent.Reply reply → IsLentAfter entries entry one → AreFirst (entries ++ one ∷ [])
       → IsGoing n → WriterStands n (told_after (values_of entries) (items_of one))
       → HasSpelled (record n { xid = reply.number }) (Message reply.body) entries one

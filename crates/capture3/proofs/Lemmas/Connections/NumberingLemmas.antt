@@ -3,8 +3,8 @@ use Rattle.capture3.proofs.Common.{lengths, ◌≡◌, ℕ, ◌+◌, ◌<◌, �
 use Rattle.capture3.specs.Entry.{Begin, Call}
 use Rattle.capture3.specs.declared.reader.entry.Entry as kept
 use Rattle.capture3.specs.declared.reader.entry.Entry.TheVariants as variants
-use Rattle.capture3.specs.declared.reader.entry.EntryRef.{EntryRef}
-use Rattle.capture3.specs.declared.reader.entry.EntryRef.TheVariants as lent
+use Rattle.capture3.specs.declared.reader.entry.LentEntry.{LentEntry}
+use Rattle.capture3.specs.declared.reader.entry.LentEntry.TheVariants as lent
 use Rattle.capture3.specs.Kept.{IsCopy, IsLent}
 use Rattle.capture3.specs.Numbering.{number_after, number_lent, rank_among}
 use Rattle.capture3.proofs.Lemmas.Connections.KnownLemmas.{equality}
@@ -76,7 +76,7 @@ few_after front entry few =
     omega (arith, few, few_open (front ++ entry ∷ []) [], length-append front (entry ∷ []))
 
 -- a lent message has the number of its entry
-pub lent_number : (one : EntryRef) (front : List Entry) (entry : Entry) (number : ℕ)
+pub lent_number : (one : LentEntry) (front : List Entry) (entry : Entry) (number : ℕ)
     → length front + 1 < number_limit → IsLent one entry
     → IfSome (number_lent one) (λ n. n ≡ number)
     → HasNumber number (open_xids [] (front ++ entry ∷ [])) entry
@@ -84,7 +84,7 @@ pub lent_number : (one : EntryRef) (front : List Entry) (entry : Entry) (number 
 lent_number one front entry number few is own has =
     by_kind one (open_xids [] (front ++ entry ∷ [])) (few_after front entry few) is own has
   where
-    by_kind : (one : EntryRef) (xs : List ℕ) → length xs < number_limit → IsLent one entry
+    by_kind : (one : LentEntry) (xs : List ℕ) → length xs < number_limit → IsLent one entry
         → IfSome (number_lent one) (λ n. n ≡ number) → HasNumber number xs entry
         → number_lent one ≡ rank_among xs entry
     by_kind lent.Begin xs few is own has = ap (rank_among xs) (sym is)

@@ -1,5 +1,6 @@
 -- How long a capture file can be.
-use Rattle.capture3.proofs.Common.{lengths, concat, Run, Runs, Stops, Stopped, IsWord, Joins, AreBytes, Streams, size, SidedChunk, IsSidedChunk, gathered, AreMixed, BeginsMixed, max_bytes, IsChunk, AreChunks, IsStream, BeginsStream, ShownFault, Entry, IsClean, Parsing, parsed, Version, One, Two, max_connections, total_size, magic, IsConnection, IsCapture, Opens, ReachesInside, AreWhole, InMagic, BetweenConnections, InConnection, ◌≡◌, ◌⊎◌, inl, inr, ℕ, ◌+◌, ◌*◌, ◌<◌, ◌≤◌, List, [], ◌∷◌, ◌++◌, length, refl, sym, ap, ◌∙◌, append_assoc, append-nil, arith, most_bytes, IsWithinVersion}
+use Rattle.std.proofs.Common.{get_or}
+use Rattle.capture3.proofs.Common.{length-append, lengths, concat, Run, Runs, Stops, Stopped, IsWord, Joins, AreBytes, Streams, size, SidedChunk, IsSidedChunk, gathered, AreMixed, BeginsMixed, max_bytes, IsChunk, AreChunks, IsStream, BeginsStream, ShownFault, Entry, IsClean, Parsing, parsed, Version, One, Two, max_connections, total_size, magic, IsConnection, IsCapture, Opens, ReachesInside, AreWhole, InMagic, BetweenConnections, InConnection, ◌≡◌, ◌⊎◌, inl, inr, ℕ, ◌+◌, ◌*◌, ◌<◌, ◌≤◌, List, [], ◌∷◌, ◌++◌, length, refl, sym, ap, ◌∙◌, append_assoc, append-nil, arith, most_bytes, IsOfVersion, IsWithinVersion}
 use Rattle.capture3.proofs.Lemmas.Container.SidedChunksMachineLemmas.{size_of}
 use Rattle.capture3.proofs.Lemmas.Reached.ReachedLemmas.{stands_whole}
 use Rattle.capture3.proofs.Lemmas.Files.Verdicts.{told, shows_from_stops, shown_before}
@@ -225,3 +226,19 @@ clean_most file are clean = by_version (clean_size file are clean)
     by_version : IsWithinVersion file → length file ≤ most_bytes Two
     by_version (One, has, within) = omega (arith, within)
     by_version (Two, has, within) = within
+
+-- and so than one of version 1, if they begin bytes of that version
+pub most_of_one : (front rest : List ℕ) → AreBytes front → IsClean front
+    → IsOfVersion One (front ++ rest) → length front ≤ most_bytes One
+most_of_one front rest are clean of = by_version (clean_size front are clean) of
+  where
+    by_version : IsWithinVersion front → IsOfVersion One (front ++ rest)
+        → length front ≤ most_bytes One
+    by_version (One, has, within) of = within
+    by_version (Two, inl (more, e), within) of = omega (lengths, ap length e)
+    by_version (Two, inr (more, e), within) (inl (back, f)) =
+        omega (lengths, ap length f, length-append front rest)
+    by_version (Two, inr (more, e), within) (inr (back, f)) =
+        let same : (magic Two ++ more) ++ rest ≡ magic One ++ back =
+        ap (λ (b : List ℕ). b ++ rest) (sym e) ∙ f in
+        absurd (omega (arith, ap (λ (b : List ℕ). get_or b 7 0) same))

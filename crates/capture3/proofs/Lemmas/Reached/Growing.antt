@@ -17,7 +17,7 @@ emitted_is at total connections joining (Chunk Server left) j = refl
 emitted_is at total connections joining (Mixed streams point) j = refl
 emitted_is at total connections joining o j = append-nil j.entries
 
-emitted_here : (u : Unpacking) (j : Judged) → emitted (parsing_at u j) ≡ emitted_at u.opened j
+pub emitted_here : (u : Unpacking) (j : Judged) → emitted (parsing_at u j) ≡ emitted_at u.opened j
 emitted_here u j = emitted_is u.at u.total u.connections u.joining u.opened j
 
 -- ---- along any bytes

@@ -18,10 +18,12 @@ use Rattle.capture3.specs.declared.container.position.WordOf.TheVariants as word
 use Rattle.capture3.specs.Entries.{AreAllBeforeEnd, IsMetBy, failure_in, failure_of, last_of}
 use Rattle.capture3.specs.machinery.EntriesHistory.{entries_left_in, entries_left, unjudged, IsReading, StandsIn, StandsFor, HoldsLast, HasRead, HandsOutOrGoesOn, Turns}
 use Rattle.capture3.specs.Handing.{HandsOut, HandsOutGiven}
+use Rattle.capture3.specs.machinery.Stepping.{IsNextOfKind}
 use Rattle.capture3.specs.machinery.Pairing.{StandsAt, StandsOrRecalls, HasCome, HasNumber, after_side_word, GoesTo, FailsAt, IsHeld, entry_cost}
 use Rattle.capture3.specs.Kept.{IsOfKind}
 use Rattle.capture3.specs.machinery.Position.{AreEmpty, IsBeforeMark, IsEndSpot, StoredAt, opened_at}
-use Rattle.capture3.specs.Laws.{most_entries}
+use Rattle.capture3.specs.Capture.{One}
+use Rattle.capture3.specs.Laws.{IsOfVersion, most_entries}
 use Rattle.capture3.proofs.Lemmas.Reached.ReachedMore.{reached_within}
 use Rattle.capture3.proofs.Lemmas.Container.BytesOf.{AreBytes-append, split_bytes}
 use Rattle.capture3.proofs.Lemmas.Reader.PairingLemmas.{untold}
@@ -31,7 +33,7 @@ use Rattle.capture3.proofs.Lemmas.Reader.WholeFiles.{cut_at, typed_at}
 use Rattle.capture3.proofs.Lemmas.Reached.ReachedLemmas.{stands_whole}
 use Rattle.capture3.proofs.Lemmas.Container.KeptStreamsLemmas.{first_of, recalled_first}
 use Rattle.capture3.proofs.Lemmas.Reached.ReachedBeforeFaults.{first_reached_at}
-use Rattle.capture3.proofs.Lemmas.Container.Sizes.{clean_most}
+use Rattle.capture3.proofs.Lemmas.Container.Sizes.{clean_most, most_of_one}
 use Rattle.capture3.proofs.Lemmas.Files.Verdicts.{clean_from_runs, told, verdict_from_fault, verdict_from_typed}
 
 -- ---- what is kept truncated
@@ -288,9 +290,10 @@ module _ {R S H : Type 0} {builds : BuildHasher.Ghosts S H} {hashes : Hasher.Gho
   pub stands_reading : (e : Entries R S H builds hashes) (given : List ℕ) (handed : List Entry)
       → e.stage ≡ Reading → AreBytes given
       → length handed + (room_in e.pairing.container + 1) ≤ most_entries
-      → length given ≤ most_bytes Two + vec_len e.block → HoldsLast e handed
-      → IsReading e given handed → StandsFor told e given handed
-  stands_reading e given handed is are few most holds r = record {
+      → length given ≤ most_bytes Two + vec_len e.block
+      → (IsOfVersion One given → length given ≤ most_bytes One + vec_len e.block)
+      → HoldsLast e handed → IsReading e given handed → StandsFor told e given handed
+  stands_reading e given handed is are few most most_of_one holds r = record {
     bytes = are;
     few = omega (arith, few, left_is e is);
     limits =
@@ -298,6 +301,7 @@ module _ {R S H : Type 0} {builds : BuildHasher.Ghosts S H} {hashes : Hasher.Gho
           few = omega (arith, few);
           connections = few_first given handed (first_in e given handed are r);
           most = most;
+          most_of_one = most_of_one;
         };
     holds = holds;
     here = subst (λ (stage : Stage). StandsIn stage (told e.source.now) e given handed) (sym is) r;
@@ -321,6 +325,7 @@ module _ {R S H : Type 0} {builds : BuildHasher.Ghosts S H} {hashes : Hasher.Gho
           few = s.limits.few;
           connections = s.limits.connections;
           most = omega (arith, s.limits.most, block);
+          most_of_one = λ of. omega (arith, s.limits.most_of_one of, block);
         };
     holds = none_last new handed none;
     here =
@@ -372,7 +377,8 @@ module _ {R S H : Type 0} {builds : BuildHasher.Ghosts S H} {hashes : Hasher.Gho
       s =
       let r = reading_of old given handed is s in
       let at = machine_at old given handed empty none r in
-      let bounded = clean_most given s.bytes (clean_here given _ _ _ _ handed s.bytes at) in
+      let clean = clean_here given _ _ _ _ handed s.bytes at in
+      let bounded = clean_most given s.bytes clean in
       let split : given ++ more ≡ r.judged ++ unjudged new =
       ap (λ (b : List ℕ). b ++ more) (all_judged old given handed empty r)
       ∙ ap (λ (b : List ℕ). r.judged ++ b) (sym block) in
@@ -387,6 +393,8 @@ module _ {R S H : Type 0} {builds : BuildHasher.Ghosts S H} {hashes : Hasher.Gho
               ap (λ (c : Pairing (CountedCalls S H builds hashes)). room_in c.container) same,
             ))
             (omega (arith, length-append given more, bounded, within))
+            (λ of. omega
+            (arith, length-append given more, most_of_one given more s.bytes clean of, within))
             (same_last old new handed same s.holds)
             (record {
               judged = r.judged;
@@ -472,7 +480,9 @@ module _ {R S H : Type 0} {builds : BuildHasher.Ghosts S H} {hashes : Hasher.Gho
       let r = reading_of old given handed is s in
       stands_reading new given handed goes s.bytes
       (omega (arith, room_before old given handed is s, room))
-      (omega (arith, s.limits.most, size)) (none_last new handed last) (moves_on old new count
+      (omega (arith, s.limits.most, size))
+      (λ of. omega (arith, s.limits.most_of_one of, size)) (none_last new handed last)
+          (moves_on old new count
       given handed handed judged block fits within r (leads r.judged r.machine))
   judged_on stands was now old new count given handed (Some kind) is goes last size judged block
       fits within room s leads =
@@ -484,7 +494,9 @@ module _ {R S H : Type 0} {builds : BuildHasher.Ghosts S H} {hashes : Hasher.Gho
         stands_reading new given (handed ++ entry ∷ []) goes s.bytes
             (omega
             (arith, room_before old given handed is s, room, length-append handed (entry ∷ [])))
-            (omega (arith, s.limits.most, size)) (now_last new handed kind entry last held has)
+            (omega (arith, s.limits.most, size))
+            (λ of. omega (arith, s.limits.most_of_one of, size))
+            (now_last new handed kind entry last held has)
             (moves_on old new count given handed (handed ++ entry ∷ []) judged block fits within r
             machine),
       )
@@ -535,6 +547,7 @@ module _ {R S H : Type 0} {builds : BuildHasher.Ghosts S H} {hashes : Hasher.Gho
           few = omega (arith, room_before old given handed is s, length-append handed (End ∷ []));
           connections = (typed_within given (handed ++ End ∷ []) typed).few;
           most = omega (arith, s.limits.most, block);
+          most_of_one = λ of. omega (arith, s.limits.most_of_one of, block);
         };
         holds = now_last new handed kinds.End End last refl tt;
         here =
@@ -655,7 +668,7 @@ module _ {R S H : Type 0} {builds : BuildHasher.Ghosts S H} {hashes : Hasher.Gho
       (old new : Entries R S H builds hashes) (given : List ℕ) (handed : List Entry)
       → IsSome (last_of new) → failure_of new ≡ None
       → Turns told stands old new was now given handed
-      → HandsOutGiven told stands old new was now given handed (Ok (last_of new))
+      → HandsOutGiven told (IsNextOfKind stands was now) old new given handed (Ok (last_of new))
   answers_kind stands was now old new given handed some goes t = record {
     more = t.more;
     consumed = t.consumed;
@@ -664,20 +677,20 @@ module _ {R S H : Type 0} {builds : BuildHasher.Ghosts S H} {hashes : Hasher.Gho
     where
       by_last : (last : Option Kind) → IsSome last
           → HandsOutOrGoesOn told stands new was now (given ++ t.more) handed last
-          → HandsOut told stands new was now (given ++ t.more) handed (Ok last)
+          → HandsOut told (IsNextOfKind stands was now) new (given ++ t.more) handed (Ok last)
       by_last None none h = absurd (cc)
       by_last (Some kind) some (entry, is, adds, s) =
-          (entry, is, stands_first new (given ++ t.more) (handed ++ entry ∷ []) goes s, adds, s)
+          (entry, (is, adds), stands_first new (given ++ t.more) (handed ++ entry ∷ []) goes s, s)
 
-  pub answers_again : {V : Type 0} (stands : V → List Item → Type 0) (v : V)
+  pub answers_again : {X : Type 0} (Is : List Entry → X → Entry → Type 0)
       (e : Entries R S H builds hashes) (error : Error) (given : List ℕ) (handed : List Entry)
       → e.stage ≡ Failed error → StandsFor told e given handed
-      → HandsOutGiven told stands e e v v given handed (Err error)
-  answers_again stands v e error given handed is s = record {
+      → HandsOutGiven told Is e e given handed (Err error)
+  answers_again Is e error given handed is s = record {
     more = [];
     consumed = gave_none (told e.source.now);
     hands_out =
-        subst (λ (b : List ℕ). HandsOut told stands e v v b handed (Err error))
+        subst (λ (b : List ℕ). HandsOut told Is e b handed (Err error))
         (sym (append-nil given)) (here_at e (Failed error) given handed is s, s);
   }
 

@@ -20,11 +20,11 @@ gave_both a b c xs ys p q = (
 )
 
 -- what was given before a call of a reader, and in it
-pub gave_on : {R S H V : Type 0} {builds : BuildHasher.Ghosts S H} {hashes : Hasher.Ghosts H}
-    {told : R → Told} {stands : V → List Item → Type 0} {old new : Entries R S H builds hashes}
-    {was now : V} {given : List ℕ} {handed : List Entry} {result : Result (Option Kind) Error}
-    (first : Told) → Gave first (told old.source.now) given
-    → (a : HandsOutGiven told stands old new was now given handed result)
+pub gave_on : {R S H X : Type 0} {builds : BuildHasher.Ghosts S H} {hashes : Hasher.Ghosts H}
+    {told : R → Told} {Is : List Entry → X → Entry → Type 0}
+    {old new : Entries R S H builds hashes} {given : List ℕ} {handed : List Entry}
+    {result : Result (Option X) Error} (first : Told) → Gave first (told old.source.now) given
+    → (a : HandsOutGiven told Is old new given handed result)
     → Gave first (told new.source.now) (given ++ a.more)
 gave_on {told = told} {old = old} {new = new} {given = given} first gave a =
     gave_both first (told old.source.now) (told new.source.now) given a.more gave a.consumed

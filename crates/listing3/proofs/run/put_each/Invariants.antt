@@ -7,5 +7,7 @@ invariant-loop-field l = record {
   text : take l.end l.room.items ++ shown_items (run_items (drop l.field-index l.fields) l.rest)
       ≡ take l.fn.at l.fn.room.items ++ shown_items (run_items l.fields l.bytes);
   within : l.end ≤ vec_len l.room;
+  from : l.fn.at ≤ l.end;
+  kept : take l.fn.at l.room.items ≡ take l.fn.at l.fn.room.items;
   len : vec_len l.fn.room ≤ vec_len l.room;
 }

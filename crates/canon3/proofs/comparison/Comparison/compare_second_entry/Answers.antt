@@ -6,7 +6,7 @@ pub returns-in_ok-compare-in-Ok-Some-clause-meets :
     goal.returns-in_ok-compare-in-Ok-Some-clause-meets
 returns-in_ok-compare-in-Ok-Some-clause-meets g c first now start a b e of order so_far h =
     let ends = rw (c.in-Ok-Some.is, c.in-Ok-Some.field-0-is) at c.visit.follows.holds-at-none in
-    let (f, is, second, adds, given) =
+    let (f, (is, adds), second, given) =
     hands _ _ start _ _ _ _ b h _ (ends.answers h.given b h.stands) in
     let both =
     told_second c.args.self.now a b c.visit.new.visitor (items_of e) (items_of f) adds so_far in
@@ -14,10 +14,7 @@ returns-in_ok-compare-in-Ok-Some-clause-meets g c first now start a b e of order
     c.compare.new.self a b e f given
     c.in_ok-compare-in-Ok-Some.field-0 c.map.result c.map.ensures.cases
     (c.in_ok-compare-in-Ok-Some.ensures.compares
-    a b e f of (
-      ends.lent given.given b f given.stands,
-      ends.numbered given.given b f given.stands,
-    ) order second both)
+    a b e f of is order second both)
 
 pub returns-in-Ok-None-clause-meets : goal.returns-in-Ok-None-clause-meets
 returns-in-Ok-None-clause-meets g c first now start a b e of order so_far h =

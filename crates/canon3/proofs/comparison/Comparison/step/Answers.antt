@@ -6,7 +6,7 @@ pub returns-in-Ok-Some-clause-steps : goal.returns-in-Ok-Some-clause-steps
 returns-in-Ok-Some-clause-steps g c start other_start u =
     let new = c.visit.follows.lender-at-none in
     let ends = rw (c.in-Ok-Some.is, c.in-Ok-Some.field-0-is) at c.visit.follows.holds-at-none in
-    let (e, is, first, adds, given) =
+    let (e, (is, adds), first, given) =
     hands _ _ start _ _ _ _ u.a u.first_given _
     (ends.answers u.first_given.given u.a u.first_given.stands) in
     let so_far =
@@ -14,10 +14,7 @@ returns-in-Ok-Some-clause-steps g c start other_start u =
     stepped g.A.Source.told g.B.Source.told start other_start new c.compare_second_entry.new.second
     c.compare_second_entry.new.self u.a u.b e given c.compare_second_entry.result
     (c.compare_second_entry.ensures.meets start (g.A.Source.told (source_of new)) other_start u.a
-    u.b e (
-      ends.lent given.given u.a e given.stands,
-      ends.numbered given.given u.a e given.stands,
-    ) first so_far u.second_given)
+    u.b e is first so_far u.second_given)
 
 pub returns-in-Ok-None-clause-steps : goal.returns-in-Ok-None-clause-steps
 returns-in-Ok-None-clause-steps g c start other_start u =

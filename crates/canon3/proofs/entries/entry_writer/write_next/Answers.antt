@@ -20,7 +20,7 @@ unfolding Adds
 returns-in-Some-clause-goes_on g c first old u =
     let ends = rw (c.in_ok-entry.was, c.in-Some.is) at c.visit.follows.holds-at-none in
     let a = ends.answers u.given u.handed u.reads in
-    let (one, is, reached, adds, reads) = a.hands_out in
+    let (one, (is, adds), reached, reads) = a.hands_out in
     let order = first_reached (u.given ++ a.more) (u.handed ++ one ∷ []) reached in
     let few : length (u.handed ++ one ∷ []) < 2 ^ 32 = omega (arith, reads.few) in
     written_goes_on g.E.EntryWriter.form c.requires.prefixes g.E.EntryWriter.before g.E.Visit.stands
@@ -28,10 +28,7 @@ returns-in-Some-clause-goes_on g c first old u =
     c.write_one.new.writer c.write_one.new.counts (g.W.Sink.written c.write_one.new.sink)
     (u.given ++ a.more) u.handed one c.write_one.result c.write_one.ensures.more
     c.write_one.ensures.error (gave_on first u.consumed a) reached reads
-    (c.write_one.ensures.writes old u.handed one (
-      ends.lent (u.given ++ a.more) u.handed one reads,
-      ends.numbered (u.given ++ a.more) u.handed one reads,
-    ) order few u.writes.came
+    (c.write_one.ensures.writes old u.handed one is order few u.writes.came
     (adds (g.E.EntryWriter.before u.handed) u.writes.stands_for) u.writes.written)
 
 pub returns-in-None-clause-goes_on : goal.returns-in-None-clause-goes_on

@@ -1,14 +1,35 @@
-use Rattle.capture3.proofs.Lemmas.Reader.EntriesLemmas.{answers_again, answers_kind}
+use Rattle.capture3.proofs.Common.{refl}
+use Rattle.std.proofs.Common.{arith}
+use Rattle.capture3.proofs.Lemmas.Reader.LendingLemmas.{reads_over, reads_some}
 use Rattle.capture3.proofs.reader.entries.Entries.next.Goals as goal
 
-pub returns-in-Ok-clause-answers : goal.returns-in-Ok-clause-answers
-returns-in-Ok-clause-answers g c given handed s =
-    let read = c.in-Ok.ensures in
-    answers_kind g.R.Source.told g.V.Visit.stands c.args.visitor.now c.next_entry.new.visitor
-    c.args.self.now c.next_entry.new.self given handed read.some read.lends.going
-    (read.turns given handed s)
+pub returns-in-Ok : goal.returns-in-Ok
+returns-in-Ok g c =
+    let step = rw c.in-Ok-Some.field-0-is at c.in-Ok-Some.ensures in (
+      (
+        refl,
+        λ _. tt,
+        reads_some g.R.Source.told g.R.Source.failures c.args.self.now c.step.new.self
+            _ _ c.step.new.visitor c.in-Ok-Some.field-0-0 c.in-Ok.next (step.last refl)
+            c.in-Ok.ensures.kind step.answers c.in-Ok.ensures.value step.end step.over
+            (step.fewer refl) step.errors step.device,
+      ),
+      record {
+        ends = tt;
+        left = λ some. omega (arith, step.fewer refl);
+        write = tt;
+      },
+    )
 
-pub returns-in-Failed-clause-answers : goal.returns-in-Failed-clause-answers
-returns-in-Failed-clause-answers g c given handed s =
-    answers_again g.R.Source.told g.V.Visit.stands c.args.visitor.now c.args.self.now
-    c.in-Failed.error given handed c.in-Failed.is s
+pub returns-in-Err-read_last : goal.returns-in-Err-read_last
+returns-in-Err-read_last g c =
+    let step = rw c.in-Ok-Some.field-0-is at c.in-Ok-Some.ensures in (
+      (
+        refl,
+        λ _. tt,
+        reads_over g.R.Source.told g.R.Source.failures c.args.self.now c.step.new.self
+            _ _ c.step.new.visitor c.in-Ok-Some.field-0-0 step.answers step.over step.errors
+            step.device,
+      ),
+      record { ends = tt; left = tt; write = λ same. absurd (cc) },
+    )

@@ -6,12 +6,12 @@ ghost use Rattle.capture3.specs.Kept.{IsLent, kind_of};
 ghost use Rattle.capture3.specs.ReadAs.{IsReadAs, kind_of_read};
 
 use crate::message::values::CallMsg;
-use crate::reader::entry::{EntryRef, ReplyRef};
+use crate::reader::entry::{LentEntry, ReplyRef};
 use std::alloc::{AllocError, Global};
 
 /// An entry that borrows from the current record, of which a call is a value.
 #[derive(Clone, Copy)]
-pub enum ReadEntry<'a> {
+pub enum EntryRef<'a> {
     Begin,
     Call(CallMsg<'a>),
     Turn,
@@ -20,23 +20,23 @@ pub enum ReadEntry<'a> {
     End,
 }
 
-impl<'a> EntryRef<'a> {
+impl<'a> LentEntry<'a> {
     /// Returns the entry with its call as a value. It fails only if an allocation failed.
-    pub fn read(&self, alloc: Global) -> Result<ReadEntry<'a>, AllocError>
+    pub fn read(&self, alloc: Global) -> Result<EntryRef<'a>, AllocError>
         ensures kind { IfOk result (λ read. kind_of_read read ≡ kind_of self.now) }
         ensures value { (entry : spec.Entry) → IsLent self.now entry
             → IfOk result (λ read. IsReadAs read entry) }
     {
         match self {
-            EntryRef::Begin => Ok(ReadEntry::Begin),
-            EntryRef::Call(call) => {
+            LentEntry::Begin => Ok(EntryRef::Begin),
+            LentEntry::Call(call) => {
                 let message = call.read(alloc)?;
-                Ok(ReadEntry::Call(message))
+                Ok(EntryRef::Call(message))
             }
-            EntryRef::Turn => Ok(ReadEntry::Turn),
-            EntryRef::Reply(reply) => Ok(ReadEntry::Reply(*reply)),
-            EntryRef::Close => Ok(ReadEntry::Close),
-            EntryRef::End => Ok(ReadEntry::End),
+            LentEntry::Turn => Ok(EntryRef::Turn),
+            LentEntry::Reply(reply) => Ok(EntryRef::Reply(*reply)),
+            LentEntry::Close => Ok(EntryRef::Close),
+            LentEntry::End => Ok(EntryRef::End),
         }
     }
 }

@@ -2,7 +2,7 @@ use Rattle.capture3.proofs.Common.{ap, ◌∙◌}
 use Rattle.capture3.proofs.Lemmas.Messages.SpelledLemmas.{one_call}
 use Rattle.capture3.specs.Entry.{Call}
 use Rattle.capture3.specs.MessageValues.{call_items}
-use Rattle.capture3.proofs.reader.entry.EntryRef.read.Goals as goal
+use Rattle.capture3.proofs.reader.entry.LentEntry.read.Goals as goal
 
 pub returns-in_ok-message-in-Call-clause-value : goal.returns-in_ok-message-in-Call-clause-value
 returns-in_ok-message-in-Call-clause-value c entry lent =
