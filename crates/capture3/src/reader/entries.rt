@@ -148,7 +148,8 @@ impl<'r, R: Source, S: BuildHasher + Drop> Entries<'r, R, S> {
     /// if memory ran out for the value of a call, the next call goes on after that entry.
     pub fn next(&mut self) -> Result<Option<EntryRef<'_>>, Error>
         // What the reader ends as, and what is lent.
-        ensures* ends { sem 𝓛 (EndsRead R.row S.row S.Hasher.row S.BuildHasher S.Hasher.Hasher R.told R.failures self.entry result) }
+        ensures* ends { sem 𝓛 (EndsRead R.row S.row S.Hasher.row S.BuildHasher S.Hasher.Hasher
+            R.told R.failures self.entry result) }
 
         // What is known while the entry is used.
         ensures left { IfOk result (λ next. IsSome next → 0 < entries_left self.old) }
@@ -179,7 +180,8 @@ impl<'r, R: Source, S: BuildHasher + Drop> Entries<'r, R, S> {
     #[inline(always)]
     pub fn visit<V: Visit>(&mut self, visitor: &mut V) -> Result<Option<LentEntry<'_>>, Error>
         // What the reader ends as, and what is lent.
-        ensures* ends { sem 𝓛 (EndsAs R.row S.row S.Hasher.row S.BuildHasher S.Hasher.Hasher R.told V.stands R.failures self.entry visitor.old visitor.new result) }
+        ensures* ends { sem 𝓛 (EndsAs R.row S.row S.Hasher.row S.BuildHasher S.Hasher.Hasher
+            R.told V.stands R.failures self.entry visitor.old visitor.new result) }
 
         // What is known while the entry is used.
         ensures untold { IfOk result (λ next. next ≡ None → visitor.new ≡ visitor.old) }

@@ -482,7 +482,7 @@ module _ {R S H : Type 0} {builds : BuildHasher.Ghosts S H} {hashes : Hasher.Gho
       (omega (arith, room_before old given handed is s, room))
       (omega (arith, s.limits.most, size))
       (λ of. omega (arith, s.limits.most_of_one of, size)) (none_last new handed last)
-          (moves_on old new count
+      (moves_on old new count
       given handed handed judged block fits within r (leads r.judged r.machine))
   judged_on stands was now old new count given handed (Some kind) is goes last size judged block
       fits within room s leads =
