@@ -23,6 +23,7 @@ ROOM = 'machinery'
 BY_NAME = {
     'StandsFor': 'a history of a reader of entries: `through` gives one, each call takes one on, and what is concluded names none',
     'entries_left': 'a number that falls with each entry, by which a loop over them ends',
+    'the_row': 'the statement of the prover on the layout of a type, for a clause on what a loan leaves',
 }
 ITEM = re.compile(r'pub fn (\w+)|pub trait (\w+)|impl\b(?:<[^{]*?>)? ?(?:.* for )?(\w+)[^{]*\{$')
 METHOD = re.compile(r' {4}pub fn \w+')

@@ -9,7 +9,7 @@ pub use Rattle.capture3.specs.Capture.{One, magic}
 pub use Rattle.capture3.specs.Chunks.{max_bytes}
 pub use Rattle.capture3.specs.Entries.{IsMetBy, failure_of, loan_of, source_of}
 pub use Rattle.capture3.specs.Entry.{Begin, Call, Close, End, Entry, Reply, Turn, items_of}
-pub use Rattle.capture3.specs.Kept.{IsOfKind}
+pub use Rattle.capture3.specs.machinery.Stepping.{IsOfKind}
 pub use Rattle.capture3.specs.Laws.{most_entries}
 pub use Rattle.capture3.specs.Reached.{AreFirstReached, Reached}
 pub use Rattle.capture3.specs.SidedChunks.{Streams, size}

@@ -1,5 +1,5 @@
 -- Lent and kept entries, and the entries that they are.
-use Rattle.std.specs.Prelude.{◌≡◌, ℕ, ◌+◌, Option, Some, None, List, [], ◌∷◌}
+use Rattle.std.specs.Prelude.{◌≡◌, ℕ, ◌+◌, List, [], ◌∷◌}
 use Rattle.xdr3.specs.Item.{Item}
 use Rattle.rpc_head.specs.Messages.{procedure_in}
 use Rattle.capture3.specs.declared.reader.entry.Entry as kept
@@ -11,16 +11,6 @@ use Rattle.capture3.specs.declared.reader.entry.Kind.TheVariants as kinds
 use Rattle.capture3.specs.Bodies.{IsCall, IsReply}
 use Rattle.capture3.specs.Entry.{Entry, Begin, Call, Turn, Reply, Close, End}
 
--- An entry is of this kind, and for this procedure where it is a message.
-abbrev pub IsOfKind : Kind → Entry → Type 0
-IsOfKind kinds.Begin entry = entry ≡ Begin
-IsOfKind (kinds.Call id) entry = (items : List Item) × (id ≡ procedure_in items)
-    × (entry ≡ Call items)
-IsOfKind kinds.Turn entry = entry ≡ Turn
-IsOfKind (kinds.Reply id) entry = (items : List Item) × (entry ≡ Reply id items)
-IsOfKind kinds.Close entry = entry ≡ Close
-IsOfKind kinds.End entry = entry ≡ End
-
 -- what a lent entry is
 abbrev pub kind_of : LentEntry → Kind
 kind_of lent.Begin = kinds.Begin
@@ -29,10 +19,6 @@ kind_of lent.Turn = kinds.Turn
 kind_of (lent.Reply reply) = kinds.Reply reply.id
 kind_of lent.Close = kinds.Close
 kind_of lent.End = kinds.End
-
-abbrev pub kind_lent : Option LentEntry → Option Kind
-kind_lent None = None
-kind_lent (Some entry) = Some (kind_of entry)
 
 -- A lent message's body spells the entry's items, for its procedure (RFC 5531, section 9).
 abbrev pub IsLent : LentEntry → Entry → Type 0

@@ -1,5 +1,5 @@
 -- Entries whose calls are values, and the entries that they are.
-use Rattle.std.specs.Prelude.{◌≡◌, Option, Some, None, List}
+use Rattle.std.specs.Prelude.{◌≡◌, List}
 use Rattle.xdr3.specs.Item.{Item}
 use Rattle.capture3.specs.declared.reader.entry.Kind.{Kind}
 use Rattle.capture3.specs.declared.reader.entry.Kind.TheVariants as kinds
@@ -16,10 +16,6 @@ kind_of_read read.Turn = kinds.Turn
 kind_of_read (read.Reply reply) = kinds.Reply reply.id
 kind_of_read read.Close = kinds.Close
 kind_of_read read.End = kinds.End
-
-abbrev pub kind_read : Option EntryRef → Option Kind
-kind_read None = None
-kind_read (Some entry) = Some (kind_of_read entry)
 
 -- A call has the entry's items; a lent reply's body spells them.
 abbrev pub IsReadAs : EntryRef → Entry → Type 0

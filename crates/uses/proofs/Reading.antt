@@ -27,8 +27,8 @@ module _ {R S H : Type 0} {builds : BuildHasher.Ghosts S H} {hashes : Hasher.Gho
     pub holds : Holds handed
 
   -- what a call of the reader returned, after these entries
-  module _ {X : Type 0} (Is : List Entry → X → Entry → Type 0) (old new : Entries R S H builds hashes)
-      (Holds : List Entry → Type 0) (so_far : HasReturned old Holds) where
+  module _ {X : Type 0} (Is : List Entry → X → Entry → Type 0)
+      (old new : Entries R S H builds hashes) (Holds : List Entry → Type 0) (so_far : HasReturned old Holds) where
     -- one entry more is returned
     pub one_more : (More : List Entry → Type 0) (x : X)
         → HandsOutGiven told Is old new so_far.given so_far.handed (Ok (Some x))

@@ -7,7 +7,7 @@ ghost use Rattle.canon3.specs.machinery.CountedKinds.{calls, replies};
 ghost use Rattle.capture3.specs.Rank.{distinct, number_limit};
 ghost use Rattle.canon3.specs.Summary.{AreMessageCounts, IsSummary};
 ghost use Rattle.capture3.specs.Typed.{Typed};
-ghost use Rattle.capture3.specs.Kept.{IsOfKind};
+ghost use Rattle.capture3.specs.machinery.Stepping.{IsOfKind};
 ghost use Rattle.canon3.specs.Values as values;
 
 use crate::entries::progress::Progress;

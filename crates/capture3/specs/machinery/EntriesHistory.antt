@@ -19,7 +19,7 @@ use Rattle.capture3.specs.machinery.CountedCalls.{known_of}
 use Rattle.capture3.specs.Entry.{Entry, items_of}
 use Rattle.capture3.specs.machinery.Pairing.{HasCome, HasNumber, IsHeld}
 use Rattle.capture3.specs.OpenXids.{open_xids}
-use Rattle.capture3.specs.Kept.{IsOfKind}
+use Rattle.capture3.specs.machinery.Stepping.{IsOfKind}
 use Rattle.capture3.specs.Laws.{most_entries}
 use Rattle.capture3.specs.Typed.{Typed}
 use Rattle.capture3.specs.Entries.{block_size, CountsReads, failure_of, IsMetBy, KeepsLimits, last_of, loan_of, source_of}

@@ -73,13 +73,13 @@ pub struct Entries<'r, R, S: BuildHasher + Drop> {
 
 impl<'r, R: Source, S: BuildHasher + Drop> Entries<'r, R, S> {
     ghost use Rattle.std.specs.Borrow.{sem};
-    ghost use Rattle.capture3.specs.Kept.{IsLent, kind_lent};
+    ghost use Rattle.capture3.specs.Kept.{IsLent};
     ghost use Rattle.capture3.specs.Lending.{EndsAs};
-    ghost use Rattle.capture3.specs.ReadAs.{IsReadAs, kind_read};
+    ghost use Rattle.capture3.specs.ReadAs.{IsReadAs};
     ghost use Rattle.capture3.specs.ReadEntries.{EndsRead};
     ghost use Rattle.capture3.specs.Entries.{block_size, failure_of, IsOver, KeepsErrors, last_of, loan_of, source_of, UsesSource};
     ghost use Rattle.capture3.specs.Handing.{HandsOutGiven};
-    ghost use Rattle.capture3.specs.machinery.Stepping.{IsNextOfKind};
+    ghost use Rattle.capture3.specs.machinery.Stepping.{IsNextOfKind, kind_lent, kind_read};
     ghost use Rattle.capture3.specs.Numbering.{number_after, number_lent};
     ghost use Rattle.capture3.specs.machinery.EntriesHistory.{entries_left, HandsOutOrGoesOn, FillsOrEnds, HasRead, IsUsedUp, LendsOrFails, NotesFailure, ReadsNothing, JudgesOn, ReadsOnce, StandsFor, Turns};
 

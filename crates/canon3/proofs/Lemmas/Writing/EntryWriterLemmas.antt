@@ -6,7 +6,8 @@ use Rattle.std.specs.declared.hash.BuildHasher as BuildHasher
 use Rattle.std.specs.declared.hash.Hasher as Hasher
 use Rattle.capture3.specs.declared.fault.Error.TheVariants as errors
 use Rattle.capture3.specs.declared.reader.entry.LentEntry.TheVariants as lent
-use Rattle.capture3.specs.Kept.{IsLent, IsOfKind, kind_of}
+use Rattle.capture3.specs.Kept.{IsLent, kind_of}
+use Rattle.capture3.specs.machinery.Stepping.{IsOfKind}
 use Rattle.canon3.specs.EntryWriter.{IsStoppedBy, KeepsPrefixes, WritesAllCounted, WritesGivenCounted}
 use Rattle.canon3.specs.machinery.WritingSteps.{WritesOn, HasMore}
 use Rattle.canon3.specs.WriteErrors.{IsOfWriting}
@@ -14,7 +15,8 @@ use Rattle.canon3.proofs.Lemmas.Order.Reaching.{reached_first}
 use Rattle.canon3.proofs.Lemmas.Writing.SinkWritesLemmas.{front_of_first, whole_front}
 
 -- a lent entry is of its kind
-pub of_its_kind : (one : LentEntry) (entry : Entry) → IsLent one entry → IsOfKind (kind_of one) entry
+pub of_its_kind : (one : LentEntry) (entry : Entry) → IsLent one entry
+    → IsOfKind (kind_of one) entry
 of_its_kind lent.Begin entry is = is
 of_its_kind (lent.Call call) entry (items, fits, asks, is) = (items, asks, is)
 of_its_kind lent.Turn entry is = is

@@ -18,9 +18,8 @@ use Rattle.capture3.specs.declared.container.position.WordOf.TheVariants as word
 use Rattle.capture3.specs.Entries.{AreAllBeforeEnd, IsMetBy, failure_in, failure_of, last_of}
 use Rattle.capture3.specs.machinery.EntriesHistory.{entries_left_in, entries_left, unjudged, IsReading, StandsIn, StandsFor, HoldsLast, HasRead, HandsOutOrGoesOn, Turns}
 use Rattle.capture3.specs.Handing.{HandsOut, HandsOutGiven}
-use Rattle.capture3.specs.machinery.Stepping.{IsNextOfKind}
+use Rattle.capture3.specs.machinery.Stepping.{IsNextOfKind, IsOfKind}
 use Rattle.capture3.specs.machinery.Pairing.{StandsAt, StandsOrRecalls, HasCome, HasNumber, after_side_word, GoesTo, FailsAt, IsHeld, entry_cost}
-use Rattle.capture3.specs.Kept.{IsOfKind}
 use Rattle.capture3.specs.machinery.Position.{AreEmpty, IsBeforeMark, IsEndSpot, StoredAt, opened_at}
 use Rattle.capture3.specs.Capture.{One}
 use Rattle.capture3.specs.Laws.{IsOfVersion, most_entries}

@@ -10,14 +10,14 @@ use Rattle.capture3.specs.declared.reader.entry.LentEntry.{LentEntry}
 use Rattle.capture3.specs.declared.reader.entry_ref.EntryRef.{EntryRef}
 use Rattle.capture3.specs.Entries.{CountsReading, IsOver, KeepsErrors, UsesSource, failure_of, last_of}
 use Rattle.capture3.specs.Handing.{HandsOutGiven}
-use Rattle.capture3.specs.Kept.{IsLent, kind_lent}
+use Rattle.capture3.specs.Kept.{IsLent}
 use Rattle.capture3.specs.Lending.{IsNextLent, LendsNext}
 use Rattle.capture3.specs.Numbering.{number_after, number_lent}
-use Rattle.capture3.specs.ReadAs.{IsReadAs, kind_read}
+use Rattle.capture3.specs.ReadAs.{IsReadAs}
 use Rattle.capture3.specs.ReadEntries.{ReadsNext}
 use Rattle.capture3.specs.Told.{Told}
 use Rattle.capture3.specs.machinery.EntriesHistory.{entries_left, StandsFor}
-use Rattle.capture3.specs.machinery.Stepping.{IsNextOfKind}
+use Rattle.capture3.specs.machinery.Stepping.{IsNextOfKind, kind_lent, kind_read}
 
 -- what a step returns
 abbrev pub Answer : Type 0

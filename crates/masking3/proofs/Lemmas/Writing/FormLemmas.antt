@@ -3,7 +3,7 @@ use Rattle.masking3.proofs.Common.{◌≡◌, ℕ, List, [], ◌∷◌, ◌++◌
 use Rattle.std.proofs.KnownBytes.{Appends-trans}
 use Rattle.capture3.specs.declared.reader.entry.Kind.{Kind}
 use Rattle.capture3.specs.declared.reader.entry.Kind.TheVariants as kinds
-use Rattle.capture3.specs.Kept.{IsOfKind}
+use Rattle.capture3.specs.machinery.Stepping.{IsOfKind}
 use Rattle.canon3.specs.Parting.{connections}
 use Rattle.canon3.proofs.Lemmas.Canonical.CanonicalFormLemmas.{the_magic}
 use Rattle.canon3.proofs.Lemmas.Writing.SinkWritesLemmas.{front_of_first, front_of_second, whole_front}

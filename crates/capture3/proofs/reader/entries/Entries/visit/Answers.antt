@@ -1,6 +1,6 @@
 use Rattle.capture3.proofs.Common.{refl, sym, ap, ◌∙◌}
 use Rattle.std.proofs.Common.{arith}
-use Rattle.capture3.specs.Kept.{kind_lent}
+use Rattle.capture3.specs.machinery.Stepping.{kind_lent}
 use Rattle.capture3.proofs.Lemmas.Reader.LendingLemmas.{lends_some}
 use Rattle.capture3.proofs.reader.entries.Entries.visit.Goals as goal
 
@@ -12,9 +12,9 @@ returns-in-Ok-Some g c =
         refl,
         λ _. tt,
         lends_some g.R.Source.told g.R.Source.failures c.args.self.now c.step.new.self
-            g.V.Visit.stands c.args.visitor.now c.step.new.visitor c.in-Ok-Some.field-0-0 c.entry.result
-            last c.entry.ensures.kind step.answers c.entry.ensures.lent c.entry.ensures.numbered step.end
-            step.over (step.fewer refl) step.errors step.device,
+            g.V.Visit.stands c.args.visitor.now c.step.new.visitor c.in-Ok-Some.field-0-0
+            c.entry.result last c.entry.ensures.kind step.answers c.entry.ensures.lent
+            c.entry.ensures.numbered step.end step.over (step.fewer refl) step.errors step.device,
       ),
       record {
         ends = tt;
