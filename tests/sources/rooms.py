@@ -192,7 +192,12 @@ def of_two_files() -> list[str]:
             if any(ROOM not in other.relative_to(room.parent).parts for other in room.parent.rglob(path.name))]
 
 
+# Scans of what has no value of its own: the parts of structs in procs3, and its table.
+ONLY_SCANS = {'crates/procs3/src/scans/both.rt', 'crates/procs3/src/scans/items.rt', 'crates/procs3/src/scans/table.rt'}
+
+
 def scans_without_values() -> list[str]:
     """Returns the files of scans, in crates with values, that have no file of values of the same name."""
-    return [str(path.relative_to(TOP)) for path in sorted(TOP.glob('crates/*/src/scans/*.rt'))
-            if (values := path.parent.parent / 'values').is_dir() and not (values / path.name).exists()]
+    found = [str(path.relative_to(TOP)) for path in sorted(TOP.glob('crates/*/src/scans/*.rt'))
+             if (values := path.parent.parent / 'values').is_dir() and not (values / path.name).exists()]
+    return sorted(set(found) ^ ONLY_SCANS)

@@ -1,6 +1,10 @@
 -- What one entry more adds to the calls that are counted.
 use Rattle.uses.proofs.Common.{◌≡◌, ◌↔◌, ℕ, ◌+◌, Bool, true, false, cond, IsTrue, List, [], ◌∷◌, ◌++◌, count_by, refl, sym, ap, subst, arith, ◌∙◌, sum_by-append, sum_by-cons, Entry, is_call_of, same_procedure}
 use Rattle.rpc_head.specs.declared.values.call.ProcId.{ProcId}
+use Rattle.xdr3.specs.Item.{followed_by}
+use Rattle.capture3.specs.Entry.{Call}
+use Rattle.capture3.specs.MessageValues.{call_items}
+use Rattle.capture3.specs.declared.message.values.CallMsg.{CallMsg}
 
 same_as_itself : (id : ProcId) → same_procedure id id ≡ true
 same_as_itself id = grind arith
@@ -18,6 +22,12 @@ same_decides a b true both =
     sym (ap (λ id. same_procedure a id) (sym (both.0 tt)) ∙ same_as_itself a)
 same_decides a b false both =
     sym (differs (same_procedure a b) (λ same. both.1 (same_are_equal a b same)))
+
+-- the procedure of a call is that of its head
+pub procedure_of : (message : CallMsg) (one : Entry) (id : ProcId) → one ≡ Call (call_items message)
+    → is_call_of id one ≡ same_procedure message.head.id id
+unfolding followed_by
+procedure_of message one id is = ap (is_call_of id) is
 
 -- one more is counted if it is one of them
 counts_after : {X : Type 0} (p : X → Bool) (n : ℕ) (items : List X) (one : X) → n ≡ count_by p items

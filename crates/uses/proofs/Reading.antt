@@ -3,17 +3,15 @@ use Rattle.capture3.specs.Told.{Told, Gave}
 use Rattle.capture3.proofs.Lemmas.Reader.ToldLemmas.{gave_on, prefix_of_told, shown_of_all}
 use Rattle.std.specs.declared.hash.BuildHasher as BuildHasher
 use Rattle.std.specs.declared.hash.Hasher as Hasher
-use Rattle.uses.proofs.Common.{◌≡◌, ◌⊎◌, inl, inr, ℕ, Option, Some, None, Ok, Err, List, [], ◌∷◌, ◌++◌, subst, refl, Entry, OnRefused, source_of, StandsFor}
+use Rattle.std.specs.Prelude.{Result}
+use Rattle.capture3.specs.ReadEntries.{KeepsOrPasses}
+use Rattle.uses.proofs.Common.{◌≡◌, ◌⊎◌, inl, inr, ℕ, Option, Some, None, Ok, Err, List, [], ◌∷◌, ◌++◌, subst, sym, Entry, OnRefused, failure_of, source_of, StandsFor}
 use Rattle.capture3.specs.declared.reader.entries.Entries.{Entries}
 use Rattle.capture3.specs.declared.fault.Error.{Error}
 use Rattle.capture3.specs.declared.fault.Error.TheVariants as errors
 use Rattle.capture3.specs.FirstFault.{FirstFault}
 use Rattle.capture3.specs.Handing.{HandsOutGiven}
 use Rattle.capture3.specs.Typed.{Typed}
-
-pub none_is : {X : Type 0} (o : Option X) → ((x : X) → o ≡ Some x → ⊥) → o ≡ None
-none_is None not = refl
-none_is (Some x) not = absurd (not x refl)
 
 module _ {R S H : Type 0} {builds : BuildHasher.Ghosts S H} {hashes : Hasher.Ghosts H}
     (told : R → Told) (first : Told) where
@@ -28,7 +26,8 @@ module _ {R S H : Type 0} {builds : BuildHasher.Ghosts S H} {hashes : Hasher.Gho
 
   -- what a call of the reader returned, after these entries
   module _ {X : Type 0} (Is : List Entry → X → Entry → Type 0)
-      (old new : Entries R S H builds hashes) (Holds : List Entry → Type 0) (so_far : HasReturned old Holds) where
+      (old new : Entries R S H builds hashes) (Holds : List Entry → Type 0)
+      (so_far : HasReturned old Holds) where
     -- one entry more is returned
     pub one_more : (More : List Entry → Type 0) (x : X)
         → HandsOutGiven told Is old new so_far.given so_far.handed (Ok (Some x))
@@ -71,9 +70,26 @@ module _ {R S H : Type 0} {builds : BuildHasher.Ghosts S H} {hashes : Hasher.Gho
     refused T errors.Write bytes tells step = tt
     refused T errors.Memory bytes tells step = tt
 
+    -- a call that lends calls as values may have passed over one for want of memory
+    pub refused_read : {Q : Type 0} (T : Type 0) (error : Error) (bytes : List ℕ)
+        → first.left ≡ Some bytes
+        → HandsOutGiven told Is old new so_far.given so_far.handed (Err error)
+        ⊎ ((◌≡◌ {A = Result (Option X) Error} (Err error) (Err errors.Memory)) × Q)
+        → OnRefused {X = T} (Err error) (FirstFault bytes)
+    refused_read T error bytes tells (inl step) = refused T error bytes tells step
+    refused_read T error bytes tells (inr (memory, q)) =
+        let same : error ≡ errors.Memory = cc in
+        subst (λ e. OnRefused {X = T} (Err e) (FirstFault bytes)) (sym same) tt
+
 -- ---- what a call leaves that lends calls as values
 
-module _ {P Q : Type 0} where
-  pub handed : {X : Type 0} (next : X) → P ⊎ ((Ok next ≡ Err errors.Memory) × Q) → P
-  handed next (inl p) = p
-  handed next (inr (memory, q)) = absurd (cc)
+pub handed : {P Q X : Type 0} (next : X)
+    → P ⊎ ((◌≡◌ {A = Result X Error} (Ok next) (Err errors.Memory)) × Q) → P
+handed next (inl p) = p
+handed next (inr (memory, q)) = absurd (cc)
+
+pub going_on : {R S H X : Type 0} {builds : BuildHasher.Ghosts S H} {hashes : Hasher.Ghosts H}
+    {old new : Entries R S H builds hashes} {x : X} → KeepsOrPasses old new (Ok x)
+    → failure_of new ≡ None
+going_on (inl kept) = kept.going
+going_on (inr (memory, before, after)) = after

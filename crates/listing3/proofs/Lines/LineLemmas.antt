@@ -12,6 +12,8 @@ use Rattle.canon3.specs.Progress.{HasPassed}
 use Rattle.canon3.specs.Values.{handles_in}
 use Rattle.canon3.proofs.Lemmas.Numbers.HandleTableLemmas.{none_in_run}
 use Rattle.canon3.proofs.Lemmas.WellFormed.Laid.{IsLaidOut, last_laid}
+use Rattle.xdr3.specs.Visit.{AddsSome}
+use Rattle.xdr3.proofs.Lemmas.Shapes.Walks.{some_after, some_none}
 use Rattle.listing3.proofs.Lines.ItemsTexts.{filled_more}
 use Rattle.listing3.proofs.ListingLemmas.{shown_push}
 
@@ -247,6 +249,32 @@ module _ {H : Type 0} (gathers : H → List Item → Type 0) (skips : SkipsOther
       (λ xid. (items : List Item) → IsTextOf xid writer.items items
       → IsTextOf xid text (items ++ Hyper name n ∷ run_items all run)) (sym none)
       (number_text_run name n writer.items text (run_items all run)))
+
+-- ---- a run that fails
+
+pub run_kept : {H : Type 0} (gathers : H → List Item → Type 0) (writer : LineWriter H)
+    (text : ItemsText) (items : List Item) → text ≡ writer.items
+    → AddsSome (LineStands gathers) writer (with_text gathers writer text) items
+unfolding Keeps
+run_kept gathers writer text items same =
+    some_none (LineStands gathers) writer (with_text gathers writer text) items
+    (keeps_text gathers writer text (rw same (λ before h. h)))
+
+-- its xid was taken
+pub xid_kept : {H : Type 0} (gathers : H → List Item → Type 0) (skips : SkipsOthers gathers)
+    (writer : LineWriter H) (text : ItemsText) (run : List ℕ) (items : List Item) (name : List ℕ)
+    (n m : ℕ) → n ≡ m → writer.xid ≡ None → text ≡ writer.items
+    → AddsSome (LineStands gathers) writer
+    (record { handles = writer.handles; xid = Some n; items = text; head = writer.head })
+    (Word name m ∷ items)
+unfolding Keeps
+xid_kept gathers skips writer text run items name n m same none kept =
+    let told : LineWriter _ =
+    record { handles = writer.handles; xid = Some n; items = text; head = writer.head } in
+    some_after (LineStands gathers) writer told told (Word name m ∷ []) items
+    (Word name m ∷ items) (adds_xid_run gathers skips writer text [] run name n m same none
+    (rw kept (adds_nothing TextStands writer.items)))
+    (some_none (LineStands gathers) told told items (λ before h. h)) refl
 
 -- a run of no fields
 pub adds_no_run : {H : Type 0} (gathers : H → List Item → Type 0) (writer : LineWriter H)

@@ -1,35 +1,37 @@
-use Rattle.uses.proofs.Common.{◌∙◌, ℕ, [], ap, Adds, error_is}
-use Rattle.uses.proofs.Reading.{all_returned, none_is, one_more, refused}
+use Rattle.uses.proofs.Common.{◌∙◌, ℕ, [], ap, refl, Adds, error_is}
+use Rattle.uses.proofs.Reading.{all_returned, one_more, refused}
 use Rattle.uses.proofs.summing.bytes_to_write.Goals as goal
 
-pub returns-in_err-kind-clause-refused : goal.returns-in_err-kind-clause-refused
-returns-in_err-kind-clause-refused g c bytes tells =
+pub returns-in_err-entry-clause-refused : goal.returns-in_err-entry-clause-refused
+returns-in_err-entry-clause-refused g c bytes tells =
     let u = c.loop-entries.invariant.returned in
+    let ends = rw c.in_err-entry.was at c.visit.follows.holds-at-none in
     rw (error_is _ _ c.from_residual.ensures)
-    (refused _ _ ℕ _ _ _ _ _ _ c.in_err-kind.field-0.0 bytes
-    (ap (λ s. (g.R.Source.told s).left) c.through-entries.ensures.unread ∙ tells) u
-    (c.in_err-kind.ensures.answers u.given u.handed u.stands))
+    (refused _ _ _ _ _ _ u ℕ c.in_err-entry.field-0.0 bytes
+    (ap (λ s. (g.R.Source.told s).left) c.in_ok-entries.ensures.unread ∙ tells)
+    (ends.answers u.given u.handed u.stands))
 
 pub loop-entries-preserved : goal.loop-entries-preserved
 unfolding Adds
 loop-entries-preserved g c =
     let u = c.loop-entries.invariant.returned in
+    let ends = rw (c.in_ok-entry.was, c.in-Some.is) at c.visit.follows.holds-at-none in
     record {
-      going = c.in_ok-kind.ensures.errors.going;
+      going = ends.errors.going;
       fresh = c.new-data-in-Some.ensures;
       returned =
-          one_more _ _ _ _ _ _ _ _ _ _ _ c.in-Some.is u
-          (c.in_ok-kind.ensures.answers u.given u.handed u.stands)
-          (λ handed entry of_kind adds sum.
-          c.with_entry-sum.ensures handed entry sum of_kind
-          (adds [] c.loop-entries.invariant.fresh));
+          one_more _ _ _ _ _ _ u _ c.in-Some.entry (ends.answers u.given u.handed u.stands)
+          (λ before one is sum.
+          c.with_entry-sum.ensures before one sum (c.is_write-writes.ensures one is.0.0)
+          (is.1 [] c.loop-entries.invariant.fresh));
     }
 
 pub returns-clause-summed : goal.returns-clause-summed
 returns-clause-summed g c bytes tells =
     let u = c.loop-entries.invariant.returned in
+    let ends = rw (c.in_ok-entry.was, c.in-None.is) at c.visit.follows.holds-at-none in
     let (entries, typed, summed) =
-    all_returned _ _ _ _ _ _ _ _ _ (none_is _ c.in_default.not-Some) bytes
-    (ap (λ s. (g.R.Source.told s).left) c.through-entries.ensures.unread ∙ tells) u
-    (c.in_ok-kind.ensures.answers u.given u.handed u.stands) in
+    all_returned _ _ _ _ _ _ u bytes
+    (ap (λ s. (g.R.Source.told s).left) c.in_ok-entries.ensures.unread ∙ tells)
+    (ends.answers u.given u.handed u.stands) in
     record { entries = entries; typed = typed; is = summed }

@@ -1,6 +1,7 @@
-use Rattle.listing3.proofs.Common.{◌≡◌, ◌∷◌, drop, on_ok_weaker, take_rest}
+use Rattle.listing3.proofs.Common.{◌≡◌, ◌∷◌, drop, on_err_weaker, on_ok_weaker, take_rest}
+use Rattle.xdr3.specs.Plain.{run_items}
 use Rattle.byteorder.specs.Endian.{big_number}
-use Rattle.listing3.proofs.Lines.LineLemmas.{adds_no_run, adds_number_run, adds_xid_run}
+use Rattle.listing3.proofs.Lines.LineLemmas.{adds_no_run, adds_number_run, adds_xid_run, run_kept, xid_kept}
 use Rattle.listing3.proofs.line_writer.LineWriter.take_first.Goals as goal
 
 pub returns-in-Word : goal.returns-in-Word
@@ -12,7 +13,15 @@ returns-in-Word g c =
     adds_xid_run g.H.Visit.stands g.met.H.Gathering.skips c.args.self.now c.plain.new.self
     c.in-Some.more.now (drop 4 c.args.bytes.now) c.in-Word.field-0.now c.read_u32.result
     (big_number 4 c.args.bytes.now) c.read_u32.ensures c.requires.begins in
-    record { ok = rw cut (rw c.in-Word.is (on_ok_weaker c.plain.result run others)) }
+    let kept =
+    xid_kept g.H.Visit.stands g.met.H.Gathering.skips c.args.self.now c.plain.new.self
+    c.args.bytes.now (run_items c.in-Some.more.now (drop 4 c.args.bytes.now))
+    c.in-Word.field-0.now c.read_u32.result (big_number 4 c.args.bytes.now) c.read_u32.ensures
+    c.requires.begins in
+    record {
+      ok = rw cut (rw c.in-Word.is (on_ok_weaker c.plain.result run others));
+      err = rw cut (rw c.in-Word.is (on_err_weaker c.plain.result kept c.plain.ensures.stays));
+    }
 
 pub returns-in-Hyper : goal.returns-in-Hyper
 returns-in-Hyper g c =
@@ -26,6 +35,10 @@ returns-in-Hyper g c =
     record {
       ok =
           rw cut (rw c.in-Hyper.is (on_ok_weaker c.plain-in-Hyper.result (λ _. run) written));
+      err =
+          on_err_weaker c.plain-in-Hyper.result
+          (run_kept g.H.Visit.stands c.args.self.now c.plain-in-Hyper.new.self
+          (run_items c.args.fields.now c.args.bytes.now)) c.plain-in-Hyper.ensures.stays;
     }
 
 pub returns-in_default : goal.returns-in_default
@@ -34,4 +47,5 @@ returns-in_default g c =
       ok =
           adds_no_run g.H.Visit.stands c.args.self.now c.args.fields.now c.args.bytes.now
           c.in_default.ensures.cases;
+      err = tt;
     }

@@ -6,4 +6,5 @@ returns-in-Goes g c = record {
   ok =
       adds_run c.args.self.now c.keep.new.self c.args.fields.now c.args.bytes.now
       _ (after_xid c.args.self.now c.keep.new.self c.in-Goes.is) c.requires c.keep.ensures;
+  err = tt;
 }

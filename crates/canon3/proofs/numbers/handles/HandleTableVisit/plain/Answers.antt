@@ -9,4 +9,5 @@ returns g c =
       ok = λ before gathers.
           gathers_none c.args.self.now before (run_items c.args._fields.now c.args._bytes.now)
           (none_in_run c.args._fields.now c.args._bytes.now) gathers;
+      err = tt;
     }
