@@ -494,7 +494,8 @@ def outputs_that_are_refused_before_the_work(place: Place) -> None:
 
 
 def rights_on_an_output(place: Place) -> None:
-    """A file that is replaced keeps its owner and who may open it, and never the bits that lend its owner's rights."""
+    """A file that is replaced keeps its owner and who may open it, but for rights that its group has and others have not, and never
+    the bits that lend its owner's rights."""
     place.write('a', GOOD)
     path = place.path('out')
 
@@ -508,12 +509,12 @@ def rights_on_an_output(place: Place) -> None:
         state = os.stat(path)
         return state.st_mode & 0o7777, state.st_uid, state.st_gid
     own = os.geteuid(), os.getegid()
-    for mode in (0o644, 0o600, 0o6755, 0o1606):
-        place.want('rights of %o' % mode, rights(mode, None), (mode & 0o777, *own))
+    for mode, wanted in {0o644: 0o644, 0o600: 0o600, 0o6755: 0o755, 0o1606: 0o606, 0o640: 0o600, 0o664: 0o644, 0o770: 0o700}.items():
+        place.want('rights of %o' % mode, rights(mode, None), (wanted, *own))
     run = as_nobody(place)
     if run is not None:
-        for mode in (0o640, 0o6755):
-            place.want('rights of %o, of nobody' % mode, rights(mode, NOBODY), (mode & 0o777, NOBODY, NOBODY))
+        for mode, wanted in {0o640: 0o600, 0o6755: 0o755}.items():
+            place.want('rights of %o, of nobody' % mode, rights(mode, NOBODY), (wanted, NOBODY, NOBODY))
         place.want('rights that cannot be given back', rights(0o666, 0, run), (0o666 & ~umask(), NOBODY, NOBODY))
     for mask in (0o022, 0o027, 0o077):
         os.remove(path)
@@ -541,6 +542,42 @@ def rights_that_cannot_be_given_back(place: Place) -> None:
             state = os.stat(path)
             found = state.st_mode & 0o7777, state.st_uid, state.st_gid
             place.want('rights of %o, of %d and group 0' % (mode, owner), found, (wanted, NOBODY, NOBODY))
+
+
+def access_list(*entries: tuple[int, int, int]) -> bytes:
+    """An access control list as Linux keeps it in an extended attribute: for each entry its tag, its rights and a user or group."""
+    return struct.pack('<I', 2) + b''.join(struct.pack('<HHI', *entry) for entry in entries)
+
+
+def access_control_lists(place: Place) -> None:
+    """Neither the list of a file that is replaced, nor the default list of its folder, gives anybody a right that he had not."""
+    owner, user, group, mask, others, nobody_else = 0x01, 0x02, 0x04, 0x10, 0x20, 0xffffffff
+    path = place.path('out')
+
+    def mode_after(mode: int, listed: bytes | None) -> int:
+        """The mode of an output that had this one, or this list, before the run."""
+        place.write('out', b'as it was')
+        os.chmod(path, mode)
+        if listed is not None:
+            os.setxattr(path, 'system.posix_acl_access', listed)
+        place.want('mode before', os.stat(path).st_mode & 0o777, mode)
+        place.want('canon', place.run('canon', 'a', 'out'), (0, GOOD_LINE, ''))
+        return os.stat(path).st_mode & 0o777
+    place.write('a', GOOD)
+    by_mask = {rights: access_list((owner, 6, nobody_else), (user, 6, NOBODY), (group, 0, nobody_else), (mask, rights, nobody_else),
+                                   (others, 0, nobody_else)) for rights in (6, 4)}
+    try:
+        place.want('a mask of rw-', mode_after(0o660, by_mask[6]), 0o600)
+    except OSError as error:
+        print('left out, since the file system has no access control lists (%s): access control lists' % error.strerror)
+        return
+    place.want('a mask of r--', mode_after(0o640, by_mask[4]), 0o600)
+    os.remove(path)
+    place.write('out', b'as it was')
+    default = access_list((owner, 7, nobody_else), (user, 6, NOBODY), (group, 5, nobody_else), (mask, 7, nobody_else), (others, 5, nobody_else))
+    os.setxattr(place.folder, 'system.posix_acl_default', default)
+    place.want('a default list of the folder', mode_after(0o640, None), 0o600)
+    place.want('a default list, and rights of all others', mode_after(0o644, None), 0o644)
 
 
 def umask() -> int:
@@ -923,7 +960,7 @@ TESTS: list[Test] = [
     standard_error_that_nobody_reads, standard_files_that_are_closed, signals_in_the_middle,
     names_that_are_taken_in_the_middle, files_that_get_the_name_in_the_middle, runs_at_once, pipes_that_do_not_wait,
     names_of_the_most_bytes, folders_that_no_path_names,
-    chains_of_links, outputs_that_are_refused_before_the_work, rights_on_an_output, rights_that_cannot_be_given_back,
+    chains_of_links, outputs_that_are_refused_before_the_work, rights_on_an_output, access_control_lists, rights_that_cannot_be_given_back,
     standard_output_without_its_name, removed_files_by_their_numbers, files_of_two_devices_with_one_number,
     outputs_on_which_something_is_mounted, many_streams_and_few_open_files, inputs_that_never_end, fifos,
     reads_cut_at_each_length,

@@ -1,7 +1,8 @@
 -- clap takes a line of each of the five forms.
-use Rattle.line3.proofs.Common.{arith, ap, ap₂, sym, refl, ◌≡◌, ◌≤◌, ◌∙◌, ◌==◌, ◌&&◌, ◌||◌, ◌++◌, ℕ, Bool, true, false, List, [], ◌∷◌, Some, None, codes, length, if◌then◌else◌, is_some, option_and_then, fold, suc, le-leb, append-nil, append_assoc, App, Text, is_simple, takes, LineFault, Usage, Odd, SameName, NotText, Memory, AreFileWords, AreRefused, Form, Check, Show, Canon, Same, Pack, IsFileWord, IsLine, words_of, IsUsage, bytes_eq}
+use Rattle.line3.proofs.Common.{arith, ap, ap₂, sym, refl, subst, inl, inr, ◌≡◌, ◌≤◌, ◌∙◌, ◌==◌, ◌&&◌, ◌||◌, ◌++◌, ℕ, Bool, true, false, List, [], ◌∷◌, Some, None, codes, length, if◌then◌else◌, is_some, option_and_then, fold, suc, le-leb, append-nil, append_assoc, App, Text, is_simple, takes, LineFault, Usage, Odd, SameName, NotText, Memory, AreRefused, NameFiles, is_end, names_in, Form, Check, Show, Canon, Same, Pack, IsFileWord, IsLine, words_of, IsUsage, bytes_eq}
 use Rattle.std.specs.Option.{option_map_or}
-use Rattle.std.specs.List.{All, list_all}
+use Rattle.std.specs.List.{list_all}
+use Rattle.std.proofs.lemmas.Slice.Eq.{bytes_eq-Decides}
 use Rattle.clap.specs.Lexer.{long_of, long_of_rest, short_of, short_of_rest, strip_byte, usize_max}
 use Rattle.clap.specs.Walk.{Held, Rule, Step, Waiting, Walk, after_step, arg_by_index, finished, idle, long_or_other, nothing_held, positional, short_or_plain, to_positional, trailing, value, walked, word_met}
 use Rattle.clap.specs.Simple.{Shape, built, built_leaf, entered, inherited, names_of}
@@ -106,6 +107,73 @@ module _ (x : ℕ) (xs : Text) (no_hyphen : (x == 45) ≡ false) where
       (word_met s.rules [] false positional n (x ∷ xs) h).1) (further_passes s h)
       ∙ ap (λ (m : Held × Step). step_passes s n m.0 m.1) (further_met s.rules n h)
 
+-- ---- the names among words
+
+pub end_is : (w : Text) → is_end w ≡ true → w ≡ codes "--"
+end_is w ends = (bytes_eq-Decides w (codes "--")).0 ends
+
+pub names_ended : (w : Text) (words : List Text) → is_end w ≡ true → names_in (w ∷ words) ≡ words
+names_ended w words ends = ap (λ (b : Bool). if b then words else w ∷ names_in words) ends
+
+pub names_plain : (w : Text) (words : List Text) → IsFileWord w
+    → names_in (w ∷ words) ≡ w ∷ names_in words
+names_plain w words is =
+    ap (λ (b : Bool). if b then words else w ∷ names_in words)
+    (ap is_end is.split ∙ no_end is.first is.rest is.no_hyphen)
+
+-- what holds of a name, before or after a `--` or without one, holds of words that have it
+pub one_name : (P : List Text → Type 0) (a : Text) → P (codes "--" ∷ a ∷ [])
+    → (IsFileWord a → P (a ∷ codes "--" ∷ [])) → (IsFileWord a → P (a ∷ []))
+    → (words : List Text) → NameFiles words → names_in words ≡ a ∷ [] → P words
+one_name P a first last none [] name e = absurd (cc)
+one_name P a first last none (v ∷ words) (inl ends) e =
+    let rest : words ≡ a ∷ [] = sym (names_ended v words ends) ∙ e in
+    let all : v ∷ words ≡ codes "--" ∷ a ∷ [] = ap₂ (λ h t. h ∷ t) (end_is v ends) rest in
+    subst P (sym all) first
+one_name P a first last none (v ∷ []) (inr (is, name)) e =
+    let all : v ∷ [] ≡ a ∷ [] = sym (names_plain v [] is) ∙ e in
+    let of_a : v ≡ a = cc in
+    subst (λ w. P (w ∷ [])) (sym of_a) (none (subst IsFileWord of_a is))
+one_name P a first last none (v ∷ w ∷ words) (inr (is, inl ends)) e =
+    let all : v ∷ words ≡ a ∷ [] =
+    sym (names_plain v (w ∷ words) is ∙ ap (λ l. v ∷ l) (names_ended w words ends)) ∙ e in
+    let of_a : v ≡ a = cc in
+    let rest : words ≡ [] = cc in
+    let whole : v ∷ w ∷ words ≡ a ∷ codes "--" ∷ [] =
+    ap₂ (λ h t. h ∷ t) of_a (ap₂ (λ h t. h ∷ t) (end_is w ends) rest) in
+    subst P (sym whole) (last (subst IsFileWord of_a is))
+one_name P a first last none (v ∷ w ∷ words) (inr (is, inr (is', name))) e =
+    let all : v ∷ w ∷ names_in words ≡ a ∷ [] =
+    sym (names_plain v (w ∷ words) is ∙ ap (λ l. v ∷ l) (names_plain w words is')) ∙ e in
+    absurd (cc)
+
+-- what holds of two names, wherever a `--` stands among them, holds of words that have them
+pub two_names : (P : List Text → Type 0) (a b : Text) → P (codes "--" ∷ a ∷ b ∷ [])
+    → (IsFileWord a → P (a ∷ codes "--" ∷ b ∷ []))
+    → (IsFileWord a → IsFileWord b → P (a ∷ b ∷ codes "--" ∷ []))
+    → (IsFileWord a → IsFileWord b → P (a ∷ b ∷ [])) → (words : List Text) → NameFiles words
+    → names_in words ≡ a ∷ b ∷ [] → P words
+two_names P a b first second last none [] name e = absurd (cc)
+two_names P a b first second last none (v ∷ words) (inl ends) e =
+    let rest : words ≡ a ∷ b ∷ [] = sym (names_ended v words ends) ∙ e in
+    let all : v ∷ words ≡ codes "--" ∷ a ∷ b ∷ [] = ap₂ (λ h t. h ∷ t) (end_is v ends) rest in
+    subst P (sym all) first
+two_names P a b first second last none (v ∷ words) (inr (is, name)) e =
+    let all : v ∷ names_in words ≡ a ∷ b ∷ [] = sym (names_plain v words is) ∙ e in
+    let of_a : v ≡ a = cc in
+    let rest : names_in words ≡ b ∷ [] = cc in
+    let one = one_name (λ l. P (v ∷ l)) b
+    (subst (λ w. P (w ∷ codes "--" ∷ b ∷ [])) (sym of_a) (second (subst IsFileWord of_a is)))
+    (λ is_b. subst (λ w. P (w ∷ b ∷ codes "--" ∷ [])) (sym of_a)
+    (last (subst IsFileWord of_a is) is_b))
+    (λ is_b. subst (λ w. P (w ∷ b ∷ [])) (sym of_a)
+    (none (subst IsFileWord of_a is) is_b)) in
+    one words name rest
+
+-- the word that ends the options
+abbrev pub end : Text
+end = 45 ∷ 45 ∷ []
+
 -- ---- a command and one file, or two
 
 abbrev leaf_of : App → Shape
@@ -128,6 +196,15 @@ module _ (x : ℕ) (xs : Text) (no_hyphen : (x == 45) ≡ false) (p : Text) wher
       (plain_turn x xs no_hyphen check_leaf nothing_held 1)
       (plain_walked x xs no_hyphen check_leaf.rules nothing_held 1)
 
+  pub check_ended : takes app (p ∷ codes "check" ∷ (x ∷ xs) ∷ end ∷ []) ≡ true
+  unfolding clap_on_literals
+  check_ended =
+      ap₂
+      (λ (t : Bool) (w : Walk). (t && (turn_passes check_leaf [] w end && true))
+      && ends check_leaf (walked check_leaf.rules [] w end).held && true)
+      (plain_turn x xs no_hyphen check_leaf nothing_held 1)
+      (plain_walked x xs no_hyphen check_leaf.rules nothing_held 1)
+
   abbrev show_leaf : Shape
   show_leaf = leaf_of (one_file (codes "show"))
 
@@ -138,11 +215,62 @@ module _ (x : ℕ) (xs : Text) (no_hyphen : (x == 45) ≡ false) (p : Text) wher
       (plain_turn x xs no_hyphen show_leaf nothing_held 1)
       (plain_walked x xs no_hyphen show_leaf.rules nothing_held 1)
 
+  pub show_ended : takes app (p ∷ codes "show" ∷ (x ∷ xs) ∷ end ∷ []) ≡ true
+  unfolding clap_on_literals
+  show_ended =
+      ap₂
+      (λ (t : Bool) (w : Walk). (t && (turn_passes show_leaf [] w end && true))
+      && ends show_leaf (walked show_leaf.rules [] w end).held && true)
+      (plain_turn x xs no_hyphen show_leaf nothing_held 1)
+      (plain_walked x xs no_hyphen show_leaf.rules nothing_held 1)
+
+check_after : (p file : Text) → takes app (p ∷ codes "check" ∷ end ∷ file ∷ []) ≡ true
+unfolding clap_on_literals
+check_after p file = refl
+
+show_after : (p file : Text) → takes app (p ∷ codes "show" ∷ end ∷ file ∷ []) ≡ true
+unfolding clap_on_literals
+show_after p file = refl
+
+abbrev canon_leaf : Shape
+canon_leaf = leaf_of (two_files (codes "canon") (codes "IN") (codes "OUT"))
+
+abbrev same_leaf : Shape
+same_leaf = leaf_of (two_files (codes "same") (codes "A") (codes "B"))
+
+canon_after : (p a b : Text) → takes app (p ∷ codes "canon" ∷ end ∷ a ∷ b ∷ []) ≡ true
+unfolding clap_on_literals
+canon_after p a b = refl
+
+same_after : (p a b : Text) → takes app (p ∷ codes "same" ∷ end ∷ a ∷ b ∷ []) ≡ true
+unfolding clap_on_literals
+same_after p a b = refl
+
+module _ (x : ℕ) (xs : Text) (no_hyphen : (x == 45) ≡ false) (p : Text) where
+  canon_between : (b : Text) → takes app (p ∷ codes "canon" ∷ (x ∷ xs) ∷ end ∷ b ∷ []) ≡ true
+  unfolding clap_on_literals
+  canon_between b =
+      ap₂
+      (λ (t : Bool) (w : Walk). (t && (turn_passes canon_leaf [] w end
+      && (turn_passes canon_leaf [] (walked canon_leaf.rules [] w end) b && true)))
+      && ends canon_leaf
+      (walked canon_leaf.rules [] (walked canon_leaf.rules [] w end) b).held && true)
+      (plain_turn x xs no_hyphen canon_leaf nothing_held 1)
+      (plain_walked x xs no_hyphen canon_leaf.rules nothing_held 1)
+
+  same_between : (b : Text) → takes app (p ∷ codes "same" ∷ (x ∷ xs) ∷ end ∷ b ∷ []) ≡ true
+  unfolding clap_on_literals
+  same_between b =
+      ap₂
+      (λ (t : Bool) (w : Walk). (t && (turn_passes same_leaf [] w end
+      && (turn_passes same_leaf [] (walked same_leaf.rules [] w end) b && true)))
+      && ends same_leaf
+      (walked same_leaf.rules [] (walked same_leaf.rules [] w end) b).held && true)
+      (plain_turn x xs no_hyphen same_leaf nothing_held 1)
+      (plain_walked x xs no_hyphen same_leaf.rules nothing_held 1)
+
 module _ (x : ℕ) (xs : Text) (no_hyphen : (x == 45) ≡ false) (y : ℕ) (ys : Text)
     (no_hyphen' : (y == 45) ≡ false) (p : Text) where
-  abbrev canon_leaf : Shape
-  canon_leaf = leaf_of (two_files (codes "canon") (codes "IN") (codes "OUT"))
-
   -- the walk after the first file
   abbrev canon_first : Walk
   canon_first =
@@ -161,8 +289,21 @@ module _ (x : ℕ) (xs : Text) (no_hyphen : (x == 45) ≡ false) (y : ℕ) (ys :
       (plain_turn y ys no_hyphen' canon_leaf canon_first.held 2)
       (plain_walked y ys no_hyphen' canon_leaf.rules canon_first.held 2)
 
-  abbrev same_leaf : Shape
-  same_leaf = leaf_of (two_files (codes "same") (codes "A") (codes "B"))
+  canon_ended : takes app (p ∷ codes "canon" ∷ (x ∷ xs) ∷ (y ∷ ys) ∷ end ∷ []) ≡ true
+  unfolding clap_on_literals
+  canon_ended =
+      ap₂
+      (λ (t : Bool) (w : Walk). (t && (turn_passes canon_leaf [] w (y ∷ ys)
+      && (turn_passes canon_leaf [] (walked canon_leaf.rules [] w (y ∷ ys)) end && true)))
+      && ends canon_leaf
+      (walked canon_leaf.rules [] (walked canon_leaf.rules [] w (y ∷ ys)) end).held && true)
+      (plain_turn x xs no_hyphen canon_leaf nothing_held 1)
+      (plain_walked x xs no_hyphen canon_leaf.rules nothing_held 1)
+      ∙ ap₂
+      (λ (t : Bool) (w : Walk). (t && (turn_passes canon_leaf [] w end && true))
+      && ends canon_leaf (walked canon_leaf.rules [] w end).held && true)
+      (plain_turn y ys no_hyphen' canon_leaf canon_first.held 2)
+      (plain_walked y ys no_hyphen' canon_leaf.rules canon_first.held 2)
 
   abbrev same_first : Walk
   same_first =
@@ -178,6 +319,22 @@ module _ (x : ℕ) (xs : Text) (no_hyphen : (x == 45) ≡ false) (y : ℕ) (ys :
       (plain_turn x xs no_hyphen same_leaf nothing_held 1)
       (plain_walked x xs no_hyphen same_leaf.rules nothing_held 1)
       ∙ ap₂ (λ (t : Bool) (w : Walk). (t && true) && ends same_leaf w.held && true)
+      (plain_turn y ys no_hyphen' same_leaf same_first.held 2)
+      (plain_walked y ys no_hyphen' same_leaf.rules same_first.held 2)
+
+  same_ended : takes app (p ∷ codes "same" ∷ (x ∷ xs) ∷ (y ∷ ys) ∷ end ∷ []) ≡ true
+  unfolding clap_on_literals
+  same_ended =
+      ap₂
+      (λ (t : Bool) (w : Walk). (t && (turn_passes same_leaf [] w (y ∷ ys)
+      && (turn_passes same_leaf [] (walked same_leaf.rules [] w (y ∷ ys)) end && true)))
+      && ends same_leaf
+      (walked same_leaf.rules [] (walked same_leaf.rules [] w (y ∷ ys)) end).held && true)
+      (plain_turn x xs no_hyphen same_leaf nothing_held 1)
+      (plain_walked x xs no_hyphen same_leaf.rules nothing_held 1)
+      ∙ ap₂
+      (λ (t : Bool) (w : Walk). (t && (turn_passes same_leaf [] w end && true))
+      && ends same_leaf (walked same_leaf.rules [] w end).held && true)
       (plain_turn y ys no_hyphen' same_leaf same_first.held 2)
       (plain_walked y ys no_hyphen' same_leaf.rules same_first.held 2)
 
@@ -233,8 +390,9 @@ read output streams = record {
   stopped = None;
 }
 
-pub no_first : (words : List Text) (w : Text) → All IsFileWord (w ∷ words) → All IsFileWord words
-no_first words w all k d low = all (suc k) d (omega (arith, low))
+-- the same, after a `--`
+abbrev trail : (output : Text) → List Text → Walk
+trail output streams = record (read output streams) { is_trailing = true }
 
 module _ (output : Text) where
   read_step : (got : List Text) (w : Text) → IsFileWord w
@@ -252,135 +410,312 @@ module _ (output : Text) where
       ap (λ (v : Text). turn_passes pack_leaf [] (read output got) v) is.split
       ∙ further_turn is.first is.rest is.no_hyphen pack_leaf (read output got).held 2
 
-  read_all : (got words : List Text) → All IsFileWord words
-      → fold (walked pack_leaf.rules []) (read output got) words ≡ read output (got ++ words)
-  read_all got [] all = ap (read output) (sym (append-nil got))
-  read_all got (w ∷ words) all =
-      ap (λ (v : Walk). fold (walked pack_leaf.rules []) v words)
-      (read_step got w (all 0 w (omega arith)))
-      ∙ read_all (got ++ w ∷ []) words (no_first words w all)
-      ∙ ap (read output) (append_assoc got (w ∷ []) words)
+  end_step : (got : List Text) → walked pack_leaf.rules [] (read output got) end ≡ trail output got
+  unfolding clap_on_literals
+  end_step got = refl
 
-  read_passes : (got words : List Text) → All IsFileWord words
+  end_passes : (got : List Text) → turn_passes pack_leaf [] (read output got) end ≡ true
+  unfolding clap_on_literals
+  end_passes got = refl
+
+  trail_step : (got : List Text) (w : Text)
+      → walked pack_leaf.rules [] (trail output got) w ≡ trail output (got ++ w ∷ [])
+  unfolding clap_on_literals
+  trail_step got w = refl
+
+  trail_turn : (got : List Text) (w : Text)
+      → turn_passes pack_leaf [] (trail output got) w ≡ true
+  unfolding clap_on_literals
+  trail_turn got w = refl
+
+  -- after a `--` each word is a stream
+  trail_all : (got words : List Text)
+      → fold (walked pack_leaf.rules []) (trail output got) words ≡ trail output (got ++ words)
+  trail_all got [] = ap (trail output) (sym (append-nil got))
+  trail_all got (w ∷ words) =
+      ap (λ (v : Walk). fold (walked pack_leaf.rules []) v words) (trail_step got w)
+      ∙ trail_all (got ++ w ∷ []) words
+      ∙ ap (trail output) (append_assoc got (w ∷ []) words)
+
+  trail_passes : (got words : List Text) → walk_passes pack_leaf [] (trail output got) words ≡ true
+  unfolding walk_passes
+  trail_passes got [] = refl
+  trail_passes got (w ∷ words) =
+      ap₂ (λ (t : Bool) (v : Walk). t && walk_passes pack_leaf [] v words) (trail_turn got w)
+      (trail_step got w)
+      ∙ trail_passes (got ++ w ∷ []) words
+
+  -- the names among the words are the streams
+  read_all : (got words : List Text) → NameFiles words
+      → (fold (walked pack_leaf.rules []) (read output got) words).held
+      ≡ (read output (got ++ names_in words)).held
+  read_all got [] name = ap (λ (l : List Text). (read output l).held) (sym (append-nil got))
+  read_all got (w ∷ words) (inl ends) =
+      ap (λ (v : Text). (fold (walked pack_leaf.rules []) (read output got) (v ∷ words)).held)
+      (end_is w ends)
+      ∙ ap (λ (v : Walk). (fold (walked pack_leaf.rules []) v words).held) (end_step got)
+      ∙ ap (λ (v : Walk). v.held) (trail_all got words)
+      ∙ ap (λ (l : List Text). (read output (got ++ l)).held) (sym (names_ended w words ends))
+  read_all got (w ∷ words) (inr (is, name)) =
+      ap (λ (v : Walk). (fold (walked pack_leaf.rules []) v words).held) (read_step got w is)
+      ∙ read_all (got ++ w ∷ []) words name
+      ∙ ap (λ (l : List Text). (read output l).held) (append_assoc got (w ∷ []) (names_in words))
+      ∙ ap (λ (l : List Text). (read output (got ++ l)).held) (sym (names_plain w words is))
+
+  read_passes : (got words : List Text) → NameFiles words
       → walk_passes pack_leaf [] (read output got) words ≡ true
   unfolding walk_passes
-  read_passes got [] all = refl
-  read_passes got (w ∷ words) all =
-      ap₂ (λ (t : Bool) (v : Walk). t && walk_passes pack_leaf [] v words)
-      (turn_step got w (all 0 w (omega arith))) (read_step got w (all 0 w (omega arith)))
-      ∙ read_passes (got ++ w ∷ []) words (no_first words w all)
+  read_passes got [] name = refl
+  read_passes got (w ∷ words) (inl ends) =
+      ap (λ (v : Text). walk_passes pack_leaf [] (read output got) (v ∷ words)) (end_is w ends)
+      ∙ ap₂ (λ (t : Bool) (v : Walk). t && walk_passes pack_leaf [] v words) (end_passes got)
+      (end_step got)
+      ∙ trail_passes got words
+  read_passes got (w ∷ words) (inr (is, name)) =
+      ap₂ (λ (t : Bool) (v : Walk). t && walk_passes pack_leaf [] v words) (turn_step got w is)
+      (read_step got w is)
+      ∙ read_passes (got ++ w ∷ []) words name
 
 pub all_pass : (words : List Text) → list_all (λ (w : Text). true) words ≡ true
 all_pass [] = refl
 all_pass (w ∷ words) = all_pass words
 
-module _ (x : ℕ) (xs : Text) (no_hyphen : (x == 45) ≡ false) (y : ℕ) (ys : Text)
-    (no_hyphen' : (y == 45) ≡ false) (streams : List Text) (p : Text) where
-  abbrev all_streams : List Text
-  all_streams = (y ∷ ys) ∷ streams
+-- the walk has read these streams, and passes if there are not too many
+pack_ends : (output s : Text) (streams : List Text) → length (s ∷ streams) ≤ usize_max
+    → ends pack_leaf (read output (s ∷ streams)).held ≡ true
+unfolding clap_on_literals
+pack_ends output s streams few =
+    ap₂
+    (λ (a b : Bool). (a && (b && list_all (λ (w : Text). true) streams))
+    && (list_all default_passes pack_leaf.rules
+    && is_valid pack_leaf (finished pack_leaf.rules (read output (s ∷ streams)).held) false))
+    (le-leb 1 (length (s ∷ streams)) (omega arith))
+    (le-leb (length (s ∷ streams)) usize_max few)
+    ∙ ap
+    (λ (c : Bool).
+    c
+    && (list_all default_passes pack_leaf.rules
+    && is_valid pack_leaf (finished pack_leaf.rules (read output (s ∷ streams)).held) false))
+    (all_pass streams)
 
-  pack_ends : length all_streams ≤ usize_max
-      → ends pack_leaf (read (x ∷ xs) all_streams).held ≡ true
+abbrev pack_passes : List Text → Type 0
+pack_passes words = level_passes pack_leaf [] nothing_held words false ≡ true
+
+pack_after : (output s : Text) (streams : List Text) → length (s ∷ streams) ≤ usize_max
+    → pack_passes (end ∷ output ∷ s ∷ streams)
+unfolding clap_on_literals
+pack_after output s streams few =
+    ap₂ (λ (t : Bool) (w : Walk). t && ends pack_leaf w.held)
+    (trail_passes output (s ∷ []) streams) (trail_all output (s ∷ []) streams)
+    ∙ pack_ends output s streams few
+
+module _ (x : ℕ) (xs : Text) (no_hyphen : (x == 45) ≡ false) where
+  pack_between : (s : Text) (streams : List Text) → length (s ∷ streams) ≤ usize_max
+      → pack_passes ((x ∷ xs) ∷ end ∷ s ∷ streams)
   unfolding clap_on_literals
-  pack_ends few =
+  pack_between s streams few =
       ap₂
-      (λ (a b : Bool). (a && (b && list_all (λ (w : Text). true) streams))
-      && (list_all default_passes pack_leaf.rules
-      && is_valid pack_leaf (finished pack_leaf.rules (read (x ∷ xs) all_streams).held)
-      false)) (le-leb 1 (length all_streams) (omega arith))
-      (le-leb (length all_streams) usize_max few)
-      ∙ ap
-      (λ (c : Bool).
-      c
-      && (list_all default_passes pack_leaf.rules
-      && is_valid pack_leaf (finished pack_leaf.rules (read (x ∷ xs) all_streams).held)
-      false)) (all_pass streams)
+      (λ (t : Bool) (w : Walk). (t && (turn_passes pack_leaf [] w end
+      && (turn_passes pack_leaf [] (walked pack_leaf.rules [] w end) s
+      && walk_passes pack_leaf []
+      (walked pack_leaf.rules [] (walked pack_leaf.rules [] w end) s) streams)))
+      && ends pack_leaf (fold (walked pack_leaf.rules [])
+      (walked pack_leaf.rules [] (walked pack_leaf.rules [] w end) s) streams).held)
+      (plain_turn x xs no_hyphen pack_leaf nothing_held 1)
+      (plain_walked x xs no_hyphen pack_leaf.rules nothing_held 1)
+      ∙ ap₂ (λ (t : Bool) (w : Walk). t && ends pack_leaf w.held)
+      (trail_passes (x ∷ xs) (s ∷ []) streams) (trail_all (x ∷ xs) (s ∷ []) streams)
+      ∙ pack_ends (x ∷ xs) s streams few
 
+module _ (x : ℕ) (xs : Text) (no_hyphen : (x == 45) ≡ false) (y : ℕ) (ys : Text)
+    (no_hyphen' : (y == 45) ≡ false) where
   abbrev pack_first : Walk
   pack_first =
       to_positional pack_leaf.rules (arg_by_index pack_leaf.rules 1) (x ∷ xs)
       (at nothing_held idle 1) nothing_held
 
-  pack_level : length all_streams ≤ usize_max → All IsFileWord streams
-      → level_passes pack_leaf [] nothing_held ((x ∷ xs) ∷ (y ∷ ys) ∷ streams) false ≡ true
+  pack_plain : (words : List Text) → length ((y ∷ ys) ∷ names_in words) ≤ usize_max
+      → NameFiles words → pack_passes ((x ∷ xs) ∷ (y ∷ ys) ∷ words)
   unfolding clap_on_literals
-  pack_level few all =
+  pack_plain words few name =
       ap₂
       (λ (t : Bool) (w : Walk). (t
       && (turn_passes pack_leaf [] w (y ∷ ys)
-      && walk_passes pack_leaf [] (walked pack_leaf.rules [] w (y ∷ ys)) streams))
+      && walk_passes pack_leaf [] (walked pack_leaf.rules [] w (y ∷ ys)) words))
       && ends pack_leaf (fold (walked pack_leaf.rules [])
-      (walked pack_leaf.rules [] w (y ∷ ys)) streams).held)
+      (walked pack_leaf.rules [] w (y ∷ ys)) words).held)
       (plain_turn x xs no_hyphen pack_leaf nothing_held 1)
       (plain_walked x xs no_hyphen pack_leaf.rules nothing_held 1)
       ∙ ap₂
-      (λ (t : Bool) (w : Walk). (t && walk_passes pack_leaf [] w streams)
-      && ends pack_leaf (fold (walked pack_leaf.rules []) w streams).held)
+      (λ (t : Bool) (w : Walk). (t && walk_passes pack_leaf [] w words)
+      && ends pack_leaf (fold (walked pack_leaf.rules []) w words).held)
       (plain_turn y ys no_hyphen' pack_leaf pack_first.held 2)
       (plain_walked y ys no_hyphen' pack_leaf.rules pack_first.held 2)
-      ∙ ap₂ (λ (t : Bool) (w : Walk). t && ends pack_leaf w.held)
-      (read_passes (x ∷ xs) ((y ∷ ys) ∷ []) streams all)
-      (read_all (x ∷ xs) ((y ∷ ys) ∷ []) streams all)
-      ∙ pack_ends few
+      ∙ ap₂ (λ (t : Bool) (h : Held). t && ends pack_leaf h)
+      (read_passes (x ∷ xs) ((y ∷ ys) ∷ []) words name)
+      (read_all (x ∷ xs) ((y ∷ ys) ∷ []) words name)
+      ∙ pack_ends (x ∷ xs) (y ∷ ys) (names_in words) few
 
-  pub pack_taken : length all_streams ≤ usize_max → All IsFileWord streams
-      → takes app (p ∷ codes "pack" ∷ (x ∷ xs) ∷ (y ∷ ys) ∷ streams) ≡ true
-  unfolding clap_on_literals
-  pack_taken few all =
-      ap₂
-      (λ (t : Bool) (w : Walk).
-      entered_passes top_of w.stopped
-      && (t
-      && (settle_passes top_of.top.rules top_of.top.args_override_self w.held
-      && (list_all default_passes top_of.top.rules
-      && is_valid top_of.top (finished top_of.top.rules w.held)
-      (is_some (entered top_of w.stopped))))))
-      (met_passes ((x ∷ xs) ∷ (y ∷ ys) ∷ []) streams)
-      (met_all ((x ∷ xs) ∷ (y ∷ ys) ∷ []) streams)
-      ∙ ap (λ (t : Bool). t && true) (pack_level few all)
+-- clap takes a line if it takes what follows `pack`
+pack_taken : (p : Text) (words : List Text) → pack_passes words
+    → takes app (p ∷ codes "pack" ∷ words) ≡ true
+unfolding clap_on_literals
+pack_taken p words passes =
+    ap₂
+    (λ (t : Bool) (w : Walk).
+    entered_passes top_of w.stopped
+    && (t
+    && (settle_passes top_of.top.rules top_of.top.args_override_self w.held
+    && (list_all default_passes top_of.top.rules
+    && is_valid top_of.top (finished top_of.top.rules w.held)
+    (is_some (entered top_of w.stopped))))))
+    (met_passes [] words) (met_all [] words)
+    ∙ ap (λ (t : Bool). t && true) passes
 
 -- ---- a line of the forms
 
-of_split : (words words' : List Text) → words ≡ words' → takes app words' ≡ true
-    → takes app words ≡ true
-of_split words words' e is = ap (λ (w : List Text). takes app w) e ∙ is
+-- what holds of a line whose file words are given by their first bytes
+abbrev Takes : (p command : Text) → List Text → Type 0
+Takes p command words = takes app (p ∷ command ∷ words) ≡ true
+
+pub split_one : (P : Text → Type 0) → ((x : ℕ) (xs : Text) → (x == 45) ≡ false → P (x ∷ xs))
+    → (a : Text) → IsFileWord a → P a
+split_one P given a is = subst P (sym is.split) (given is.first is.rest is.no_hyphen)
+
+pub split_two : (P : Text → Text → Type 0)
+    → ((x : ℕ) (xs : Text) → (x == 45) ≡ false → (y : ℕ) (ys : Text) → (y == 45) ≡ false
+    → P (x ∷ xs) (y ∷ ys)) → (a b : Text) → IsFileWord a → IsFileWord b → P a b
+split_two P given a b i o =
+    split_one (λ v. P v b)
+    (λ x xs e. split_one (P (x ∷ xs)) (λ y ys e'. given x xs e y ys e') b o) a i
+
+check_words : (p file : Text) (words : List Text) → NameFiles words → names_in words ≡ file ∷ []
+    → Takes p (codes "check") words
+check_words p file =
+    one_name (Takes p (codes "check")) file (check_after p file)
+    (split_one (λ v. Takes p (codes "check") (v ∷ end ∷ [])) (λ x xs e. check_ended x xs e p) file)
+    (split_one (λ v. Takes p (codes "check") (v ∷ [])) (λ x xs e. check_taken x xs e p) file)
+
+show_words : (p file : Text) (words : List Text) → NameFiles words → names_in words ≡ file ∷ []
+    → Takes p (codes "show") words
+show_words p file =
+    one_name (Takes p (codes "show")) file (show_after p file)
+    (split_one (λ v. Takes p (codes "show") (v ∷ end ∷ [])) (λ x xs e. show_ended x xs e p) file)
+    (split_one (λ v. Takes p (codes "show") (v ∷ [])) (λ x xs e. show_taken x xs e p) file)
+
+canon_words : (p a b : Text) (words : List Text) → NameFiles words → names_in words ≡ a ∷ b ∷ []
+    → Takes p (codes "canon") words
+canon_words p a b =
+    two_names (Takes p (codes "canon")) a b (canon_after p a b)
+    (split_one (λ v. Takes p (codes "canon") (v ∷ end ∷ b ∷ []))
+    (λ x xs e. canon_between x xs e p b) a)
+    (split_two (λ v w. Takes p (codes "canon") (v ∷ w ∷ end ∷ []))
+    (λ x xs e y ys e'. canon_ended x xs e y ys e' p) a b)
+    (split_two (λ v w. Takes p (codes "canon") (v ∷ w ∷ []))
+    (λ x xs e y ys e'. canon_taken x xs e y ys e' p) a b)
+
+same_words : (p a b : Text) (words : List Text) → NameFiles words → names_in words ≡ a ∷ b ∷ []
+    → Takes p (codes "same") words
+same_words p a b =
+    two_names (Takes p (codes "same")) a b (same_after p a b)
+    (split_one (λ v. Takes p (codes "same") (v ∷ end ∷ b ∷ []))
+    (λ x xs e. same_between x xs e p b) a)
+    (split_two (λ v w. Takes p (codes "same") (v ∷ w ∷ end ∷ []))
+    (λ x xs e y ys e'. same_ended x xs e y ys e' p) a b)
+    (split_two (λ v w. Takes p (codes "same") (v ∷ w ∷ []))
+    (λ x xs e y ys e'. same_taken x xs e y ys e' p) a b)
+
+pack_streams : (output s : Text) (more words : List Text) → length (s ∷ more) ≤ usize_max
+    → IsFileWord output → NameFiles words → names_in words ≡ s ∷ more
+    → pack_passes (output ∷ words)
+pack_streams output s more [] few is name e = absurd (cc)
+pack_streams output s more (v ∷ words) few is (inl ends) e =
+    let rest : words ≡ s ∷ more = sym (names_ended v words ends) ∙ e in
+    let all : v ∷ words ≡ end ∷ s ∷ more = ap₂ (λ h t. h ∷ t) (end_is v ends) rest in
+    subst (λ l. pack_passes (output ∷ l)) (sym all)
+    (split_one (λ w. pack_passes (w ∷ end ∷ s ∷ more))
+    (λ x xs h. pack_between x xs h s more few) output is)
+pack_streams output s more (v ∷ words) few is (inr (is', name)) e =
+    let all : v ∷ names_in words ≡ s ∷ more = sym (names_plain v words is') ∙ e in
+    let n : length (v ∷ names_in words) ≡ length (s ∷ more) = ap length all in
+    let fits : suc (length (names_in words)) ≤ usize_max = omega (arith, n, few) in
+    split_two (λ w w'. pack_passes (w ∷ w' ∷ words))
+    (λ x xs h y ys h'. pack_plain x xs h y ys h' words fits name) output v is is'
+
+pack_words : (output s : Text) (more words : List Text) → length (s ∷ more) ≤ usize_max
+    → NameFiles words → names_in words ≡ output ∷ s ∷ more → pack_passes words
+pack_words output s more [] few name e = absurd (cc)
+pack_words output s more (v ∷ words) few (inl ends) e =
+    let rest : words ≡ output ∷ s ∷ more = sym (names_ended v words ends) ∙ e in
+    let all : v ∷ words ≡ end ∷ output ∷ s ∷ more = ap₂ (λ h t. h ∷ t) (end_is v ends) rest in
+    subst pack_passes (sym all) (pack_after output s more few)
+pack_words output s more (v ∷ words) few (inr (is, name)) e =
+    let all : v ∷ names_in words ≡ output ∷ s ∷ more = sym (names_plain v words is) ∙ e in
+    let rest : names_in words ≡ s ∷ more = cc in
+    pack_streams v s more words few is name rest
+
+no_longer : (b : Bool) (words names : List Text) → length names ≤ suc (length words)
+    → length (if b then words else names) ≤ suc (length words)
+no_longer true words names low = omega arith
+no_longer false words names low = low
+
+pub names_in-length : (words : List Text) → length (names_in words) ≤ length words
+names_in-length [] = omega arith
+names_in-length (w ∷ words) =
+    no_longer (is_end w) words (w ∷ names_in words) (omega (arith, names_in-length words))
+
+-- the words of a line of a form
+line_taken : (words said : List Text) → (line : IsLine words said)
+    → Takes line.program line.command line.rest → takes app words ≡ true
+line_taken words said line taken = ap (λ (w : List Text). takes app w) line.all ∙ taken
+
+-- what is said is the command, and the names among the rest
+of_names : (words : List Text) (command : Text) (names : List Text)
+    → (line : IsLine words (command ∷ names))
+    → (line.command ≡ command) × (names_in line.rest ≡ names)
+of_names words command names line =
+    let e : command ∷ names ≡ line.command ∷ names_in line.rest = line.named in
+    (sym (cc), sym (cc))
 
 -- clap takes each line of the forms; the bound is that of any list in memory
 pub taken : (words : List Text) (form : Form) → length words ≤ usize_max
-    → IsLine words (words_of form) → AreFileWords form → takes app words ≡ true
-taken words (Check file) few line is =
-    of_split words (line.program ∷ codes "check" ∷ (is.first ∷ is.rest) ∷ [])
-    (line.all ∙ ap (λ (f : Text). line.program ∷ codes "check" ∷ f ∷ []) is.split)
-    (check_taken is.first is.rest is.no_hyphen line.program)
-taken words (Show file) few line is =
-    of_split words (line.program ∷ codes "show" ∷ (is.first ∷ is.rest) ∷ [])
-    (line.all ∙ ap (λ (f : Text). line.program ∷ codes "show" ∷ f ∷ []) is.split)
-    (show_taken is.first is.rest is.no_hyphen line.program)
-taken words (Canon a b) few line (i, o) =
-    of_split words (line.program ∷ codes "canon" ∷ (i.first ∷ i.rest) ∷ (o.first ∷ o.rest) ∷ [])
-    (line.all ∙ ap₂ (λ (f g : Text). line.program ∷ codes "canon" ∷ f ∷ g ∷ []) i.split o.split)
-    (canon_taken i.first i.rest i.no_hyphen o.first o.rest o.no_hyphen line.program)
-taken words (Same a b) few line (i, o) =
-    of_split words (line.program ∷ codes "same" ∷ (i.first ∷ i.rest) ∷ (o.first ∷ o.rest) ∷ [])
-    (line.all ∙ ap₂ (λ (f g : Text). line.program ∷ codes "same" ∷ f ∷ g ∷ []) i.split o.split)
-    (same_taken i.first i.rest i.no_hyphen o.first o.rest o.no_hyphen line.program)
-taken words (Pack a b more) few line (o, s, all) =
-    let n : length words ≡ length (line.program ∷ codes "pack" ∷ a ∷ b ∷ more) =
-    ap length line.all in
-    let fits : length (b ∷ more) ≤ usize_max = omega (arith, n, few) in
-    let fits' : length ((s.first ∷ s.rest) ∷ more) ≤ usize_max = fits in
-    of_split words (line.program ∷ codes "pack" ∷ (o.first ∷ o.rest) ∷ (s.first ∷ s.rest) ∷ more)
-    (line.all
-    ∙ ap₂ (λ (f g : Text). line.program ∷ codes "pack" ∷ f ∷ g ∷ more) o.split s.split)
-    (pack_taken o.first o.rest o.no_hyphen s.first s.rest s.no_hyphen more line.program fits'
-    all)
+    → (line : IsLine words (words_of form)) → NameFiles line.rest → takes app words ≡ true
+taken words (Check file) few line name =
+    let is = of_names words (codes "check") (file ∷ []) line in
+    line_taken words (words_of (Check file)) line
+    (subst (λ c. Takes line.program c line.rest) (sym is.0)
+    (check_words line.program file line.rest name is.1))
+taken words (Show file) few line name =
+    let is = of_names words (codes "show") (file ∷ []) line in
+    line_taken words (words_of (Show file)) line
+    (subst (λ c. Takes line.program c line.rest) (sym is.0)
+    (show_words line.program file line.rest name is.1))
+taken words (Canon a b) few line name =
+    let is = of_names words (codes "canon") (a ∷ b ∷ []) line in
+    line_taken words (words_of (Canon a b)) line
+    (subst (λ c. Takes line.program c line.rest) (sym is.0)
+    (canon_words line.program a b line.rest name is.1))
+taken words (Same a b) few line name =
+    let is = of_names words (codes "same") (a ∷ b ∷ []) line in
+    line_taken words (words_of (Same a b)) line
+    (subst (λ c. Takes line.program c line.rest) (sym is.0)
+    (same_words line.program a b line.rest name is.1))
+taken words (Pack a b more) few line name =
+    let is = of_names words (codes "pack") (a ∷ b ∷ more) line in
+    let n : length words ≡ length (line.program ∷ line.command ∷ line.rest) = ap length line.all in
+    let m : length (names_in line.rest) ≡ length (a ∷ b ∷ more) = ap length is.1 in
+    let least = names_in-length line.rest in
+    let fits : length (b ∷ more) ≤ usize_max = omega (arith, n, m, least, few) in
+    line_taken words (words_of (Pack a b more)) line
+    (subst (λ c. Takes line.program c line.rest) (sym is.0)
+    (pack_taken line.program line.rest (pack_words a b more line.rest fits name is.1)))
 
 -- so a usage is told of no such line
 pub refuses : (words : List Text) (fault : LineFault) → length words ≤ usize_max → IsUsage fault
     → (takes app words ≡ true → fault ≡ Memory) → AreRefused words fault
 refuses words (Usage text) few is memory =
-    λ form line names. let out : Usage text ≡ Memory =
-    memory (taken words form few line names) in absurd (cc)
+    λ form line name. let out : Usage text ≡ Memory =
+    memory (taken words form few line name) in absurd (cc)
 refuses words Odd few is memory = absurd is
 refuses words SameName few is memory = absurd is
 refuses words NotText few is memory = absurd is

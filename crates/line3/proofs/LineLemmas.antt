@@ -1,5 +1,5 @@
 -- Which forms the words of a command line have.
-use Rattle.line3.proofs.Common.{refl, inl, inr, Bool, true, false, ◌||◌, ◌⊎◌, Contains, ◌≡◌, ◌≢◌, ◌<◌, ◌≤◌, ℕ, List, [], ◌∷◌, codes, length, map, drop, take, ◌-◌, slice_index_or, string_bytes, String, Global, ap, ◌∙◌, arith, zero, suc, LineFault, Usage, Odd, SameName, NotText, Memory, AreRefused, Form, Check, Show, Canon, Same, Pack, IsLine, words_of, IsUsage, string_eq}
+use Rattle.line3.proofs.Common.{refl, inl, inr, sym, ap₂, ◌+◌, if◌then◌else◌, is_end, names_in, without_end, remove, Bool, true, false, ◌||◌, ◌⊎◌, Contains, ◌≡◌, ◌≢◌, ◌<◌, ◌≤◌, ℕ, List, [], ◌∷◌, codes, length, map, drop, take, ◌-◌, slice_index_or, string_bytes, String, Global, ap, ◌∙◌, arith, zero, suc, LineFault, Usage, Odd, SameName, NotText, Memory, AreRefused, Form, Check, Show, Canon, Same, Pack, IsLine, words_of, IsUsage, string_eq}
 use Rattle.std.proofs.Math.Seq.{take-length}
 use Rattle.std.specs.List.{list_any}
 use Rattle.std.proofs.lemmas.Slice.Eq.{bytes_eq-Decides}
@@ -16,25 +16,41 @@ pub record IsOther (command : List ℕ) (names : List (List ℕ)) : Type 0 where
   pub same : command ≡ codes "same" → length names ≢ 2
   pub pack : command ≡ codes "pack" → length names < 2
 
-pub no_form : (program command : List ℕ) (names : List (List ℕ)) → IsOther command names
-    → (form : Form) → IsLine (program ∷ command ∷ names) (words_of form) → ⊥
-no_form program command names is (Check file) line =
-    let e : program ∷ command ∷ names ≡ line.program ∷ codes "check" ∷ file ∷ [] = line.all in
-    is.check (cc) (ap (λ l. length (tail_of (tail_of l))) e)
-no_form program command names is (Show file) line =
-    let e : program ∷ command ∷ names ≡ line.program ∷ codes "show" ∷ file ∷ [] = line.all in
-    is.show (cc) (ap (λ l. length (tail_of (tail_of l))) e)
-no_form program command names is (Canon a b) line =
-    let e : program ∷ command ∷ names ≡ line.program ∷ codes "canon" ∷ a ∷ b ∷ [] = line.all in
-    is.canon (cc) (ap (λ l. length (tail_of (tail_of l))) e)
-no_form program command names is (Same a b) line =
-    let e : program ∷ command ∷ names ≡ line.program ∷ codes "same" ∷ a ∷ b ∷ [] = line.all in
-    is.same (cc) (ap (λ l. length (tail_of (tail_of l))) e)
-no_form program command names is (Pack a b more) line =
-    let e : program ∷ command ∷ names ≡ line.program ∷ codes "pack" ∷ a ∷ b ∷ more = line.all in
+-- one line has one command and one list of names
+pub same_said : (line said other : List (List ℕ)) → IsLine line said → IsLine line other
+    → said ≡ other
+same_said line said other is too =
+    let e : is.program ∷ is.command ∷ is.rest ≡ too.program ∷ too.command ∷ too.rest =
+    sym is.all ∙ too.all in
+    let command : is.command ≡ too.command = cc in
+    let rest : is.rest ≡ too.rest = ap (λ l. tail_of (tail_of l)) e in
+    is.named ∙ ap₂ (λ c r. c ∷ names_in r) command rest ∙ sym too.named
+
+pub no_form : (line : List (List ℕ)) (command : List ℕ) (names : List (List ℕ))
+    → IsLine line (command ∷ names) → IsOther command names
+    → (form : Form) → IsLine line (words_of form) → ⊥
+no_form line command names said is (Check file) other =
+    let e : command ∷ names ≡ codes "check" ∷ file ∷ [] =
+    same_said line (command ∷ names) (codes "check" ∷ file ∷ []) said other in
+    is.check (cc) (ap (λ l. length (tail_of l)) e)
+no_form line command names said is (Show file) other =
+    let e : command ∷ names ≡ codes "show" ∷ file ∷ [] =
+    same_said line (command ∷ names) (codes "show" ∷ file ∷ []) said other in
+    is.show (cc) (ap (λ l. length (tail_of l)) e)
+no_form line command names said is (Canon a b) other =
+    let e : command ∷ names ≡ codes "canon" ∷ a ∷ b ∷ [] =
+    same_said line (command ∷ names) (codes "canon" ∷ a ∷ b ∷ []) said other in
+    is.canon (cc) (ap (λ l. length (tail_of l)) e)
+no_form line command names said is (Same a b) other =
+    let e : command ∷ names ≡ codes "same" ∷ a ∷ b ∷ [] =
+    same_said line (command ∷ names) (codes "same" ∷ a ∷ b ∷ []) said other in
+    is.same (cc) (ap (λ l. length (tail_of l)) e)
+no_form line command names said is (Pack a b more) other =
+    let e : command ∷ names ≡ codes "pack" ∷ a ∷ b ∷ more =
+    same_said line (command ∷ names) (codes "pack" ∷ a ∷ b ∷ more) said other in
     let f : command ≡ codes "pack" = cc in
     let short = is.pack f in
-    let n : length names ≡ length (a ∷ b ∷ more) = ap (λ l. length (tail_of (tail_of l))) e in
+    let n : length names ≡ length (a ∷ b ∷ more) = ap (λ l. length (tail_of l)) e in
     absurd (omega (arith, n, short))
 
 -- a usage is the answer to a line of none of the forms
@@ -46,24 +62,90 @@ told words SameName is none = absurd is
 told words NotText is none = absurd is
 told words Memory is none = tt
 
-pub told_other : (program command : List ℕ) (names : List (List ℕ)) (fault : LineFault)
-    → IsUsage fault → IsOther command names → AreRefused (program ∷ command ∷ names) fault
-told_other program command names fault is other =
-    told (program ∷ command ∷ names) fault is (no_form program command names other)
+pub told_other : (line : List (List ℕ)) (command : List ℕ) (names : List (List ℕ))
+    (fault : LineFault) → IsLine line (command ∷ names) → IsUsage fault → IsOther command names
+    → AreRefused line fault
+told_other line command names fault said is other =
+    told line fault is (no_form line command names said other)
+
+-- the words of a line without a `--` are the program's name and what is said
+pub said_by : (line said : List (List ℕ)) → (is : IsLine line said)
+    → without_end 2 line ≡ is.program ∷ said
+said_by line said is =
+    ap (without_end 2) is.all ∙ ap (λ l. is.program ∷ l) (sym is.named)
 
 -- so few words have no form
-pub no_form_so_short : (words : List (List ℕ)) → length words < 3 → (form : Form)
-    → IsLine words (words_of form) → ⊥
-no_form_so_short words short (Check file) line =
-    let n = ap length line.all in absurd (omega (arith, n, short))
-no_form_so_short words short (Show file) line =
-    let n = ap length line.all in absurd (omega (arith, n, short))
-no_form_so_short words short (Canon a b) line =
-    let n = ap length line.all in absurd (omega (arith, n, short))
-no_form_so_short words short (Same a b) line =
-    let n = ap length line.all in absurd (omega (arith, n, short))
-no_form_so_short words short (Pack a b more) line =
-    let n = ap length line.all in absurd (omega (arith, n, short))
+pub no_form_so_short : (line words : List (List ℕ)) → words ≡ without_end 2 line
+    → length words < 3 → (form : Form) → IsLine line (words_of form) → ⊥
+no_form_so_short line words are short (Check file) is =
+    let n : length words ≡ 3 = ap length (are ∙ said_by line (words_of (Check file)) is) in
+    absurd (omega (arith, n, short))
+no_form_so_short line words are short (Show file) is =
+    let n : length words ≡ 3 = ap length (are ∙ said_by line (words_of (Show file)) is) in
+    absurd (omega (arith, n, short))
+no_form_so_short line words are short (Canon a b) is =
+    let n : length words ≡ 4 = ap length (are ∙ said_by line (words_of (Canon a b)) is) in
+    absurd (omega (arith, n, short))
+no_form_so_short line words are short (Same a b) is =
+    let n : length words ≡ 4 = ap length (are ∙ said_by line (words_of (Same a b)) is) in
+    absurd (omega (arith, n, short))
+no_form_so_short line words are short (Pack a b more) is =
+    let n : length words ≡ length (is.program ∷ words_of (Pack a b more)) =
+    ap length (are ∙ said_by line (words_of (Pack a b more)) is) in
+    absurd (omega (arith, n, short))
+
+-- the line of such words
+pub line_of : (line words : List (List ℕ)) (program command : List ℕ) (names : List (List ℕ))
+    → words ≡ without_end 2 line → words ≡ program ∷ command ∷ names
+    → IsLine line (command ∷ names)
+line_of [] words program command names are is = absurd (cc)
+line_of (x ∷ []) words program command names are is = absurd (cc)
+line_of (x ∷ y ∷ rest) words program command names are is =
+    let e : program ∷ command ∷ names ≡ x ∷ y ∷ names_in rest = sym is ∙ are in
+    record { program = x; command = y; rest = rest; all = refl; named = ap tail_of e }
+
+-- ---- a word that ends the options
+
+pass_by_one : (words : List (String Global)) (k : ℕ) (w : String Global) → k < length words
+    → w ≡ slice_index_or words k w → is_end (string_bytes w) ≡ false
+    → without_end k (map string_bytes words) ≡ without_end (suc k) (map string_bytes words)
+pass_by_one [] k w low is out = absurd (omega (arith, low))
+pass_by_one (x ∷ words) zero w low is out =
+    ap
+    (λ (b : Bool).
+    if b then map string_bytes words
+    else string_bytes x ∷ names_in (map string_bytes words))
+    (ap (λ v. is_end (string_bytes v)) (sym is) ∙ out)
+pass_by_one (x ∷ words) (suc k) w low is out =
+    ap (λ l. string_bytes x ∷ l) (pass_by_one words k w (omega (arith, low)) is out)
+
+pub pass_by : (words : List (String Global)) (k : ℕ) (w : String Global) → k < length words
+    → w ≡ slice_index_or words k w → is_end (string_bytes w) ≡ false
+    → without_end k (map string_bytes words) ≡ without_end (k + 1) (map string_bytes words)
+pass_by words k w low is out =
+    let next : suc k ≡ k + 1 = omega arith in
+    pass_by_one words k w low is out ∙ ap (λ n. without_end n (map string_bytes words)) next
+
+pub taken_out : (words : List (String Global)) (k : ℕ) (w : String Global) → k < length words
+    → w ≡ slice_index_or words k w → is_end (string_bytes w) ≡ true
+    → map string_bytes (remove words k) ≡ without_end k (map string_bytes words)
+taken_out [] k w low is ends = absurd (omega (arith, low))
+taken_out (x ∷ words) zero w low is ends =
+    ap
+    (λ (b : Bool).
+    if b then map string_bytes words
+    else string_bytes x ∷ names_in (map string_bytes words))
+    (sym (ap (λ v. is_end (string_bytes v)) (sym is) ∙ ends))
+taken_out (x ∷ words) (suc k) w low is ends =
+    ap (λ l. string_bytes x ∷ l) (taken_out words k w (omega (arith, low)) is ends)
+
+pub has_none : (words : List (String Global)) (k : ℕ) → length words ≤ k
+    → map string_bytes words ≡ without_end k (map string_bytes words)
+has_none [] zero low = refl
+has_none [] (suc k) low = refl
+has_none (x ∷ words) zero low = absurd (omega (arith, low))
+has_none (x ∷ words) (suc k) low =
+    ap (λ l. string_bytes x ∷ l) (has_none words k (omega (arith, low)))
 
 -- ---- what is among texts
 
@@ -111,12 +193,12 @@ not_among (x ∷ xs) t none (suc k, low, is) =
 pub three_words : (words : List (String Global)) (a b : String Global) (command name : List ℕ)
     → 3 ≤ length words → length words < 4 → a ≡ slice_index_or words 1 a
     → b ≡ slice_index_or words 2 b → string_bytes a ≡ command → string_bytes b ≡ name
-    → IsLine (map string_bytes words) (command ∷ name ∷ [])
+    → (program : List ℕ) × (map string_bytes words ≡ program ∷ command ∷ name ∷ [])
 three_words [] a b command name low high is_a is_b of_a of_b = absurd (omega (arith, low))
 three_words (x ∷ []) a b command name low high is_a is_b of_a of_b = absurd (omega (arith, low))
 three_words (x ∷ y ∷ []) a b command name low high is_a is_b of_a of_b = absurd (omega (arith, low))
 three_words (x ∷ y ∷ z ∷ []) a b command name low high is_a is_b of_a of_b =
-    record { program = string_bytes x; all = cc }
+    (string_bytes x, cc)
 three_words (x ∷ y ∷ z ∷ w ∷ more) a b command name low high is_a is_b of_a of_b =
     absurd (omega (arith, high))
 
@@ -124,7 +206,7 @@ pub four_words : (words : List (String Global)) (a b c : String Global)
     (command first second : List ℕ) → 4 ≤ length words → length words < 5
     → a ≡ slice_index_or words 1 a → b ≡ slice_index_or words 2 b → c ≡ slice_index_or words 3 c
     → string_bytes a ≡ command → string_bytes b ≡ first → string_bytes c ≡ second
-    → IsLine (map string_bytes words) (command ∷ first ∷ second ∷ [])
+    → (program : List ℕ) × (map string_bytes words ≡ program ∷ command ∷ first ∷ second ∷ [])
 four_words [] a b c command first second low high is_a is_b is_c of_a of_b of_c =
     absurd (omega (arith, low))
 four_words (x ∷ []) a b c command first second low high is_a is_b is_c of_a of_b of_c =
@@ -134,15 +216,15 @@ four_words (x ∷ y ∷ []) a b c command first second low high is_a is_b is_c o
 four_words (x ∷ y ∷ z ∷ []) a b c command first second low high is_a is_b is_c of_a of_b of_c =
     absurd (omega (arith, low))
 four_words (x ∷ y ∷ z ∷ w ∷ []) a b c command first second low high is_a is_b is_c of_a of_b of_c =
-    record { program = string_bytes x; all = cc }
+    (string_bytes x, cc)
 four_words (x ∷ y ∷ z ∷ w ∷ v ∷ more) a b c command first second low high is_a is_b is_c of_a of_b
     of_c = absurd (omega (arith, high))
 
 pub many_words : (words : List (String Global)) (a b : String Global) (command output : List ℕ)
     → 5 ≤ length words → a ≡ slice_index_or words 1 a → b ≡ slice_index_or words 2 b
     → string_bytes a ≡ command → string_bytes b ≡ output
-    → IsLine (map string_bytes words)
-    (command ∷ output ∷ map string_bytes (take (length words - 3) (drop 3 words)))
+    → (program : List ℕ) × (map string_bytes words
+    ≡ program ∷ command ∷ output ∷ map string_bytes (take (length words - 3) (drop 3 words)))
 many_words [] a b command output low is_a is_b of_a of_b = absurd (omega (arith, low))
 many_words (x ∷ []) a b command output low is_a is_b of_a of_b = absurd (omega (arith, low))
 many_words (x ∷ y ∷ []) a b command output low is_a is_b of_a of_b = absurd (omega (arith, low))
@@ -150,4 +232,4 @@ many_words (x ∷ y ∷ z ∷ more) a b command output low is_a is_b of_a of_b =
     let n : length (x ∷ y ∷ z ∷ more) - 3 ≡ length more = omega arith in
     let rest : take (length (x ∷ y ∷ z ∷ more) - 3) more ≡ more =
     ap (λ k. take k more) n ∙ take-length more in
-    record { program = string_bytes x; all = cc }
+    (string_bytes x, cc)

@@ -1,6 +1,6 @@
 -- What the words of a command line ask for.
-use Rattle.std.specs.Prelude.{◌≡◌, ◌≢◌, ◌==◌, false, ◌<◌, ◌%◌, ◌⊎◌, List, [], ◌∷◌, ℕ, Contains, codes, length, map, string_bytes}
-use Rattle.std.specs.List.{All}
+use Rattle.std.specs.Prelude.{◌≡◌, ◌≢◌, ◌==◌, Bool, true, false, ◌<◌, ◌%◌, ◌⊎◌, List, [], ◌∷◌, ℕ, zero, suc, Contains, codes, if◌then◌else◌, length, map, string_bytes}
+use Rattle.std.specs.Str.{bytes_eq}
 use Rattle.line3.specs.declared.asked.Job.{Job}
 use Rattle.line3.specs.declared.asked.Job.TheVariants as jobs
 use Rattle.line3.specs.declared.asked.LineFault.{LineFault}
@@ -23,10 +23,28 @@ words_of (Canon input output) = codes "canon" ∷ input ∷ output ∷ []
 words_of (Same first second) = codes "same" ∷ first ∷ second ∷ []
 words_of (Pack output stream streams) = codes "pack" ∷ output ∷ stream ∷ streams
 
--- the program's name, and then these words
+-- the word ends the options of a line
+abbrev pub is_end : List ℕ → Bool
+is_end word = bytes_eq word (codes "--")
+
+-- the names among words: all words but the first `--`
+abbrev pub names_in : List (List ℕ) → List (List ℕ)
+names_in [] = []
+names_in (word ∷ words) = if is_end word then words else word ∷ names_in words
+
+-- the words, of which all but so many first ones are names
+abbrev pub without_end : ℕ → List (List ℕ) → List (List ℕ)
+without_end zero words = names_in words
+without_end (suc count) [] = []
+without_end (suc count) (word ∷ words) = word ∷ without_end count words
+
+-- the program's name, and then the command and the names that are said
 pub record IsLine (words said : List (List ℕ)) : Type 0 where
   pub program : List ℕ
-  pub all : words ≡ program ∷ said
+  pub command : List ℕ
+  pub rest : List (List ℕ)
+  pub all : words ≡ program ∷ command ∷ rest
+  pub named : said ≡ command ∷ names_in rest
 
 -- streams come in pairs of a client's and a server's, and none is the output
 pub record IsPacking (output : List ℕ) (streams : List (List ℕ)) : Type 0 where
@@ -72,18 +90,16 @@ pub record IsFileWord (word : List ℕ) : Type 0 where
   pub split : word ≡ first ∷ rest
   pub no_hyphen : (first == 45) ≡ false
 
-abbrev pub AreFileWords : Form → Type 0
-AreFileWords (Check file) = IsFileWord file
-AreFileWords (Show file) = IsFileWord file
-AreFileWords (Canon input output) = IsFileWord input × IsFileWord output
-AreFileWords (Same first second) = IsFileWord first × IsFileWord second
-AreFileWords (Pack output stream streams) = IsFileWord output × IsFileWord stream
-    × All IsFileWord streams
+-- each word before the first `--` is one that names a file; after it any word does
+abbrev pub NameFiles : List (List ℕ) → Type 0
+NameFiles [] = Unit
+NameFiles (word ∷ words) = (is_end word ≡ true) ⊎ (IsFileWord word × NameFiles words)
 
--- where the fault is the usage, the line has none of the forms, or a file's name that is empty or
--- begins with a hyphen
+-- where the fault is the usage, the line has none of the forms, or before a `--` it has a file's
+-- name that is empty or begins with a hyphen
 abbrev pub AreRefused : List (List ℕ) → LineFault → Type 0
-AreRefused words (Usage _) = (form : Form) → IsLine words (words_of form) → AreFileWords form → ⊥
+AreRefused words (Usage _) =
+    (form : Form) → (line : IsLine words (words_of form)) → NameFiles line.rest → ⊥
 AreRefused words Odd = HasOddStream words
 AreRefused words SameName = RewritesItself words ⊎ PacksItself words
 AreRefused words NotText = ⊥

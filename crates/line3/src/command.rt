@@ -2,30 +2,32 @@
 
 ghost use Rattle.std.specs.Prelude.{◌≡◌, ◌≤◌, ◌∷◌, ℕ, List, [], IfErr, IfOk, codes, length, map, string_bytes};
 ghost use Rattle.clap.specs.Words.{kind_of};
-ghost use Rattle.line3.specs.Asked.{AreRefused, Asks, IsUsage};
+ghost use Rattle.line3.specs.Asked.{AreRefused, Asks, IsLine, IsUsage, without_end};
 
 use crate::asked::{Job, LineFault};
 use crate::grammar::command;
 use clap::error::ErrorKind;
 use std::alloc::{AllocError, Global};
 
-const NO_FORM: &str =
-    "error: a line has no `--`; a file whose name begins with a hyphen is named as ./-NAME\n";
+const END: &str = "--";
 
-/// Reads the words of a command line, the program's name first. A line that clap does not take, and a call
-/// for help, is answered by the text that clap writes.
-pub fn job<'a>(alloc: Global, words: &'a [String]) -> Result<Job<'a>, LineFault>
-    ensures asked { IfOk result (Asks (map string_bytes words.now)) }
-    ensures refused { IfErr result (AreRefused (map string_bytes words.now)) }
+const NO_FORM: &str = "error: the line has none of the forms of the program\n";
+
+/// Returns the words of a command line, the program's name first, without the `--` that ends its options. A
+/// line that clap does not take, and a call for help, is answered by the text that clap writes.
+pub fn taken(alloc: Global, words: Vec<String>) -> Result<Vec<String>, LineFault>
+    ensures taken { IfOk result (λ said.
+        map string_bytes said.items ≡ without_end 2 (map string_bytes words.items)) }
+    ensures refused { IfErr result (AreRefused (map string_bytes words.items)) }
 {
-    match taken(alloc, words) {
-        Ok(()) => placed(alloc, words),
+    match tried(alloc, words.as_slice()) {
+        Ok(()) => Ok(without_end(words, 2)),
         Err(fault) => Err(fault),
     }
 }
 
-/// Whether clap takes the line.
-fn taken(alloc: Global, words: &[String]) -> Result<(), LineFault>
+/// Returns an error if clap does not take the line.
+fn tried(alloc: Global, words: &[String]) -> Result<(), LineFault>
     ensures { IfErr result (AreRefused (map string_bytes words.now)) }
 {
     let command = match command(alloc) {
@@ -38,6 +40,20 @@ fn taken(alloc: Global, words: &[String]) -> Result<(), LineFault>
     }
 }
 
+/// Takes the first `--` out of the words, but for so many first ones. It ends the options of a line, and is
+/// no name.
+pub fn without_end(mut words: Vec<String>, first: usize) -> Vec<String>
+    ensures { map string_bytes result.items ≡ without_end first (map string_bytes words.items) }
+{
+    for place in first..words.len() {
+        if words[place].as_str() == END {
+            words.remove(place);
+            return words;
+        }
+    }
+    words
+}
+
 /// Returns the fault of a line that clap does not take: the text that clap writes, or that memory ran out.
 pub fn line_fault_of(alloc: Global, error: clap::Error) -> LineFault
     ensures usage { IsUsage result }
@@ -46,26 +62,19 @@ pub fn line_fault_of(alloc: Global, error: clap::Error) -> LineFault
     if error.kind() == ErrorKind::OutOfMemory {
         return LineFault::Memory;
     }
-    match advised(alloc, error) {
+    let text: Result<String, AllocError> = format!(in alloc; "{error}");
+    match text {
         Ok(text) => LineFault::Usage(text),
         Err(_) => LineFault::Memory,
     }
 }
 
-/// What clap says. Its advice on a name that begins with a hyphen is to put `--` before it, which no line
-/// has.
-fn advised(alloc: Global, error: clap::Error) -> Result<String, AllocError> {
-    let text = format!(in alloc; "{error}")?;
-    match text.as_str().split_once("as a value, use '-- ") {
-        Some((before, name)) => format!(in alloc; "{before}as a value, use './{name}"),
-        None => Ok(text),
-    }
-}
-
-/// The job of a line that clap took. Of such lines only those with `--` have none of the forms.
-fn placed<'a>(alloc: Global, words: &'a [String]) -> Result<Job<'a>, LineFault>
-    ensures asked { IfOk result (Asks (map string_bytes words.now)) }
-    ensures refused { IfErr result (AreRefused (map string_bytes words.now)) }
+/// Returns the job that the words of a line ask for, the program's name first. They are what `taken` returns.
+pub fn job<'a>(alloc: Global, words: &'a [String]) -> Result<Job<'a>, LineFault>
+    ensures asked { (line : List (List ℕ)) → map string_bytes words.now ≡ without_end 2 line
+        → IfOk result (Asks line) }
+    ensures refused { (line : List (List ℕ)) → map string_bytes words.now ≡ without_end 2 line
+        → IfErr result (AreRefused line) }
 {
     match words {
         [_, command, file] => of_one_file(alloc, command.as_str(), file.as_str()),
@@ -81,10 +90,10 @@ fn placed<'a>(alloc: Global, words: &'a [String]) -> Result<Job<'a>, LineFault>
 
 /// A command and the name of a file.
 fn of_one_file<'a>(alloc: Global, command: &str, file: &'a str) -> Result<Job<'a>, LineFault>
-    ensures asked { (program : List ℕ)
-        → IfOk result (Asks (program ∷ command.now ∷ file.now ∷ [])) }
-    ensures refused { (program : List ℕ)
-        → IfErr result (AreRefused (program ∷ command.now ∷ file.now ∷ [])) }
+    ensures asked { (line : List (List ℕ)) → IsLine line (command.now ∷ file.now ∷ [])
+        → IfOk result (Asks line) }
+    ensures refused { (line : List (List ℕ)) → IsLine line (command.now ∷ file.now ∷ [])
+        → IfErr result (AreRefused line) }
 {
     match command {
         "check" => Ok(Job::Check(file)),
@@ -100,10 +109,10 @@ fn of_two_files<'a>(
     first: &'a str,
     second: &'a str,
 ) -> Result<Job<'a>, LineFault>
-    ensures asked { (program : List ℕ)
-        → IfOk result (Asks (program ∷ command.now ∷ first.now ∷ second.now ∷ [])) }
-    ensures refused { (program : List ℕ)
-        → IfErr result (AreRefused (program ∷ command.now ∷ first.now ∷ second.now ∷ [])) }
+    ensures asked { (line : List (List ℕ)) → IsLine line (command.now ∷ first.now ∷ second.now ∷ [])
+        → IfOk result (Asks line) }
+    ensures refused { (line : List (List ℕ)) → IsLine line (command.now ∷ first.now ∷ second.now ∷ [])
+        → IfErr result (AreRefused line) }
 {
     match command {
         "canon" => rewriting(first, second),
@@ -121,10 +130,12 @@ fn of_streams<'a>(
     streams: &'a [String],
 ) -> Result<Job<'a>, LineFault>
     requires { 2 ≤ length streams.now }
-    ensures asked { let names = map string_bytes streams.now in (program : List ℕ)
-        → IfOk result (Asks (program ∷ command.now ∷ string_bytes output.now ∷ names)) }
-    ensures refused { let names = map string_bytes streams.now in (program : List ℕ)
-        → IfErr result (AreRefused (program ∷ command.now ∷ string_bytes output.now ∷ names)) }
+    ensures asked { let names = map string_bytes streams.now in
+        (line : List (List ℕ)) → IsLine line (command.now ∷ string_bytes output.now ∷ names)
+        → IfOk result (Asks line) }
+    ensures refused { let names = map string_bytes streams.now in
+        (line : List (List ℕ)) → IsLine line (command.now ∷ string_bytes output.now ∷ names)
+        → IfErr result (AreRefused line) }
 {
     if command == "pack" {
         packing(output, streams)
@@ -134,10 +145,10 @@ fn of_streams<'a>(
 }
 
 fn rewriting<'a>(input: &'a str, output: &'a str) -> Result<Job<'a>, LineFault>
-    ensures asked { (program : List ℕ)
-        → IfOk result (Asks (program ∷ codes "canon" ∷ input.now ∷ output.now ∷ [])) }
-    ensures refused { (program : List ℕ)
-        → IfErr result (AreRefused (program ∷ codes "canon" ∷ input.now ∷ output.now ∷ [])) }
+    ensures asked { (line : List (List ℕ)) → IsLine line (codes "canon" ∷ input.now ∷ output.now ∷ [])
+        → IfOk result (Asks line) }
+    ensures refused { (line : List (List ℕ)) → IsLine line (codes "canon" ∷ input.now ∷ output.now ∷ [])
+        → IfErr result (AreRefused line) }
 {
     if input == output {
         Err(LineFault::SameName)
@@ -148,10 +159,12 @@ fn rewriting<'a>(input: &'a str, output: &'a str) -> Result<Job<'a>, LineFault>
 
 fn packing<'a>(output: &'a String, streams: &'a [String]) -> Result<Job<'a>, LineFault>
     requires { 2 ≤ length streams.now }
-    ensures asked { let names = map string_bytes streams.now in (program : List ℕ)
-        → IfOk result (Asks (program ∷ codes "pack" ∷ string_bytes output.now ∷ names)) }
-    ensures refused { let names = map string_bytes streams.now in (program : List ℕ)
-        → IfErr result (AreRefused (program ∷ codes "pack" ∷ string_bytes output.now ∷ names)) }
+    ensures asked { let names = map string_bytes streams.now in
+        (line : List (List ℕ)) → IsLine line (codes "pack" ∷ string_bytes output.now ∷ names)
+        → IfOk result (Asks line) }
+    ensures refused { let names = map string_bytes streams.now in
+        (line : List (List ℕ)) → IsLine line (codes "pack" ∷ string_bytes output.now ∷ names)
+        → IfErr result (AreRefused line) }
 {
     if streams.len() % 2 != 0 {
         Err(LineFault::Odd)
@@ -162,7 +175,7 @@ fn packing<'a>(output: &'a String, streams: &'a [String]) -> Result<Job<'a>, Lin
     }
 }
 
-/// Returns the fault of a line that clap takes and that has none of the forms: it has a `--`.
+/// Returns the fault of a line that has none of the forms, though clap takes it.
 pub fn usage(alloc: Global) -> LineFault
     ensures { IsUsage result }
 {

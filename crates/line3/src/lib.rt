@@ -7,5 +7,5 @@ mod command;
 mod grammar;
 
 pub use asked::{Job, LineFault};
-pub use command::{job, line_fault_of, usage};
+pub use command::{job, line_fault_of, taken, usage, without_end};
 pub use grammar::file;

@@ -1,5 +1,5 @@
 -- Words that change a mask one after another.
-use Rattle.mask_line3.proofs.Common.{sym, ap, ap₂, arith, zero, suc, ◌≡◌, ◌<◌, ◌∙◌, ◌+◌, ◌++◌, ℕ, List, [], ◌∷◌, length, map, slice_index_or, string_bytes, take, drop, ◌-◌, ◌≤◌, String, Global, IsLine, append-nil, Change, change_told, change_word, with_change, AreChanges, flat_map}
+use Rattle.mask_line3.proofs.Common.{sym, ap, ap₂, arith, zero, suc, ◌≡◌, ◌<◌, ◌∙◌, ◌+◌, ◌++◌, ℕ, List, [], ◌∷◌, length, map, slice_index_or, string_bytes, take, drop, ◌-◌, ◌≤◌, String, Global, append-nil, Change, change_told, change_word, with_change, AreChanges, flat_map}
 use Rattle.std.proofs.Math.Seq.{take-length, take-suc}
 use Rattle.std.proofs.lemmas.Grind.{flat_map-append}
 use Rattle.std.proofs.lemmas.List.{map-append}
@@ -44,8 +44,8 @@ one_more words k w ways c low is of_c before =
 pub names_first : (words : List (String Global)) (a b : String Global) (input output : List ℕ)
     → 3 ≤ length words → a ≡ slice_index_or words 1 a → b ≡ slice_index_or words 2 b
     → string_bytes a ≡ input → string_bytes b ≡ output
-    → IsLine (map string_bytes words)
-    (input ∷ output ∷ map string_bytes (take (length words - 3) (drop 3 words)))
+    → (program : List ℕ) × (map string_bytes words
+    ≡ program ∷ input ∷ output ∷ map string_bytes (take (length words - 3) (drop 3 words)))
 names_first [] a b input output low is_a is_b of_a of_b = absurd (omega (arith, low))
 names_first (x ∷ []) a b input output low is_a is_b of_a of_b = absurd (omega (arith, low))
 names_first (x ∷ y ∷ []) a b input output low is_a is_b of_a of_b = absurd (omega (arith, low))
@@ -53,7 +53,7 @@ names_first (x ∷ y ∷ z ∷ more) a b input output low is_a is_b of_a of_b =
     let n : length (x ∷ y ∷ z ∷ more) - 3 ≡ length more = omega arith in
     let rest : take (length (x ∷ y ∷ z ∷ more) - 3) more ≡ more =
     ap (λ k. take k more) n ∙ take-length more in
-    record { program = string_bytes x; all = cc }
+    (string_bytes x, cc)
 
 -- ---- words that tell a mask
 

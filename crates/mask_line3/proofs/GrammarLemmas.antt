@@ -1,6 +1,8 @@
 -- clap takes each line of the form.
-use Rattle.mask_line3.proofs.Common.{arith, ap, ap₂, sym, refl, zero, suc, ◌≡◌, ◌≤◌, ◌∙◌, ◌==◌, ◌&&◌, ◌++◌, ℕ, Bool, true, false, List, [], ◌∷◌, Some, None, codes, length, fold, is_some, map, le-leb, append-nil, append_assoc, usize_max, App, Text, is_simple, takes, IsFileWord, IsLine, IsUsage, Times, Stamps, Machines, Space, Ids, Fsids, Cookies, CookieVerifiers, CreateVerifiers, Owners, Wcc, SillyNames, Change, change_word, AreMaskWordsRefused, mask_words}
-use Rattle.std.specs.List.{All, list_all}
+use Rattle.mask_line3.proofs.Common.{arith, ap, ap₂, sym, refl, zero, suc, ◌≡◌, ◌≤◌, ◌∙◌, ◌==◌, ◌&&◌, ◌++◌, ℕ, Bool, true, false, List, [], ◌∷◌, Some, None, codes, length, fold, is_some, map, le-leb, append-nil, append_assoc, usize_max, App, Text, is_simple, takes, IsFileWord, IsMaskLine, IsUsage, Change, change_word, AreMaskWordsRefused, mask_words}
+use Rattle.std.specs.List.{list_all}
+use Rattle.std.proofs.Common.{inl, inr, subst}
+use Rattle.line3.specs.Asked.{NameFiles, names_in}
 use Rattle.clap.specs.Walk.{Walk, arg_by_index, finished, idle, nothing_held, positional, to_positional, walked}
 use Rattle.clap.specs.Simple.{built, entered, names_of}
 use Rattle.clap.specs.Takes.{default_passes, entered_passes, is_valid, settle_passes, turn_passes, walk_passes}
@@ -9,7 +11,7 @@ use Rattle.clap.specs.declared.parser.matches.ValueSource.TheVariants.{CommandLi
 use Rattle.clap.specs.declared.builder.value_parser.Reading.TheVariants.{AsWritten}
 use Rattle.line3.specs.declared.asked.LineFault.{LineFault}
 use Rattle.line3.specs.declared.asked.LineFault.TheVariants.{Usage, Odd, SameName, NotText, Memory}
-use Rattle.line3.proofs.GrammarLemmas.{all_pass, at, ends, further_turn, further_walked, no_first, plain_turn, plain_walked}
+use Rattle.line3.proofs.GrammarLemmas.{all_pass, at, end, end_is, ends, further_turn, further_walked, names_ended, names_in-length, names_plain, plain_turn, plain_walked, split_one, split_two}
 use Rattle.mask_line3.specs.declared.asked.MaskClass.{MaskClass}
 use Rattle.masking3.specs.declared.ways.Way.{Way}
 use Rattle.mask_line3.specs.machinery.Grammar.{mask_app}
@@ -49,6 +51,10 @@ reading input output words = record {
   stopped = None;
 }
 
+-- the same, after a `--`
+abbrev trailing : (input output : Text) → List Text → Walk
+trailing input output words = record (reading input output words) { is_trailing = true }
+
 module _ (input output : Text) where
   read_step : (got : List Text) (w : Text) → IsFileWord w
       → walked top_of.top.rules (names_of top_of) (reading input output got) w
@@ -67,24 +73,95 @@ module _ (input output : Text) where
       ap (λ (v : Text). turn_passes top_of.top [] (reading input output got) v) is.split
       ∙ further_turn is.first is.rest is.no_hyphen top_of.top (reading input output got).held 3
 
-  read_all : (got words : List Text) → All IsFileWord words
-      → fold (walked top_of.top.rules (names_of top_of)) (reading input output got) words
-      ≡ reading input output (got ++ words)
-  read_all got [] all = ap (reading input output) (sym (append-nil got))
-  read_all got (w ∷ words) all =
-      ap (λ (v : Walk). fold (walked top_of.top.rules (names_of top_of)) v words)
-      (read_step got w (all 0 w (omega arith)))
-      ∙ read_all (got ++ w ∷ []) words (no_first words w all)
-      ∙ ap (reading input output) (append_assoc got (w ∷ []) words)
+  end_step : (got : List Text)
+      → walked top_of.top.rules (names_of top_of) (reading input output got) end
+      ≡ trailing input output got
+  unfolding clap_on_literals
+  end_step got = refl
 
-  read_passes : (got words : List Text) → All IsFileWord words
+  end_passes : (got : List Text)
+      → turn_passes top_of.top (names_of top_of) (reading input output got) end ≡ true
+  unfolding clap_on_literals
+  end_passes got = refl
+
+  trail_step : (got : List Text) (w : Text)
+      → walked top_of.top.rules (names_of top_of) (trailing input output got) w
+      ≡ trailing input output (got ++ w ∷ [])
+  unfolding clap_on_literals
+  trail_step got w = refl
+
+  trail_turn : (got : List Text) (w : Text)
+      → turn_passes top_of.top (names_of top_of) (trailing input output got) w ≡ true
+  unfolding clap_on_literals
+  trail_turn got w = refl
+
+  trail_all : (got words : List Text)
+      → fold (walked top_of.top.rules (names_of top_of)) (trailing input output got) words
+      ≡ trailing input output (got ++ words)
+  trail_all got [] = ap (trailing input output) (sym (append-nil got))
+  trail_all got (w ∷ words) =
+      ap (λ (v : Walk). fold (walked top_of.top.rules (names_of top_of)) v words) (trail_step got w)
+      ∙ trail_all (got ++ w ∷ []) words
+      ∙ ap (trailing input output) (append_assoc got (w ∷ []) words)
+
+  trail_passes : (got words : List Text)
+      → walk_passes top_of.top (names_of top_of) (trailing input output got) words ≡ true
+  unfolding walk_passes
+  trail_passes got [] = refl
+  trail_passes got (w ∷ words) =
+      ap₂ (λ (t : Bool) (v : Walk). t && walk_passes top_of.top (names_of top_of) v words)
+      (trail_turn got w) (trail_step got w)
+      ∙ trail_passes (got ++ w ∷ []) words
+
+  -- the walk has read these words, before a `--` or after it
+  record HasRead (words : List Text) (w : Walk) : Type 0 where
+    is_trailing : Bool
+    is : w ≡ record (reading input output words) { is_trailing = is_trailing }
+
+  read_all : (got words : List Text) → NameFiles words
+      → HasRead (got ++ names_in words)
+      (fold (walked top_of.top.rules (names_of top_of)) (reading input output got) words)
+  read_all got [] name =
+      record { is_trailing = false; is = ap (reading input output) (sym (append-nil got)) }
+  read_all got (w ∷ words) (inl ends) = record {
+    is_trailing = true;
+    is = ap
+        (λ (v : Text). fold (walked top_of.top.rules (names_of top_of)) (reading input output got)
+        (v ∷ words)) (end_is w ends)
+        ∙ ap (λ (v : Walk). fold (walked top_of.top.rules (names_of top_of)) v words) (end_step got)
+        ∙ trail_all got words
+        ∙ ap (λ (l : List Text). trailing input output (got ++ l)) (sym (names_ended w words ends));
+  }
+  read_all got (w ∷ words) (inr (is, name)) =
+      let next = read_all (got ++ w ∷ []) words name in
+      record {
+        is_trailing = next.is_trailing;
+        is = ap (λ (v : Walk). fold (walked top_of.top.rules (names_of top_of)) v words)
+            (read_step got w is)
+            ∙ next.is
+            ∙ ap
+            (λ (l : List Text).
+            record (reading input output l) { is_trailing = next.is_trailing })
+            (append_assoc got (w ∷ []) (names_in words)
+            ∙ ap (λ (l : List Text). got ++ l) (sym (names_plain w words is)));
+      }
+
+  read_passes : (got words : List Text) → NameFiles words
       → walk_passes top_of.top (names_of top_of) (reading input output got) words ≡ true
   unfolding walk_passes
-  read_passes got [] all = refl
-  read_passes got (w ∷ words) all =
+  read_passes got [] name = refl
+  read_passes got (w ∷ words) (inl ends) =
+      ap
+      (λ (v : Text).
+          walk_passes top_of.top (names_of top_of) (reading input output got) (v ∷ words))
+      (end_is w ends)
+      ∙ ap₂ (λ (t : Bool) (v : Walk). t && walk_passes top_of.top (names_of top_of) v words)
+      (end_passes got) (end_step got)
+      ∙ trail_passes got words
+  read_passes got (w ∷ words) (inr (is, name)) =
       ap₂ (λ (t : Bool) (v : Walk). t && walk_passes top_of.top (names_of top_of) v words)
-      (turn_step got w (all 0 w (omega arith))) (read_step got w (all 0 w (omega arith)))
-      ∙ read_passes (got ++ w ∷ []) words (no_first words w all)
+      (turn_step got w is) (read_step got w is)
+      ∙ read_passes (got ++ w ∷ []) words name
 
   read_ends : (words : List Text) → length words ≤ usize_max
       → ends top_of.top (reading input output words).held ≡ true
@@ -113,104 +190,178 @@ ended passed w = entered_passes top_of w.stopped
     && is_valid top_of.top (finished top_of.top.rules w.held)
     (is_some (entered top_of w.stopped)))))
 
-module _ (x : ℕ) (xs : Text) (no_hyphen : (x == 45) ≡ false) (y : ℕ) (ys : Text)
-    (no_hyphen' : (y == 45) ≡ false) (p : Text) where
-  -- the walk after the first file, and after the second
-  abbrev first : Walk
-  first =
-      to_positional top_of.top.rules (arg_by_index top_of.top.rules 1) (x ∷ xs)
-      (at nothing_held idle 1) nothing_held
+abbrev rest_passes : Bool → Walk → List Text → Bool
+rest_passes passed w words =
+    ended (passed && walk_passes top_of.top [] w words) (fold (walked top_of.top.rules []) w words)
 
-  abbrev second : Walk
-  second =
-      to_positional top_of.top.rules (arg_by_index top_of.top.rules 2) (y ∷ ys) first first.held
+-- the walk after an input and an output, of which one came after a `--`
+abbrev trailing_second : (input output : Text) → Walk
+trailing_second input output = record {
+  held = record {
+    rows =
+        record {
+          id = codes "IN";
+          values = input ∷ [];
+          count = None;
+          source = Some CommandLine;
+          reading = AsWritten;
+        } ∷ [];
+    pending = Some (codes "OUT", output ∷ []);
+    skip = 0;
+  };
+  waiting = idle;
+  position = 3;
+  is_trailing = true;
+  stopped = None;
+}
 
-  abbrev rest_passes : Bool → Walk → List Text → Bool
-  rest_passes passed w words =
-      ended (passed && walk_passes top_of.top [] w words)
-      (fold (walked top_of.top.rules []) w words)
+trailing_read : (input output : Text) (words : List Text) → length words ≤ usize_max
+    → rest_passes true (trailing_second input output) words ≡ true
+unfolding clap_on_literals
+trailing_read input output [] few = refl
+trailing_read input output (w ∷ words) few =
+    ap₂ ended (trail_passes input output (w ∷ []) words) (trail_all input output (w ∷ []) words)
+    ∙ read_ends input output (w ∷ words) few
 
-  files_read : (words : List Text)
-      → takes mask_app (p ∷ (x ∷ xs) ∷ (y ∷ ys) ∷ words) ≡ rest_passes true second words
+module _ (p : Text) where
+  abbrev Takes : List Text → Type 0
+  Takes words = takes mask_app (p ∷ words) ≡ true
+
+  all_after : (input output : Text) (words : List Text) → length words ≤ usize_max
+      → Takes (end ∷ input ∷ output ∷ words)
   unfolding clap_on_literals
-  files_read words =
-      ap₂
-      (λ (t : Bool) (w : Walk).
-      ended
-      (t
-      && (turn_passes top_of.top [] w (y ∷ ys)
-      && walk_passes top_of.top [] (walked top_of.top.rules [] w (y ∷ ys)) words))
-      (fold (walked top_of.top.rules []) (walked top_of.top.rules [] w (y ∷ ys)) words))
-      (plain_turn x xs no_hyphen top_of.top nothing_held 1)
-      (plain_walked x xs no_hyphen top_of.top.rules nothing_held 1)
-      ∙ ap₂ (λ (t : Bool) (w : Walk). rest_passes t w words)
-      (plain_turn y ys no_hyphen' top_of.top first.held 2)
-      (plain_walked y ys no_hyphen' top_of.top.rules first.held 2)
+  all_after input output words few = trailing_read input output words few
 
-  words_read : (words : List Text) → length words ≤ usize_max → All IsFileWord words
-      → rest_passes true second words ≡ true
-  unfolding clap_on_literals
-  words_read [] few all = refl
-  words_read (w ∷ words) few all =
-      let is = all 0 w (omega arith) in
-      ap (λ (v : Text). rest_passes true second (v ∷ words)) is.split
-      ∙ ap₂ (λ (t : Bool) (v : Walk). rest_passes t v words)
-      (plain_turn is.first is.rest is.no_hyphen top_of.top second.held 3)
-      (plain_walked is.first is.rest is.no_hyphen top_of.top.rules second.held 3)
-      ∙ ap (λ (v : Text). rest_passes true (reading (x ∷ xs) (y ∷ ys) (v ∷ [])) words)
-      (sym is.split)
-      ∙ ap₂ ended (read_passes (x ∷ xs) (y ∷ ys) (w ∷ []) words (no_first words w all))
-      (read_all (x ∷ xs) (y ∷ ys) (w ∷ []) words (no_first words w all))
-      ∙ read_ends (x ∷ xs) (y ∷ ys) (w ∷ words) few
+  module _ (x : ℕ) (xs : Text) (no_hyphen : (x == 45) ≡ false) where
+    output_after : (output : Text) (words : List Text) → length words ≤ usize_max
+        → Takes ((x ∷ xs) ∷ end ∷ output ∷ words)
+    unfolding clap_on_literals
+    output_after output words few =
+        ap₂
+        (λ (t : Bool) (w : Walk).
+        ended
+        (t
+        && (turn_passes top_of.top [] w end
+        && (turn_passes top_of.top [] (walked top_of.top.rules [] w end) output
+        && walk_passes top_of.top []
+        (walked top_of.top.rules [] (walked top_of.top.rules [] w end) output) words)))
+        (fold (walked top_of.top.rules [])
+        (walked top_of.top.rules [] (walked top_of.top.rules [] w end) output) words))
+        (plain_turn x xs no_hyphen top_of.top nothing_held 1)
+        (plain_walked x xs no_hyphen top_of.top.rules nothing_held 1)
+        ∙ trailing_read (x ∷ xs) output words few
+
+  module _ (x : ℕ) (xs : Text) (no_hyphen : (x == 45) ≡ false) (y : ℕ) (ys : Text)
+      (no_hyphen' : (y == 45) ≡ false) where
+    -- the walk after the first file, and after the second
+    abbrev first : Walk
+    first =
+        to_positional top_of.top.rules (arg_by_index top_of.top.rules 1) (x ∷ xs)
+        (at nothing_held idle 1) nothing_held
+
+    abbrev second : Walk
+    second =
+        to_positional top_of.top.rules (arg_by_index top_of.top.rules 2) (y ∷ ys) first first.held
+
+    files_read : (words : List Text)
+        → takes mask_app (p ∷ (x ∷ xs) ∷ (y ∷ ys) ∷ words) ≡ rest_passes true second words
+    unfolding clap_on_literals
+    files_read words =
+        ap₂
+        (λ (t : Bool) (w : Walk).
+        ended
+        (t
+        && (turn_passes top_of.top [] w (y ∷ ys)
+        && walk_passes top_of.top [] (walked top_of.top.rules [] w (y ∷ ys)) words))
+        (fold (walked top_of.top.rules []) (walked top_of.top.rules [] w (y ∷ ys)) words))
+        (plain_turn x xs no_hyphen top_of.top nothing_held 1)
+        (plain_walked x xs no_hyphen top_of.top.rules nothing_held 1)
+        ∙ ap₂ (λ (t : Bool) (w : Walk). rest_passes t w words)
+        (plain_turn y ys no_hyphen' top_of.top first.held 2)
+        (plain_walked y ys no_hyphen' top_of.top.rules first.held 2)
+
+    words_read : (words : List Text) → length (names_in words) ≤ usize_max → NameFiles words
+        → rest_passes true second words ≡ true
+    unfolding clap_on_literals
+    words_read [] few name = refl
+    words_read (w ∷ words) few (inl ends) =
+        let n : length (names_in (w ∷ words)) ≡ length words =
+        ap (λ (l : List Text). length l) (names_ended w words ends) in
+        let fits : length words ≤ usize_max = omega (arith, n, few) in
+        ap (λ (v : Text). rest_passes true second (v ∷ words)) (end_is w ends)
+        ∙ trailing_read (x ∷ xs) (y ∷ ys) words fits
+    words_read (w ∷ words) few (inr (is, name)) =
+        let n : length (names_in (w ∷ words)) ≡ length (w ∷ names_in words) =
+        ap (λ (l : List Text). length l) (names_plain w words is) in
+        let fits : length (w ∷ names_in words) ≤ usize_max = omega (arith, n, few) in
+        let all = read_all (x ∷ xs) (y ∷ ys) (w ∷ []) words name in
+        ap (λ (v : Text). rest_passes true second (v ∷ words)) is.split
+        ∙ ap₂ (λ (t : Bool) (v : Walk). rest_passes t v words)
+        (plain_turn is.first is.rest is.no_hyphen top_of.top second.held 3)
+        (plain_walked is.first is.rest is.no_hyphen top_of.top.rules second.held 3)
+        ∙ ap (λ (v : Text). rest_passes true (reading (x ∷ xs) (y ∷ ys) (v ∷ [])) words)
+        (sym is.split)
+        ∙ ap₂ ended (read_passes (x ∷ xs) (y ∷ ys) (w ∷ []) words name) all.is
+        ∙ read_ends (x ∷ xs) (y ∷ ys) (w ∷ names_in words) fits
+
+    files_taken : (words : List Text) → length (names_in words) ≤ usize_max → NameFiles words
+        → Takes ((x ∷ xs) ∷ (y ∷ ys) ∷ words)
+    files_taken words few name = files_read words ∙ words_read words few name
+
+  output_taken : (input output : Text) (more words : List Text) → length more ≤ usize_max
+      → IsFileWord input → NameFiles words → names_in words ≡ output ∷ more
+      → Takes (input ∷ words)
+  output_taken input output more [] few is name e = absurd (cc)
+  output_taken input output more (v ∷ words) few is (inl ends) e =
+      let rest : words ≡ output ∷ more = sym (names_ended v words ends) ∙ e in
+      let all : v ∷ words ≡ end ∷ output ∷ more = ap₂ (λ h t. h ∷ t) (end_is v ends) rest in
+      subst (λ l. Takes (input ∷ l)) (sym all)
+      (split_one (λ w. Takes (w ∷ end ∷ output ∷ more))
+      (λ x xs h. output_after x xs h output more few) input is)
+  output_taken input output more (v ∷ words) few is (inr (is', name)) e =
+      let all : v ∷ names_in words ≡ output ∷ more = sym (names_plain v words is') ∙ e in
+      let n : length (v ∷ names_in words) ≡ length (output ∷ more) =
+      ap (λ (l : List Text). length l) all in
+      let fits : length (names_in words) ≤ usize_max = omega (arith, n, few) in
+      split_two (λ w w'. Takes (w ∷ w' ∷ words))
+      (λ x xs h y ys h'. files_taken x xs h y ys h' words fits name) input v is is'
+
+  words_taken : (input output : Text) (more words : List Text) → length more ≤ usize_max
+      → NameFiles words → names_in words ≡ input ∷ output ∷ more → Takes words
+  words_taken input output more [] few name e = absurd (cc)
+  words_taken input output more (v ∷ words) few (inl ends) e =
+      let rest : words ≡ input ∷ output ∷ more = sym (names_ended v words ends) ∙ e in
+      let all : v ∷ words ≡ end ∷ input ∷ output ∷ more =
+      ap₂ (λ h t. h ∷ t) (end_is v ends) rest in
+      subst Takes (sym all) (all_after input output more few)
+  words_taken input output more (v ∷ words) few (inr (is, name)) e =
+      let all : v ∷ names_in words ≡ input ∷ output ∷ more = sym (names_plain v words is) ∙ e in
+      let rest : names_in words ≡ output ∷ more = cc in
+      output_taken v output more words few is name rest
 
 -- ---- a line of the form
 
--- the word for a change does not begin with a hyphen
-class_plain : (class : MaskClass) (way : Way)
-    → IsFileWord (change_word (record { class = class; way = way }))
-class_plain Times way = record { first = _; rest = _; split = refl; no_hyphen = refl }
-class_plain Stamps way = record { first = _; rest = _; split = refl; no_hyphen = refl }
-class_plain Machines way = record { first = _; rest = _; split = refl; no_hyphen = refl }
-class_plain Space way = record { first = _; rest = _; split = refl; no_hyphen = refl }
-class_plain Ids way = record { first = _; rest = _; split = refl; no_hyphen = refl }
-class_plain Fsids way = record { first = _; rest = _; split = refl; no_hyphen = refl }
-class_plain Cookies way = record { first = _; rest = _; split = refl; no_hyphen = refl }
-class_plain CookieVerifiers way = record { first = _; rest = _; split = refl; no_hyphen = refl }
-class_plain CreateVerifiers way = record { first = _; rest = _; split = refl; no_hyphen = refl }
-class_plain Owners way = record { first = _; rest = _; split = refl; no_hyphen = refl }
-class_plain Wcc way = record { first = _; rest = _; split = refl; no_hyphen = refl }
-class_plain SillyNames way = record { first = _; rest = _; split = refl; no_hyphen = refl }
-
-change_plain : (change : Change) → IsFileWord (change_word change)
-change_plain change = class_plain change.class change.way
-
-changes_plain : (changes : List Change) → All IsFileWord (map change_word changes)
-changes_plain [] k d low = absurd (omega (arith, low))
-changes_plain (c ∷ changes) zero d low = change_plain c
-changes_plain (c ∷ changes) (suc k) d low = changes_plain changes k d (omega (arith, low))
-
 -- clap takes each line of the form; the bound is that of any list in memory
 pub mask_taken : (words : List Text) (input output : Text) (changes : List Change)
-    → length words ≤ usize_max → IsLine words (mask_words input output changes) → IsFileWord input
-    → IsFileWord output → takes mask_app words ≡ true
-mask_taken words input output changes few line i o =
-    let n : length words ≡ length (line.program ∷ input ∷ output ∷ map change_word changes) =
-    ap length line.all in
-    let fits : length (map change_word changes) ≤ usize_max = omega (arith, n, few) in
-    ap (λ (w : List Text). takes mask_app w) (line.all
-    ∙ ap₂ (λ (f g : Text). line.program ∷ f ∷ g ∷ map change_word changes) i.split o.split)
-    ∙ files_read i.first i.rest i.no_hyphen o.first o.rest o.no_hyphen line.program
-    (map change_word changes)
-    ∙ words_read i.first i.rest i.no_hyphen o.first o.rest o.no_hyphen line.program
-    (map change_word changes) fits (changes_plain changes)
+    → length words ≤ usize_max → (line : IsMaskLine words (mask_words input output changes))
+    → NameFiles line.rest → takes mask_app words ≡ true
+mask_taken words input output changes few line name =
+    let n : length words ≡ length (line.program ∷ line.rest) = ap length line.all in
+    let m : length (names_in line.rest) ≡ length (input ∷ output ∷ map change_word changes) =
+    ap length (sym line.named) in
+    let least = names_in-length line.rest in
+    let fits : length (map change_word changes) ≤ usize_max = omega (arith, n, m, least, few) in
+    ap (λ (w : List Text). takes mask_app w) line.all
+    ∙ words_taken line.program input output (map change_word changes) line.rest fits name
+    (sym line.named)
 
 -- so a usage is told of no such line
 pub mask_refuses : (words : List Text) (fault : LineFault) → length words ≤ usize_max
     → IsUsage fault → (takes mask_app words ≡ true → fault ≡ Memory)
     → AreMaskWordsRefused words fault
 mask_refuses words (Usage text) few is memory =
-    λ input output changes line i o. let out : Usage text ≡ Memory =
-    memory (mask_taken words input output changes few line i o) in absurd (cc)
+    λ input output changes line name. let out : Usage text ≡ Memory =
+    memory (mask_taken words input output changes few line name) in absurd (cc)
 mask_refuses words Odd few is memory = absurd is
 mask_refuses words SameName few is memory = absurd is
 mask_refuses words NotText few is memory = absurd is

@@ -1,3 +1,4 @@
 mod ChangeLemmas
 mod GrammarLemmas
 pub mod Common
+pub mod LineLemmas

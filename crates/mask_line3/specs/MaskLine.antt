@@ -1,6 +1,6 @@
 -- What the words of a command line of nfs3mask ask for.
 use Rattle.std.specs.Prelude.{◌≡◌, ◌≢◌, ◌∷◌, ℕ, List, map}
-use Rattle.line3.specs.Asked.{IsFileWord, IsLine}
+use Rattle.line3.specs.Asked.{NameFiles, names_in}
 use Rattle.line3.specs.declared.asked.LineFault.{LineFault}
 use Rattle.line3.specs.declared.asked.LineFault.TheVariants.{Usage, Odd, SameName, NotText, Memory}
 use Rattle.mask_line3.specs.declared.asked.Change.{Change}
@@ -11,11 +11,18 @@ use Rattle.mask_line3.specs.Changes.{change_word, ways_after}
 abbrev pub mask_words : List ℕ → List ℕ → List Change → List (List ℕ)
 mask_words input output changes = input ∷ output ∷ map change_word changes
 
+-- the program's name, and then the words that are said
+pub record IsMaskLine (words said : List (List ℕ)) : Type 0 where
+  pub program : List ℕ
+  pub rest : List (List ℕ)
+  pub all : words ≡ program ∷ rest
+  pub named : said ≡ names_in rest
+
 -- the line's words are those of the job; its mask is the usual one, changed by them, and its output
 -- is not its input
 pub record AsksForMask (words : List (List ℕ)) (job : MaskJob) : Type 0 where
   pub changes : List Change
-  pub line : IsLine words (mask_words job.input.now job.output.now changes)
+  pub line : IsMaskLine words (mask_words job.input.now job.output.now changes)
   pub distinct : job.input.now ≢ job.output.now
   pub ways : job.ways ≡ ways_after changes
 
@@ -23,13 +30,13 @@ pub record AsksForMask (words : List (List ℕ)) (job : MaskJob) : Type 0 where
 pub record MasksItself (words : List (List ℕ)) : Type 0 where
   pub name : List ℕ
   pub changes : List Change
-  pub line : IsLine words (mask_words name name changes)
+  pub line : IsMaskLine words (mask_words name name changes)
 
--- where the fault is the usage, the line has not this form, or a file's name that is empty or
--- begins with a hyphen
+-- where the fault is the usage, the line has not this form, or before a `--` it has a file's name
+-- that is empty or begins with a hyphen
 abbrev pub AreMaskWordsRefused : List (List ℕ) → LineFault → Type 0
 AreMaskWordsRefused words (Usage _) = (input output : List ℕ) (changes : List Change)
-    → IsLine words (mask_words input output changes) → IsFileWord input → IsFileWord output → ⊥
+    → (line : IsMaskLine words (mask_words input output changes)) → NameFiles line.rest → ⊥
 AreMaskWordsRefused words Odd = ⊥
 AreMaskWordsRefused words SameName = MasksItself words
 AreMaskWordsRefused words NotText = ⊥

@@ -1,36 +1,35 @@
 //! The command line.
 
 ghost use Rattle.std.specs.Prelude.{◌≡◌, ◌∷◌, ℕ, IfErr, IfOk, List, map, string_bytes};
-ghost use Rattle.line3.specs.Asked.{IsUsage};
-ghost use Rattle.mask_line3.specs.MaskLine.{AreMaskWordsRefused, AsksForMask};
+ghost use Rattle.line3.specs.Asked.{IsUsage, without_end};
+ghost use Rattle.mask_line3.specs.MaskLine.{AreMaskWordsRefused, AsksForMask, IsMaskLine};
 
 use crate::asked::MaskJob;
 use crate::change::changed;
 use crate::grammar::command;
-use line3::{LineFault, line_fault_of, usage};
+use line3::{LineFault, line_fault_of, usage, without_end};
 use std::alloc::{AllocError, Global};
 
-/// Reads the words of a command line, the program's name first: the names of a capture and of an output, and
-/// words that change the usual mask. A line that clap does not take, and a call for help, is answered by the
-/// text that clap writes.
+/// Returns the words of a command line, the program's name first, without the `--` that ends its options. A
+/// line that clap does not take, and a call for help, is answered by the text that clap writes.
 ///
 /// # Errors
 ///
-/// - `Usage` if the line has not this form. The text says so, or is the help that was asked for.
-/// - `SameName` if the output is the input.
+/// - `Usage` with that text.
 /// - `Memory` if memory ran out.
-pub fn mask_job<'a>(alloc: Global, words: &'a [String]) -> Result<MaskJob<'a>, LineFault>
-    ensures asked { IfOk result (AsksForMask (map string_bytes words.now)) }
-    ensures refused { IfErr result (AreMaskWordsRefused (map string_bytes words.now)) }
+pub fn taken(alloc: Global, words: Vec<String>) -> Result<Vec<String>, LineFault>
+    ensures taken { IfOk result (λ said.
+        map string_bytes said.items ≡ without_end 1 (map string_bytes words.items)) }
+    ensures refused { IfErr result (AreMaskWordsRefused (map string_bytes words.items)) }
 {
-    match taken(alloc, words) {
-        Ok(()) => placed(alloc, words),
+    match tried(alloc, words.as_slice()) {
+        Ok(()) => Ok(without_end(words, 1)),
         Err(fault) => Err(fault),
     }
 }
 
 /// Returns an error if clap does not take the line.
-fn taken(alloc: Global, words: &[String]) -> Result<(), LineFault>
+fn tried(alloc: Global, words: &[String]) -> Result<(), LineFault>
     ensures { IfErr result (AreMaskWordsRefused (map string_bytes words.now)) }
 {
     let command = match command(alloc) {
@@ -43,10 +42,19 @@ fn taken(alloc: Global, words: &[String]) -> Result<(), LineFault>
     }
 }
 
-/// Returns the job of a line that clap took.
-fn placed<'a>(alloc: Global, words: &'a [String]) -> Result<MaskJob<'a>, LineFault>
-    ensures asked { IfOk result (AsksForMask (map string_bytes words.now)) }
-    ensures refused { IfErr result (AreMaskWordsRefused (map string_bytes words.now)) }
+/// Returns the job that the words of a line ask for, the program's name first: the names of a capture and of
+/// an output, and words that change the usual mask. They are what `taken` returns.
+///
+/// # Errors
+///
+/// - `Usage` if the line has not this form. The text says so.
+/// - `SameName` if the output is the input.
+/// - `Memory` if memory ran out.
+pub fn mask_job<'a>(alloc: Global, words: &'a [String]) -> Result<MaskJob<'a>, LineFault>
+    ensures asked { (line : List (List ℕ)) → map string_bytes words.now ≡ without_end 1 line
+        → IfOk result (AsksForMask line) }
+    ensures refused { (line : List (List ℕ)) → map string_bytes words.now ≡ without_end 1 line
+        → IfErr result (AreMaskWordsRefused line) }
 {
     match words {
         [_, input, output, changes @ ..] => {
@@ -56,22 +64,20 @@ fn placed<'a>(alloc: Global, words: &'a [String]) -> Result<MaskJob<'a>, LineFau
     }
 }
 
-/// Returns the job for the names of two files and words that change the mask. No name may be the `--` that
-/// clap passes over.
+/// Returns the job for the names of two files and words that change the mask.
 fn of_two_files<'a>(
     alloc: Global,
     input: &'a str,
     output: &'a str,
     changes: &[String],
 ) -> Result<MaskJob<'a>, LineFault>
-    ensures asked { let said = map string_bytes changes.now in (program : List ℕ)
-        → IfOk result (AsksForMask (program ∷ input.now ∷ output.now ∷ said)) }
-    ensures refused { let said = map string_bytes changes.now in (program : List ℕ)
-        → IfErr result (AreMaskWordsRefused (program ∷ input.now ∷ output.now ∷ said)) }
+    ensures asked { let said = map string_bytes changes.now in
+        (line : List (List ℕ)) → IsMaskLine line (input.now ∷ output.now ∷ said)
+        → IfOk result (AsksForMask line) }
+    ensures refused { let said = map string_bytes changes.now in
+        (line : List (List ℕ)) → IsMaskLine line (input.now ∷ output.now ∷ said)
+        → IfErr result (AreMaskWordsRefused line) }
 {
-    if input == "--" || output == "--" {
-        return Err(usage(alloc));
-    }
     match changed(changes) {
         Ok(_) if input == output => Err(LineFault::SameName),
         Ok(ways) => Ok(MaskJob {

@@ -9,4 +9,4 @@ mod names;
 
 pub use asked::{Change, MaskClass, MaskJob};
 pub use change::ways_told;
-pub use command::mask_job;
+pub use command::{mask_job, taken};

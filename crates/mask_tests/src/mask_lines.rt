@@ -1,7 +1,7 @@
 //! Command lines of nfs3mask, and what is made of them.
 
 use line3::LineFault;
-use mask_line3::{MaskJob, mask_job, ways_told};
+use mask_line3::{MaskJob, mask_job, taken, ways_told};
 use masking3::Ways;
 use std::alloc::{AllocError, Global};
 use std::test::Fail;
@@ -15,7 +15,7 @@ const OTHER: &str =
     " times=keep stamps=number machines=keep space=keep ids=zero fsids=keep cookies=zero cookieverfs=keep createverfs=zero owners=number wcc=number sillynames=keep";
 
 /// Command lines after the program's name, and what is made of each: the words for its mask, or a fault.
-const LINES: [(&str, &str); 14] = [
+const LINES: [(&str, &str); 18] = [
     ("", "usage"),
     ("a", "usage"),
     ("a b", USUAL),
@@ -27,8 +27,12 @@ const LINES: [(&str, &str); 14] = [
     ("a b times=half", "usage"),
     ("a b time=zero", "usage"),
     ("a b =zero", "usage"),
-    ("a -- b", "usage"),
-    ("-- a b", "usage"),
+    ("a -- b", USUAL),
+    ("-- a b", USUAL),
+    ("a b --", USUAL),
+    ("a b -- times=zero", USUAL),
+    ("a --", "usage"),
+    ("a -- a", "output names an input"),
     ("--help", "usage"),
 ];
 
@@ -62,7 +66,11 @@ fn told(alloc: Global, line: &str) -> Result<String, AllocError> {
     for word in line.split_whitespace() {
         words.push(String::from_str(alloc, word)?)?;
     }
-    match mask_job(alloc, &words) {
+    let said = match taken(alloc, words) {
+        Ok(said) => said,
+        Err(fault) => return String::from_str(alloc, name_of_fault(&fault)),
+    };
+    match mask_job(alloc, &said) {
         Ok(job) => mask_of(alloc, job),
         Err(fault) => String::from_str(alloc, name_of_fault(&fault)),
     }

@@ -5,7 +5,7 @@ use crate::commands::{Run, agree};
 use canon3::MemSink;
 use capture3::MemSource;
 use line3::LineFault;
-use mask_line3::{mask_job, ways_told};
+use mask_line3::{mask_job, taken, ways_told};
 use masking3::{ClassHashers, MaskHashers, Way, Ways, mask};
 use std::hash::{BuildHasherDefault, FoldHasher};
 use std::test::Fail;
@@ -68,7 +68,14 @@ fn a_line_of_a_mask_is_read(rt: HostRuntime) -> Result<(), Fail> {
             return Ok(());
         }
     }
-    match mask_job(rt.alloc(), &words) {
+    let said = match taken(rt.alloc(), words) {
+        Ok(said) => said,
+        Err(fault) => {
+            assert!(rt; matches!(fault, LineFault::Memory));
+            return Ok(());
+        }
+    };
+    match mask_job(rt.alloc(), &said) {
         Ok(asked) => assert_eq!(rt; asked.ways.owners, Way::Number),
         Err(fault) => assert!(rt; matches!(fault, LineFault::Memory)),
     }

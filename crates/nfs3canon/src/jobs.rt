@@ -9,6 +9,7 @@ ghost use Rattle.line3.specs.Asked.{Asks};
 ghost use Rattle.program3.specs.Files.{RewritesFile};
 ghost use Rattle.program3.specs.Readings.{readings_in};
 ghost use Rattle.program3.specs.declared.outcome.Outcome.TheVariants as outcomes;
+ghost use Rattle.program3.specs.declared.reading.Readings.TheVariants.{Nothing};
 ghost use Rattle.nfs3canon.specs.Answers.{AnswersJob, AnswersLine, ReadsNone};
 ghost use Rattle.nfs3canon.specs.Files.{ComparesFiles, CountsFile, ListsFile};
 
@@ -18,7 +19,7 @@ use crate::listing::run_show;
 use crate::packing::run_pack;
 use canon3::{SameError, Which};
 use capture3::{Error, Hashers};
-use line3::{Job, job};
+use line3::{Job, LineFault, job, taken};
 use program3::{Ended, Files, Outcome, Readings, run_rewriting};
 use std::alloc::Global;
 use std::hash::BuildHasher;
@@ -46,21 +47,36 @@ pub fn answered<F: Files, S: BuildHasher + Drop, W: Write + Drop>(
     hashers: Option<JobHashers<S>>,
     files: &mut F,
     stdout: W,
-    words: &[String],
+    words: Vec<String>,
 ) -> Answer<W>
     ensures answers { AnswersLine (is_none hashers ≡ true) (F.holds files.old)
         (readings_in result.readings) (F.finished files.old) (F.finished files.new) W.contents
         stdout result.stdout
-        (map string_bytes words.now) result.ended.outcome }
+        (map string_bytes words.items) result.ended.outcome }
 {
-    match job(alloc, words) {
+    let said = match taken(alloc, words) {
+        Ok(said) => said,
+        Err(fault) => return refused(stdout, fault),
+    };
+    match job(alloc, said.as_slice()) {
         Ok(job) => done(alloc, hashers, files, stdout, job),
-        Err(fault) => Answer {
-            ended: Ended::printing(Outcome::Line(fault)),
-            stdout: Some(stdout),
-            readings: Readings::Nothing,
-        },
+        Err(fault) => refused(stdout, fault),
     }
+}
+
+/// The answer of a command line that is refused.
+fn refused<W: Drop>(stdout: W, fault: LineFault) -> Answer<W>
+    ensures { result ≡ record {
+      ended = record { outcome = outcomes.Line fault; is_aside = false };
+      stdout = Some stdout;
+      readings = Nothing;
+    } }
+{
+    quiet(
+        Ended::printing(Outcome::Line(fault)),
+        stdout,
+        Readings::Nothing,
+    )
 }
 
 fn done<F: Files, S: BuildHasher + Drop, W: Write + Drop>(

@@ -36,12 +36,12 @@ fn job_hashers(rt: &HostRuntime) -> io::Result<JobHashers<SecretHasher>> {
 }
 
 /// Does what the words ask for, with the files of the system and its standard output.
-fn run<'a>(rt: &'a HostRuntime, words: &[String]) -> (Answer<Traced<Stdout>>, System<'a>)
+fn run<'a>(rt: &'a HostRuntime, words: Vec<String>) -> (Answer<Traced<Stdout>>, System<'a>)
     ensures answers { (has_no_keys : Bool) × (stdout : TracedWriter Stdout) × (stdout.taken ≡ [])
         × AnswersLine (has_no_keys ≡ true) (λ _. None) (readings_in result.0.readings) []
         (finished_of result.1)
         (λ writer. Some writer.taken) stdout result.0.stdout
-        (map string_bytes words.now) result.0.ended.outcome }
+        (map string_bytes words.items) result.0.ended.outcome }
 {
     let mut files = System::new(rt);
     let stdout = Traced::new(rt.stdout());
@@ -60,5 +60,5 @@ fn main(rt: HostRuntime) -> ExitCode {
         Ok(words) => words,
         Err(fault) => return print_ended(&rt, &Ended::printing(Outcome::Line(fault))),
     };
-    print_ended(&rt, &files_closed(run(&rt, &words)))
+    print_ended(&rt, &files_closed(run(&rt, words)))
 }

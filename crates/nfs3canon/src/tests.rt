@@ -246,17 +246,16 @@ fn a_capture_is_counted(rt: HostRuntime) -> Result<(), Fail> {
 #[test]
 fn a_line_is_answered(rt: HostRuntime) -> Result<(), Fail> {
     let mut files = MemFiles::new(rt.alloc(), &NULL, None);
-    let words = [
-        String::from_str(rt.alloc(), "nfs3canon")?,
-        String::from_str(rt.alloc(), "check")?,
-        String::from_str(rt.alloc(), "in")?,
-    ];
+    let mut words = Vec::new(rt.alloc());
+    for word in ["nfs3canon", "check", "in"] {
+        words.push(String::from_str(rt.alloc(), word)?)?;
+    }
     let lines: Vec<u8> = Vec::new(rt.alloc());
     let hashers = Some(JobHashers {
         first: hashers(&rt)?,
         second: hashers(&rt)?,
     });
-    let answered = answered(rt.alloc(), hashers, &mut files, lines, &words);
+    let answered = answered(rt.alloc(), hashers, &mut files, lines, words);
     assert!(rt;
         matches!(&answered.ended.outcome, Outcome::Counted(Ok(counts)) if *counts == COUNTS)
     );

@@ -7,11 +7,14 @@ ghost use Rattle.masking3.specs.Masked.{masked_bytes};
 ghost use Rattle.masking3.specs.declared.ways.Ways.{Ways};
 ghost use Rattle.program3.specs.Files.{RewritesFile, WrittenFile};
 ghost use Rattle.program3.specs.Readings.{FileReading, readings_in};
+ghost use Rattle.program3.specs.declared.outcome.Outcome.TheVariants as outcomes;
+ghost use Rattle.program3.specs.declared.reading.Readings.TheVariants.{Nothing};
 ghost use Rattle.nfs3mask.specs.Masking.{AnswersMaskJob, AnswersMaskLine, MasksFile};
 
 use canon3::{Sink, Summary};
 use capture3::{Error, Source};
-use mask_line3::{MaskJob, mask_job, ways_told};
+use line3::LineFault;
+use mask_line3::{MaskJob, mask_job, taken, ways_told};
 use masking3::{MaskHashers, Ways, mask};
 use program3::{Ended, Files, Outcome, Readings, Rewriting, run_rewriting};
 use std::alloc::Global;
@@ -56,18 +59,32 @@ pub fn answered<F: Files, S: BuildHasher + Drop>(
     alloc: Global,
     hashers: Option<MaskHashers<S>>,
     files: &mut F,
-    words: &[String],
+    words: Vec<String>,
 ) -> Answer
     ensures answers { AnswersMaskLine (is_none hashers ≡ true) (F.holds files.old)
         (readings_in result.readings) (F.finished files.old) (F.finished files.new)
-        (map string_bytes words.now)
+        (map string_bytes words.items)
         result.ended.outcome }
 {
-    let (ended, readings) = match mask_job(alloc, words) {
-        Ok(job) => done(alloc, hashers, files, job),
-        Err(fault) => (Ended::printing(Outcome::Line(fault)), Readings::Nothing),
+    let said = match taken(alloc, words) {
+        Ok(said) => said,
+        Err(fault) => return refused(fault),
     };
-    Answer { ended, readings }
+    match mask_job(alloc, said.as_slice()) {
+        Ok(job) => done(alloc, hashers, files, job),
+        Err(fault) => refused(fault),
+    }
+}
+
+/// The answer of a command line that is refused.
+fn refused(fault: LineFault) -> Answer
+    ensures outcome { result.ended.outcome ≡ outcomes.Line fault }
+    ensures readings { result.readings ≡ Nothing }
+{
+    Answer {
+        ended: Ended::printing(Outcome::Line(fault)),
+        readings: Readings::Nothing,
+    }
 }
 
 fn done<F: Files, S: BuildHasher + Drop>(
@@ -75,17 +92,19 @@ fn done<F: Files, S: BuildHasher + Drop>(
     hashers: Option<MaskHashers<S>>,
     files: &mut F,
     job: MaskJob<'_>,
-) -> (Ended, Readings)
-    ensures { AnswersMaskJob (is_none hashers ≡ true) (F.holds files.old) (readings_in result.1)
-        (F.finished files.old) (F.finished files.new) job.entry result.0.outcome }
+) -> Answer
+    ensures { AnswersMaskJob (is_none hashers ≡ true) (F.holds files.old)
+        (readings_in result.readings) (F.finished files.old) (F.finished files.new) job.entry
+        result.ended.outcome }
 {
-    match hashers {
+    let (ended, readings) = match hashers {
         Some(hashers) => run_mask(alloc, hashers, files, job),
         None => (
             Ended::printing(Outcome::Counted(Err(Error::Read))),
             Readings::Nothing,
         ),
-    }
+    };
+    Answer { ended, readings }
 }
 
 /// Masks the capture of one name into the file of another. The output is made once the input is open, and

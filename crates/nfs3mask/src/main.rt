@@ -15,11 +15,11 @@ use program3::{Ended, Outcome, System, print_ended, words};
 use std::process::ExitCode;
 
 /// Does what the words ask for, with the files of the system.
-fn run<'a>(rt: &'a HostRuntime, words: &[String]) -> (Answer, System<'a>)
+fn run<'a>(rt: &'a HostRuntime, words: Vec<String>) -> (Answer, System<'a>)
     ensures answers { (has_no_keys : Bool)
         × AnswersMaskLine (has_no_keys ≡ true) (λ _. None) (readings_in result.0.readings) []
         (finished_of result.1)
-        (map string_bytes words.now) result.0.ended.outcome }
+        (map string_bytes words.items) result.0.ended.outcome }
 {
     let mut files = System::new(rt);
     let answer = answered(rt.alloc(), mask_hashers(rt).ok(), &mut files, words);
@@ -37,5 +37,5 @@ fn main(rt: HostRuntime) -> ExitCode {
         Ok(words) => words,
         Err(fault) => return print_ended(&rt, &Ended::printing(Outcome::Line(fault))),
     };
-    print_ended(&rt, &files_closed(run(&rt, &words)))
+    print_ended(&rt, &files_closed(run(&rt, words)))
 }

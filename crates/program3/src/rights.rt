@@ -23,14 +23,16 @@ pub enum Kept {
 
 /// Returns the permissions of a file that replaces one of mode `old`. `new` are those of a new file.
 ///
-/// Nobody but its owner gets a right that he had not. If the group is not kept, its members have no rights as
-/// such, and everybody else has only what both the group and the others had. If the owner is not kept either,
-/// nobody but the new owner has more than each class had, nor more than a new file gives.
+/// Nobody but its owner gets a right that he had not. If the old file has an access control list, the bits of
+/// its group are those of the list's mask, and nothing shows whether it has one. So the group has only what
+/// both the group and the others had. If the group is not kept, its members have no rights as such, and
+/// everybody else has only what both had. If the owner is not kept either, nobody but the new owner has more
+/// than each class had, nor more than a new file gives.
 pub fn permissions(kept: Kept, old: u32, new: u32) -> u32
     ensures { result ≡ permissions_of kept old new }
 {
     match kept {
-        Kept::OwnerAndGroup => old & PERMISSIONS,
+        Kept::OwnerAndGroup => old & 0o707 | (old & old >> 3 & 0o007) * 0o010,
         Kept::Owner => old & 0o700 | old & old >> 3 & 0o007,
         Kept::Nothing => {
             let shared = old & old >> 3 & old >> 6 & 0o007;

@@ -1,16 +1,27 @@
 //! Command lines, and what is made of them.
 
-use line3::{Job, LineFault, job};
+use line3::{Job, LineFault, job, taken};
 use std::alloc::Global;
 use std::test::Fail;
 
 /// Command lines after the program's name, and the name of what is made of each.
-const LINES: [(&str, &str); 19] = [
+const LINES: [(&str, &str); 30] = [
     ("", "usage"),
     ("check", "usage"),
     ("check a", "check a"),
     ("check a b", "usage"),
-    ("check -- a", "usage"),
+    ("check -- a", "check a"),
+    ("check a --", "check a"),
+    ("check --", "usage"),
+    ("-- check a", "usage"),
+    ("show -- a", "show a"),
+    ("canon -- a b", "canon a b"),
+    ("canon a -- b", "canon a b"),
+    ("canon a -- a", "output names an input"),
+    ("same a b --", "same a b"),
+    ("pack -- a b c", "pack a"),
+    ("pack a b -- c", "pack a"),
+    ("pack -- a b", "odd"),
     ("show a", "show a"),
     ("show a b", "usage"),
     ("canon a", "usage"),
@@ -41,7 +52,11 @@ fn told(alloc: Global, line: &str) -> Result<&'static str, Fail> {
     for word in line.split_whitespace() {
         words.push(String::from_str(alloc, word)?)?;
     }
-    match job(alloc, &words) {
+    let said = match taken(alloc, words) {
+        Ok(said) => said,
+        Err(fault) => return Ok(name_of_fault(&fault)),
+    };
+    match job(alloc, &said) {
         Ok(asked) => Ok(name_of(asked)),
         Err(fault) => Ok(name_of_fault(&fault)),
     }

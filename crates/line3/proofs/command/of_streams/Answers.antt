@@ -1,32 +1,30 @@
-use Rattle.line3.proofs.Common.{rules, arith, subst, sym, ◌≡◌, ◌≤◌, ◌∷◌, ℕ, List, IfErr, IfOk, codes, length, map, string_bytes, length-map, AreRefused, Asks}
+use Rattle.line3.proofs.Common.{rules, arith, subst, ◌≡◌, ◌≤◌, ◌∷◌, ℕ, List, codes, length, map, string_bytes, length-map, IsLine}
 use Rattle.line3.proofs.LineLemmas.{told_other}
 use Rattle.line3.proofs.command.of_streams.Goals as goal
 
 pub returns-then-eq-clause-asked : goal.returns-then-eq-clause-asked
-returns-then-eq-clause-asked c = λ program.
+returns-then-eq-clause-asked c = λ line said.
     let e : c.args.command.now ≡ codes "pack" = search rules in
-    subst
-    (λ (command : List ℕ).
-    IfOk c.packing.result (Asks (program ∷ command ∷ string_bytes c.args.output.now
-    ∷ map string_bytes c.args.streams.now))) (sym e)
-    (c.packing.ensures.asked program)
+    c.packing.ensures.asked line
+    (subst
+    (λ (command : List ℕ). IsLine line (command ∷ string_bytes c.args.output.now
+    ∷ map string_bytes c.args.streams.now)) e said)
 
 pub returns-then-eq-clause-refused : goal.returns-then-eq-clause-refused
-returns-then-eq-clause-refused c = λ program.
+returns-then-eq-clause-refused c = λ line said.
     let e : c.args.command.now ≡ codes "pack" = search rules in
-    subst
-    (λ (command : List ℕ).
-    IfErr c.packing.result (AreRefused (program ∷ command ∷ string_bytes c.args.output.now
-    ∷ map string_bytes c.args.streams.now))) (sym e)
-    (c.packing.ensures.refused program)
+    c.packing.ensures.refused line
+    (subst
+    (λ (command : List ℕ). IsLine line (command ∷ string_bytes c.args.output.now
+    ∷ map string_bytes c.args.streams.now)) e said)
 
 pub returns-else-eq-clause-refused : goal.returns-else-eq-clause-refused
-returns-else-eq-clause-refused c = λ program.
+returns-else-eq-clause-refused c = λ line said.
     let many : length (map string_bytes c.args.streams.now) ≡ length c.args.streams.now =
     length-map c.args.streams.now string_bytes in
     let low : 2 ≤ length c.args.streams.now = c.requires in
-    told_other program c.args.command.now
-    (string_bytes c.args.output.now ∷ map string_bytes c.args.streams.now) c.usage.result
+    told_other line c.args.command.now
+    (string_bytes c.args.output.now ∷ map string_bytes c.args.streams.now) c.usage.result said
     c.usage.ensures (record {
       check = λ e n. omega (arith, n, many, low);
       show = λ e n. omega (arith, n, many, low);

@@ -1,15 +1,15 @@
-use Rattle.line3.proofs.Common.{arith, refl, inr, ap, sym, subst, ◌≡◌, ◌≤◌, ◌∙◌, ◌%◌, ℕ, List, Contains, length, map, string_bytes, length-map}
+use Rattle.line3.proofs.Common.{arith, inr, codes, ◌∷◌, IsLine, ap, sym, subst, ◌≡◌, ◌≤◌, ◌∙◌, ◌%◌, ℕ, List, Contains, length, map, string_bytes, length-map}
 use Rattle.line3.proofs.LineLemmas.{among, not_among}
 use Rattle.line3.proofs.command.packing.Goals as goal
 
 pub returns-then-contains-clause-refused : goal.returns-then-contains-clause-refused
-returns-then-contains-clause-refused c = λ program.
+returns-then-contains-clause-refused c = λ line said.
     let many : length (map string_bytes c.args.streams.now) ≡ length c.args.streams.now =
     length-map c.args.streams.now string_bytes in
     inr (record {
       output = _;
       streams = _;
-      line = record { program = program; all = refl };
+      line = said;
       paired = ap (λ n. n % 2) many ∙ c.if-streams-ne0.false;
       own =
           among c.args.streams.now c.args.output.now
@@ -17,14 +17,15 @@ returns-then-contains-clause-refused c = λ program.
     })
 
 pub returns-else-contains-clause-asked : goal.returns-else-contains-clause-asked
-returns-else-contains-clause-asked c = λ program.
+returns-else-contains-clause-asked c = λ line said.
     let many : length (map string_bytes c.args.streams.now) ≡ length c.args.streams.now =
     length-map c.args.streams.now string_bytes in
     let low : 2 ≤ length c.args.streams.now = c.requires in
     let none =
     not_among c.args.streams.now c.args.output.now
     (sym c.contains.ensures.value ∙ c.if-contains.false) in (
-      record { program = program; all = cc },
+      subst (λ (t : List ℕ). IsLine line (codes "pack" ∷ t ∷ map string_bytes c.args.streams.now))
+          (sym c.as_str.ensures.value) said,
       record {
         paired = ap (λ n. n % 2) many ∙ c.if-streams-ne0.false;
         some = omega (arith, many, low);
