@@ -46,8 +46,8 @@ fn capture(alloc: Global, calls: &[&[u32]], replies: &[&[u32]]) -> Result<Vec<u8
     Ok(bytes)
 }
 
-fn assert_refused(rt: &HostRuntime, bytes: &[u8], wanted: Error) {
-    match parse(rt.alloc(), bytes) {
+fn assert_refused(rt: &impl Abort, alloc: Global, bytes: &[u8], wanted: Error) {
+    match parse(alloc, bytes) {
         Ok(_) => rt.panic("it is not refused"),
         Err(error) => assert_same!(rt; error, wanted),
     }
@@ -75,9 +75,19 @@ fn faults_of_the_container(rt: HostRuntime) {
         (&[1, 0x4000_0001], 12, Reason::TooManyBytes),
     ];
     for (words, at, reason) in rows {
-        assert_refused(&rt, &ok(&rt, file(rt.alloc(), words)), file_fault(at, reason));
+        assert_refused(
+            &rt,
+            rt.alloc(),
+            &ok(&rt, file(rt.alloc(), words)),
+            file_fault(at, reason),
+        );
     }
-    assert_refused(&rt, b"NFS3CAP3", file_fault(7, Reason::BadMagic));
+    assert_refused(
+        &rt,
+        rt.alloc(),
+        b"NFS3CAP3",
+        file_fault(7, Reason::BadMagic),
+    );
 }
 
 #[test]
@@ -87,7 +97,12 @@ fn a_connection_too_many(rt: HostRuntime) {
         ok(&rt, add_words(&mut bytes, &[1, 0, 0]));
     }
     ok(&rt, add_words(&mut bytes, &[1]));
-    assert_refused(&rt, &bytes, file_fault(786_428, Reason::TooManyConnections));
+    assert_refused(
+        &rt,
+        rt.alloc(),
+        &bytes,
+        file_fault(786_428, Reason::TooManyConnections),
+    );
 }
 
 /// The words of a file in whose first record of a client the fault is, at its first byte.
@@ -95,10 +110,10 @@ fn a_connection_too_many(rt: HostRuntime) {
 fn faults_of_record_marks(rt: HostRuntime) {
     let cut = ok(&rt, file(rt.alloc(), &[1, 4, 0x8100_0000, 0]));
     let wanted = in_record(Side::Client, 1, 0, Reason::RecordCut);
-    assert_refused(&rt, &cut, wanted);
+    assert_refused(&rt, rt.alloc(), &cut, wanted);
     let long = ok(&rt, file(rt.alloc(), &[1, 4, 0x8100_0001]));
     let wanted = in_record(Side::Client, 1, 0, Reason::RecordTooLong);
-    assert_refused(&rt, &long, wanted);
+    assert_refused(&rt, rt.alloc(), &long, wanted);
 }
 
 /// The words of a record of the client's stream, and the byte and the reason of its fault.
@@ -106,18 +121,65 @@ fn faults_of_record_marks(rt: HostRuntime) {
 fn faults_of_a_call(rt: HostRuntime) {
     let rows: [(&[u32], u32, Reason); 9] = [
         (&[], 0, Reason::Short),
-        (&[5, 0, 2, 100_003, 3, 0, 0, 0, 0, 0, 0], 40, Reason::Trailing),
         (
-            &[1, 0, 2, 100_003, 3, 2, 0, 0, 0, 0, 1, 0xaa00_0000, 2, 0, 0, 0, 0, 0, 0],
+            &[5, 0, 2, 100_003, 3, 0, 0, 0, 0, 0, 0],
+            40,
+            Reason::Trailing,
+        ),
+        (
+            &[
+                1,
+                0,
+                2,
+                100_003,
+                3,
+                2,
+                0,
+                0,
+                0,
+                0,
+                1,
+                0xaa00_0000,
+                2,
+                0,
+                0,
+                0,
+                0,
+                0,
+                0,
+            ],
             48,
             Reason::BadBool,
         ),
         (&[5, 2, 2, 100_003, 3, 0, 0, 0, 0, 0], 4, Reason::BadEnum),
-        (&[1, 0, 2, 100_003, 3, 0, 1, 0x191, 1, 6], 28, Reason::TooLong),
+        (
+            &[1, 0, 2, 100_003, 3, 0, 1, 0x191, 1, 6],
+            28,
+            Reason::TooLong,
+        ),
         (&[1, 0, 3, 100_003, 3, 0, 0, 0, 0, 0], 8, Reason::RpcVersion),
         (&[1, 0, 2, 100_003, 3, 0, 6, 0, 0, 0], 24, Reason::Flavor),
         (
-            &[1, 0, 2, 100_003, 3, 0, 1, 0x20, 1, 6, 0x636c_6965, 0x6e74_0000, 0, 0, 0, 0, 0, 0],
+            &[
+                1,
+                0,
+                2,
+                100_003,
+                3,
+                0,
+                1,
+                0x20,
+                1,
+                6,
+                0x636c_6965,
+                0x6e74_0000,
+                0,
+                0,
+                0,
+                0,
+                0,
+                0,
+            ],
             60,
             Reason::AuthLength,
         ),
@@ -125,7 +187,12 @@ fn faults_of_a_call(rt: HostRuntime) {
     ];
     for (words, byte, reason) in rows {
         let bytes = ok(&rt, capture(rt.alloc(), &[words], &[]));
-        assert_refused(&rt, &bytes, in_record(Side::Client, 1, byte, reason));
+        assert_refused(
+            &rt,
+            rt.alloc(),
+            &bytes,
+            in_record(Side::Client, 1, byte, reason),
+        );
     }
 }
 
@@ -133,9 +200,9 @@ fn faults_of_a_call(rt: HostRuntime) {
 fn faults_of_a_pair(rt: HostRuntime) {
     let alone = ok(&rt, capture(rt.alloc(), &[], &[&NULL_REPLY]));
     let wanted = in_record(Side::Server, 1, 0, Reason::NoCall);
-    assert_refused(&rt, &alone, wanted);
+    assert_refused(&rt, rt.alloc(), &alone, wanted);
     let mount = [5, 0, 2, 100_005, 3, 0, 0, 0, 0, 0];
     let two = ok(&rt, capture(rt.alloc(), &[&NULL_CALL, &mount], &[]));
     let wanted = in_record(Side::Client, 2, 0, Reason::XidConflict);
-    assert_refused(&rt, &two, wanted);
+    assert_refused(&rt, rt.alloc(), &two, wanted);
 }

@@ -1,7 +1,9 @@
 //! Captures of version 2: the chunks of both sides in one list, and nothing of a connection is judged before its side word 0.
 
 use crate::asserts::{assert_holds, assert_same, ok};
-use crate::captures::{NAMES, file_fault, kept_is_read, message_is_told, name, name_of, read_names, reader};
+use crate::captures::{
+    NAMES, file_fault, kept_is_read, message_is_told, name, name_of, read_names, reader,
+};
 use crate::sample::{CLIENT_FIRST, NULL, SERVER_FIRST};
 use capture3::{Error, Fault, LentEntry, MemSource, Place, Side, Silent, parse};
 use std::alloc::{AllocError, Global};

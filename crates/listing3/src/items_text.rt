@@ -86,7 +86,7 @@ impl ItemsText {
 
 #[tactic(auto, using(xdr3::proofs::Lemmas::Shapes::Walks::some_none), unfolding(xdr3::specs::Visit::Adds, xdr3::specs::Visit::Keeps))]
 impl Visit for ItemsText {
-    ghost use Rattle.xdr3.specs.Plain.{run_items};
+    ghost use Rattle.xdr3.specs.Plain.{run_items, run_size};
     ghost use Rattle.xdr3.specs.Visit.{AddsSome};
     ghost use Rattle.listing3.specs.machinery.ItemsText.{TextStands};
 
@@ -146,6 +146,7 @@ impl Visit for ItemsText {
 
     #[inline(always)]
     fn plain(&mut self, fields: &[PlainField], bytes: &[u8]) -> Result<(), AllocError>
+        requires { length bytes.now ≡ run_size fields.now }
         ensures ok { OnOk result
             (Adds TextStands self.old self.new (run_items fields.now bytes.now)) }
         ensures err { OnErr result

@@ -200,7 +200,7 @@ fn put_prefix(room: &mut [u8], at: usize, connection: u32, side: &'static str, n
 #[tactic(auto, using(xdr3::proofs::Lemmas::Shapes::Walks::some_none), unfolding(xdr3::specs::Visit::Adds, xdr3::specs::Visit::Keeps))]
 impl Visit for LineText {
     ghost use Rattle.std.specs.Prelude.{◌≡◌};
-    ghost use Rattle.xdr3.specs.Plain.{run_items};
+    ghost use Rattle.xdr3.specs.Plain.{run_items, run_size};
     ghost use Rattle.xdr3.specs.Visit.{Adds, AddsSome};
     ghost use Rattle.listing3.specs.Listing.{shown_items};
 
@@ -241,6 +241,7 @@ impl Visit for LineText {
 
     #[inline(always)]
     fn plain(&mut self, fields: &[PlainField], bytes: &[u8]) -> Result<(), AllocError>
+        requires { length bytes.now ≡ run_size fields.now }
         ensures ok { OnOk result (Adds (λ text items. text ≡ shown_items items) self.old self.new
             (run_items fields.now bytes.now)) }
         ensures err { OnErr result (AddsSome (λ text items. text ≡ shown_items items)

@@ -1,27 +1,10 @@
 -- What one entry more adds to the calls that are counted.
-use Rattle.uses.proofs.Common.{◌≡◌, ◌↔◌, ℕ, ◌+◌, Bool, true, false, cond, IsTrue, List, [], ◌∷◌, ◌++◌, count_by, refl, sym, ap, subst, arith, ◌∙◌, sum_by-append, sum_by-cons, Entry, is_call_of, same_procedure}
+use Rattle.uses.proofs.Common.{◌≡◌, ℕ, ◌+◌, Bool, true, false, cond, List, [], ◌∷◌, ◌++◌, count_by, sym, ap, subst, arith, ◌∙◌, sum_by-append, sum_by-cons, Entry, is_call_of, same_procedure}
 use Rattle.rpc_head.specs.declared.values.call.ProcId.{ProcId}
 use Rattle.xdr3.specs.Item.{followed_by}
 use Rattle.capture3.specs.Entry.{Call}
 use Rattle.capture3.specs.MessageValues.{call_items}
 use Rattle.capture3.specs.declared.message.values.CallMsg.{CallMsg}
-
-same_as_itself : (id : ProcId) → same_procedure id id ≡ true
-same_as_itself id = grind arith
-
-same_are_equal : (a b : ProcId) → same_procedure a b ≡ true → a ≡ b
-same_are_equal a b same = grind (arith, same)
-
-differs : (b : Bool) → (b ≡ true → ⊥) → b ≡ false
-differs true not = absurd (not refl)
-differs false not = refl
-
--- the comparison of two procedures decides whether they are the same
-pub same_decides : (a b : ProcId) (is : Bool) → (IsTrue is ↔ (a ≡ b)) → is ≡ same_procedure a b
-same_decides a b true both =
-    sym (ap (λ id. same_procedure a id) (sym (both.0 tt)) ∙ same_as_itself a)
-same_decides a b false both =
-    sym (differs (same_procedure a b) (λ same. both.1 (same_are_equal a b same)))
 
 -- the procedure of a call is that of its head
 pub procedure_of : (message : CallMsg) (one : Entry) (id : ProcId) → one ≡ Call (call_items message)

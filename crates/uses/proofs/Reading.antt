@@ -5,13 +5,17 @@ use Rattle.std.specs.declared.hash.BuildHasher as BuildHasher
 use Rattle.std.specs.declared.hash.Hasher as Hasher
 use Rattle.std.specs.Prelude.{Result}
 use Rattle.capture3.specs.ReadEntries.{KeepsOrPasses}
-use Rattle.uses.proofs.Common.{◌≡◌, ◌⊎◌, inl, inr, ℕ, Option, Some, None, Ok, Err, List, [], ◌∷◌, ◌++◌, subst, sym, Entry, OnRefused, failure_of, source_of, StandsFor}
+use Rattle.uses.proofs.Common.{◌≡◌, ◌⊎◌, inl, inr, ℕ, Option, Some, None, Ok, Err, List, [], ◌∷◌, ◌++◌, subst, sym, refl, Entry, OnRefused, failure_of, source_of, StandsFor}
 use Rattle.capture3.specs.declared.reader.entries.Entries.{Entries}
 use Rattle.capture3.specs.declared.fault.Error.{Error}
 use Rattle.capture3.specs.declared.fault.Error.TheVariants as errors
 use Rattle.capture3.specs.FirstFault.{FirstFault}
 use Rattle.capture3.specs.Handing.{HandsOutGiven}
 use Rattle.capture3.specs.Typed.{Typed}
+
+pub none_is : {X : Type 0} (o : Option X) → ((x : X) → o ≡ Some x → ⊥) → o ≡ None
+none_is None not = refl
+none_is (Some x) not = absurd (not x refl)
 
 module _ {R S H : Type 0} {builds : BuildHasher.Ghosts S H} {hashes : Hasher.Ghosts H}
     (told : R → Told) (first : Told) where
@@ -51,9 +55,9 @@ module _ {R S H : Type 0} {builds : BuildHasher.Ghosts S H} {hashes : Hasher.Gho
     all_returned bytes tells step =
         let ended = step.hands_out in
         let gave = gave_on first so_far.gave step in
-        let whole : so_far.given ++ step.more ≡ bytes =
-        (prefix_of_told first (told (source_of new)) (so_far.given ++ step.more) bytes tells gave)
-        .all ended.1 in
+        let front =
+        prefix_of_told first (told (source_of new)) (so_far.given ++ step.more) bytes tells gave in
+        let whole : so_far.given ++ step.more ≡ bytes = front.all ended.1 in
         (so_far.handed, subst (λ (b : List ℕ). Typed b so_far.handed) whole ended.0, so_far.holds)
 
     -- a refusal has the first fault of all bytes

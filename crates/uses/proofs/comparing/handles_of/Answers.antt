@@ -1,13 +1,13 @@
 use Rattle.uses.proofs.Common.{◌∙◌, ℕ, List, ap, flat_map, Adds, items_of, error_is, handles_of_items}
 use Rattle.uses.proofs.ComparingLemmas.{items_after}
-use Rattle.uses.proofs.Reading.{all_returned, one_more, refused}
+use Rattle.uses.proofs.Reading.{all_returned, none_is, one_more, refused}
 use Rattle.uses.proofs.comparing.handles_of.Goals as goal
 
 pub returns-in_err-visit-clause-refused : goal.returns-in_err-visit-clause-refused
 returns-in_err-visit-clause-refused g c bytes tells =
     let u = c.loop-handles.invariant.returned in
     let ends = rw c.in_err-visit.was at c.visit.follows.holds-at-none in
-    rw (error_is _ _ c.from_residual.ensures)
+    rw (error_is _ _ c.from_residual-in_err-visit.ensures)
     (refused _ _ _ _ _ _ u (List (List ℕ)) c.in_err-visit.field-0.0 bytes
     (ap (λ s. (g.R.Source.told s).left) c.in_ok-entries.ensures.unread ∙ tells)
     (ends.answers u.given u.handed u.stands))
@@ -28,7 +28,8 @@ loop-handles-preserved g c =
 pub returns-clause-gathered : goal.returns-clause-gathered
 returns-clause-gathered g c bytes tells =
     let u = c.loop-handles.invariant.returned in
-    let ends = rw (c.in_ok-visit.was, c.in-None.is) at c.visit.follows.holds-at-none in
+    let none = none_is _ c.in_default.not-Some in
+    let ends = rw (c.in_ok-visit.was, none) at c.visit.follows.holds-at-none in
     let (entries, typed, is) =
     all_returned _ _ _ _ _ _ u bytes
     (ap (λ s. (g.R.Source.told s).left) c.in_ok-entries.ensures.unread ∙ tells)
@@ -36,5 +37,5 @@ returns-clause-gathered g c bytes tells =
     record {
       entries = entries;
       typed = typed;
-      is = c.in_ok-visit.ensures.untold c.in-None.is ∙ is;
+      is = c.in_ok-visit.ensures.untold none ∙ is;
     }

@@ -1,13 +1,13 @@
 use Rattle.uses.proofs.Common.{ap, IsSome, ℕ, refl, sym, arith, subst, ◌∙◌, error_is}
 use Rattle.uses.proofs.CountingLemmas.{none_counted, one_counted}
-use Rattle.uses.proofs.Reading.{all_returned, going_on, handed, one_more, refused_read}
+use Rattle.uses.proofs.Reading.{all_returned, going_on, handed, none_is, one_more, refused_read}
 use Rattle.uses.proofs.counting.count_calls.Goals as goal
 
 pub returns-in_err-entry-clause-refused : goal.returns-in_err-entry-clause-refused
 returns-in_err-entry-clause-refused g c bytes tells =
     let u = c.loop-entries.invariant.returned in
     let ends = rw c.in_err-entry.was at c.next.follows.holds-at-none in
-    rw (error_is _ _ c.from_residual.ensures)
+    rw (error_is _ _ c.from_residual-in_err-entry.ensures)
     (refused_read _ _ _ _ _ _ u ℕ c.in_err-entry.field-0.0 bytes
     (ap (λ s. (g.R.Source.told s).left) c.in_ok-entries.ensures.unread ∙ tells)
     (ends.answers u.given u.handed u.stands))
@@ -45,7 +45,8 @@ loop-entries-preserved g c =
 pub returns-clause-counted : goal.returns-clause-counted
 returns-clause-counted g c bytes tells =
     let u = c.loop-entries.invariant.returned in
-    let ends = rw (c.in_ok-entry.was, c.in-None.is) at c.next.follows.holds-at-none in
+    let none = none_is _ c.in_default.not-Some in
+    let ends = rw (c.in_ok-entry.was, none) at c.next.follows.holds-at-none in
     let (entries, typed, counted) =
     all_returned _ _ _ _ _ _ u bytes
     (ap (λ s. (g.R.Source.told s).left) c.in_ok-entries.ensures.unread ∙ tells)

@@ -1,12 +1,12 @@
 use Rattle.uses.proofs.Common.{◌∙◌, ℕ, [], ap, refl, Adds, error_is}
-use Rattle.uses.proofs.Reading.{all_returned, one_more, refused}
+use Rattle.uses.proofs.Reading.{all_returned, none_is, one_more, refused}
 use Rattle.uses.proofs.summing.bytes_to_write.Goals as goal
 
 pub returns-in_err-entry-clause-refused : goal.returns-in_err-entry-clause-refused
 returns-in_err-entry-clause-refused g c bytes tells =
     let u = c.loop-entries.invariant.returned in
     let ends = rw c.in_err-entry.was at c.visit.follows.holds-at-none in
-    rw (error_is _ _ c.from_residual.ensures)
+    rw (error_is _ _ c.from_residual-in_err-entry.ensures)
     (refused _ _ _ _ _ _ u ℕ c.in_err-entry.field-0.0 bytes
     (ap (λ s. (g.R.Source.told s).left) c.in_ok-entries.ensures.unread ∙ tells)
     (ends.answers u.given u.handed u.stands))
@@ -29,7 +29,8 @@ loop-entries-preserved g c =
 pub returns-clause-summed : goal.returns-clause-summed
 returns-clause-summed g c bytes tells =
     let u = c.loop-entries.invariant.returned in
-    let ends = rw (c.in_ok-entry.was, c.in-None.is) at c.visit.follows.holds-at-none in
+    let none = none_is _ c.in_default.not-Some in
+    let ends = rw (c.in_ok-entry.was, none) at c.visit.follows.holds-at-none in
     let (entries, typed, summed) =
     all_returned _ _ _ _ _ _ u bytes
     (ap (λ s. (g.R.Source.told s).left) c.in_ok-entries.ensures.unread ∙ tells)
