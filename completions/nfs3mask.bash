@@ -1,7 +1,7 @@
 # Completion of nfs3mask for bash. Source it, or copy it to /usr/share/bash-completion/completions/nfs3mask.
 _nfs3mask() {
   local word=${COMP_WORDS[COMP_CWORD]} class
-  local classes='times stamps machines space ids fsids cookies cookieverfs createverfs owners wcc sillynames'
+  local classes='times stamps machines space ids fsids cookies cookieverfs createverfs owners wcc sillynames raw'
   COMPREPLY=()
   if [ "$COMP_CWORD" -le 2 ]; then
     compopt -o filenames

@@ -509,7 +509,8 @@ def rights_on_an_output(place: Place) -> None:
         state = os.stat(path)
         return state.st_mode & 0o7777, state.st_uid, state.st_gid
     own = os.geteuid(), os.getegid()
-    for mode, wanted in {0o644: 0o644, 0o600: 0o600, 0o6755: 0o755, 0o1606: 0o606, 0o640: 0o600, 0o664: 0o644, 0o770: 0o700}.items():
+    kept = {0o644: 0o644, 0o600: 0o600, 0o6755: 0o755, 0o1606: 0o606, 0o640: 0o600, 0o664: 0o644, 0o770: 0o700}
+    for mode, wanted in kept.items():
         place.want('rights of %o' % mode, rights(mode, None), (wanted, *own))
     run = as_nobody(place)
     if run is not None:
@@ -551,7 +552,7 @@ def access_list(*entries: tuple[int, int, int]) -> bytes:
 
 def access_control_lists(place: Place) -> None:
     """Neither the list of a file that is replaced, nor the default list of its folder, gives anybody a right that he had not."""
-    owner, user, group, mask, others, nobody_else = 0x01, 0x02, 0x04, 0x10, 0x20, 0xffffffff
+    owner, user, group, mask, others, nobody = 0x01, 0x02, 0x04, 0x10, 0x20, 0xffffffff
     path = place.path('out')
 
     def mode_after(mode: int, listed: bytes | None) -> int:
@@ -564,8 +565,8 @@ def access_control_lists(place: Place) -> None:
         place.want('canon', place.run('canon', 'a', 'out'), (0, GOOD_LINE, ''))
         return os.stat(path).st_mode & 0o777
     place.write('a', GOOD)
-    by_mask = {rights: access_list((owner, 6, nobody_else), (user, 6, NOBODY), (group, 0, nobody_else), (mask, rights, nobody_else),
-                                   (others, 0, nobody_else)) for rights in (6, 4)}
+    by_mask = {rights: access_list((owner, 6, nobody), (user, 6, NOBODY), (group, 0, nobody), (mask, rights, nobody), (others, 0, nobody))
+               for rights in (6, 4)}
     try:
         place.want('a mask of rw-', mode_after(0o660, by_mask[6]), 0o600)
     except OSError as error:
@@ -574,7 +575,7 @@ def access_control_lists(place: Place) -> None:
     place.want('a mask of r--', mode_after(0o640, by_mask[4]), 0o600)
     os.remove(path)
     place.write('out', b'as it was')
-    default = access_list((owner, 7, nobody_else), (user, 6, NOBODY), (group, 5, nobody_else), (mask, 7, nobody_else), (others, 5, nobody_else))
+    default = access_list((owner, 7, nobody), (user, 6, NOBODY), (group, 5, nobody), (mask, 7, nobody), (others, 5, nobody))
     os.setxattr(place.folder, 'system.posix_acl_default', default)
     place.want('a default list of the folder', mode_after(0o640, None), 0o600)
     place.want('a default list, and rights of all others', mode_after(0o644, None), 0o644)
@@ -960,7 +961,8 @@ TESTS: list[Test] = [
     standard_error_that_nobody_reads, standard_files_that_are_closed, signals_in_the_middle,
     names_that_are_taken_in_the_middle, files_that_get_the_name_in_the_middle, runs_at_once, pipes_that_do_not_wait,
     names_of_the_most_bytes, folders_that_no_path_names,
-    chains_of_links, outputs_that_are_refused_before_the_work, rights_on_an_output, access_control_lists, rights_that_cannot_be_given_back,
+    chains_of_links, outputs_that_are_refused_before_the_work, rights_on_an_output, access_control_lists,
+    rights_that_cannot_be_given_back,
     standard_output_without_its_name, removed_files_by_their_numbers, files_of_two_devices_with_one_number,
     outputs_on_which_something_is_mounted, many_streams_and_few_open_files, inputs_that_never_end, fifos,
     reads_cut_at_each_length,

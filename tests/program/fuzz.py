@@ -213,7 +213,7 @@ def damaged(chance: random.Random, capture: bytes) -> bytes:
 # The words of nfs3mask without a way, and what each class is in the order of its lines.
 MASKED_CLASSES = {'times': 'zero', 'stamps': 'zero', 'machines': 'zero', 'space': 'zero', 'ids': 'number', 'fsids': 'number',
                   'cookies': 'number', 'cookieverfs': 'number', 'createverfs': 'number', 'owners': 'keep', 'wcc': 'keep',
-                  'sillynames': 'zero'}
+                  'sillynames': 'zero', 'raw': 'keep'}
 
 
 def drawn_mask(chance: random.Random) -> tuple[dict[str, str], list[str]]:

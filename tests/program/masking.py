@@ -1,6 +1,6 @@
 """A masker by the layouts of `tools/nfs3tools/captures/layouts.py`, with which nfs3mask is compared.
 
-It knows the classes by the names of `tools/compare`.
+It knows the classes by the names of `tools/compare`, and `raw`: the bodies of other programs and versions.
 """
 import random
 import re
@@ -57,7 +57,9 @@ class Masker:
         out, named = bytearray(body), list[tuple[ValueClass, Item]]()
         for item, is_changing in with_changing(message.items, is_call):
             owner = self.class_of(item.name, body[item.begin:item.end], is_call, is_changing)
-            if owner and owner.has_names:
+            if item.name == 'rest' and 'raw' in self.mask:
+                out[item.begin:item.end] = self.raw(item.end - item.begin)
+            elif owner and owner.has_names:
                 named.append((owner, item))
             elif owner:
                 out[item.begin:item.end] = self.value(owner, body[item.begin:item.end])
@@ -68,6 +70,10 @@ class Masker:
             if length and item.name == 'machinename':
                 out[length.begin:length.end] = word(int.from_bytes(out[length.begin:length.end], 'big') + more)
         return bytes(out)
+
+    def raw(self, size: int) -> bytes:
+        """Returns what stands for the bytes of a body of another program or version."""
+        return bytes(size)
 
     def name_in(self, owner: ValueClass) -> bytes:
         """Returns what stands for a name: of a machine, or of a file that was removed while it was open."""
@@ -92,7 +98,7 @@ def masked_bodies(connections: Iterable[Bodies], masker: Masker) -> Iterator[Bod
 
 class Renamer(Masker):
     """Puts other values in the place of those of the classes: one to one if they are numbered, and any if they become zero. Any name of a
-    machine stands for another, and so does any name of a removed file."""
+    machine stands for another, and so does any name of a removed file, and any body of one length that is not checked."""
 
     def __init__(self, mask: Mask, chance: random.Random) -> None:
         super().__init__(mask)
@@ -110,6 +116,9 @@ class Renamer(Masker):
             if other not in others.values():
                 others[number] = other
         return others[number].to_bytes(len(content), 'big')
+
+    def raw(self, size: int) -> bytes:
+        return self.chance.randbytes(size)
 
     def name_in(self, owner: ValueClass) -> bytes:
         if owner.name == 'machines':

@@ -90,10 +90,10 @@ pub fn job<'a>(alloc: Global, words: &'a [String]) -> Result<Job<'a>, LineFault>
 
 /// A command and the name of a file.
 fn of_one_file<'a>(alloc: Global, command: &str, file: &'a str) -> Result<Job<'a>, LineFault>
-    ensures asked { (line : List (List ℕ)) → IsLine line (command.now ∷ file.now ∷ [])
-        → IfOk result (Asks line) }
-    ensures refused { (line : List (List ℕ)) → IsLine line (command.now ∷ file.now ∷ [])
-        → IfErr result (AreRefused line) }
+    ensures asked { (line : List (List ℕ))
+        → IsLine line (command.now ∷ file.now ∷ []) → IfOk result (Asks line) }
+    ensures refused { (line : List (List ℕ))
+        → IsLine line (command.now ∷ file.now ∷ []) → IfErr result (AreRefused line) }
 {
     match command {
         "check" => Ok(Job::Check(file)),
@@ -109,10 +109,10 @@ fn of_two_files<'a>(
     first: &'a str,
     second: &'a str,
 ) -> Result<Job<'a>, LineFault>
-    ensures asked { (line : List (List ℕ)) → IsLine line (command.now ∷ first.now ∷ second.now ∷ [])
-        → IfOk result (Asks line) }
-    ensures refused { (line : List (List ℕ)) → IsLine line (command.now ∷ first.now ∷ second.now ∷ [])
-        → IfErr result (AreRefused line) }
+    ensures asked { (line : List (List ℕ))
+        → IsLine line (command.now ∷ first.now ∷ second.now ∷ []) → IfOk result (Asks line) }
+    ensures refused { (line : List (List ℕ))
+        → IsLine line (command.now ∷ first.now ∷ second.now ∷ []) → IfErr result (AreRefused line) }
 {
     match command {
         "canon" => rewriting(first, second),
@@ -130,12 +130,10 @@ fn of_streams<'a>(
     streams: &'a [String],
 ) -> Result<Job<'a>, LineFault>
     requires { 2 ≤ length streams.now }
-    ensures asked { let names = map string_bytes streams.now in
-        (line : List (List ℕ)) → IsLine line (command.now ∷ string_bytes output.now ∷ names)
-        → IfOk result (Asks line) }
-    ensures refused { let names = map string_bytes streams.now in
-        (line : List (List ℕ)) → IsLine line (command.now ∷ string_bytes output.now ∷ names)
-        → IfErr result (AreRefused line) }
+    ensures asked { let names = map string_bytes streams.now in (line : List (List ℕ))
+        → IsLine line (command.now ∷ string_bytes output.now ∷ names) → IfOk result (Asks line) }
+    ensures refused { let names = map string_bytes streams.now in (line : List (List ℕ))
+        → IsLine line (command.now ∷ string_bytes output.now ∷ names) → IfErr result (AreRefused line) }
 {
     if command == "pack" {
         packing(output, streams)
@@ -145,10 +143,10 @@ fn of_streams<'a>(
 }
 
 fn rewriting<'a>(input: &'a str, output: &'a str) -> Result<Job<'a>, LineFault>
-    ensures asked { (line : List (List ℕ)) → IsLine line (codes "canon" ∷ input.now ∷ output.now ∷ [])
-        → IfOk result (Asks line) }
-    ensures refused { (line : List (List ℕ)) → IsLine line (codes "canon" ∷ input.now ∷ output.now ∷ [])
-        → IfErr result (AreRefused line) }
+    ensures asked { (line : List (List ℕ))
+        → IsLine line (codes "canon" ∷ input.now ∷ output.now ∷ []) → IfOk result (Asks line) }
+    ensures refused { (line : List (List ℕ))
+        → IsLine line (codes "canon" ∷ input.now ∷ output.now ∷ []) → IfErr result (AreRefused line) }
 {
     if input == output {
         Err(LineFault::SameName)
@@ -159,12 +157,10 @@ fn rewriting<'a>(input: &'a str, output: &'a str) -> Result<Job<'a>, LineFault>
 
 fn packing<'a>(output: &'a String, streams: &'a [String]) -> Result<Job<'a>, LineFault>
     requires { 2 ≤ length streams.now }
-    ensures asked { let names = map string_bytes streams.now in
-        (line : List (List ℕ)) → IsLine line (codes "pack" ∷ string_bytes output.now ∷ names)
-        → IfOk result (Asks line) }
-    ensures refused { let names = map string_bytes streams.now in
-        (line : List (List ℕ)) → IsLine line (codes "pack" ∷ string_bytes output.now ∷ names)
-        → IfErr result (AreRefused line) }
+    ensures asked { let names = map string_bytes streams.now in (line : List (List ℕ))
+        → IsLine line (codes "pack" ∷ string_bytes output.now ∷ names) → IfOk result (Asks line) }
+    ensures refused { let names = map string_bytes streams.now in (line : List (List ℕ))
+        → IsLine line (codes "pack" ∷ string_bytes output.now ∷ names) → IfErr result (AreRefused line) }
 {
     if streams.len() % 2 != 0 {
         Err(LineFault::Odd)

@@ -6,5 +6,5 @@ pub use Rattle.std.proofs.Common.{Bool, Global, IfErr, IfOk, List, None, Some, S
 pub use Rattle.mask_line3.specs.Changes.{change_of, change_told, change_word, with_change}
 pub use Rattle.mask_line3.specs.MaskLine.{AreMaskWordsRefused, AsksForMask, IsMaskLine, mask_words}
 pub use Rattle.mask_line3.specs.declared.asked.Change.{Change}
-pub use Rattle.mask_line3.specs.declared.asked.MaskClass.TheVariants.{CookieVerifiers, Cookies, CreateVerifiers, Fsids, Ids, Machines, Owners, SillyNames, Space, Stamps, Times, Wcc}
+pub use Rattle.mask_line3.specs.declared.asked.MaskClass.TheVariants.{CookieVerifiers, Cookies, CreateVerifiers, Fsids, Ids, Machines, Owners, Raw, SillyNames, Space, Stamps, Times, Wcc}
 pub use Rattle.mask_line3.specs.machinery.ChangeWords.{AreChanges}

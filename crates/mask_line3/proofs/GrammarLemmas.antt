@@ -1,5 +1,5 @@
 -- clap takes each line of the form.
-use Rattle.mask_line3.proofs.Common.{arith, ap, ap₂, sym, refl, zero, suc, ◌≡◌, ◌≤◌, ◌∙◌, ◌==◌, ◌&&◌, ◌++◌, ℕ, Bool, true, false, List, [], ◌∷◌, Some, None, codes, length, fold, is_some, map, le-leb, append-nil, append_assoc, usize_max, App, Text, is_simple, takes, IsFileWord, IsMaskLine, IsUsage, Change, change_word, AreMaskWordsRefused, mask_words}
+use Rattle.mask_line3.proofs.Common.{arith, ap, ap₂, sym, refl, ◌≡◌, ◌≤◌, ◌∙◌, ◌==◌, ◌&&◌, ◌++◌, ℕ, Bool, true, false, List, [], ◌∷◌, Some, None, codes, length, fold, is_some, map, le-leb, append-nil, append_assoc, usize_max, App, Text, is_simple, takes, IsFileWord, IsMaskLine, IsUsage, Change, change_word, AreMaskWordsRefused, mask_words}
 use Rattle.std.specs.List.{list_all}
 use Rattle.std.proofs.Common.{inl, inr, subst}
 use Rattle.line3.specs.Asked.{NameFiles, names_in}
@@ -12,8 +12,6 @@ use Rattle.clap.specs.declared.builder.value_parser.Reading.TheVariants.{AsWritt
 use Rattle.line3.specs.declared.asked.LineFault.{LineFault}
 use Rattle.line3.specs.declared.asked.LineFault.TheVariants.{Usage, Odd, SameName, NotText, Memory}
 use Rattle.line3.proofs.GrammarLemmas.{all_pass, at, end, end_is, ends, further_turn, further_walked, names_ended, names_in-length, names_plain, plain_turn, plain_walked, split_one, split_two}
-use Rattle.mask_line3.specs.declared.asked.MaskClass.{MaskClass}
-use Rattle.masking3.specs.declared.ways.Way.{Way}
 use Rattle.mask_line3.specs.machinery.Grammar.{mask_app}
 
 simple : is_simple mask_app ≡ true
@@ -153,7 +151,7 @@ module _ (input output : Text) where
   read_passes got (w ∷ words) (inl ends) =
       ap
       (λ (v : Text).
-          walk_passes top_of.top (names_of top_of) (reading input output got) (v ∷ words))
+      walk_passes top_of.top (names_of top_of) (reading input output got) (v ∷ words))
       (end_is w ends)
       ∙ ap₂ (λ (t : Bool) (v : Walk). t && walk_passes top_of.top (names_of top_of) v words)
       (end_passes got) (end_step got)

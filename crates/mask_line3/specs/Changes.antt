@@ -2,7 +2,7 @@
 use Rattle.std.specs.Prelude.{ℕ, List, [], ◌∷◌, codes, fold, map}
 use Rattle.std.specs.List.{concat, flat_map}
 use Rattle.mask_line3.specs.declared.asked.MaskClass.{MaskClass}
-use Rattle.mask_line3.specs.declared.asked.MaskClass.TheVariants.{Times, Stamps, Machines, Space, Ids, Fsids, Cookies, CookieVerifiers, CreateVerifiers, Owners, Wcc, SillyNames}
+use Rattle.mask_line3.specs.declared.asked.MaskClass.TheVariants.{Times, Stamps, Machines, Space, Ids, Fsids, Cookies, CookieVerifiers, CreateVerifiers, Owners, Wcc, SillyNames, Raw}
 use Rattle.masking3.specs.declared.ways.Way.{Way}
 use Rattle.masking3.specs.declared.ways.Ways.{Ways}
 use Rattle.masking3.specs.Ways.{usual}
@@ -31,6 +31,7 @@ with_way ways CreateVerifiers way = record ways { create_verifiers = way }
 with_way ways Owners way = record ways { owners = way }
 with_way ways Wcc way = record ways { wcc = way }
 with_way ways SillyNames way = record ways { silly_names = way }
+with_way ways Raw way = record ways { raw = way }
 
 abbrev pub with_change : Ways → Change → Ways
 with_change ways change = with_way ways change.class change.way
@@ -53,11 +54,12 @@ way_told ways CreateVerifiers = ways.create_verifiers
 way_told ways Owners = ways.owners
 way_told ways Wcc = ways.wcc
 way_told ways SillyNames = ways.silly_names
+way_told ways Raw = ways.raw
 
 -- every class
 abbrev pub classes : List MaskClass
 classes = Times ∷ Stamps ∷ Machines ∷ Space ∷ Ids ∷ Fsids ∷ Cookies ∷ CookieVerifiers
-    ∷ CreateVerifiers ∷ Owners ∷ Wcc ∷ SillyNames ∷ []
+    ∷ CreateVerifiers ∷ Owners ∷ Wcc ∷ SillyNames ∷ Raw ∷ []
 
 abbrev pub change_of : MaskClass → Way → Change
 change_of class way = record { class = class; way = way }

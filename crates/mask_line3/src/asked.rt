@@ -2,7 +2,7 @@
 
 use masking3::{Way, Ways};
 
-/// A class, as a word of the line names it: one of values, or of names.
+/// A class, as a word of the line names it: one of values, of names, or of bodies.
 #[derive(Clone, Copy, Debug, PartialEq, Eq)]
 pub enum MaskClass {
     /// The times of files.
@@ -29,6 +29,8 @@ pub enum MaskClass {
     Wcc,
     /// The names of files that a Linux client removed while they were open.
     SillyNames,
+    /// The arguments and results of other programs and versions.
+    Raw,
 }
 
 /// What becomes of a class, as a word of the line says it.

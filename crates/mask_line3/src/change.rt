@@ -60,6 +60,7 @@ pub(crate) fn with_way(ways: Ways, class: MaskClass, way: Way) -> Ways
             silly_names: way,
             ..ways
         },
+        MaskClass::Raw => Ways { raw: way, ..ways },
     }
 }
 
@@ -102,6 +103,7 @@ pub fn ways_told(alloc: Global, ways: &Ways) -> Result<String, AllocError>
     push_change(&mut text, MaskClass::Owners, ways.owners)?;
     push_change(&mut text, MaskClass::Wcc, ways.wcc)?;
     push_change(&mut text, MaskClass::SillyNames, ways.silly_names)?;
+    push_change(&mut text, MaskClass::Raw, ways.raw)?;
     Ok(text)
 }
 

@@ -71,12 +71,10 @@ fn of_two_files<'a>(
     output: &'a str,
     changes: &[String],
 ) -> Result<MaskJob<'a>, LineFault>
-    ensures asked { let said = map string_bytes changes.now in
-        (line : List (List ℕ)) → IsMaskLine line (input.now ∷ output.now ∷ said)
-        → IfOk result (AsksForMask line) }
-    ensures refused { let said = map string_bytes changes.now in
-        (line : List (List ℕ)) → IsMaskLine line (input.now ∷ output.now ∷ said)
-        → IfErr result (AreMaskWordsRefused line) }
+    ensures asked { let said = map string_bytes changes.now in (line : List (List ℕ))
+        → IsMaskLine line (input.now ∷ output.now ∷ said) → IfOk result (AsksForMask line) }
+    ensures refused { let said = map string_bytes changes.now in (line : List (List ℕ))
+        → IsMaskLine line (input.now ∷ output.now ∷ said) → IfErr result (AreMaskWordsRefused line) }
 {
     match changed(changes) {
         Ok(_) if input == output => Err(LineFault::SameName),
@@ -97,7 +95,7 @@ fn unchanging(alloc: Global, word: &str) -> LineFault
         "error: '{word}' is not CLASS=WAY
 
   classes: times, stamps, machines, space, ids, fsids, cookies, cookieverfs,
-           createverfs, owners, wcc, sillynames
+           createverfs, owners, wcc, sillynames, raw
   ways: keep, zero, number
 
 Usage: nfs3mask <IN> <OUT> [CLASS=WAY]...

@@ -18,7 +18,7 @@ one. What happens to the values of a class:
   keep    they stay
   zero    they become 0; names of machines become empty
   number  each becomes its number by first appearance among those of its class;
-          names have no numbers, and become what they are under zero
+          names and bodies have no numbers, and become what they are under zero
 
 Classes, with their usual ways:
   times=zero          times of files, in attributes, guards and settings
@@ -36,6 +36,8 @@ Classes, with their usual ways:
                       meanwhile: in wcc_data, and of directories
   sillynames=zero     names that the Linux client gives to files that are removed
                       while they are open, .nfs and 24 digits: each digit becomes 0
+  raw=keep            arguments and results of other programs and versions, which
+                      are not checked: each byte becomes 0
 
 Prints the line that `nfs3canon canon` prints, and then `masked` with the way of
 every class. OUT is written beside its name and gets the name when it is complete;

@@ -24,6 +24,7 @@ pub(crate) fn class_named(name: &str) -> Option<MaskClass>
         "owners" => Some(MaskClass::Owners),
         "wcc" => Some(MaskClass::Wcc),
         "sillynames" => Some(MaskClass::SillyNames),
+        "raw" => Some(MaskClass::Raw),
         _ => None,
     }
 }
@@ -45,6 +46,7 @@ pub(crate) fn class_name(class: MaskClass) -> &'static str
         MaskClass::Owners => "owners",
         MaskClass::Wcc => "wcc",
         MaskClass::SillyNames => "sillynames",
+        MaskClass::Raw => "raw",
     }
 }
 

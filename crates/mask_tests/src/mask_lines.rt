@@ -8,11 +8,11 @@ use std::test::Fail;
 
 /// The words that tell the usual mask.
 const USUAL: &str =
-    " times=zero stamps=zero machines=zero space=zero ids=number fsids=number cookies=number cookieverfs=number createverfs=number owners=keep wcc=keep sillynames=zero";
+    " times=zero stamps=zero machines=zero space=zero ids=number fsids=number cookies=number cookieverfs=number createverfs=number owners=keep wcc=keep sillynames=zero raw=keep";
 
 /// Another way for each class.
 const OTHER: &str =
-    " times=keep stamps=number machines=keep space=keep ids=zero fsids=keep cookies=zero cookieverfs=keep createverfs=zero owners=number wcc=number sillynames=keep";
+    " times=keep stamps=number machines=keep space=keep ids=zero fsids=keep cookies=zero cookieverfs=keep createverfs=zero owners=number wcc=number sillynames=keep raw=zero";
 
 /// Command lines after the program's name, and what is made of each: the words for its mask, or a fault.
 const LINES: [(&str, &str); 18] = [
@@ -56,7 +56,7 @@ fn a_change_of_every_class(rt: HostRuntime) -> Result<(), Fail> {
 #[test]
 fn no_value_is_masked(rt: HostRuntime) -> Result<(), Fail> {
     let found = ways_told(rt.alloc(), &Ways::none())?;
-    assert_eq!(rt; found.as_str().matches("=keep").count(), 12);
+    assert_eq!(rt; found.as_str().matches("=keep").count(), 13);
     Ok(())
 }
 

@@ -54,7 +54,7 @@ pub use Rattle.masking3.specs.Laws.{HasRoomForNumbers, KeepsAll, KeepsValues, Ma
 pub use Rattle.masking3.specs.Masked.{by_way, is_zero_that_stays, masked, masked_bytes, masked_entry, masked_item, masked_items, masked_values, number_among, substitute, value_in, value_where, values, values_in, values_in_entry, with_value}
 pub use Rattle.masking3.specs.SameBut.{AreAlike, ArePartners, ChangesBy, ChangesEntry, ChangesItem, ChangesItems, ChangesOf, IsNumbered, SameBut, SameButValues, along, begin, call, close, eights, end, hypers, over, reply, turn, words}
 pub use Rattle.masking3.specs.Spots.{after_word, next_spot}
-pub use Rattle.masking3.specs.Texts.{host_by, is_silly_name, silly_by, silly_zero, text_by, with_text, zero_name}
+pub use Rattle.masking3.specs.Texts.{host_by, is_silly_name, silly_by, silly_zero, raw_by, text_by, with_text, zero_name}
 pub use Rattle.masking3.specs.Unnamed.{after_first, emptied, less_by, named_by, named_call, named_entry, names_by, text_size, unnamed_credential, unnamed_items}
 pub use Rattle.masking3.specs.Ways.{usual, way_of}
 pub use Rattle.masking3.specs.declared.class.Class.{Class}

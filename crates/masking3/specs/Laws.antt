@@ -24,9 +24,10 @@ StaysMasked ways entries = masked ways (masked ways entries) ≡ masked ways ent
 abbrev pub KeepsValues : Ways → Type 0
 KeepsValues ways = (class : Class) → way_of ways class ≡ Keep
 
--- so do the names
+-- so do the names, and the bodies that are not looked into
 abbrev pub KeepsAll : Ways → Type 0
 KeepsAll ways = KeepsValues ways × (ways.machines ≡ Keep) × (ways.silly_names ≡ Keep)
+    × (ways.raw ≡ Keep)
 
 -- what the second way leaves of a value is no more than what the first one does
 abbrev pub TellsNoMore : Way → Way → Type 0
@@ -41,11 +42,11 @@ abbrev pub MasksValuesAsMuch : Ways → Ways → Type 0
 MasksValuesAsMuch ways others =
     (class : Class) → TellsNoMore (way_of ways class) (way_of others class)
 
--- and so for the names
+-- and so for the names and the bodies
 abbrev pub MasksAsMuch : Ways → Ways → Type 0
 MasksAsMuch ways others =
     MasksValuesAsMuch ways others × TellsNoMore ways.machines others.machines
-    × TellsNoMore ways.silly_names others.silly_names
+    × TellsNoMore ways.silly_names others.silly_names × TellsNoMore ways.raw others.raw
 
 -- the form of the first entries is the first entries of the form
 abbrev pub MasksFronts : Ways → List Entry → List Entry → Type 0

@@ -1,7 +1,8 @@
--- Texts that are masked: names that the Linux client makes up, and names of hosts.
-use Rattle.std.specs.Prelude.{ℕ, ◌==◌, ◌&&◌, ◌||◌, nat_le, bytes_eq, codes, Bool, if◌then◌else◌, List, [], length, take, drop}
+-- Texts that are masked: names that the Linux client makes up, and names of hosts. Bodies that are
+-- not looked into.
+use Rattle.std.specs.Prelude.{ℕ, replicate, ◌==◌, ◌&&◌, ◌||◌, nat_le, bytes_eq, codes, Bool, if◌then◌else◌, List, [], length, take, drop}
 use Rattle.std.specs.List.{list_all}
-use Rattle.xdr3.specs.Item.{Item, Opaque, Text}
+use Rattle.xdr3.specs.Item.{Item, Opaque, Rest, Text}
 use Rattle.nfs3_types.specs.Names.{names}
 use Rattle.masking3.specs.declared.ways.Way.{Way}
 use Rattle.masking3.specs.declared.ways.Way.TheVariants.{Keep, Zero, Number}
@@ -52,7 +53,19 @@ text_by ways name bytes =
     (if bytes_eq name names.hostname then host_by ways.machines bytes else
     bytes))
 
--- a text with what becomes of its bytes; any other item stays
+-- ---- bodies of other programs and versions
+
+-- the arguments or the results stay, or each of their bytes is 0; a body has no number
+abbrev pub raw_by : Way → List ℕ → List ℕ
+raw_by Keep bytes = bytes
+raw_by Zero bytes = replicate (length bytes) 0
+raw_by Number bytes = replicate (length bytes) 0
+
+-- ---- any item
+
+-- A text, or the rest of a message that is not looked into, with what becomes of its bytes; any
+-- other item stays.
 abbrev pub with_text : Ways → Item → Item
 with_text ways (Opaque Text name bytes) = Opaque Text name (text_by ways name bytes)
+with_text ways (Rest name bytes) = Rest name (raw_by ways.raw bytes)
 with_text ways item = item

@@ -32,4 +32,5 @@ usual = record {
   owners = Keep;
   wcc = Keep;
   silly_names = Zero;
+  raw = Keep;
 }

@@ -14,6 +14,7 @@ mod spot;
 mod texts;
 mod unnamed_body;
 mod ways;
+mod zeros;
 
 pub use class::Class;
 pub use hashers::{ClassHashers, MaskHashers};

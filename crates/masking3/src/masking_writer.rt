@@ -3,9 +3,9 @@
 ghost use Rattle.std.specs.Prelude.{◌≡◌, ◌≤◌, ◌++◌, ◌∷◌, List, [], None, Some, length, true, IfErr, OnErr, OnOk};
 ghost use Rattle.std.specs.Io.KnownBytes.{Appends};
 ghost use Rattle.byteorder.specs.Endian.{big_bytes};
-ghost use Rattle.xdr3.specs.Item.{Fixed, Handle as HandleKind, Hyper, Item, Opaque, Word};
+ghost use Rattle.xdr3.specs.Item.{Fixed, Handle as HandleKind, Hyper, Item, Opaque, Rest, Word};
 ghost use Rattle.xdr3.specs.Plain.{run_items, run_size};
-ghost use Rattle.xdr3.specs.Visit.{Adds};
+ghost use Rattle.xdr3.specs.Visit.{Adds, body_limit};
 ghost use Rattle.canon3.specs.Bytes.{chunk_bytes, record_bytes};
 ghost use Rattle.canon3.specs.SinkWrites.{AppendsFront};
 ghost use Rattle.canon3.specs.WriteErrors.{CountsWriting, IsOfWriting};
@@ -24,6 +24,7 @@ use crate::spot::{Spot, first_found, spot_after};
 use crate::texts::masked_text;
 use crate::unnamed_body::write_unnamed;
 use crate::ways::{Way, Ways};
+use crate::zeros::write_zeros;
 use byteorder::{BigEndian, ByteOrder};
 use canon3::{HandleTable, Sink, write_message, write_word};
 use capture3::{Error, Kind};
@@ -154,6 +155,22 @@ impl<P: Plan, S: BuildHasher + Drop> MaskingWriter<P, S> {
         self.fail_for_good(written)
     }
 
+    /// Writes words and hypers that follow one another. After an error some of them may be written.
+    #[inline(always)]
+    fn write_run(&mut self, fields: &[PlainField], bytes: &[u8]) -> Result<(), AllocError>
+        requires { length bytes.now ≡ run_size fields.now }
+        ensures ok { OnOk result
+            (Adds (MaskStands P.ways) self.old self.new (run_items fields.now bytes.now)) }
+    {
+        if are_kept(fields, self.classes.ways.owners) {
+            return self.writer.plain(fields, bytes);
+        }
+        match self.spot {
+            Some(spot) if are_attributes(fields) => self.write_attributes(spot, bytes),
+            _ => self.write_each(fields, bytes),
+        }
+    }
+
     /// Writes words and hypers, each by itself.
     #[inline(never)]
     fn write_each(&mut self, fields: &[PlainField], bytes: &[u8]) -> Result<(), AllocError>
@@ -185,6 +202,19 @@ impl<P: Plan, S: BuildHasher + Drop> MaskingWriter<P, S> {
     {
         self.handles.handle(name, bytes)?;
         self.writer.handle(name, bytes)
+    }
+
+    /// Writes the rest of a message as it is, or as many zeros. After an error some of them may be written.
+    fn write_rest(&mut self, name: &'static str, bytes: &[u8]) -> Result<(), AllocError>
+        requires { length bytes.now ≤ body_limit }
+        ensures ok { OnOk result
+            (Adds (MaskStands P.ways) self.old self.new (Rest name.now bytes.now ∷ [])) }
+    {
+        match self.classes.ways.raw {
+            Way::Keep => self.writer.rest(name, bytes),
+            Way::Zero => write_zeros(&mut self.writer, bytes.len()),
+            Way::Number => write_zeros(&mut self.writer, bytes.len()),
+        }
     }
 
     /// Says nothing more of the tables after an error.
@@ -287,18 +317,14 @@ impl<P: Plan, S: BuildHasher + Drop> Visit for MaskingWriter<P, S> {
     }
 
     fn rest(&mut self, name: &'static str, bytes: &[u8]) -> Result<(), AllocError> {
-        self.writer.rest(name, bytes)
+        let written = self.write_rest(name, bytes);
+        self.fail_for_good(written)
     }
 
     // In line, as a word is.
     #[inline(always)]
     fn plain(&mut self, fields: &[PlainField], bytes: &[u8]) -> Result<(), AllocError> {
-        if are_kept(fields, self.classes.ways.owners) {
-            return self.writer.plain(fields, bytes);
-        }
-        match self.spot {
-            Some(spot) if are_attributes(fields) => self.write_attributes(spot, bytes),
-            _ => self.write_each(fields, bytes),
-        }
+        let written = self.write_run(fields, bytes);
+        self.fail_for_good(written)
     }
 }

@@ -5,19 +5,20 @@ ghost use Rattle.masking3.specs.Ways.{usual, way_of};
 
 use crate::class::Class;
 
-/// What becomes of the values of a class, or of names.
+/// What becomes of the values of a class, of names, or of bodies.
 #[derive(Clone, Copy, Debug, PartialEq, Eq)]
 pub enum Way {
     /// They stay as they are.
     Keep,
-    /// They become 0. The name of a machine becomes empty, and each digit of a silly name 0.
+    /// They become 0. The name of a machine becomes empty, and each digit of a silly name 0. Each byte of a
+    /// body that is not looked into becomes 0.
     Zero,
     /// Each becomes its number by first appearance among those of its class, from 1. A 0 that has a meaning
-    /// of its own stays. Names have no numbers: they become what they are under `Zero`.
+    /// of its own stays. Names and bodies have no numbers: they become what they are under `Zero`.
     Number,
 }
 
-/// A way for each class, and for two kinds of names.
+/// A way for each class, for two kinds of names, and for bodies that are not looked into.
 #[derive(Clone, Copy, Debug, PartialEq, Eq)]
 pub struct Ways {
     pub times: Way,
@@ -36,14 +37,17 @@ pub struct Ways {
     /// The names of files that a Linux client removed while they were open: `.nfs` and 24 lower-case
     /// hexadecimal digits, where a file has its name (RFC 1813, sections 3.3.3 to 3.3.17).
     pub silly_names: Way,
+    /// The arguments and results of other programs and versions, which are not looked into.
+    pub raw: Way,
 }
 
 impl Ways {
-    /// Returns the ways that keep every value and every name.
+    /// Returns the ways that keep every value, every name and every body.
     pub fn none() -> Ways
         ensures values { (class : Class) → way_of result class ≡ Way.Keep }
         ensures machines { result.machines ≡ Way.Keep }
         ensures silly_names { result.silly_names ≡ Way.Keep }
+        ensures raw { result.raw ≡ Way.Keep }
     {
         Ways {
             times: Way::Keep,
@@ -58,12 +62,13 @@ impl Ways {
             owners: Way::Keep,
             wcc: Way::Keep,
             silly_names: Way::Keep,
+            raw: Way::Keep,
         }
     }
 
     /// Returns the ways for what two ordinary runs of one script never share: times, stamps, space and the
-    /// digits of silly names become 0, and names of machines empty. Owners and `wcc` stay, and all else is
-    /// numbered.
+    /// digits of silly names become 0, and names of machines empty. Owners, `wcc` and bodies that are not
+    /// looked into stay, and all else is numbered.
     pub fn usual() -> Ways
         ensures { result ≡ usual }
     {
@@ -80,6 +85,7 @@ impl Ways {
             owners: Way::Keep,
             wcc: Way::Keep,
             silly_names: Way::Zero,
+            raw: Way::Keep,
         }
     }
 

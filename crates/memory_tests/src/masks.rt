@@ -87,6 +87,6 @@ fn a_line_of_a_mask_is_read(rt: HostRuntime) -> Result<(), Fail> {
 fn a_mask_is_told(rt: HostRuntime) {
     if let Ok(text) = ways_told(rt.alloc(), &Ways::usual()) {
         assert!(rt; text.as_str().starts_with(" times=zero "));
-        assert!(rt; text.as_str().ends_with(" sillynames=zero"));
+        assert!(rt; text.as_str().ends_with(" raw=keep"));
     }
 }

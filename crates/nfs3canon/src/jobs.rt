@@ -5,7 +5,7 @@ ghost use Rattle.capture3.specs.declared.fault.Error.TheVariants as errors;
 ghost use Rattle.canon3.specs.CanonicalForm.{canonical_bytes};
 ghost use Rattle.canon3.specs.Summary.{IsSummary};
 ghost use Rattle.canon3.specs.declared.comparison.verdict.Which.TheVariants.{First};
-ghost use Rattle.line3.specs.Asked.{Asks};
+ghost use Rattle.line3.specs.Asked.{Asks, without_end};
 ghost use Rattle.program3.specs.Files.{RewritesFile};
 ghost use Rattle.program3.specs.Readings.{readings_in};
 ghost use Rattle.program3.specs.declared.outcome.Outcome.TheVariants as outcomes;
@@ -54,11 +54,26 @@ pub fn answered<F: Files, S: BuildHasher + Drop, W: Write + Drop>(
         stdout result.stdout
         (map string_bytes words.items) result.ended.outcome }
 {
-    let said = match taken(alloc, words) {
-        Ok(said) => said,
-        Err(fault) => return refused(stdout, fault),
-    };
-    match job(alloc, said.as_slice()) {
+    match taken(alloc, words) {
+        Ok(said) => said_answered(alloc, hashers, files, stdout, said.as_slice()),
+        Err(fault) => refused(stdout, fault),
+    }
+}
+
+/// Does what the words of a line without a `--` ask for.
+fn said_answered<F: Files, S: BuildHasher + Drop, W: Write + Drop>(
+    alloc: Global,
+    hashers: Option<JobHashers<S>>,
+    files: &mut F,
+    stdout: W,
+    words: &[String],
+) -> Answer<W>
+    ensures { (line : List (List ℕ)) → map string_bytes words.now ≡ without_end 2 line
+        → AnswersLine (is_none hashers ≡ true) (F.holds files.old)
+        (readings_in result.readings) (F.finished files.old) (F.finished files.new) W.contents
+        stdout result.stdout line result.ended.outcome }
+{
+    match job(alloc, words) {
         Ok(job) => done(alloc, hashers, files, stdout, job),
         Err(fault) => refused(stdout, fault),
     }

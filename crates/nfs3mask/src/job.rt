@@ -2,6 +2,7 @@
 
 ghost use Rattle.std.specs.Prelude.{◌≡◌, ◌⊎◌, ℕ, List, is_none, true, Option, map, string_bytes};
 ghost use Rattle.canon3.specs.Summary.{IsSummary};
+ghost use Rattle.line3.specs.Asked.{without_end};
 ghost use Rattle.mask_line3.specs.Changes.{mask_told};
 ghost use Rattle.masking3.specs.Masked.{masked_bytes};
 ghost use Rattle.masking3.specs.declared.ways.Ways.{Ways};
@@ -66,11 +67,25 @@ pub fn answered<F: Files, S: BuildHasher + Drop>(
         (map string_bytes words.items)
         result.ended.outcome }
 {
-    let said = match taken(alloc, words) {
-        Ok(said) => said,
-        Err(fault) => return refused(fault),
-    };
-    match mask_job(alloc, said.as_slice()) {
+    match taken(alloc, words) {
+        Ok(said) => said_answered(alloc, hashers, files, said.as_slice()),
+        Err(fault) => refused(fault),
+    }
+}
+
+/// Does what the words of a line without a `--` ask for.
+fn said_answered<F: Files, S: BuildHasher + Drop>(
+    alloc: Global,
+    hashers: Option<MaskHashers<S>>,
+    files: &mut F,
+    words: &[String],
+) -> Answer
+    ensures { (line : List (List ℕ)) → map string_bytes words.now ≡ without_end 1 line
+        → AnswersMaskLine (is_none hashers ≡ true) (F.holds files.old)
+        (readings_in result.readings) (F.finished files.old) (F.finished files.new) line
+        result.ended.outcome }
+{
+    match mask_job(alloc, words) {
         Ok(job) => done(alloc, hashers, files, job),
         Err(fault) => refused(fault),
     }

@@ -1,4 +1,4 @@
-use Rattle.mask_line3.proofs.Common.{◌∷◌, [], Times, Stamps, Machines, Space, Ids, Fsids, Cookies, CookieVerifiers, CreateVerifiers, Owners, Wcc, SillyNames, change_of}
+use Rattle.mask_line3.proofs.Common.{◌∷◌, [], Times, Stamps, Machines, Space, Ids, Fsids, Cookies, CookieVerifiers, CreateVerifiers, Owners, Wcc, SillyNames, Raw, change_of}
 use Rattle.mask_line3.proofs.ChangeLemmas.{told_more}
 use Rattle.mask_line3.proofs.change.ways_told.Goals as goal
 
@@ -64,6 +64,7 @@ returns-clause-told c =
     ∷ change_of CookieVerifiers ways.cookie_verifiers
     ∷ change_of CreateVerifiers ways.create_verifiers ∷ change_of Owners ways.owners ∷ [])
     (change_of Wcc ways.wcc) _ _ ten c.in_ok-push_change-11.ensures in
+    let twelve =
     told_more
     (change_of Times ways.times ∷ change_of Stamps ways.stamps
     ∷ change_of Machines ways.machines ∷ change_of Space ways.space ∷ change_of Ids ways.ids
@@ -71,4 +72,12 @@ returns-clause-told c =
     ∷ change_of CookieVerifiers ways.cookie_verifiers
     ∷ change_of CreateVerifiers ways.create_verifiers ∷ change_of Owners ways.owners
     ∷ change_of Wcc ways.wcc ∷ []) (change_of SillyNames ways.silly_names) _ _ eleven
-    c.in_ok-push_change-12.ensures
+    c.in_ok-push_change-12.ensures in
+    told_more
+    (change_of Times ways.times ∷ change_of Stamps ways.stamps
+    ∷ change_of Machines ways.machines ∷ change_of Space ways.space ∷ change_of Ids ways.ids
+    ∷ change_of Fsids ways.fsids ∷ change_of Cookies ways.cookies
+    ∷ change_of CookieVerifiers ways.cookie_verifiers
+    ∷ change_of CreateVerifiers ways.create_verifiers ∷ change_of Owners ways.owners
+    ∷ change_of Wcc ways.wcc ∷ change_of SillyNames ways.silly_names ∷ []) (change_of Raw ways.raw)
+    _ _ twelve c.in_ok-push_change-13.ensures

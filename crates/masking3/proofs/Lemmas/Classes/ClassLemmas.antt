@@ -1,5 +1,5 @@
 -- Classes, their places, and their values.
-use Rattle.masking3.proofs.Common.{◌≡◌, ◌≢◌, ℕ, List, [], ◌++◌, refl, sym, ap, ◌∙◌, subst, append-nil, Decides-eqb, by_test, Class, Number, Ways, position, value_where, way_of, ◌==◌, if◌then◌else◌, get_or, slice_set, Option, None, Some, get_or-set_other, HoldsAt, HoldsValues, no_values, with_one}
+use Rattle.masking3.proofs.Common.{◌≡◌, ◌≢◌, ℕ, List, [], ◌++◌, refl, sym, ap, ◌∙◌, subst, append-nil, Decides-eqb, by_test, Class, Number, Ways, position, value_where, way_of, ◌==◌, if◌then◌else◌, get_or, Option, None, Some, HoldsAt, HoldsValues, with_one}
 use Rattle.masking3.specs.declared.class.Class.TheVariants.{Times, Stamps, Space, Ids, Fsids, Cookies, CookieVerifiers, CreateVerifiers, Owners, Wcc}
 
 -- ---- places

@@ -1,6 +1,6 @@
 -- Each shape of the protocol takes masked values: a word of a class takes any value, and chooses
 -- nothing.
-use Rattle.masking3.proofs.Common.{cond_either, ◌≡◌, ℕ, Bool, false, List, refl, ⊤, ◌||◌, IsTrue, bytes_eq, nat_eq, if◌then◌else◌, Option, None, Some, Item, Text, Layout, exactly, rest, after, HasParts, Part, fixed_part, opaque_part, ProcId, has_results, head_names, names, Side, Client, Server, Class, Spot, InCall, class_of_word, Shape, ◌then◌, choose, counted, hyper, linked, listed, nothing, both, sized, word, accept, auth_sys, call_head, credential, deny, gids, parameters, reply_head, verifier, arguments_of, is_mount, is_nfs, mount_results_of, nfs_arguments, nfs_results, results_of}
+use Rattle.masking3.proofs.Common.{cond_either, ◌≡◌, ℕ, Bool, false, List, refl, ⊤, ◌||◌, IsTrue, bytes_eq, nat_eq, if◌then◌else◌, Option, None, Some, Item, Text, Layout, exactly, rest, after, HasParts, Part, fixed_part, rest_part, opaque_part, ProcId, has_results, head_names, names, Side, Client, Server, Class, Spot, InCall, class_of_word, Shape, ◌then◌, choose, counted, hyper, linked, listed, nothing, both, sized, word, accept, auth_sys, call_head, credential, deny, gids, parameters, reply_head, verifier, arguments_of, is_mount, is_nfs, mount_results_of, nfs_arguments, nfs_results, results_of}
 use Rattle.xdr3.specs.Shape.{optional}
 use Rattle.nfs3_types.specs.Shapes.{attributes, dir_op, export, exports, file_kind, flavor, group, guard, handle, mount_list, mount_ok, mounted, post_op_attr, post_op_fh, results, set_hyper, set_word, settable, time, time_how, times, wcc, wcc_attr}
 use Rattle.procs3.specs.Shapes.{access_args, access_ok, commit_ok, create_args, create_how, create_ok, device, dirpath, entry, entry_plus, file_range, fsinfo_ok, fsstat_ok, link_args, link_wcc, lookup_ok, mkdir_args, mknod_args, mknod_what, mount_results, pathconf_ok, read_ok, readdir_args, readdir_ok, readdirplus_args, readdirplus_ok, readlink_ok, rename_args, rename_wcc, setattr_args, symlink_args, write_args, write_ok}
@@ -15,9 +15,10 @@ TakesWord (Some class) accepted next =
     ((n : ℕ) → IsTrue (accepted n)) × ((n : ℕ) → next n ≡ nothing)
 
 -- Eight bytes may have another length than masked ones, where they are not spelled, and so may a
--- text that is masked.
+-- text that is masked. The rest of a message is in no such part.
 abbrev pub KeepsSize : Part → Type 0
 KeepsSize (fixed_part name) = ⊥
+KeepsSize (rest_part name) = ⊥
 KeepsSize (opaque_part Text name max) =
     (bytes_eq name names.name ≡ false) × (bytes_eq name names.hostname ≡ false)
 KeepsSize _ = ⊤

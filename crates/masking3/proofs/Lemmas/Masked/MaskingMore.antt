@@ -65,7 +65,7 @@ values_with_names ways by a b s = record {
 pub same_but_more : (ways others : Ways) (a b : List Entry) → MasksAsMuch ways others
     → SameBut ways a b → SameBut others a b
 same_but_more ways others a b much s =
-    let absorbed = names_absorbed ways others much.1 much.2 in
+    let absorbed = names_absorbed ways others much.1 much.2 much.3 in
     values_more ways others (names_by others a) (names_by others b) much.0
     (rw (absorbed a, absorbed b) at (values_with_names ways others (names_by ways a)
     (names_by ways b) s))
@@ -75,11 +75,11 @@ same_but_more ways others a b much s =
 pub same_of_all_kept : (ways : Ways) → KeepsAll ways → (a b : List Entry) → SameBut ways a b
     → Same a b
 same_of_all_kept ways keeps a b s =
-    let kept = names_kept ways keeps.1 keeps.2 in
+    let kept = names_kept ways keeps.1 keeps.2 keeps.3 in
     same_of_kept ways keeps.0 a b (rw (kept a, kept b) at s)
 
 pub all_kept_of_same : (ways : Ways) → KeepsAll ways → (a b : List Entry) → Same a b
     → SameBut ways a b
 all_kept_of_same ways keeps a b s =
-    let kept = names_kept ways keeps.1 keeps.2 in
+    let kept = names_kept ways keeps.1 keeps.2 keeps.3 in
     rw (kept a, kept b) (kept_of_same ways keeps.0 a b s)

@@ -1,9 +1,9 @@
 -- Messages with masked texts are messages of the same procedures, and no longer.
 use Rattle.capture3.proofs.Lemmas.Container.BytesOf.{all_bytes, checked}
 use Rattle.canon3.proofs.Lemmas.WellFormed.Messages.{IsHeaded}
-use Rattle.masking3.proofs.Common.{◌≡◌, ℕ, zero, suc, ◌≤◌, List, [], ◌∷◌, ◌++◌, length, map, replicate, refl, sym, ap, ◌∙◌, arith, append-nil, length-append, ProcId, procedure_in, head_names, call_head, reply_head, arguments_of, xid_in, cond_either, Spot, InCall, InReply, Way, Keep, Ways, length-map, length-replicate, map-append, Shape, choose, opaque, nothing, both, linked, counted, sized, listed, Fits, HasParts, Part, parts_weaker, fixed_part, opaque_part, AreBytes-nil, all_mapped, FitsCall, FitsReply, call_next, headed_call_fits, headed_reply_fits, is_headed_call, is_headed_reply, reply_next, host_by, is_silly_name, silly_by, silly_zero, text_by, with_text, AllByRecursion, Item, Word, Text, AreBytes, Spells, SpellsItem, residue, zero_spelling, zero_spelling_of, Layout, exactly, rest, after, FitsLayout, number_of_word, word_in, IsEach, all_in_message, joined_mapped, length_of_opaque, links_mapped, zero_spelled_one}
+use Rattle.masking3.proofs.Common.{◌≡◌, ℕ, zero, suc, ◌≤◌, List, [], ◌∷◌, ◌++◌, length, map, replicate, refl, sym, ap, ◌∙◌, arith, append-nil, length-append, ProcId, procedure_in, head_names, call_head, reply_head, arguments_of, xid_in, cond_either, Spot, InCall, InReply, Way, Keep, Ways, length-map, length-replicate, map-append, Shape, choose, opaque, nothing, both, linked, counted, sized, listed, Fits, HasParts, Part, parts_weaker, fixed_part, opaque_part, rest_part, AreBytes-nil, all_mapped, FitsCall, FitsReply, call_next, headed_call_fits, headed_reply_fits, is_headed_call, is_headed_reply, reply_next, host_by, is_silly_name, silly_by, silly_zero, raw_by, text_by, with_text, AllByRecursion, Item, Word, Text, AreBytes, Spells, SpellsItem, residue, zero_spelling, zero_spelling_of, Layout, exactly, rest, after, FitsLayout, number_of_word, word_in, IsEach, all_in_message, joined_mapped, length_of_opaque, links_mapped, zero_spelled_one}
 use Rattle.masking3.proofs.Lemmas.Masked.MaskedShapes.{KeepsSize, RowTakesMasks, TakesMasks, arguments_take, call_head_takes, mtype_takes, reply_head_takes, reply_takes}
-use Rattle.masking3.proofs.Lemmas.Unnamed.TextsLemmas.{by_name, by_text, text_shorter}
+use Rattle.masking3.proofs.Lemmas.Unnamed.TextsLemmas.{by_name, by_text, raw_length, text_shorter}
 
 module _ (ways : Ways) where
   abbrev pub with_texts : List Item → List Item
@@ -16,6 +16,7 @@ module _ (ways : Ways) where
 
   each_stays : (part : Part) → KeepsSize part → IsEach Stays part
   each_stays (fixed_part name) h = absurd h
+  each_stays (rest_part name) h = absurd h
   each_stays (opaque_part Text name max) h = λ bytes le. rw (h.0, h.1) refl
   each_stays (opaque_part kind name max) h = λ bytes le. refl
   each_stays part h = λ n. refl
@@ -67,7 +68,7 @@ module _ (ways : Ways) where
   row_texts : (spot : Spot) (layout : Layout) (items : List Item) → RowTakesMasks spot layout
       → FitsLayout layout items → FitsLayout layout (with_texts items)
   row_texts spot (exactly s) items h p = fits_texts spot s items h p
-  row_texts spot (rest name) items h p = (p.0, ap with_texts p.1)
+  row_texts spot (rest name) items h p = (raw_by ways.raw p.0, ap with_texts p.1)
   row_texts spot (after s next) items h p = absurd h
 
   -- ---- words stay
@@ -75,7 +76,8 @@ module _ (ways : Ways) where
   words_stay : (l : List Item) (i : ℕ) → word_in (with_texts l) i ≡ word_in l i
   words_stay [] i = refl
   words_stay (x ∷ l) zero =
-      by_text ways (λ i j. number_of_word j ≡ number_of_word i) (λ i. refl) (λ name b. refl) x
+      by_text ways (λ i j. number_of_word j ≡ number_of_word i) (λ i. refl) (λ name b. refl)
+      (λ name b. refl) x
   words_stay (x ∷ l) (suc i) = words_stay l i
 
   pub xid_with_texts : (l : List Item) → xid_in (with_texts l) ≡ xid_in l
@@ -137,6 +139,10 @@ host_bytes : (way : Way) (b : List ℕ) → AreBytes b → AreBytes (host_by way
 host_bytes Keep b h = h
 host_bytes way b h = AreBytes-nil
 
+raw_bytes : (way : Way) (b : List ℕ) → AreBytes b → AreBytes (raw_by way b)
+raw_bytes Keep b h = h
+raw_bytes way b h = zeros_are_bytes (length b)
+
 module _ (ways : Ways) where
   item_spelled : (i : Item) (bytes : List ℕ) → SpellsItem i bytes
       → SpellsItem (with_text ways i) (zero_spelling_of (with_text ways i))
@@ -152,7 +158,7 @@ module _ (ways : Ways) where
         length-replicate {A = ℕ} n 0,
         zeros_are_bytes n,
         refl,
-      )) i (zero_spelled_one i bytes p)
+      )) (λ name b q. (raw_bytes ways.raw b q.0, refl)) i (zero_spelled_one i bytes p)
 
   pub spelled_with_texts : (l : List Item) (bytes : List ℕ) → Spells l bytes
       → Spells (with_texts ways l) (zero_spelling (with_texts ways l))
@@ -167,7 +173,8 @@ module _ (ways : Ways) where
   item_length i =
       by_text ways (λ i j. length (zero_spelling_of j) ≤ length (zero_spelling_of i))
       (λ i. omega arith)
-      (λ name b. omega (arith, text_shorter ways name b, length_of_opaque)) i
+      (λ name b. omega (arith, text_shorter ways name b, length_of_opaque))
+      (λ name b. omega (arith, raw_length ways.raw b)) i
 
   pub length_with_texts : (l : List Item)
       → length (zero_spelling (with_texts ways l)) ≤ length (zero_spelling l)

@@ -1,31 +1,37 @@
 -- Masked texts, apart from the values that are masked.
-use Rattle.masking3.proofs.Common.{◌≡◌, ℕ, ◌+◌, ◌≤◌, List, [], ◌∷◌, length, map, refl, sym, ap, ◌∙◌, arith, ◌==◌, bytes_eq, Option, None, Some, Decides-eqb, Item, Opaque, Text, residue, names, by_test, Class, Spot, Way, Keep, Ways, class_of, class_value, TellsNoMore, masked_item, masked_items, substitute, values_in, with_value, next_spot, emptied, less_by, text_size, and_parts, host_by, is_silly_name, silly_by, text_by, with_text, zero_name}
+use Rattle.masking3.proofs.Common.{◌≡◌, ℕ, ◌+◌, ◌≤◌, List, [], ◌∷◌, length, map, refl, sym, ap, ◌∙◌, arith, ◌==◌, bytes_eq, Option, None, Some, Decides-eqb, Item, Opaque, Text, residue, names, by_test, Class, Spot, Way, Keep, Ways, class_of, class_value, TellsNoMore, masked_item, masked_items, substitute, values_in, with_value, next_spot, emptied, less_by, text_size, and_parts, host_by, is_silly_name, silly_by, raw_by, text_by, with_text, zero_name, length-replicate, replicate, Rest}
 use Rattle.masking3.proofs.Lemmas.Classes.SpotLemmas.{still_after}
 
 -- ---- an item and its masked text
 
 module _ (ways : Ways) where
-  -- what is so of each item and itself, and of each text and the masked one
+  -- what is so of each item and itself, and of each text and each body and the masked one
   pub by_text : (P : Item → Item → Type 0) → ((i : Item) → P i i)
       → ((name bytes : List ℕ)
-      → P (Opaque Text name bytes) (Opaque Text name (text_by ways name bytes))) → (i : Item)
-      → P i (with_text ways i)
-  by_text P same text (Opaque Text name b) = text name b
-  by_text P same text i = same i
+      → P (Opaque Text name bytes) (Opaque Text name (text_by ways name bytes)))
+      → ((name bytes : List ℕ) → P (Rest name bytes) (Rest name (raw_by ways.raw bytes)))
+      → (i : Item) → P i (with_text ways i)
+  by_text P same text raw (Opaque Text name b) = text name b
+  by_text P same text raw (Rest name b) = raw name b
+  by_text P same text raw i = same i
 
   text_class : (spot : Spot) (i : Item) → class_of spot (with_text ways i) ≡ class_of spot i
   text_class spot i =
-      by_text (λ i j. class_of spot j ≡ class_of spot i) (λ i. refl) (λ name b. refl) i
+      by_text (λ i j. class_of spot j ≡ class_of spot i) (λ i. refl) (λ name b. refl)
+      (λ name b. refl) i
 
   text_value : (i : Item) → class_value (with_text ways i) ≡ class_value i
-  text_value i = by_text (λ i j. class_value j ≡ class_value i) (λ i. refl) (λ name b. refl) i
+  text_value i = by_text (λ i j. class_value j ≡ class_value i) (λ i. refl) (λ name b. refl) (λ name b. refl) i
 
   pub text_spot : (spot : Spot) (i : Item) → next_spot spot (with_text ways i) ≡ next_spot spot i
   text_spot spot i =
       by_text (λ i j. next_spot spot j ≡ next_spot spot i) (λ i. refl)
       (λ name b.
       still_after spot (Opaque Text name (text_by ways name b)) tt
-      ∙ sym (still_after spot (Opaque Text name b) tt)) i
+      ∙ sym (still_after spot (Opaque Text name b) tt))
+      (λ name b.
+      still_after spot (Rest name (raw_by ways.raw b)) tt
+      ∙ sym (still_after spot (Rest name b) tt)) i
 
   -- ---- values stay
 
@@ -41,6 +47,7 @@ module _ (ways : Ways) where
       → with_value (with_text ways i) o ≡ with_text ways (with_value i o)
   text_with i None = refl
   text_with (Opaque Text name b) (Some m) = refl
+  text_with (Rest name b) (Some m) = refl
   text_with i (Some m) = refl
 
   module _ (others : Ways) (seen : Class → List ℕ) where
@@ -72,6 +79,10 @@ silly_length way b = zero_length b
 host_length : (way : Way) (b : List ℕ) → length (host_by way b) ≤ length b
 host_length Keep b = omega arith
 host_length way b = omega arith
+
+pub raw_length : (way : Way) (b : List ℕ) → length (raw_by way b) ≡ length b
+raw_length Keep b = refl
+raw_length way b = length-replicate {A = ℕ} (length b) 0
 
 -- what is so of names of files, of names of hosts and of bytes that stay is so of each text's
 pub by_name : (name : List ℕ) (P : (Ways → List ℕ → List ℕ) → Type 0)
@@ -118,15 +129,22 @@ host_absorbed Keep v t b = refl
 host_absorbed w Keep t b = absurd t
 host_absorbed w v t b = refl
 
+raw_absorbed : (w v : Way) → TellsNoMore w v → (b : List ℕ) → raw_by v (raw_by w b) ≡ raw_by v b
+raw_absorbed Keep v t b = refl
+raw_absorbed w Keep t b = absurd t
+raw_absorbed w v t b = ap (λ n. replicate n 0) (length-replicate {A = ℕ} (length b) 0)
+
 module _ (ways others : Ways) (machines : TellsNoMore ways.machines others.machines)
-    (silly : TellsNoMore ways.silly_names others.silly_names) where
+    (silly : TellsNoMore ways.silly_names others.silly_names)
+    (raw : TellsNoMore ways.raw others.raw) where
   pub text_absorbed : (i : Item) → with_text others (with_text ways i) ≡ with_text others i
   text_absorbed i =
       by_text ways (λ i j. with_text others j ≡ with_text others i) (λ i. refl)
       (λ name b.
       ap (Opaque Text name) (by_name name (λ f. f others (f ways b) ≡ f others b)
       (silly_absorbed ways.silly_names others.silly_names silly b)
-      (host_absorbed ways.machines others.machines machines b) refl)) i
+      (host_absorbed ways.machines others.machines machines b) refl))
+      (λ name b. ap (Rest name) (raw_absorbed ways.raw others.raw raw b)) i
 
   pub texts_absorbed : (l : List Item)
       → map (with_text others) (map (with_text ways) l) ≡ map (with_text others) l
@@ -146,13 +164,15 @@ module _ (ways others : Ways) (first : (b : List ℕ) → host_by ways.machines 
 
 -- ---- texts that stay
 
-module _ (ways : Ways) (machines : ways.machines ≡ Keep) (silly : ways.silly_names ≡ Keep) where
+module _ (ways : Ways) (machines : ways.machines ≡ Keep) (silly : ways.silly_names ≡ Keep)
+    (raw : ways.raw ≡ Keep) where
   text_kept : (i : Item) → with_text ways i ≡ i
   text_kept i =
       by_text ways (λ i j. j ≡ i) (λ i. refl)
       (λ name b.
       ap (Opaque Text name)
-      (by_name name (λ f. f ways b ≡ b) (rw silly refl) (rw machines refl) refl)) i
+      (by_name name (λ f. f ways b ≡ b) (rw silly refl) (rw machines refl) refl))
+      (λ name b. rw raw refl) i
 
   pub texts_kept : (l : List Item) → map (with_text ways) l ≡ l
   texts_kept [] = refl

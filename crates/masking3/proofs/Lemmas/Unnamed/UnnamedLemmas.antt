@@ -151,7 +151,8 @@ after_again n l = refl
 -- ---- masking as much or more leaves nothing of masking before
 
 module _ (ways others : Ways) (machines : TellsNoMore ways.machines others.machines)
-    (silly : TellsNoMore ways.silly_names others.silly_names) where
+    (silly : TellsNoMore ways.silly_names others.silly_names)
+    (raw : TellsNoMore ways.raw others.raw) where
   abbrev before : Item → Item
   before = with_text ways
 
@@ -159,7 +160,7 @@ module _ (ways others : Ways) (machines : TellsNoMore ways.machines others.machi
   later = with_text others
 
   texts_later : (l : List Item) → map later (map before l) ≡ map later l
-  texts_later = texts_absorbed ways others machines silly
+  texts_later = texts_absorbed ways others machines silly raw
 
   after_later : ((b : List ℕ) → host_by ways.machines b ≡ [])
       → ((b : List ℕ) → host_by others.machines b ≡ []) → (n : ℕ) (l : List Item)
@@ -167,9 +168,9 @@ module _ (ways others : Ways) (machines : TellsNoMore ways.machines others.machi
       ≡ after_first n unnamed_credential (map later l)
   after_later first second zero (i ∷ j ∷ k ∷ l) =
       rw (same_size ways others first second k, texts_later l)
-      (simp (text_less others, text_emptied others, text_absorbed ways others machines silly))
+      (simp (text_less others, text_emptied others, text_absorbed ways others machines silly raw))
   after_later first second (suc n) (i ∷ l) =
-      rw (text_absorbed ways others machines silly i, after_later first second n l) refl
+      rw (text_absorbed ways others machines silly raw i, after_later first second n l) refl
   after_later first second n l = texts_later l
 
   call_later : (w v : Way) → ways.machines ≡ w → others.machines ≡ v → TellsNoMore w v
@@ -198,14 +199,16 @@ as_much way = tt
 pub names_again : (ways : Ways) (entries : List Entry)
     → names_by ways (names_by ways entries) ≡ names_by ways entries
 names_again ways entries =
-    names_absorbed ways ways (as_much ways.machines) (as_much ways.silly_names) entries
+    names_absorbed ways ways (as_much ways.machines) (as_much ways.silly_names) (as_much ways.raw)
+    entries
 
 -- ---- names that stay
 
-module _ (ways : Ways) (machines : ways.machines ≡ Keep) (silly : ways.silly_names ≡ Keep) where
+module _ (ways : Ways) (machines : ways.machines ≡ Keep) (silly : ways.silly_names ≡ Keep)
+    (raw : ways.raw ≡ Keep) where
   entry_kept : (e : Entry) → named_entry ways e ≡ e
-  entry_kept (Call items) = rw (texts_kept ways machines silly items, machines) refl
-  entry_kept (Reply id items) = rw (texts_kept ways machines silly items) refl
+  entry_kept (Call items) = rw (texts_kept ways machines silly raw items, machines) refl
+  entry_kept (Reply id items) = rw (texts_kept ways machines silly raw items) refl
   entry_kept e = refl
 
   pub names_kept : (entries : List Entry) → names_by ways entries ≡ entries

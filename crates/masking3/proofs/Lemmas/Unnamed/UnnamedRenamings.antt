@@ -1,5 +1,5 @@
 -- Captures that are renamed, or whose values change, do so with masked names as well.
-use Rattle.masking3.proofs.Common.{◌≡◌, ℕ, zero, suc, List, map, refl, ap, subst, bytes_eq, Option, None, Some, Item, Word, Opaque, Text, head_names, Entry, Pairs, by_test, Class, Spot, InCall, InReply, Way, Keep, Zero, Number, Ways, class_of, next_spot, with_text, after_first, emptied, less_by, named_by, named_entry, names_by, text_size, unnamed_credential, way_of, AreAlike, words, ChangesBy, ChangesOf, ChangesItem, ChangesItems, over, along, ChangesEntry, call, reply, IsPlain, RenamesItem, plain, Pairwise, none, more, RenamesMessage, message, Renames, ended, begins, calls, turns, replies, closes, ends, Same}
+use Rattle.masking3.proofs.Common.{◌≡◌, ℕ, zero, suc, List, map, refl, ap, subst, bytes_eq, Option, None, Some, Item, Word, Opaque, Rest, Text, head_names, Entry, Pairs, by_test, Class, Spot, InCall, InReply, Way, Keep, Zero, Number, Ways, class_of, next_spot, with_text, after_first, emptied, less_by, named_by, named_entry, names_by, text_size, unnamed_credential, way_of, AreAlike, words, ChangesBy, ChangesOf, ChangesItem, ChangesItems, over, along, ChangesEntry, call, reply, IsPlain, RenamesItem, plain, Pairwise, none, more, RenamesMessage, message, Renames, ended, begins, calls, turns, replies, closes, ends, Same}
 use Rattle.masking3.proofs.Lemmas.Unnamed.TextsLemmas.{by_text, text_spot}
 use Rattle.masking3.proofs.Lemmas.Unnamed.UnnamedLemmas.{IsNoLength, any_way, free_length, less_stays}
 
@@ -46,7 +46,8 @@ module _ {ps vs : Pairs (List ℕ)} where
         → RenamesItem ps vs (with_text by i) (with_text by j)
     text_renamed i j (plain item p) =
         plain (with_text by item)
-        (by_text by (λ i j. IsPlain i → IsPlain j) (λ i p. p) (λ name b p. tt) item p)
+        (by_text by (λ i j. IsPlain i → IsPlain j) (λ i p. p) (λ name b p. tt) (λ name b p. tt) item
+        p)
     text_renamed i j r = r
 
     texts_renamed : {l m : List Item} → Pairwise (RenamesItem ps vs) l m
@@ -151,6 +152,7 @@ module _ (ways : Ways) (pairs : Class → Pairs ℕ) where
     text_changed : (spot : Spot) (i j : Item) → ChangesItem ways pairs spot i j
         → ChangesItem ways pairs spot (with_text by i) (with_text by j)
     text_changed spot (Opaque Text name b) j h = ap (with_text by) h
+    text_changed spot (Rest name b) j h = ap (with_text by) h
     text_changed spot i j h =
         stays_changed (with_text by) (λ i. with_text by i ≡ i) (λ i e. e) (text_alike by) spot i j
         refl h

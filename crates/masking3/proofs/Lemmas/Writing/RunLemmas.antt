@@ -1,5 +1,6 @@
 -- A run of attributes that is put together before it is written.
-use Rattle.masking3.proofs.Common.{◌≡◌, ℕ, ◌+◌, ◌≤◌, List, [], ◌∷◌, ◌++◌, refl, sym, ap, ◌∙◌, subst, append_assoc, append-nil, arith, flat_map-append, length, Item, Rest, zero_spelling, zero_spelling_of, Ways, Adds, MaskStands}
+use Rattle.masking3.proofs.Common.{zero, suc, replicate, ◌≡◌, ℕ, ◌+◌, ◌≤◌, List, [], ◌∷◌, ◌++◌, refl, sym, ap, ◌∙◌, subst, append_assoc, append-nil, arith, flat_map-append, length, Item, Rest, zero_spelling, zero_spelling_of, Ways, Adds, MaskStands, true}
+use Rattle.xdr3.specs.Visit.{AddsSome}
 use Rattle.std.specs.Prelude.{take}
 use Rattle.masking3.specs.declared.masking_writer.MaskingWriter.{MaskingWriter}
 use Rattle.masking3.specs.machinery.KnownFields.{with_run}
@@ -29,6 +30,49 @@ appends : (old new : List ℕ) (items : List Item) → Adds Spells old new items
     → new ≡ old ++ zero_spelling items
 unfolding Adds
 appends old new items adds = adds (Rest [] old ∷ []) (sym (append-nil old))
+
+-- what the rest of a message appends
+pub appends_rest : (old new name bytes : List ℕ) → Adds Spells old new (Rest name bytes ∷ [])
+    → new ≡ old ++ bytes
+appends_rest old new name bytes adds =
+    appends old new (Rest name bytes ∷ []) adds
+    ∙ ap (λ (l : List ℕ). old ++ l) (append-nil bytes)
+
+-- a writer that appended the spelling of an item has added it
+pub spelled_item : (old new : List ℕ) (i : Item) → new ≡ old ++ zero_spelling_of i
+    → Adds Spells old new (i ∷ [])
+unfolding Adds
+spelled_item old new i is before was =
+    is ∙ ap (λ (l : List ℕ). l ++ zero_spelling_of i) was
+    ∙ sym (flat_map-append zero_spelling_of before (i ∷ [])
+    ∙ ap (λ (l : List ℕ). zero_spelling before ++ l) (append-nil (zero_spelling_of i)))
+
+-- a writer that has failed stands for anything
+pub fails_some : {P S H : Type 0} (ways : Ways) (old new : MaskingWriter P S H) (items : List Item)
+    → new.failed ≡ true → AddsSome (MaskStands ways) old new items
+unfolding AddsSome
+fails_some ways old new items failed = λ before stands. ([], items, refl, λ going. absurd (cc))
+
+-- ---- zeros
+
+abbrev pub zeros : ℕ → List ℕ
+zeros n = replicate n 0
+
+-- some zeros, and those that are left
+pub zeros_joined : (a b : ℕ) → zeros a ++ zeros b ≡ zeros (a + b)
+zeros_joined zero b =
+    let all : b ≡ 0 + b = omega arith in ap zeros all
+zeros_joined (suc a) b =
+    let all : suc (a + b) ≡ suc a + b = omega arith in
+    ap (λ (l : List ℕ). 0 ∷ l) (zeros_joined a b) ∙ ap zeros all
+
+pub some_zeros : (m n : ℕ) → n ≤ m → take n (zeros m) ≡ zeros n
+some_zeros m zero low = refl
+some_zeros zero (suc n) low = absurd (omega (arith, low))
+some_zeros (suc m) (suc n) low =
+    ap (λ (l : List ℕ). 0 ∷ l) (some_zeros m n (omega (arith, low)))
+
+-- ---- attributes
 
 -- the run is written
 pub run_written : {P S H : Type 0} (ways : Ways) (old w : MaskingWriter P S H)

@@ -1,14 +1,9 @@
-use Rattle.masking3.proofs.Common.{refl, on_err_weaker, on_ok_weaker, Rest}
-use Rattle.masking3.proofs.Lemmas.Writing.WriterLemmas.{adds_plain, keeps_spelled}
+use Rattle.masking3.proofs.Common.{[], ◌∷◌, Rest, Adds, settled, MaskStands}
 use Rattle.masking3.proofs.masking_writer.MaskingWriterVisit.rest.Goals as goal
 
 pub returns-clause-ok : goal.returns-clause-ok
 returns-clause-ok g c =
-    on_ok_weaker c.rest.result
-    (adds_plain g.P.Plan.ways c.args.self.now c.rest.new.self
-    (Rest c.args.name.now c.args.bytes.now) tt (λ spot. refl) refl) c.rest.ensures.ok
-
-pub returns-clause-err : goal.returns-clause-err
-returns-clause-err g c =
-    on_err_weaker c.rest.result (keeps_spelled g.P.Plan.ways c.args.self.now c.rest.new.self)
-    c.rest.ensures.err
+    settled (λ n.
+    Adds (MaskStands g.P.Plan.ways) c.args.self.now n (Rest c.args.name.now c.args.bytes.now ∷ []))
+    _ _ _ _ c.fail_for_good.ensures.result c.fail_for_good.ensures.ok
+    c.write_rest-written.ensures.ok

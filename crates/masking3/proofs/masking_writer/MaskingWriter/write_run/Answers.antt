@@ -1,0 +1,28 @@
+use Rattle.masking3.proofs.Common.{◌∙◌, refl, on_ok_weaker}
+use Rattle.xdr3.specs.Plain.{run_items}
+use Rattle.masking3.proofs.Lemmas.Classes.KnownFieldLemmas.{attributes_named, attributes_size, kept_run}
+use Rattle.masking3.proofs.Lemmas.Writing.WriterLemmas.{adds_kept}
+use Rattle.masking3.proofs.masking_writer.MaskingWriter.write_run.Goals as goal
+
+pub returns-then-are_kept : goal.returns-then-are_kept
+returns-then-are_kept g c =
+    record {
+      ok =
+          on_ok_weaker c.plain.result
+          (adds_kept g.P.Plan.ways c.args.self.now c.plain.new.self
+          (run_items c.args.fields.now c.args.bytes.now)
+          (kept_run c.args.self.now.classes.ways.owners c.args.fields.now c.args.bytes.now
+          (c.if-are_kept.ensures refl))) c.plain.ensures.ok;
+    }
+
+pub write_attributes-requires-clause-size : goal.write_attributes-requires-clause-size
+write_attributes-requires-clause-size g c =
+    c.requires ∙ attributes_size c.args.fields.now (c.if-are_attributes.ensures refl)
+
+pub returns-in-Some : goal.returns-in-Some
+returns-in-Some g c =
+    record {
+      ok =
+          rw (attributes_named c.args.fields.now c.args.bytes.now
+          (c.if-are_attributes.ensures refl)) c.write_attributes.ensures;
+    }
