@@ -25,7 +25,7 @@ use crate::entries::entry_counts::EntryCounts;
 use crate::entries::entry_writer::{CountingWriter, EntryWriter, write_entries};
 use crate::sink::Sink;
 use crate::summary::Summary;
-use capture3::{LentEntry, Error, Hashers, Source};
+use capture3::{Error, Hashers, LentEntry, Source};
 use std::alloc::Global;
 use std::hash::BuildHasher;
 

@@ -21,7 +21,7 @@ use crate::canonical_form::spelling::{are_alike, spelling_of_entry};
 use crate::comparison::verdict::{SameError, Verdict, Which, out_of_memory_in};
 use crate::entries::entry_kind::kind_of;
 use crate::entries::progress::Progress;
-use capture3::{Entries, LentEntry, Error, Fault, Hashers, Place, Silent, Source, new_block};
+use capture3::{Entries, Error, Fault, Hashers, LentEntry, Place, Silent, Source, new_block};
 use std::alloc::Global;
 use std::hash::BuildHasher;
 

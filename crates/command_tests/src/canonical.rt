@@ -172,12 +172,7 @@ fn due_within(read: usize) -> usize {
 }
 
 /// Returns the answer, and checks that so many bytes of the form were written.
-fn assert_written(
-    rt: &HostRuntime,
-    block: usize,
-    failing: (u64, u64),
-    wanted: (Error, usize),
-) {
+fn assert_written(rt: &HostRuntime, block: usize, failing: (u64, u64), wanted: (Error, usize)) {
     let (read, write) = failing;
     let mut sink = ok(rt, MemSink::new(rt.alloc(), 999, 1, write));
     let mut source = MemSource::new(&NULL, block, read);

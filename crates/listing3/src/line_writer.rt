@@ -25,7 +25,7 @@ use crate::items_text::{ItemsText, encoded_size};
 use crate::line_text::LineText;
 use byteorder::{BigEndian, ByteOrder};
 use canon3::{CountingWriter, EntryCounts, EntryWriter, HandleTable, Sink, kind_of, write_both};
-use capture3::{LentEntry, Error, Kind};
+use capture3::{Error, Kind, LentEntry};
 use procs3::proc_name;
 use rpc_head::ProcId;
 use std::alloc::{AllocError, Global};

@@ -14,7 +14,7 @@ use crate::ways::Ways;
 use canon3::{
     CountingWriter, EntryCounts, EntryWriter, Sink, Summary, kind_of, write_entries, write_magic,
 };
-use capture3::{LentEntry, Error, Source};
+use capture3::{Error, LentEntry, Source};
 use std::alloc::Global;
 use std::hash::BuildHasher;
 use std::marker::Brand;

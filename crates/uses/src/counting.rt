@@ -53,10 +53,7 @@ fn is_call(entry: EntryRef<'_>, procedure: ProcId) -> bool
 {
     match entry {
         EntryRef::Call(call) => call.head.id == procedure,
-        EntryRef::Begin
-        | EntryRef::Turn
-        | EntryRef::Reply(_)
-        | EntryRef::Close
-        | EntryRef::End => false,
+        EntryRef::Begin | EntryRef::Turn | EntryRef::Reply(_) | EntryRef::Close | EntryRef::End =>
+            false,
     }
 }

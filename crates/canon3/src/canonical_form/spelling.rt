@@ -10,7 +10,7 @@ ghost use Rattle.capture3.specs.Entry.{items_of};
 
 use crate::canonical_form::message_writer::{MessageWriter, after_xid};
 use crate::comparison::verdict::{SameError, Which, out_of_memory_in};
-use capture3::{LentEntry, Error};
+use capture3::{Error, LentEntry};
 use std::alloc::AllocError;
 use std::hash::BuildHasher;
 

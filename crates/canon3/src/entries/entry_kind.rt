@@ -3,7 +3,7 @@
 ghost use Rattle.std.specs.Prelude.{◌≡◌};
 ghost use Rattle.capture3.specs.Kept.{kind_of};
 
-use capture3::{LentEntry, Kind};
+use capture3::{Kind, LentEntry};
 
 /// Returns the kind of a borrowed entry, with the procedure if it is a message.
 pub fn kind_of(entry: LentEntry<'_>) -> Kind

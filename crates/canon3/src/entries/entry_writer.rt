@@ -21,7 +21,7 @@ use crate::entries::entry_counts::EntryCounts;
 use crate::entries::entry_kind::kind_of;
 use crate::sink::Sink;
 use crate::summary::{MessageCounts, Summary};
-use capture3::{Entries, LentEntry, Error, Source, new_block};
+use capture3::{Entries, Error, LentEntry, Source, new_block};
 use std::alloc::Global;
 use std::hash::BuildHasher;
 use xdr3::Visit;

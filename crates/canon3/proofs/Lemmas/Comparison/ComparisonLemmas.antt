@@ -1,5 +1,5 @@
 -- A comparison of two captures, entry by entry.
-use Rattle.canon3.proofs.Common.{◌≡◌, ◌≢◌, ℕ, List, [], ◌∷◌, ◌++◌, append-nil, append_assoc, Option, None, Some, Result, Ok, Err, refl, sym, ap, ◌∙◌, subst, Gave, Told, gave_on, gave_none, IsPrefixOf, shown_of_all, Item, Adds, Entries, Error, Place, Entry, items_of, Typed, MessageWriter, Kind, AreFirst, Before, told_after, WriterStands, values_of, Same, IsOfKind, HasPassed, place_from, side_in, IsMetBy, source_of, StandsFor, Progress, SameError, bytes_after, HasSpelled, spelling_of}
+use Rattle.canon3.proofs.Common.{◌≡◌, ◌≢◌, ℕ, List, [], ◌∷◌, ◌++◌, append-nil, append_assoc, Option, None, Some, Result, Ok, Err, refl, sym, ap, ◌∙◌, subst, Gave, Told, gave_on, gave_none, IsPrefixOf, shown_of_all, Item, Adds, Entries, Error, Place, Entry, Typed, MessageWriter, AreFirst, Before, told_after, WriterStands, values_of, Same, HasPassed, place_from, side_in, IsMetBy, source_of, StandsFor, Progress, SameError, bytes_after, HasSpelled, spelling_of}
 use Rattle.std.specs.Option.{is_some, IsSomeAnd, MatchOption}
 use Rattle.std.specs.declared.hash.BuildHasher as BuildHasher
 use Rattle.std.specs.declared.hash.Hasher as Hasher

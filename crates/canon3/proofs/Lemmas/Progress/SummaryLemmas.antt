@@ -1,10 +1,9 @@
 -- From what was handed out to what a capture has.
-use Rattle.std.proofs.Common.{◌≡◌, ◌≤◌, ℕ, ◌+◌, Bool, cond, min, Result, Ok, Err, List, [], ◌∷◌, ◌++◌, count_by, length, refl, append-nil, arith}
+use Rattle.std.proofs.Common.{◌≡◌, ℕ, ◌+◌, Bool, cond, min, Result, Ok, Err, List, [], ◌∷◌, ◌++◌, count_by, length, refl, append-nil, arith}
 use Rattle.canon3.proofs.Common.{bytes_eq, Gave, Told, gave_none, IsPrefixOf, shown_of_all, flat_map-append, Error, Entry, Begin, items_of, Typed, Kind, distinct, number_limit, connections, HasPassed, IsOfKind, handles, reached_by_machine, EntryCounts, Summary}
 use Rattle.std.specs.Cmp.Lexicographic.{nat_list_eq_equiv}
 use Rattle.std.proofs.lemmas.List.Sums.{sum_by-append, sum_by-cons}
 use Rattle.capture3.specs.declared.fault.Error.TheVariants as errors
-use Rattle.capture3.specs.declared.reader.entry.Kind.TheVariants as kinds
 use Rattle.canon3.specs.EntryCounts.{AreCounted}
 use Rattle.canon3.specs.machinery.CountedKinds.{calls, replies}
 use Rattle.canon3.specs.Summary.{ConcludesAll, ConcludesGiven, is_begin, is_call, is_reply}

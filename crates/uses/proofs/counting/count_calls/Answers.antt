@@ -1,4 +1,4 @@
-use Rattle.uses.proofs.Common.{ap, IsSome, ℕ, refl, sym, arith, subst, ◌∙◌, error_is}
+use Rattle.uses.proofs.Common.{ap, ℕ, refl, sym, arith, ◌∙◌, error_is}
 use Rattle.uses.proofs.CountingLemmas.{none_counted, one_counted}
 use Rattle.uses.proofs.Reading.{all_returned, going_on, handed, none_is, one_more, refused_read}
 use Rattle.uses.proofs.counting.count_calls.Goals as goal

@@ -1,4 +1,4 @@
-use Rattle.uses.proofs.Common.{◌∙◌, ℕ, [], ap, refl, Adds, error_is}
+use Rattle.uses.proofs.Common.{◌∙◌, ℕ, [], ap, Adds, error_is}
 use Rattle.uses.proofs.Reading.{all_returned, none_is, one_more, refused}
 use Rattle.uses.proofs.summing.bytes_to_write.Goals as goal
 

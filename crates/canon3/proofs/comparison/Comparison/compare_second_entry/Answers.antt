@@ -27,8 +27,8 @@ returns-in-Ok-None-clause-meets g c first now start a b e of order so_far h =
 pub returns-in-Err-clause-meets : goal.returns-in-Err-clause-meets
 returns-in-Err-clause-meets g c first now start a b e of order so_far h =
     let met =
-        rw c.in-Err.is at
-        (hands _ _ start _ _ _ _ b h _ (c.visit.follows.holds-at-none.answers h.given b h.stands))
+    rw c.in-Err.is at
+    (hands _ _ start _ _ _ _ b h _ (c.visit.follows.holds-at-none.answers h.given b h.stands))
     in
     rw c.refused.ensures
     (refused_meets g.B.Source.told first now start c.visit.follows.lender-at-none

@@ -35,9 +35,9 @@ returns-in-Ok-None-clause-steps g c start other_start u =
 pub returns-in-Err-clause-steps : goal.returns-in-Err-clause-steps
 returns-in-Err-clause-steps g c start other_start u =
     let met =
-        rw c.in-Err.is at
-        (hands _ _ start _ _ _ _ u.a u.first_given _
-        (c.visit.follows.holds-at-none.answers u.first_given.given u.a u.first_given.stands))
+    rw c.in-Err.is at
+    (hands _ _ start _ _ _ _ u.a u.first_given _
+    (c.visit.follows.holds-at-none.answers u.first_given.given u.a u.first_given.stands))
     in
     first_stops start (g.A.Source.told (source_of c.visit.follows.lender-at-none)) other_start
     (g.B.Source.told (source_of c.args.second.now)) c.in-Err.error met

@@ -18,7 +18,7 @@ unfolding Adds
 returns-in-Some-clause-goes_on g c first u =
     let a = c.visit.follows.holds-at-none.answers u.given u.handed u.stands in
     let (one, ((is, numbered), adds), reached, stands) =
-        rw (c.in_ok-entry.was, c.in-Some.is) at a.hands_out in
+    rw (c.in_ok-entry.was, c.in-Some.is) at a.hands_out in
     record {
       given = u.given ++ a.more;
       handed = u.handed ++ one ∷ [];
