@@ -133,7 +133,8 @@ fn of_streams<'a>(
     ensures asked { let names = map string_bytes streams.now in (line : List (List ℕ))
         → IsLine line (command.now ∷ string_bytes output.now ∷ names) → IfOk result (Asks line) }
     ensures refused { let names = map string_bytes streams.now in (line : List (List ℕ))
-        → IsLine line (command.now ∷ string_bytes output.now ∷ names) → IfErr result (AreRefused line) }
+        → IsLine line (command.now ∷ string_bytes output.now ∷ names)
+        → IfErr result (AreRefused line) }
 {
     if command == "pack" {
         packing(output, streams)
@@ -146,7 +147,8 @@ fn rewriting<'a>(input: &'a str, output: &'a str) -> Result<Job<'a>, LineFault>
     ensures asked { (line : List (List ℕ))
         → IsLine line (codes "canon" ∷ input.now ∷ output.now ∷ []) → IfOk result (Asks line) }
     ensures refused { (line : List (List ℕ))
-        → IsLine line (codes "canon" ∷ input.now ∷ output.now ∷ []) → IfErr result (AreRefused line) }
+        → IsLine line (codes "canon" ∷ input.now ∷ output.now ∷ [])
+        → IfErr result (AreRefused line) }
 {
     if input == output {
         Err(LineFault::SameName)
@@ -160,7 +162,8 @@ fn packing<'a>(output: &'a String, streams: &'a [String]) -> Result<Job<'a>, Lin
     ensures asked { let names = map string_bytes streams.now in (line : List (List ℕ))
         → IsLine line (codes "pack" ∷ string_bytes output.now ∷ names) → IfOk result (Asks line) }
     ensures refused { let names = map string_bytes streams.now in (line : List (List ℕ))
-        → IsLine line (codes "pack" ∷ string_bytes output.now ∷ names) → IfErr result (AreRefused line) }
+        → IsLine line (codes "pack" ∷ string_bytes output.now ∷ names)
+        → IfErr result (AreRefused line) }
 {
     if streams.len() % 2 != 0 {
         Err(LineFault::Odd)

@@ -74,7 +74,8 @@ fn of_two_files<'a>(
     ensures asked { let said = map string_bytes changes.now in (line : List (List ℕ))
         → IsMaskLine line (input.now ∷ output.now ∷ said) → IfOk result (AsksForMask line) }
     ensures refused { let said = map string_bytes changes.now in (line : List (List ℕ))
-        → IsMaskLine line (input.now ∷ output.now ∷ said) → IfErr result (AreMaskWordsRefused line) }
+        → IsMaskLine line (input.now ∷ output.now ∷ said)
+        → IfErr result (AreMaskWordsRefused line) }
 {
     match changed(changes) {
         Ok(_) if input == output => Err(LineFault::SameName),
