@@ -4,7 +4,7 @@ use crate::asserts::{assert_same, ok};
 use crate::samples::{NULL, NUMBERED_NULL, commits, hashers};
 use canon3::{MemSink, Numbers, Sink, Summary, ToWrite, canon, write_all, write_both};
 use capture3::{DeviceFailed, Error, Fault, MemSource, Place};
-use std::alloc::AllocError;
+use std::alloc::{AllocError, Global};
 use std::hash::{BuildHasherDefault, FoldHasher, Hash};
 use std::process::Abort;
 use xdr3::Reason;
@@ -171,12 +171,19 @@ fn due_within(read: usize) -> usize {
     due
 }
 
-/// Returns the answer, and checks that so many bytes of the form were written.
-fn assert_written(rt: &HostRuntime, block: usize, failing: (u64, u64), wanted: (Error, usize)) {
+/// Has a command work in blocks of this size, where a read or a write with this number fails, and
+/// checks its answer and how many bytes of the form were written.
+fn assert_written(
+    rt: &impl Abort,
+    alloc: Global,
+    block: usize,
+    failing: (u64, u64),
+    wanted: (Error, usize),
+) {
     let (read, write) = failing;
-    let mut sink = ok(rt, MemSink::new(rt.alloc(), 999, 1, write));
+    let mut sink = ok(rt, MemSink::new(alloc, 999, 1, write));
     let mut source = MemSource::new(&NULL, block, read);
-    let answer = canon(rt.alloc(), hashers(), &mut source, &mut sink);
+    let answer = canon(alloc, hashers(), &mut source, &mut sink);
     assert_same!(rt; (failing, answer), (failing, Err(wanted.0)));
     assert_same!(rt; (failing, sink.bytes()), (failing, &NUMBERED_NULL[..wanted.1.min(104)]));
 }
@@ -185,15 +192,21 @@ fn assert_written(rt: &HostRuntime, block: usize, failing: (u64, u64), wanted: (
 fn each_read_of_a_byte_fails(rt: HostRuntime) {
     for fail in 1..106usize {
         let due = due_within(fail - 1);
-        assert_written(&rt, 1, (fail as u64, 0), (Error::Read, due));
+        assert_written(&rt, rt.alloc(), 1, (fail as u64, 0), (Error::Read, due));
     }
-    assert_written(&rt, 64, (2, 0), (Error::Read, 64));
+    assert_written(&rt, rt.alloc(), 64, (2, 0), (Error::Read, 64));
 }
 
 /// The 105th call is the flush.
 #[test]
 fn each_write_of_a_byte_fails(rt: HostRuntime) {
     for fail in 1..106usize {
-        assert_written(&rt, 1, (0, fail as u64), (Error::Write, fail - 1));
+        assert_written(
+            &rt,
+            rt.alloc(),
+            1,
+            (0, fail as u64),
+            (Error::Write, fail - 1),
+        );
     }
 }

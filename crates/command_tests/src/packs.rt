@@ -3,6 +3,7 @@
 ghost use Rattle.std.specs.Prelude.{◌<◌, false, None};
 
 use crate::asserts::{assert_holds, assert_same, ok, some};
+use crate::samples::NULL;
 use canon3::{MemSink, Sink};
 use capture3::{DeviceFailed, Error, Fault, MemSource, Place, Source};
 use packing3::Packing;
@@ -18,15 +19,6 @@ const CALL: [u8; 44] = [
 
 const REPLY: [u8; 28] = [
     0x80, 0, 0, 0x18, 0xde, 0xad, 0xbe, 0xef, 0, 0, 0, 1, 0, 0, 0, 0, 0, 0, 0, 0, 0, 0, 0, 0, 0, 0,
-    0, 0,
-];
-
-// Their capture.
-const NULL: [u8; 104] = [
-    0x4e, 0x46, 0x53, 0x33, 0x43, 0x41, 0x50, 0x31, 0, 0, 0, 1, 0, 0, 0, 0x2c, 0x80, 0, 0, 0x28,
-    0xde, 0xad, 0xbe, 0xef, 0, 0, 0, 0, 0, 0, 0, 2, 0, 1, 0x86, 0xa3, 0, 0, 0, 3, 0, 0, 0, 0, 0, 0,
-    0, 0, 0, 0, 0, 0, 0, 0, 0, 0, 0, 0, 0, 0, 0, 0, 0, 0, 0, 0, 0, 0x1c, 0x80, 0, 0, 0x18, 0xde,
-    0xad, 0xbe, 0xef, 0, 0, 0, 1, 0, 0, 0, 0, 0, 0, 0, 0, 0, 0, 0, 0, 0, 0, 0, 0, 0, 0, 0, 0, 0, 0,
     0, 0,
 ];
 

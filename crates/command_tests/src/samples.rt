@@ -5,22 +5,21 @@ use std::alloc::{AllocError, Global};
 use std::hash::{BuildHasherDefault, FoldHasher};
 
 /// A call of the NULL procedure of NFS version 3 and its reply, in one chunk and one fragment each.
-pub(crate) const NULL: [u8; 104] = null_of([0xde, 0xad, 0xbe, 0xef]);
+pub(crate) const NULL: [u8; 104] = [
+    0x4e, 0x46, 0x53, 0x33, 0x43, 0x41, 0x50, 0x31, 0, 0, 0, 1, 0, 0, 0, 0x2c, 0x80, 0, 0, 0x28,
+    0xde, 0xad, 0xbe, 0xef, 0, 0, 0, 0, 0, 0, 0, 2, 0, 1, 0x86, 0xa3, 0, 0, 0, 3, 0, 0, 0, 0, 0, 0,
+    0, 0, 0, 0, 0, 0, 0, 0, 0, 0, 0, 0, 0, 0, 0, 0, 0, 0, 0, 0, 0, 0x1c, 0x80, 0, 0, 0x18, 0xde,
+    0xad, 0xbe, 0xef, 0, 0, 0, 1, 0, 0, 0, 0, 0, 0, 0, 0, 0, 0, 0, 0, 0, 0, 0, 0, 0, 0, 0, 0, 0, 0,
+    0, 0,
+];
 
 /// Its canonical form: the xid is its number.
-pub(crate) const NUMBERED_NULL: [u8; 104] = null_of([0, 0, 0, 1]);
-
-/// That capture with this xid.
-const fn null_of(xid: [u8; 4]) -> [u8; 104] {
-    let [a, b, c, d] = xid;
-    [
-        0x4e, 0x46, 0x53, 0x33, 0x43, 0x41, 0x50, 0x31, 0, 0, 0, 1, 0, 0, 0, 0x2c, 0x80, 0, 0,
-        0x28, a, b, c, d, 0, 0, 0, 0, 0, 0, 0, 2, 0, 1, 0x86, 0xa3, 0, 0, 0, 3, 0, 0, 0, 0, 0, 0,
-        0, 0, 0, 0, 0, 0, 0, 0, 0, 0, 0, 0, 0, 0, 0, 0, 0, 0, 0, 0, 0, 0x1c, 0x80, 0, 0, 0x18, a,
-        b, c, d, 0, 0, 0, 1, 0, 0, 0, 0, 0, 0, 0, 0, 0, 0, 0, 0, 0, 0, 0, 0, 0, 0, 0, 0, 0, 0, 0,
-        0,
-    ]
-}
+pub(crate) const NUMBERED_NULL: [u8; 104] = [
+    0x4e, 0x46, 0x53, 0x33, 0x43, 0x41, 0x50, 0x31, 0, 0, 0, 1, 0, 0, 0, 0x2c, 0x80, 0, 0, 0x28, 0,
+    0, 0, 1, 0, 0, 0, 0, 0, 0, 0, 2, 0, 1, 0x86, 0xa3, 0, 0, 0, 3, 0, 0, 0, 0, 0, 0, 0, 0, 0, 0, 0,
+    0, 0, 0, 0, 0, 0, 0, 0, 0, 0, 0, 0, 0, 0, 0, 0, 0x1c, 0x80, 0, 0, 0x18, 0, 0, 0, 1, 0, 0, 0, 1,
+    0, 0, 0, 0, 0, 0, 0, 0, 0, 0, 0, 0, 0, 0, 0, 0, 0, 0, 0, 0, 0, 0, 0, 0,
+];
 
 /// A COMMIT call and its reply, from its xid, its file handle after its length, and its verifier.
 pub(crate) fn commit(

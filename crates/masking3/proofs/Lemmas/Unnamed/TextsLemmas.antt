@@ -21,7 +21,9 @@ module _ (ways : Ways) where
       (λ name b. refl) i
 
   text_value : (i : Item) → class_value (with_text ways i) ≡ class_value i
-  text_value i = by_text (λ i j. class_value j ≡ class_value i) (λ i. refl) (λ name b. refl) (λ name b. refl) i
+  text_value i =
+      by_text (λ i j. class_value j ≡ class_value i) (λ i. refl) (λ name b. refl)
+      (λ name b. refl) i
 
   pub text_spot : (spot : Spot) (i : Item) → next_spot spot (with_text ways i) ≡ next_spot spot i
   text_spot spot i =
