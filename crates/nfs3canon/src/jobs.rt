@@ -1,6 +1,6 @@
 //! What a command line asks for, over any files, hashers and standard output.
 
-ghost use Rattle.std.specs.Prelude.{◌≡◌, ◌⊎◌, ℕ, List, is_none, true, Some, Err, map, string_bytes};
+ghost use Rattle.std.specs.Prelude.{◌≡◌, ◌⊎◌, ℕ, false, List, is_none, true, Some, Err, map, string_bytes};
 ghost use Rattle.capture3.specs.declared.fault.Error.TheVariants as errors;
 ghost use Rattle.canon3.specs.CanonicalForm.{canonical_bytes};
 ghost use Rattle.canon3.specs.Summary.{IsSummary};
