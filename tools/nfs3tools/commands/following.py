@@ -28,7 +28,7 @@ from ..recordings.records import Window, end_of_whole, xids
 from ..recordings.segments import ACK, RST, Segment, Segments
 from ..recordings.selection import Kept, Options, Selected, select
 from ..recordings.streams import Connection, Connections, Spool, Stored, Stream
-from ..recordings.taken import (NotTaken, Taken, TakenStream, left_out_of, notes_of, ports_of, remarks_of, taken_connection,
+from ..recordings.taken import (NotTaken, Taken, TakenStream, left_out_of, nothing_in, notes_of, ports_of, remarks_of, taken_connection,
                                 whole)
 from ..recordings.unpacking import Damaged
 
@@ -490,4 +490,4 @@ def take_all(following: Following, growing: Growing) -> None:
     if recording.damage:
         following.say(error_of(following.recording, recording.damage))
     elif not following.taken:
-        following.say(error_of(following.recording, 'no connection to judge'))
+        following.say(error_of(following.recording, nothing_in(following.segments)))

@@ -35,6 +35,7 @@ from .streams import Brought, Connection, Connections, Frames, Spool, Stored
 from .unpacking import READ_AT_ONCE, Damaged, Readable
 
 FRAMES_A_STEP = 1_000
+TUNNEL = '*'  # ends the name of frames that may have segments of TCP in them
 NOTHING, NOTHING_MORE = Brought(0, 0, 0), Brought(sys.maxsize, 0, 0)
 __all__ = ['FrameRef', 'LeftOut', 'NotTaken', 'Options', 'Record', 'Taken', 'TakenConnection', 'TakenStream', 'take']
 
@@ -210,6 +211,7 @@ class Taken:
     remarks: what else is not judged, though no connection stands for it
     notes: what is told of the whole recording or capture, a sentence each, without these
     damage: why what follows could not be read, or None; a recording that ends in the middle of a frame is not damaged
+    nothing: what is said if there is no connection
     is_recording: False if read from a capture
     has_frames: whether the frames of bytes are noted
     parts: those of a recording that has several, in order
@@ -223,6 +225,7 @@ class Taken:
         self.remarks: list[Covered] = []
         self.notes: list[str] = []
         self.damage: str | None = None
+        self.nothing = 'no connection to judge'
         self.parts: list[Part] = []
 
     @property
@@ -448,6 +451,7 @@ class Taking:
         self.progress.end()
         self.taken.notes += notes_of(self.segments)
         self.taken.remarks += remarks_of(self.segments)
+        self.taken.nothing = nothing_in(self.segments)
         for connection in self.connections.finish():
             add(self.taken, connection, select(connection, self.options), self.options)
         return self.taken
@@ -456,6 +460,13 @@ class Taking:
 def ports_of(options: Options) -> frozenset[int]:
     """The ports of NFS: those that were chosen, or else the usual ones."""
     return (options.ports or NFS_PORTS) - {PORT_MAPPER}
+
+
+def nothing_in(segments: Segments) -> str:
+    """What is said of a recording in which there is no connection: the kinds of its frames, if it has some."""
+    kinds = sorted(segments.others.items(), key=lambda one: (-one[1], one[0]))
+    told = ', '.join(f'{number:,} of {name.rstrip(TUNNEL)}' for name, number in kinds)
+    return f'no connection to judge: {count(sum(segments.others.values()), "frame")} without TCP: {told}' if kinds else 'no connection to judge'
 
 
 def remarks_of(segments: Segments) -> list[Covered]:
@@ -475,6 +486,10 @@ def notes_of(segments: Segments) -> list[str]:
     if segments.given_up:
         notes.append(f'{count(segments.given_up, "datagram")} {plural(segments.given_up, "is", "are")} given up, of which more '
                      f'fragments came than an eighth of {plural(segments.given_up, "its", "their")} bytes')
+    for name, number in sorted(segments.others.items()):
+        if name.endswith(TUNNEL):
+            notes.append(f'{count(number, "frame")} of {name.rstrip(TUNNEL)} {plural(number, "is", "are")} passed over; '
+                         'what is in them is not known')
     for link, number in segments.links.items():
         notes.append(f'{count(number, "frame")} of the link type {link} {plural(number, "is", "are")} passed over')
     return notes
