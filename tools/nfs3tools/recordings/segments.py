@@ -4,7 +4,7 @@ import struct
 import typing
 
 from .held import COST_OF_PIECE, Held
-from .frames import Frame
+from .frames import NANOSECONDS, Frame
 
 FIN, SYN, RST, ACK = 1, 2, 4, 16
 ETHERNET = 1
@@ -21,6 +21,8 @@ TUNNELS_AT_MOST = 4  # one in the other
 EXTENSIONS = {0, 43, 60, AUTHENTICATION, 135, 139, 140}  # of IPv6, each with its length in its second byte
 PENDING_AT_MOST = 4 << 20  # bytes of fragments whose datagrams are not whole
 DATAGRAM_AT_MOST = 1 << 17
+WAITING_4, WAITING_6 = 30 * NANOSECONDS, 60 * NANOSECONDS  # for the fragments of a datagram (RFC 791, section 3.2; RFC 8200, section 4.5)
+LONGEST_NAME_4 = 11  # bytes that name a datagram of IPv4: identification, protocol, addresses
 
 # The names of what is no segment of TCP, by the kind of Ethernet and by the protocol of IP. What may have segments in it has a star.
 KINDS = {0x0806: 'ARP', 0x88cc: 'LLDP', 0x8863: 'PPPoE', PPPOE: 'PPPoE*', 0x8847: 'MPLS*', 0x8848: 'MPLS*', 0x88e5: 'MACsec*'}
@@ -74,13 +76,16 @@ def end_of(address: bytes, port: bytes) -> str:
 
 
 class Pending:
-    """The fragments of a datagram that is not whole yet. Of bytes that came twice the first count."""
+    """The fragments of a datagram. Of bytes that came twice the first count. A datagram that is whole is kept for a while, so that
+    fragments that were recorded twice begin no other."""
 
-    def __init__(self) -> None:
+    def __init__(self, counts: bool, expires: int) -> None:
+        self.counts, self.expires = counts, expires  # whether it counts if it is given up, and when, in nanoseconds since 1970
         self.held = Held()
         self.size: int | None = None
         self.count = 0  # of the fragments that came
         self.there = 0  # bytes of the datagram
+        self.is_done = False
 
     @property
     def cost(self) -> int:
@@ -90,6 +95,11 @@ class Pending:
     def has_too_many(self) -> bool:
         """Whether more fragments came than an eighth of the datagram's bytes, as offsets count by eight (RFC 791)."""
         return self.count > -(-(DATAGRAM_AT_MOST if self.size is None else self.size) // 8)
+
+    def has(self, begin: int, piece: bytes, is_last: bool) -> bool:
+        """Whether a fragment is one of a datagram that is whole."""
+        end = begin + len(piece)
+        return self.is_done and (end == self.size) == is_last and end <= (self.size or 0) and self.held.add(begin, piece, 0, 0)
 
     def add(self, begin: int, piece: bytes, is_last: bool) -> None:
         self.count += 1
@@ -106,6 +116,7 @@ class Pending:
         """The datagram's payload, once no byte of it is missing."""
         if self.size is None or self.there < self.size:
             return None
+        self.is_done = True
         return b''.join(piece for piece, _, _ in self.held.pieces)[:self.size]
 
 
@@ -114,7 +125,7 @@ class Segments:
 
     cut: frames of which the recording has fewer bytes than were on the wire, and which lack payload or headers for it
     lying: frames whose headers claim more bytes than were on the wire
-    given_up: datagrams of more fragments than an eighth of their bytes
+    given_up: datagrams with TCP that never were whole: not in time, or of more fragments than an eighth of their bytes
     links: frames whose link type is not known, by link type
     datagrams: those of UDP to or from a port of NFS, by port
     others: frames of known link types that carry no segment of TCP, by kind; a star marks those that may have one in a tunnel
@@ -127,7 +138,7 @@ class Segments:
         self.datagrams: dict[int, int] = {}
         self.others: dict[str, int] = {}
         self.pending: dict[bytes, Pending] = {}
-        self.held = self.tunnels = 0  # bytes of fragments; tunnels round what is read
+        self.held = self.tunnels = self.time = 0  # bytes of fragments; tunnels round what is read; the time of the frame
 
     def segment(self, frame: Frame, is_chosen: bool = True) -> Segment | None:
         """Returns the segment that the frame carries, or completes as the last fragment, if there is one. If the frame is not chosen, no
@@ -147,7 +158,7 @@ class Segments:
         if link is None:
             self.links[frame.link] = self.links.get(frame.link, 0) + 1
             return None
-        self.tunnels = 0
+        self.tunnels, self.time = 0, frame.time
         return self.of_kind(*network_layer(data, *link), data, frame.length)
 
     def of_kind(self, kind: int, at: int, data: bytes, length: int) -> Segment | None:
@@ -182,7 +193,7 @@ class Segments:
         if fragment & 0x3fff:
             name = data[at + 4:at + 6] + data[at + 9:at + 10] + data[at + 12:at + 20]
             piece = data[begin:end]
-            joined = self.joined(name, (fragment & 0x1fff) * 8, piece, len(piece) < end - begin, not fragment & 0x2000)
+            joined = self.joined(protocol, name, (fragment & 0x1fff) * 8, piece, len(piece) < end - begin, not fragment & 0x2000)
             if joined is None:
                 return None
             return self.of_protocol(protocol, joined, 0, len(joined), len(joined), data[at + 12:at + 20])
@@ -204,7 +215,7 @@ class Segments:
             if following == UDP and not place & 0xfff8:
                 self.count_datagram(data, begin + 8)
             piece = data[begin + 8:end]
-            joined = self.joined(data[begin + 4:begin + 8] + addresses, place & 0xfff8, piece,
+            joined = self.joined(following, data[begin + 4:begin + 8] + addresses, place & 0xfff8, piece,
                                  len(piece) < end - begin - 8, not place & 1)
             if joined is None:
                 return None
@@ -249,28 +260,50 @@ class Segments:
         """Counts a frame whose headers are not whole."""
         self.cut += there < wanted <= on_the_wire
 
-    def joined(self, name: bytes, begin: int, piece: bytes, is_cut: bool, is_last: bool) -> bytes | None:
+    def joined(self, protocol: int, name: bytes, begin: int, piece: bytes, is_cut: bool, is_last: bool) -> bytes | None:
         """Takes a fragment, and returns the datagram's payload if this completes it."""
         self.cut += is_cut
         if is_cut or begin + len(piece) > DATAGRAM_AT_MOST:
             return None
-        pending = self.pending.get(name)
-        if pending is None:
-            pending = self.pending[name] = Pending()
-            self.held += pending.cost
+        pending = self.pending_of(protocol, name)
+        if pending.has(begin, piece, is_last):
+            return None
+        if pending.is_done:
+            self.forget(name)
+            pending = self.pending_of(protocol, name)
         cost = pending.cost
         pending.add(begin, piece, is_last)
         self.held += pending.cost - cost
         whole = pending.whole()
-        self.given_up += whole is None and pending.has_too_many
-        if whole is not None or pending.has_too_many:
+        if whole is None and pending.has_too_many:
             self.forget(name)
         while self.held > PENDING_AT_MOST:
             self.forget(next(iter(self.pending)))
         return whole
 
+    def pending_of(self, protocol: int, name: bytes) -> Pending:
+        """The datagram of which a fragment has come. Those that have waited for too long are given up, the oldest first."""
+        while self.pending and (first := next(iter(self.pending.items())))[1].expires < self.time:
+            self.forget(first[0])
+        pending = self.pending.get(name)
+        if pending is not None and pending.expires < self.time:
+            self.forget(name)
+            pending = None
+        if pending is None:
+            waits = WAITING_6 if len(name) > LONGEST_NAME_4 else WAITING_4
+            pending = self.pending[name] = Pending(protocol == TCP and self.is_chosen, self.time + waits)
+            self.held += pending.cost
+        return pending
+
     def forget(self, name: bytes) -> None:
-        self.held -= self.pending.pop(name).cost
+        pending = self.pending.pop(name)
+        self.held -= pending.cost
+        self.given_up += pending.counts and not pending.is_done
+
+    def finish(self) -> None:
+        """Gives up the datagrams that are not whole."""
+        for name in list(self.pending):
+            self.forget(name)
 
 
 def network_layer(data: bytes, kind_at: int | None, at: int) -> tuple[int, int]:
