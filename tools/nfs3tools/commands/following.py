@@ -61,7 +61,7 @@ class Growing:
         self.number, self.wakes, self.is_waited_for, self.idle = number, wakes, is_waited_for, idle
 
     def read(self, size: int, /) -> bytes:
-        """Raises `Damaged` if the file cannot be read."""
+        """Raises `Damaged` if the file cannot be read, or has become shorter."""
         since, wait = time.monotonic(), IDLE
         while True:
             ready = waits.select([self.wakes, *([] if wait == POLL else [self.number])], [], [], wait)[0]
@@ -78,7 +78,10 @@ class Growing:
 
     def piece(self, size: int) -> bytes:
         try:
-            return os.read(self.number, size)
+            piece = os.read(self.number, size)
+            if not piece and self.is_waited_for and os.fstat(self.number).st_size < os.lseek(self.number, 0, os.SEEK_CUR):
+                raise Damaged('the file has become shorter than what was read of it')
+            return piece
         except OSError as failed:
             raise Damaged(failed.strerror or str(failed)) from failed
 

@@ -15,6 +15,7 @@ HELD_AT_MOST = 8 << 20  # bytes of a stream behind a gap; then the bytes of the 
 HELD_BY_ALL = 64 << 20  # the same of all streams together
 LIKELY_AT_MOST = 64 << 20  # bytes that were sent beyond the last that is known, or before those that were acknowledged
 IN_FLIGHT_AT_MOST = 1 << 30  # bytes that were sent and not acknowledged (RFC 7323, section 2.3)
+TAIL = 4 << 10  # bytes of a connection that was judged, for the same
 COMPARED_AT_MOST = 4 << 20  # bytes before those that are forgotten, with which others that come again are compared
 NUMBERS = 1 << 32  # of sequence
 STRAYS_AT_MOST = 10  # frames of a connection that are told
@@ -247,7 +248,7 @@ class Stream:
     """
     __slots__ = ('stored', 'budget', 'frames', 'first', 'is_begin', 'begin', 'compared', 'lacks', 'next', 'expected', 'acknowledged',
                  'acked', 'runs', 'held', 'end', 'beyond', 'known_end', 'known_by', 'far', 'far_by', 'far_fin', 'conflicts', 'conflict',
-                 'unplaced', 'unplaced_by')
+                 'unplaced', 'unplaced_by', 'tail', 'tail_end')
 
     def __init__(self, spool: Spool, budget: Budget, frames: Frames | None) -> None:
         self.stored, self.budget, self.frames = Stored(spool), budget, frames
@@ -270,6 +271,7 @@ class Stream:
         self.far_fin: int | None = None  # the same of FIN
         self.conflicts, self.conflict = 0, 0  # frames that repeat bytes with other content, and the first of them
         self.unplaced, self.unplaced_by = 0, 0  # bytes that could not be taken, and the first frame of them
+        self.tail, self.tail_end = b'', 0  # the last bytes, once all are forgotten, and the position after them
 
     def position(self, sequence: int) -> int:
         """The position of a sequence number, which wraps: the first one that is not long before what was acknowledged."""
@@ -497,12 +499,24 @@ class Stream:
             self.frames.drop(begin)
 
     def close(self) -> None:
-        """Forgets all bytes. Nothing is taken after this."""
+        """Forgets all bytes but the last, with which others that come later are compared. Nothing is taken after this."""
+        begin = max(self.begin, self.runs[-1].begin if self.runs else 0, self.stored.size - TAIL)
+        self.tail, self.tail_end = self.stored.read(begin, self.stored.size - begin), self.next
         self.budget.held -= self.held.cost + self.beyond.cost
         self.held, self.beyond = Held(), Held()
         self.stored.close()
         if self.frames is not None:
             self.frames.stored.close()
+
+    def new_in(self, position: int, payload: bytes) -> int:
+        """How many bytes of a segment that comes after all are forgotten cannot be seen to be those that were taken."""
+        if len(payload) == 1 and position == self.next - 1:  # a keep-alive
+            return 0
+        first = self.tail_end - len(self.tail)
+        low, high = max(position, first), min(position + len(payload), self.tail_end)
+        if low < high and self.tail[low - first:high - first] == payload[low - position:high - position]:
+            return len(payload) - (high - low)
+        return len(payload)
 
     def gap_at_end(self) -> Gap | None:
         """The bytes that are missing after the last one."""
@@ -614,16 +628,16 @@ class Connection:
             other.is_acknowledged(acknowledged, number)
 
     def pass_by(self, side: int, segment: Segment) -> None:
-        """Counts the bytes of a segment that comes after the connection was judged, but for those that were there before."""
-        own, end = self.streams[side], len(segment.payload) + segment.missing
+        """Counts the bytes of a segment that comes after the connection was judged, but for those that were taken before."""
+        own, size = self.streams[side], len(segment.payload) + segment.missing
         self.is_closed_later |= bool(segment.flags & (FIN | RST))
-        if not end or segment.flags & RST:
+        if not size or segment.flags & RST or not self.is_told:
             return
         if own.first is None:
             own.first = segment.sequence
-        end += own.position(segment.sequence)
-        self.after += max(0, min(end - own.next, len(segment.payload) + segment.missing))
-        own.next = max(own.next, end)
+        position = own.position(segment.sequence)
+        self.after += own.new_in(position, segment.payload) + segment.missing
+        own.next = max(own.next, position + size)
         own.expected = (own.first + own.next) % NUMBERS
 
 
