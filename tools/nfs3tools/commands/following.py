@@ -25,7 +25,7 @@ from ..shared.programs import CHECKED, Died, run_program
 from ..recordings.coverage import Allowed, Counts, Covered, called_in
 from ..recordings.frames import NANOSECONDS, Frame, NoRecording, Recording, Source, opened
 from ..recordings.records import Window, end_of_whole, xids
-from ..recordings.segments import ACK, RST, Segment, Segments
+from ..recordings.segments import Segment, Segments
 from ..recordings.selection import Kept, Options, Selected, count, select
 from ..recordings.streams import Connection, Connections, Spool, Stored, Stream, is_of_stray
 from ..recordings.taken import (NO_RPC, NotTaken, Taken, TakenStream, left_out_of, nothing_in, notes_of, ports_of, remarks_of, taken_connection,
@@ -121,7 +121,6 @@ class Open:
     before: what was judged of it and is forgotten; `carried` and `known` have the calls without a reply among that, and their xids
     next_size: how many bytes its section has when it is judged again
     doubted: a fault that may go away, since the call of a reply may come yet
-    sent: how many bytes each end had sent when the connection was reset, as far as that segment shows
     walked: up to where the stored bytes of each end were seen to be whole records, after that
     """
     connection: Connection
@@ -131,8 +130,6 @@ class Open:
     known: frozenset[int] = frozenset()
     next_size: int = dataclasses.field(default_factory=lambda: FIRST_SIZE)
     doubted: str | None = None
-    is_reset: bool = False
-    sent: list[int] = dataclasses.field(default_factory=lambda: [0, 0])
     walked: list[int] = dataclasses.field(default_factory=lambda: [0, 0])
     time: int = 0
     frame: int = 0
@@ -144,13 +141,13 @@ class Open:
 
     @property
     def is_complete(self) -> bool:
-        """Whether it is closed by both sides or reset, and no byte is missing. A segment that resets it need not show all that was
+        """Whether it is closed by both sides or reset, and no byte is missing, nor SYN, which may come late. A segment that resets it need not show all that was
         sent, but a record of which the end is missing does."""
-        if not self.connection.is_closed or self.lacks:
+        if self.lacks or not all(stream.is_begin for stream in self.connection.streams if stream.runs):
             return False
-        if not self.is_reset:
-            return all(stream.end is not None for stream in self.connection.streams)
-        return all(stream.next >= sent for stream, sent in zip(self.connection.streams, self.sent)) and self.has_whole_records()
+        if any(map(self.connection.is_reset_by, range(2))):
+            return self.has_whole_records()
+        return all(stream.end is not None for stream in self.connection.streams)
 
     @property
     def lacks(self) -> bool:
@@ -166,17 +163,6 @@ class Open:
                 if self.walked[end] < stream.stored.size:
                     return False
         return True
-
-    def reset(self, side: int, segment: Segment) -> None:
-        """Takes the segment by which an end resets the connection. It has the numbers of the next bytes of both ends."""
-        if not self.connection.is_reset_by(side):
-            return
-        self.is_reset = True
-        for end, sequence in ((side, segment.sequence), *([(1 - side, segment.acknowledged)] if segment.flags & ACK else [])):
-            stream = self.connection.streams[end]
-            position = stream.position(sequence)
-            if stream.first is not None and stream.is_likely(position):
-                self.sent[end] = max(self.sent[end], position if stream.end is None else min(position, stream.end))
 
     def is_over(self, midstream: bool) -> bool:
         """Whether nothing that comes can be of use: without --midstream after bytes that are missing for good, or if the beginning is."""
@@ -234,8 +220,6 @@ class Following:
         self.open.move_to_end(connection.number)
         if segment.payload:
             self.grown(one)
-        if segment.flags & RST:
-            one.reset(connection.side_of(segment.key), segment)
         if connection.is_closed and not connection.is_judged and one.is_complete:
             self.end(connection.number)
 
@@ -386,10 +370,14 @@ class Following:
             self.connections.forget(forgotten)
 
     def tell_later(self, connection: Connection) -> None:
-        """Tells of bytes that came after a connection was judged, unless it is refused."""
-        if connection.is_told and connection.after:
-            later = Covered('in part', f'{count(connection.after, "byte")} came after it was judged', ends=' and '.join(connection.ends))
-            self.say(of_covered(self.recording, later))
+        """Tells of bytes that came after a connection was judged, or by which others are missing, unless it is refused."""
+        told = []
+        if connection.after:
+            told.append(f'{count(connection.after, "byte")} came after it was judged')
+        if connection.shown_after:
+            told.append(f'frame {connection.shown_after} shows bytes that did not come before it was judged')
+        if connection.is_told and told:
+            self.say(of_covered(self.recording, Covered('in part', ', and '.join(reversed(told)), ends=' and '.join(connection.ends))))
 
     def finish(self) -> None:
         """Judges all connections that are open."""

@@ -346,6 +346,10 @@ class Stream:
         self.acked = max(self.acked, min(position, self.next))
         self.shows(position, number)
 
+    def is_beyond(self, acknowledged: int) -> bool:
+        """Whether an acknowledgement shows bytes after all that are known. FIN is acknowledged as one more."""
+        return self.first is not None and self.position(acknowledged) > max(self.next, self.known_end) + 1
+
     def ends_at(self, end: int, number: int) -> None:
         """The position of the end is known, unless bytes beyond it were sent."""
         if end < max(self.next, self.held.end, self.known_end - 1) or self.end is not None and end <= self.end:
@@ -533,7 +537,7 @@ class Connection:
     strays: frames of which nothing is taken, and why
     """
     __slots__ = ('number', 'key', 'client', 'first_payload', 'is_chosen', 'is_judged', 'is_closed_later', 'reset_at', 'streams', 'older',
-                 'begun_by', 'is_stray', 'strays', 'after', 'is_told')
+                 'begun_by', 'is_stray', 'strays', 'after', 'shown_after', 'is_told')
 
     def __init__(self, number: int, key: bytes, spool: Spool, budget: Budget, keeps_frames: bool, begun_by: int = 0) -> None:
         self.number, self.key, self.begun_by = number, key, begun_by  # the number as Wireshark counts tcp.stream, from 0
@@ -543,6 +547,7 @@ class Connection:
         self.is_judged = False  # nothing of it is wanted any more
         self.is_closed_later = False  # after that
         self.after, self.is_told = 0, True  # bytes that came after that, and whether they are told
+        self.shown_after = 0  # the first frame after that by which others are missing
         self.reset_at: list[int | None] = [None, None]  # the position at which each end reset it
         self.older: Connection | None = None
         self.is_stray = False  # the older one went on
@@ -563,7 +568,7 @@ class Connection:
     def is_reset_by(self, side: int) -> bool:
         """Whether an end reset it, and sent nothing after that."""
         position, stream = self.reset_at[side], self.streams[side]
-        return position is not None and stream.next <= max(position, 0)
+        return position is not None and stream.next <= position
 
     def side_of(self, key: bytes) -> int:
         """The end that sends segments with a key."""
@@ -577,44 +582,49 @@ class Connection:
             answers = not segment.flags & ACK or not other.is_begin or (segment.acknowledged - (other.first or 0)) % NUMBERS <= other.next
             return self.is_judged or not answers
         if own.first == first:
-            return self.is_closed and not segment.flags & ACK
+            return own.is_begin and self.is_closed and not segment.flags & ACK
         return not own.may_begin_at(first)
 
     def distance(self, side: int, segment: Segment) -> int:
-        """How far the numbers of a segment are from those that are expected."""
+        """How far the numbers of a segment are from those that are expected, as far as these are known."""
         own, other = self.streams[side], self.streams[1 - side]
-        if own.expected is not None:
-            return apart(segment.sequence, own.expected)
+        found = [apart(segment.sequence, own.expected)] if own.expected is not None else []
         if segment.flags & ACK and other.expected is not None:
-            return apart(segment.acknowledged, other.expected)
-        return NUMBERS
+            found.append(apart(segment.acknowledged, other.expected))
+        return sum(found) if found else NUMBERS
 
     def take(self, side: int, segment: Segment, number: int, time: int) -> None:
         _, sequence, acknowledged, flags, payload, missing = segment
         own, other = self.streams[side], self.streams[1 - side]
         if flags & RST:
-            self.reset(side, sequence, number)
+            self.reset(side, segment, number)
             return
         if flags & SYN:
             self.client = 1 - side if flags & ACK else side
             own.begun_late(sequence + 1, number)
             sequence += 1
-        if flags & ACK and acknowledged != other.acknowledged:
-            self.acknowledge(other, acknowledged, bool(flags & SYN) or own.is_begin and sequence == own.first, number)
+        if flags & ACK and (acknowledged != other.acknowledged or flags & SYN):
+            is_first = bool(flags & SYN) or other.first is None and own.is_begin and sequence == own.first
+            self.acknowledge(other, acknowledged, is_first, number)
         if payload or missing:
             self.first_payload = side if self.first_payload is None else self.first_payload
             own.take(sequence, payload, missing, number, time)
         if flags & FIN and own.first is not None:
             own.ends_at(own.position(sequence) + len(payload) + missing, number)
 
-    def reset(self, side: int, sequence: int, number: int) -> None:
-        """Takes RST, unless its receiver would not expect it (RFC 5961, section 3.2). Bytes in it are no part of the stream."""
-        own = self.streams[side]
-        position = own.position(sequence) if own.first is not None else 0
-        if own.first is None or own.acked <= position and own.is_likely(position):
-            self.reset_at[side] = position
-        else:
+    def reset(self, side: int, segment: Segment, number: int) -> None:
+        """Takes RST, unless its receiver would not expect it (RFC 5961, section 3.2). It has the numbers of the next bytes of both ends.
+        Bytes in it are no part of the stream."""
+        own, other = self.streams[side], self.streams[1 - side]
+        position = own.position(segment.sequence) if own.first is not None else 0
+        if own.first is not None and not (own.acked <= position and own.is_likely(position)):
             self.note_stray(f'frame {number}: a RST that its receiver does not expect')
+            return
+        self.reset_at[side] = position
+        if own.first is not None:
+            own.shows(position, number)
+        if segment.flags & ACK and other.first is not None:
+            other.is_acknowledged(segment.acknowledged, number)
 
     def note_stray(self, text: str) -> None:
         if len(self.strays) < STRAYS_AT_MOST:
@@ -623,14 +633,16 @@ class Connection:
     def acknowledge(self, other: Stream, acknowledged: int, is_first: bool, number: int) -> None:
         """Takes what an end says that it received. The first time this tells where the other's stream begins."""
         if is_first and self.client is not None:
-            other.begins_at(acknowledged)
+            other.begun_late(acknowledged, number)
         if other.first is not None:
             other.is_acknowledged(acknowledged, number)
 
-    def pass_by(self, side: int, segment: Segment) -> None:
+    def pass_by(self, side: int, segment: Segment, number: int) -> None:
         """Counts the bytes of a segment that comes after the connection was judged, but for those that were taken before."""
         own, size = self.streams[side], len(segment.payload) + segment.missing
         self.is_closed_later |= bool(segment.flags & (FIN | RST))
+        if segment.flags & ACK and self.streams[1 - side].is_beyond(segment.acknowledged):
+            self.shown_after = self.shown_after or number
         if not size or segment.flags & RST or not self.is_told:
             return
         if own.first is None:
@@ -666,7 +678,7 @@ class Connections:
         if is_chosen:
             found[0].is_chosen = True
             if found[0].is_judged:
-                found[0].pass_by(found[1], segment)
+                found[0].pass_by(found[1], segment, number)
             else:
                 found[0].take(found[1], segment, number, time)
         return found[0]
