@@ -185,7 +185,8 @@ class Make:
             case 'far':
                 return Sent(side, ACK, end + chance.randrange(1 << 32), b'belongs to nothing', other, True)
             case 'other':
-                return Sent(side, ACK, max(0, end - 20), bytes(255 - byte for byte in made.streams[side][max(0, end - 20):end] or b'x'), other, True)
+                begin = max(0, end - 20)  # one byte alone may be that of a keep-alive
+                return Sent(side, ACK, begin, bytes(255 - byte for byte in made.streams[side][begin:max(end, begin + 2)]), other, True)
             case _:
                 return Sent(side, ACK, -30, b'before the first', other, True)
 
@@ -270,7 +271,7 @@ class Model:
         self.parts: dict[int, set[int]] = collections.defaultdict(set)
         self.seen = set[str]()
         self.closed = [False, False]  # by FIN or RST of its own
-        self.is_odd = self.is_unsure = False
+        self.is_odd = self.is_unsure = self.begins_inside = False
 
     def take(self, one: Recorded) -> None:
         sent, parts = one.sent, self.parts[id(one.sent)]
@@ -284,6 +285,7 @@ class Model:
             self.is_unsure |= bool(sent.flags & FIN)
             return
         own, other = self.sides[sent.side], self.sides[1 - sent.side]
+        self.begins_inside |= not self.seen and not sent.flags & SYN
         if sent.flags & SYN:
             self.seen.add('syn-ack' if sent.flags & ACK else 'syn')
         if not sent.flags & RST:
@@ -321,6 +323,7 @@ def modelled(connections: list[Connection], frames: list[Recorded]) -> dict[int,
     for port in {connection.port for connection in connections}:
         several = [models[id(connection)] for connection in connections if connection.port == port]
         said = [model.whole() for model in several]
+        said += [None] * any(model.begins_inside for model in several[1:])
         is_whole = False if False in said else None if None in said else True
         found[port] = Whole(is_whole, sum(any(side.shown for side in model.sides) for model in several))
     return found

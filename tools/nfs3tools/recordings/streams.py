@@ -536,12 +536,13 @@ class Connection:
     older: the connection of the same ends before this one, of which segments may come yet
     strays: frames of which nothing is taken, and why
     """
-    __slots__ = ('number', 'key', 'client', 'first_payload', 'is_chosen', 'is_judged', 'is_closed_later', 'reset_at', 'streams', 'older',
+    __slots__ = ('number', 'key', 'client', 'has_syn', 'first_payload', 'is_chosen', 'is_judged', 'is_closed_later', 'reset_at', 'streams', 'older',
                  'begun_by', 'is_stray', 'strays', 'after', 'shown_after', 'is_told')
 
     def __init__(self, number: int, key: bytes, spool: Spool, budget: Budget, keeps_frames: bool, begun_by: int = 0) -> None:
         self.number, self.key, self.begun_by = number, key, begun_by  # the number as Wireshark counts tcp.stream, from 0
         self.client: int | None = None  # the end that sent SYN
+        self.has_syn = [False, False]  # whether SYN of each end was recorded
         self.first_payload: int | None = None  # the end that sent payload first
         self.is_chosen = False
         self.is_judged = False  # nothing of it is wanted any more
@@ -582,7 +583,7 @@ class Connection:
             answers = not segment.flags & ACK or not other.is_begin or (segment.acknowledged - (other.first or 0)) % NUMBERS <= other.next
             return self.is_judged or not answers
         if own.first == first:
-            return own.is_begin and self.is_closed and not segment.flags & ACK
+            return self.has_syn[side] and self.is_closed and not segment.flags & ACK
         return not own.may_begin_at(first)
 
     def distance(self, side: int, segment: Segment) -> int:
@@ -600,7 +601,7 @@ class Connection:
             self.reset(side, segment, number)
             return
         if flags & SYN:
-            self.client = 1 - side if flags & ACK else side
+            self.client, self.has_syn[side] = 1 - side if flags & ACK else side, True
             own.begun_late(sequence + 1, number)
             sequence += 1
         if flags & ACK and (acknowledged != other.acknowledged or flags & SYN):
@@ -731,8 +732,13 @@ class Connections:
 
 
 def is_of_stray(connection: Connection) -> bool:
-    """Whether a connection is none, since the older one went on; if so, that is noted there."""
-    if connection.is_stray and connection.first_payload is None and connection.older is not None:
-        connection.older.note_stray(f'frame {connection.begun_by}: a SYN that fits no connection')
-        return True
-    return False
+    """Whether a connection is none, since the older one went on; if so, that is noted there, and what its frames show of missing bytes."""
+    older = connection.older
+    if not connection.is_stray or connection.first_payload is not None or older is None:
+        return False
+    older.note_stray(f'frame {connection.begun_by}: a SYN that fits no connection')
+    for key, stream in zip((connection.key, turned(connection.key)), connection.streams):
+        shown = older.streams[older.side_of(key)]
+        if stream.far is not None or stream.gap_at_end():
+            shown.far, shown.far_by = shown.next, stream.far_by or stream.known_by
+    return True
