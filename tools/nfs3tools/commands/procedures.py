@@ -14,13 +14,14 @@ the median and the 99th percentile, each the smallest latency that 50 or 99 % of
 and so no latencies.
 
 Each connection is judged as by tools/verdicts, whose verdict is above its table: one of which bytes are missing is `ok in part`, and one
-that is refused is counted up to its fault. --total leaves out the tables of the connections. --beside has two recordings in one table: a
-number that differs is `A -> B`, with the change in per cent for bytes and latencies. --json and --csv write all tables.
+that is refused is counted up to its fault. The counts of tools/verdicts stand above the table of a recording. --total leaves out the tables
+of the connections. --beside has two recordings in one table: a number that differs is `A -> B`, with the change in per cent for bytes and
+latencies. --json and --csv write all tables.
 
-The recordings are taken as by tools/from_pcap (--midstream, --whole-records, --filter, patterns in quotes for the parts of one recording);
-`-` is standard input. FILE is written beside its name, and gets it once it is whole. It is refused if it is an input, or begins as a
-recording or a capture. The status is 0 if all are ok (with --allow-losses also if they are ok in part), 1 if one is not, 2 if the command
-line or FILE is refused or the program is missing, 3 if FILE cannot be written or a program died.
+The recordings are taken as by tools/from_pcap (--port, --no-midstream, --whole-records, --filter, patterns in quotes for the parts of one
+recording); `-` is standard input. FILE is written beside its name, and gets it once it is whole. It is refused if it is an input, or begins
+as a recording or a capture. The status is 0 if that of
+tools/verdicts is, and 1 to 3 as there; --allow-losses and --allow-not-checked are the same.
 """
 import argparse
 import csv
@@ -30,15 +31,15 @@ import typing
 from collections import Counter
 from collections.abc import Iterator, Sequence
 
-from .judging import Verdict, named, status_of, sums_of, tell_notes
-from .messages import add_losses, add_options, add_program, options_of, parser_of
+from .judging import Verdict, counts_after, is_row, named, status_of, sums_of, tell_notes
+from .messages import add_losses, add_options, add_program, add_unchecked, allowed_of, options_of, parser_of
 from ..shared.outputs import check_output, write_file
 from ..recordings.parts import files_of
 from ..shared.printed import columns, escaped, printable
 from ..shared.programs import program_path
 from ..recordings.taken import Taken, TakenConnection
 from .tallies import Tallies, Tally, counted_of, in_order, sum_of
-from .verdicts import CONNECTIONS_AT_ONCE, Judge, objects_of
+from .verdicts import CONNECTIONS_AT_ONCE, VERSION, Judge, objects_of
 
 PARTS = (0.5, 0.99, 1)  # of the latencies: the median, the 99th percentile, and the longest
 COUNTS = ('calls', 'again', 'replies', 'unanswered', 'call_bytes', 'reply_bytes')
@@ -135,7 +136,7 @@ def print_tables(found: Sequence[Counted], is_total: bool) -> None:
             assert table.verdict
             print_table(title_of(table.verdict), table)
         for verdict in one.verdicts:
-            if verdict.state == 'error' or verdict.connection is None and verdict.state in ('in part', 'refused'):
+            if is_row(verdict) and (verdict.state == 'error' or verdict.connection is None):
                 print('\n' + printable(f'{named(verdict)}: {verdict.message}'))
         print_table(printable(f'{escaped(one.recording)} in all: {sums_of(one.verdicts)}'), one.in_all)
     if len(found) > 1:
@@ -147,7 +148,7 @@ def print_beside(first: Counted, second: Counted) -> None:
     """Prints two recordings in one table."""
     for name, one in zip('AB', (first, second)):
         for verdict in one.verdicts:
-            if verdict.state not in ('ok', 'skipped', 'note'):
+            if is_row(verdict) and verdict.state != 'ok':
                 print(printable(f'{named(verdict)}: {verdict.message}'))
         print(printable(f'{name}: {escaped(one.recording)}: {sums_of(one.verdicts)}'))
     here, there = (dict(one.in_all.rows()) for one in (first, second))
@@ -195,10 +196,11 @@ def whose(table: Table) -> dict[str, typing.Any]:
 
 def json_of(found: Sequence[Counted]) -> bytes:
     """The verdicts, as tools/verdicts writes them, and the tables; of each the last object of its procedures is the sum."""
-    verdicts = objects_of([verdict for one in found for verdict in one.verdicts])
+    verdicts = [verdict for one in found for verdict in one.verdicts]
     tables = [{**whose(table), 'procedures': [object_of(*row) for row in table.rows()]}
               for one in found for table in (*one.tables, one.in_all)]
-    return json.dumps({'verdicts': verdicts, 'tables': tables}, indent=1).encode() + b'\n'
+    whole = {'version': VERSION, 'counts': counts_after(verdicts).members(), 'verdicts': objects_of(verdicts), 'tables': tables}
+    return json.dumps(whole, indent=1).encode() + b'\n'
 
 
 def csv_of(found: Sequence[Counted]) -> bytes:
@@ -224,7 +226,8 @@ def words_of(words: list[str]) -> argparse.Namespace:
     parser.add_argument('--csv', metavar='FILE', help='writes the tables as comma-separated values')
     add_program(parser)
     add_options(parser)
-    add_losses(parser, 'ok in part')
+    add_losses(parser)
+    add_unchecked(parser)
     chosen = parser.parse_args(words)
     if chosen.beside and len(chosen.recordings) != 2:
         parser.error('--beside takes two recordings')
@@ -248,4 +251,4 @@ def main(words: list[str]) -> int:
         write_file(chosen.json, [json_of(found)], inputs)
     if chosen.csv:
         write_file(chosen.csv, [csv_of(found)], inputs)
-    return status_of(verdicts, chosen.allow_losses)
+    return status_of(verdicts, allowed_of(chosen))
