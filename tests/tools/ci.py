@@ -261,7 +261,7 @@ def cases_of_runs(tools: Tools) -> None:
             (['--allow-losses', 'part.pcap', 'part.pcap'], 0, [[]], None, None),
             ([FIRST, str(EXAMPLES / 'bad_bool.pcap')], 2, [['error']], None,
              f'{EXAMPLES}/bad_bool.pcap: connection 1 server record 1 byte 28: BadBool (frame 5)'),
-            (['a.pcap', 'x.xml.old'], 2, [['error']], None, 'it is neither pcap nor pcapng')):
+            (['a.pcap', 'x.xml.old'], 2, [['error']], None, 'x.xml.old: it is neither pcap nor pcapng')):
         tools.write('x.xml.old', b'text')
         found, _, error = compare(tools, *words)
         root = xml.etree.ElementTree.fromstring((tools.read('x.xml') or b'').decode())

@@ -8,6 +8,7 @@ PROGRAM is crates/nfs3canon/out/nfs3canon if none is named. What is expected is 
 is 'N passed, M failed', and the status is 1 if any failed.
 """
 import json
+import os
 import pathlib
 import random
 import re
@@ -625,14 +626,60 @@ def json_is_an_output(place: Findings) -> None:
         place.want(name, (status, out, 'is not replaced' in error), (2, [], True))
     place.want('as it was', place.read('a'), before)
     place.want('an old file', (place.compare('--json', 'text', 'a', 'a')[0], (place.read('text') or b'')[:1]), (0, b'{'))
-    place.want('no folder', place.compare('--json', 'absent/out.json', 'a', 'a')[0], 3)
+    place.want('no folder', place.compare('--json', 'absent/out.json', 'a', 'a')[:2], (3, []))
+
+
+def outputs_are_tried_before_the_work(place: Findings) -> None:
+    """A folder that is not there or a file that may not be written ends a comparison before it reads a run, and so do two outputs that
+    are one file, however it is named."""
+    place.write('text', b'text')
+    os.symlink('text', place.path('link'))
+    os.mkdir(place.path('folder'))
+    for words in (['--html', 'absent/x'], ['--junit', 'absent/x'], ['--json', 'folder'], ['--json', 'text/x']):
+        status, out, error = place.compare(*words, 'no run', 'no run')
+        place.want(' '.join(words), (status, out, words[1] in error, 'no run' in error), (3, [], True, False))
+    for words in (['--html', 'x', '--json', 'x'], ['--html', 'x', '--json', './x'], ['--json', 'text', '--junit', 'link'],
+                  ['--html', '-', '--json', '-'], ['--junit', '-', '--json', '/dev/stdout']):
+        status, out, error = place.compare(*words, 'no run', 'no run')
+        place.want(' '.join(words), (status, out, 'are one file' in error), (2, [], True))
+    place.want('what is there', (place.names(), place.read('text')), (['folder', 'link', 'text'], b'text'))
+    os.chmod(place.path('text'), 0o444)
+    place.want('not to be written', (place.compare('--json', 'text', 'no run', 'no run')[0], place.read('text')), (3, b'text'))
+    place.put('a', asked_for((b'1', 3)))
+    place.want('devices', place.compare('--json', '/dev/null', '--html', '/dev/null', 'a', 'a')[0], 0)
+
+
+def json_on_standard_output(place: Findings) -> None:
+    """`-` is standard output, which has the output alone: what is printed otherwise goes to standard error."""
+    place.put('a', asked_for((b'1', 3)))
+    place.put('b', asked_for((b'1', 2)))
+    _, printed, _ = place.compare('a', 'b')
+    for option, begin in (('--json', '{'), ('--html', '<!DOCTYPE html>'), ('--junit', '<?xml')):
+        status, out, error = place.compare(option, '-', 'a', 'b')
+        place.want(option, (status, out[0].startswith(begin), [line for line in error.splitlines() if ' belong together' not in line]),
+                   (1, True, printed))
+    out = '\n'.join(place.compare('--json', '-', 'a', 'b')[1])
+    place.want('read again', json.loads(out)['verdict'], 'differ')
+    place.want('no file', '-' in place.names(), False)
+
+
+def each_error_names_its_run(place: Findings) -> None:
+    """Whichever of two runs cannot be read, its name is in the message."""
+    place.put('a', asked_for((b'1', 3)))
+    place.write('text', b'no recording')
+    place.write('empty', b'')
+    for name in ('text', 'empty', 'absent'):
+        for words in ((name, 'a'), ('a', name)):
+            status, out, error = place.compare(*words)
+            place.want(f'{words}', (status, out, error.startswith(f'compare: {name}: '), error.count('\n')),
+                       (3 if name == 'absent' else 2, [], True, 1))
 
 
 TESTS: list[Callable[[Findings], None]] = [
     labels_of_every_procedure, labels_of_fewer_parts, fields_are_those_of_labels, differing_labels, sizes_of_changes,
     names_of_removed_files, names_of_hosts, data_of_files, values_that_part, long_names, long_handles, names_of_numbers, equal_findings,
     equal_findings_of_one_run, equal_findings_of_renamed_values, the_first_twenty, fields_left_out, as_json, json_of_recordings,
-    json_is_an_output]
+    json_is_an_output, outputs_are_tried_before_the_work, json_on_standard_output, each_error_names_its_run]
 
 
 if __name__ == '__main__':

@@ -30,8 +30,9 @@ differ, and last how many parts have which verdict. The status is 1 if a part di
 --junit writes a test case for the verdict, which fails if the status is 1, and then one that fails for each difference. Runs that cannot
 be compared are a case with an error.
 
-FILE is written beside its name, and gets it once it is whole. It is refused if it is an input, or begins as a recording or a
-capture. The status is 0 if the runs are the same under the mask (with --allow-losses also in part), 1 if they differ or are the
+FILE is written beside its name, and gets it once it is whole. It is refused if it is an input or another output, or begins as a recording
+or a capture; whether it can be written is tried before the work. If FILE is `-` it is standard output, and all else is printed on standard
+error. The status is 0 if the runs are the same under the mask (with --allow-losses also in part), 1 if they differ or are the
 same in part or in another order, 2 if a recording, a capture, FILE or the command line is refused, 3 if a file, a program or memory
 failed.
 """
@@ -52,7 +53,7 @@ from ..comparison.deciding import judged, run_of
 from ..comparison.ignoring import ignored_of, without
 from .messages import REFUSED, add_losses, add_options, add_program, advice_on, options_of, parser_of
 from ..comparison.orders import Choices
-from ..shared.outputs import check_output, held, write_file
+from ..shared.outputs import held, printed_beside, try_outputs, write_file
 from ..reporting.pages import Content, Recorded
 from ..comparison.pairing import ASKING
 from ..comparison.part_by_part import PartByPart
@@ -61,7 +62,7 @@ from ..shared.places import Place, parse_fault
 from ..shared.printed import escaped
 from ..shared.programs import CHECKED, program_path, run_program
 from ..reporting.reports import Report, Size, json_of, json_of_parts, junit_of, junit_of_error, junit_of_parts
-from ..recordings.selection import count
+from ..recordings.selection import Options, count
 from ..comparison.shown import Around
 from ..recordings.taken import NotTaken, Taken, take
 from ..comparison.trial import Trial
@@ -163,15 +164,26 @@ class Whole(NamedTuple):
         return [run.frames for run in self.runs]
 
 
+def outputs_of(words: argparse.Namespace) -> list[str | None]:
+    return [words.html, words.json, words.junit]
+
+
+def taken_of(name: str, options: Options) -> Taken:
+    """Takes a run. Raises `NotTaken` with its name."""
+    try:
+        return take(name, options)
+    except NotTaken as refused:
+        raise NotTaken(f'{escaped(name)}: {refused}', refused.packed_by) from refused
+
+
 def compared_runs(words: argparse.Namespace, stack: ExitStack) -> int:
     program = program_path(words.program)
     names = [words.first, words.second]
     inputs = [file for name in names for file in files_of(name)]
-    for path in [path for path in (words.html, words.json, words.junit) if path]:
-        check_output(path, inputs)
+    try_outputs(outputs_of(words), inputs)
     with held():
         folder = Path(stack.enter_context(tempfile.TemporaryDirectory(prefix='nfs3canon')))
-    runs = [stack.enter_context(take(name, options_of(words))) for name in names]
+    runs = [stack.enter_context(taken_of(name, options_of(words))) for name in names]
     trial = Trial(program, folder, runs)
     for taken, name in zip(runs, names):
         tell(name, taken)
@@ -255,6 +267,7 @@ def write_error(words: argparse.Namespace, message: str) -> None:
 def main(words: list[str]) -> int:
     chosen, stack = words_of(words), ExitStack()
     try:
+        stack.enter_context(printed_beside(outputs_of(chosen)))
         return compared_runs(chosen, stack)
     except Ended as end:
         write_error(chosen, str(end))

@@ -1,7 +1,8 @@
 """Files that the tools write. `write_file` is the only way, and has the manners of OUT of nfs3canon.
 
 A regular file is written beside its name, where its owner alone may open it, and gets the name once it is whole and safe on the disk.
-A device, a pipe and the tool's own standard output are written as they are. Inputs, recordings and captures are never replaced.
+A device, a pipe and the tool's own standard output, which is also called `-`, are written as they are. Inputs, recordings and captures are
+never replaced.
 """
 import contextlib
 import errno
@@ -15,6 +16,7 @@ import typing
 from ..recordings.kinds import MAGICS, PACKED_BY, PCAP, SECTION
 from .printed import escaped
 
+STANDARD_OUTPUT = '-'
 PART = '.nfs3canon-'  # begins the name of a file that is being written
 TRIES = 16  # such names
 AT_ONCE = 1 << 16  # bytes that are written
@@ -33,7 +35,7 @@ def write_file(path: str, blocks: typing.Iterable[bytes], inputs: typing.Iterabl
 
     Raises `Refused`, and `OSError`; then what has the name is as it was.
     """
-    try:
+    with named(path):
         found = check_output(path, inputs, replaces)
         if found is None:
             write_new(path, blocks)
@@ -45,11 +47,19 @@ def write_file(path: str, blocks: typing.Iterable[bytes], inputs: typing.Iterabl
         else:
             with opened(path, found, os.O_WRONLY | os.O_APPEND) as number:
                 write_all(number, blocks)
+
+
+@contextlib.contextmanager
+def named(path: str) -> typing.Iterator[None]:
+    """A failure has the name of the output, and not that of a part of it."""
+    try:
+        yield
     except BrokenPipeError:
         raise
     except OSError as failed:
         is_own = failed.filename in (None, os.path.realpath(path)) or PART in str(failed.filename)
-        raise OSError(failed.errno, failed.strerror or str(failed), path if is_own else failed.filename) from failed
+        own = 'standard output' if path == STANDARD_OUTPUT else path
+        raise OSError(failed.errno, failed.strerror or str(failed), own if is_own else failed.filename) from failed
 
 
 def check_output(path: str, inputs: typing.Iterable[str] = (), replaces: tuple[str, ...] = ()) -> os.stat_result | None:
@@ -58,7 +68,7 @@ def check_output(path: str, inputs: typing.Iterable[str] = (), replaces: tuple[s
     Raises `Refused` if it is an input, or begins as what is not to be replaced, and `OSError`, also for a link that leads to nothing.
     """
     try:
-        found = os.stat(path)
+        found = os.fstat(1) if path == STANDARD_OUTPUT else os.stat(path)
     except FileNotFoundError:
         if is_there(path):
             raise
@@ -66,10 +76,53 @@ def check_output(path: str, inputs: typing.Iterable[str] = (), replaces: tuple[s
     if stat.S_ISREG(found.st_mode):
         if any(is_read_from(one, found) for one in inputs):
             raise Refused(f'{escaped(path)} is an input, and is not replaced')
-        kind = kind_of(path, found)
+        kind = None if path == STANDARD_OUTPUT else kind_of(path, found)
         if kind and kind not in replaces:
             raise Refused(f'{escaped(path)} is {kind}, and is not replaced')
     return found
+
+
+def try_outputs(paths: typing.Iterable[str | None], inputs: typing.Iterable[str] = (), replaces: tuple[str, ...] = ()) -> None:
+    """Tries before the work whether outputs can be written, as far as that can be known: each is checked, a new file is made in its folder
+    and removed again, and no two outputs are one file. None stands for an output that is not wanted.
+
+    Raises what `write_file` does.
+    """
+    outputs, inputs, known = list(filter(None, paths)), list(inputs), dict[object, int]()
+    for number, path in enumerate(outputs):
+        found = check_output(path, inputs, replaces)
+        first = known.setdefault(identity_of(path, found), number)
+        if first != number:
+            raise Refused(f'{escaped(outputs[first])} and {escaped(path)} are one file, and each output needs its own')
+        with named(path):
+            try_output(path, found)
+
+
+def identity_of(path: str, found: os.stat_result | None) -> object:
+    """Returns what tells whether two outputs are one file. Devices swallow any number of them, but standard output does not."""
+    if found is None:
+        return os.path.realpath(path)
+    if path != STANDARD_OUTPUT and stat.S_ISCHR(found.st_mode):
+        return object()
+    return found.st_dev, found.st_ino
+
+
+def try_output(path: str, found: os.stat_result | None) -> None:
+    """Raises `OSError` if what was found under a name cannot be written or replaced."""
+    if found is not None and stat.S_ISDIR(found.st_mode):
+        raise IsADirectoryError(errno.EISDIR, os.strerror(errno.EISDIR), path)
+    if found is not None and (is_standard_output(found) or not stat.S_ISREG(found.st_mode)):
+        return
+    if found is not None and not found.st_mode & WRITERS:
+        raise PermissionError(errno.EACCES, os.strerror(errno.EACCES), path)
+    mode_of_new(os.path.realpath(path))
+
+
+@contextlib.contextmanager
+def printed_beside(outputs: typing.Iterable[str | None]) -> typing.Iterator[None]:
+    """What is printed goes to standard error if an output is standard output, which then has that alone."""
+    with contextlib.redirect_stdout(sys.stderr) if STANDARD_OUTPUT in outputs else contextlib.nullcontext():
+        yield
 
 
 def is_there(path: str) -> bool:
