@@ -201,7 +201,7 @@ def changed_fields(place: Comparisons) -> None:
     place.want('size', fields, ['  - obj.size=10', '  + obj.size=11'] * 2 + ['  - entry "x".size=10', '  + entry "x".size=11'])
     place.want('summary', lines[-2], 'fields that differ, and how often: entry.size of NFSPROC3_READDIRPLUS 2, '
                'obj.size of NFSPROC3_LOOKUP 1, obj.size of NFSPROC3_ACCESS 1')
-    place.want('heading', lines[0], 'NFSPROC3_LOOKUP reply: connection 1 server record 2 | connection 1 server record 2')
+    place.want('heading', lines[0], 'NFSPROC3_LOOKUP reply ?/x: connection 1 server record 2 | connection 1 server record 2')
 
 
 def statuses_that_differ(place: Comparisons) -> None:
@@ -224,7 +224,7 @@ def one_call_more(place: Comparisons) -> None:
     script.insert(2, script[0])
     place.put('a', first.conversation())
     place.put('b', second.conversation(script))
-    place.wants('one more', 1, ['only in the second run: NFSPROC3_GETATTR: connection 1 client record 3',
+    place.wants('one more', 1, ['only in the second run: NFSPROC3_GETATTR: connection 1 client record 3', '  + fh=' + second.handles[0].hex(),
                                 '10 of 11 calls belong together; 1 more in the second run'], '--order', 'strict')
 
 
@@ -434,7 +434,7 @@ def one_bit_of_many_calls(place: Comparisons) -> None:
     status, out, error = ended(words, place.folder, limit=None).text()
     where = 'connection 1 server record 70002'
     place.want('finding', (status, out.splitlines()[2:]), (1, [
-        f'NFSPROC3_GETATTR reply ?/name1: {where} | {where}', '  - obj.mode=420 (0644)', '  + obj.mode=421 (0645)',
+        f'NFSPROC3_GETATTR reply ?/name1: {where} | {where}', '  - obj.mode=0644 (420)', '  + obj.mode=0645 (421)',
         'fields that differ, and how often: obj.mode of NFSPROC3_GETATTR 1',
         '100,000 of 100,000 calls belong together; obj.mode in 1 reply']))
     seconds, memory = map(float, error.split())

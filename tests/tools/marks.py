@@ -193,10 +193,10 @@ def one_part_that_differs(place: Comparisons) -> None:
     parts = ['before the first mark: same: 1 call in 1 connection', '"test 1": same: 2 calls in 1 connection',
              '"test 2": differ', '"test 3": same: 2 calls in 1 connection']
     where = 'connection 1 server record 5 (frame 13)'  # after three frames of the handshake and ten of messages
-    found = ['"test 2"', f'NFSPROC3_GETATTR reply ?/x: {where} | {where}', '  - obj.mode=420 (0644)', '  + obj.mode=384 (0600)',
+    found = ['"test 2"', f'NFSPROC3_GETATTR reply ?/x: {where} | {where}', '  - obj.mode=0644 (420)', '  + obj.mode=0600 (384)',
              'fields that differ, and how often: obj.mode of NFSPROC3_GETATTR 1', '2 of 2 calls belong together; obj.mode in 1 reply']
     wants(place, 'one', 1, [*parts, *found, '4 parts: 3 same, 1 differs'])
-    line = f'NFSPROC3_GETATTR reply ?/x: {where} | {where}: obj.mode=420 (0644) -> 384 (0600)'
+    line = f'NFSPROC3_GETATTR reply ?/x: {where} | {where}: obj.mode=0644 (420) -> 0600 (384)'
     wants(place, 'brief', 1, [*parts, '"test 2"', line, *found[4:], '4 parts: 3 same, 1 differs'], '--brief')
     wants(place, 'ignored', 1, [*parts, '"test 2"', 'left out by --ignore, and how often: obj.mode of NFSPROC3_GETATTR 1',
                                 '2 of 2 calls belong together', '4 parts: 3 same, 1 differs'], '--ignore', '*.obj.mode')
@@ -204,7 +204,7 @@ def one_part_that_differs(place: Comparisons) -> None:
     where = 'connection 1 client record 8 (frame 18)'
     wants(place, 'one call more', 1, [
         *parts[:2], '"test 2": same: 2 calls in 1 connection', '"test 3": differ', '"test 3"',
-        f'only in the second run: NFSPROC3_SETATTR ?/x: {where}', '2 of 3 calls belong together; 1 more in the second run',
+        f'only in the second run: NFSPROC3_SETATTR ?/x: {where}', '  + set.mode=0600 (384)', '2 of 3 calls belong together; 1 more in the second run',
         '4 parts: 3 same, 1 differs'])
 
 
@@ -421,7 +421,7 @@ def files_for_others(place: Comparisons) -> None:
         ('"test 1"', [('differ', '"test 1": differ')]), ('"test 2"', []),
         ('"test 3"', [('only in the second run', '"test 3": only in the second run: 1 call in 1 connection')])])
     place.want('text', [(item.text or '').split('\n')[1:] for item in root.iter('failure')][0], [
-        '  - obj.mode=420 (0644)', '  + obj.mode=384 (0600)'])
+        '  - obj.mode=0644 (420)', '  + obj.mode=0600 (384)'])
 
 
 def bytes_that_are_missing(place: Comparisons) -> None:

@@ -324,7 +324,7 @@ def seen_in_the_middle(place: Comparisons) -> None:
              'obj after.size in 2 replies')
     place.wants('sizes', 0, [words], '--order', 'any')
     place.want('told', place.compare('a', 'b')[1][1],
-               'same in another order: 4 calls; 1 in another turn; 1 reply in another turn; masked besides: ids=zero,wcc=zero')
+               'same in another order: 4 calls; 1 in another turn; 1 reply in another turn; masked besides: wcc=zero')
     status, out, _ = place.compare('--mask=-wcc', '--order', 'any', 'a', 'b')
     place.want('compared', (status, out[1], '  - obj after.size=8' in out), (1, 'differ in any order', True))
 
@@ -341,19 +341,70 @@ def folders_that_others_change(place: Comparisons) -> None:
     place.put('b', run(9, 2, 3, 5))
     status, out, _ = place.compare('--order', 'any', 'a', 'b')
     place.want('another count', (status, out[1].partition('; masked besides: ')[2], out[2].endswith('; obj.nlink in 1 reply')),
-               (0, 'ids=zero,wcc=zero', True))
+               (0, 'wcc=zero', True))
 
 
 def masks_of_any_order(place: Comparisons) -> None:
     """Classes that are named stay as they are, and so does a whole mask."""
-    last = {name: way for name, way in default_mask().items() if name != 'ids'}
+    relaxed = ('ids', 'createverfs', 'cookies', 'wcc')
     masks = in_any_order(None)
-    place.want('default', (masks[0], masks[1]), (default_mask(), {**default_mask(), 'ids': Way.ZERO}))
-    place.want('more', {name: masks[-1][name] for name in last}, last)
+    place.want('default', masks, [{**default_mask(), **dict.fromkeys(relaxed[:number], Way.ZERO)} for number in range(5)])
     for word_of_mask in ('times', 'none', 'ids=number,times'):
         place.want(word_of_mask, in_any_order(word_of_mask), [mask_of(word_of_mask)])
     place.want('named', all(mask['ids'] is Way.NUMBER for mask in in_any_order('+ids=number')), True)
     place.want('without', any('ids' in mask for mask in in_any_order('-ids')), False)
+
+
+def verifiers_that_repeat(place: Comparisons) -> None:
+    """Two exclusive creates have one verifier by chance in one run alone: no renaming of verifiers is one to one, and nothing else differs.
+    So it is with cookies. Only the class that repeats is masked besides, and a repeated value is no difference of two equal ones."""
+    def run(order: Sequence[int], verifiers: Sequence[bytes], cookies: Sequence[int]) -> Conversation:
+        calls, replies = list[bytes](), list[bytes]()
+        for xid in order:
+            calls.append(call(xid, NFS, 3, CREATE, dirop(b'top', b'f%d' % xid) + messages.how(2, verifiers[xid])))
+            replies.append(success(xid, ok(messages.made(None, None, wcc()))))
+        for xid in order:
+            calls.append(call(xid + 9, NFS, 3, 17, fh(b'folder %d' % xid) + bytes(16) + word(512) + word(4096)))
+            entries = messages.entries(fattr(2, 1), bytes(8), [messages.entryplus(1, b'x', cookies[xid])], is_end=True)
+            replies.append(success(xid + 9, ok(entries)))
+        return calls, replies
+    one, other = (b'verify%02d', b'other-%02d')
+    plain = [one % number for number in range(3)], [other % number for number in range(3)]
+    for name, second, cookies, more in (
+            ('createverfs', [other % 0, other % 1, other % 0], [7, 8, 9], 'createverfs=zero'),
+            ('cookies', plain[1], [7, 8, 7], 'cookies=zero'), ('both', [other % 0] * 3, [7, 7, 7], 'cookies=zero,createverfs=zero')):
+        place.put('a', run((0, 1, 2), plain[0], [4, 5, 6]))
+        place.put('b', run((1, 0, 2), second, cookies))
+        status, out, error = place.compare('--order', 'any', 'a', 'b')
+        place.want(name, (status, out[1].partition('; masked besides: ')[2], error), (0, more, ''))
+        status, out, _ = place.compare(f'--mask=+createverfs=number,+cookies=number', '--order', 'any', 'a', 'b')
+        place.want(f'{name}: compared if they are named', (status, out[1]), (1, 'differ in any order'))
+
+
+def values_that_stand_for_others(place: Comparisons) -> None:
+    """A value that is equal in both runs and stands for another elsewhere is one line that says so; several such findings are one line."""
+    def run(*verifiers: bytes) -> Conversation:
+        return ([call(xid, NFS, 3, CREATE, dirop(b'top', b'f%d' % xid) + messages.how(2, verifier)) for xid, verifier in enumerate(verifiers)],
+                [success(xid, ok(messages.made(None, None, wcc()))) for xid, _ in enumerate(verifiers)])
+    a, b, c = (letter * 8 for letter in (b'a', b'b', b'c'))
+    place.put('a', run(a, b, b))
+    place.put('b', run(a, c, b))
+    where = 'connection 1 client record %d'
+    status, out, _ = place.compare('a', 'b')
+    place.want('one', (status, out[2:4]), (1, [
+        f'NFSPROC3_CREATE ?/f2: {where % 3} | {where % 3}',
+        f'  = createverf={b.hex()}    # elsewhere {b.hex()} of the first run is {c.hex()} of the second']))
+    place.put('a', run(a, b, b, b))
+    place.put('b', run(a, c, b, b))
+    status, out, _ = place.compare('a', 'b')
+    line = ('2 messages have values that are equal in both runs, and that stand for others elsewhere, first: '
+            f'{where % 3} | {where % 3}: createverf of NFSPROC3_CREATE 2')
+    place.want('several', (status, out[2], len(out)), (1, line, 5))
+    status, out, _ = place.compare('--all', 'a', 'b')
+    place.want('all', (status, sum(line.startswith('  = ') for line in out)), (1, 2))
+    for words in (['a', 'b'], ['--all', 'a', 'b'], ['--brief', 'a', 'b']):
+        values = [line.partition('=')[2] for line in place.compare(*words)[1] if line.startswith(('  - ', '  + '))]
+        place.want('no two equal values', len(values), len(set(values)))
 
 
 def orders_of_replies(place: Comparisons) -> None:
@@ -398,7 +449,7 @@ def calls_between_neighbours(place: Comparisons) -> None:
                 [success(xid, results) for xid, (_, _, results) in enumerate(asked)])
     place.put('a', run(b'x'))
     place.put('b', run(b'y'))
-    line = 'NFSPROC3_CREATE: connection 1 client record 2 | connection 1 client record 2'
+    line = 'NFSPROC3_CREATE ?/x: connection 1 client record 2 | connection 1 client record 2'
     for order in ('strict', 'any'):
         status, out, _ = place.compare('--order', order, 'a', 'b')
         place.want(order, (status, out[2:5]), (1, [line, '  - name="x"', '  + name="y"']))
@@ -430,8 +481,8 @@ def one_call_more_among_alike_ones(place: Comparisons) -> None:
         made, '18 of 20 calls belong together; 1 LOOKUP more in the second run; 1 more in the second run']))
     status, out, _ = place.compare('--order', 'strict', 'a', 'b')
     place.want('strict', (status, [line for line in out[2:-2] if line[:2] != '  ']), (1, [
-        made, '4 replies of NFSPROC3_LOOKUP, first: connection 1 server record 11 | connection 1 server record 13',
-        'only in the second run: NFSPROC3_LOOKUP: connection 1 client record 11']))
+        made, '4 replies of NFSPROC3_LOOKUP ?/folder, first: connection 1 server record 11 | connection 1 server record 13',
+        'only in the second run: NFSPROC3_LOOKUP ?/folder: connection 1 client record 11']))
     place.want('in words', out[-1], '18 of 20 calls belong together; 2 more in the second run; obj.nlink in 4 replies')
 
 
@@ -498,7 +549,7 @@ def many_in_another_order(place: Comparisons) -> None:
 TESTS: list[Callable[[Comparisons], None]] = [
     runs_are_written_anew, records_of_several_fragments, orders_that_are_none, wrong_writers_are_caught, clients_at_once,
     what_differs_is_found, calls_that_only_ask, ids_and_orders, seen_in_the_middle, folders_that_others_change,
-    masks_of_any_order, orders_of_replies, connections_by_what_they_ask,
+    masks_of_any_order, verifiers_that_repeat, values_that_stand_for_others, orders_of_replies, connections_by_what_they_ask,
     calls_between_neighbours, one_call_more_among_alike_ones, files_that_were_made_again, one_name_for_many_files,
     many_in_another_order]
 

@@ -224,7 +224,7 @@ def what_does_not_count(place: Pages) -> None:
     place.want('all is ignored', 'All fields that differ are ignored.' in page.text(), True)
     place.want('marks', [one for one in rows_and_gaps(page) if one[0] == '≠'], ['≠ 4 4', '≠ 5 5'])
     page = place.page(*CONCURRENT[::2])
-    place.want('masked in any order', 'masked besidesids=zero, wcc=zero, since any order was tried.' in page.all('dl')[0].text(), True)
+    place.want('masked in any order', 'masked besidesids=zero, cookies=zero, createverfs=zero, wcc=zero, since any order was tried.' in page.all('dl')[0].text(), True)
     place.want('strictly', 'masked besides' in place.page('--order', 'strict', *CONCURRENT[::2]).text(), False)
     talk = Talk()
     bodies = [body for at in range(4) for body in (null(at), success(at))]
@@ -279,7 +279,7 @@ def counts_lead_to_findings(place: Pages) -> None:
     articles = {one.attributes['id']: one.text() for one in page.all('article')}
     links = [one.attributes['href'][1:] for one in table.all('a')]
     place.want('links', links, ['f1', 'f3', 'f4'])
-    place.want('where they lead', [said in articles[name] for name, said in zip(links, ('obj.mode=416 (0640)', 'NFSPROC3_MKDIR', 'path='))],
+    place.want('where they lead', [said in articles[name] for name, said in zip(links, ('obj.mode=0640 (416)', 'NFSPROC3_MKDIR', 'path='))],
                [True] * 3)
     place.want('broken links', broken_links(page), [])
 
@@ -340,7 +340,7 @@ def long_messages(place: Pages) -> None:
     page = place.page()
     values = [one.text() for one in page.all('div', 'change')[0].all('div')]
     place.want('finding', (len(values), values[0], values[-2:]), (
-        401, '- entry "000".mode=416 (0640)', ['+ entry "199".mode=384 (0600)', '.. and 100 more fields']))
+        401, '- entry "000".mode=0640 (416)', ['+ entry "199".mode=0600 (384)', '.. and 100 more fields']))
     lines, every = fields_of(page)[1], 8 + 300 * 24 + 2
     more = int(re.sub('[^0-9]', '', lines[-1]))
     place.want('row', (5_000 < sum(map(len, lines)) < 6_100, lines[-1][:7], more + len(lines) - 1), (True, '.. and ', every))
@@ -475,7 +475,7 @@ def fields_on_a_click(place: Pages) -> None:
     asking, reply = fields_of(rows[2])
     place.want('call', (asking[0], asking[-1]), ('mtype=0 (CALL)', 'fh=66696c65'))
     place.want('reply', [line for line in reply if line.startswith(('obj.mode', 'obj.size'))],
-               ['obj.mode=416 (0640) | 384 (0600)', 'obj.size=2'])
+               ['obj.mode=0640 (416) | 0600 (384)', 'obj.size=2'])
     place.want('link', [one.attributes['href'] for one in rows[2].all('a')], ['#f1'])
     place.put('a', link(b'x' * 1_200))
     place.put('b', link(b'x' * 1_100 + b'y' + b'x' * 99))
@@ -624,7 +624,7 @@ def searching(place: Pages) -> None:
         findings = [one.attributes['id'] for one in page.all('article')]
         rows = {row.attributes['id']: row.text().lower() for row in page.all('details', 'row')}
         place.want('all', (browser.value(VISIBLE % 'article'), browser.value(VISIBLE % '.row')), (findings, [*rows]))
-        for text in ('/m/f12', 'SERVER record 27', '385 (0601)', 'nothing has this'):
+        for text in ('/m/f12', 'SERVER record 27', '0601 (385)', 'nothing has this'):
             browser.click('#find')
             browser.value('find.select()')
             browser.type(text)

@@ -102,16 +102,32 @@ def mask_word(text: str) -> str:
     return text
 
 
+# Classes that are zero in any order if that is needed, in this order. File ids are given out in the order of creation, and again after a
+# removal; verifiers of exclusive creates and cookies may repeat by chance, and then stand for two; others' changes are seen half done.
+RELAXED = ('ids', 'createverfs', 'cookies', 'wcc')
+
+
 def in_any_order(text: str | None) -> list[Mask]:
-    """Returns the masks under which runs are compared in another order, each with more than the one before: that of `--mask`, then ids as
-    zero, since they are given out in the order of creation, and then what is seen in the middle of others' changes as zero. A class
-    that `--mask` names stays as it is, and so does a mask that is given as a whole."""
+    """Returns the masks under which runs are compared in another order, each with more than the one before: that of `--mask`, and then one
+    relaxed class after another as zero. A class that `--mask` names stays as it is, and so does a mask that is given as a whole."""
     words = [] if text is None else [word for word in text.split(',') if word]
     masks, named = [default_mask() if text is None else mask_of(text)], {word.lstrip('+-').partition('=')[0] for word in words}
-    for name in ('ids', 'wcc'):
-        if name in BY_NAME and name not in named and all(word[0] in '+-' for word in words):
+    for name in RELAXED:
+        if name not in named and all(word[0] in '+-' for word in words):
             masks.append({**masks[-1], name: Way.ZERO})
     return masks
+
+
+def besides(mask: Mask, before: Mask) -> Mask:
+    """Returns the classes that one mask masks in another way than the one before."""
+    return {name: way for name, way in mask.items() if before.get(name) is not way}
+
+
+def with_class_of(mask: Mask, other: Mask, name: str) -> Mask:
+    """Returns a mask in which a class is masked as in another, or not at all."""
+    if name in other:
+        return {**mask, name: other[name]}
+    return {kept: way for kept, way in mask.items() if kept != name}
 
 
 def told(mask: Mask) -> str:

@@ -5,6 +5,7 @@ from collections import Counter
 from collections.abc import Callable, Iterable, Iterator, Sequence
 from dataclasses import dataclass, field
 
+from .arguments import Argument, arguments_of
 from .classes import Mask
 from .differing import Comparison, Difference
 from ..captures.listings import Exchange, Message, exchanges_of, messages_of
@@ -28,13 +29,15 @@ class Run:
 
 @dataclass(frozen=True)
 class Finding:
-    """What is told of one place: the messages of both runs (None if it has none there), and how they differ."""
+    """What is told of one place: the messages of both runs (None if it has none there), and how they differ. A call of one run alone has
+    its arguments."""
     kind: str  # 'changed', 'only', 'moved', 'replies', 'order' or 'connection'
     first: Message | None
     second: Message | None
     path: str | None = None
     differences: tuple[Difference, ...] = ()
     remark: str = ''
+    arguments: tuple[Argument, ...] = ()
 
 
 @dataclass
@@ -81,10 +84,10 @@ class Apart:
             self.paths.take(exchange)
 
     def path(self, at: int) -> str | None:
-        """Returns the path of what a call is about."""
+        """Returns the path of what a call is about. A folder whose path is not known is `?`."""
         call = self.exchanges[at].call
         path, name = self.paths.of(call.value_of('fh') or ''), call.value_of('name')
-        return path if name is None or path is None else f'{path.rstrip("/")}/{name.strip(chr(34))}'
+        return path if name is None else f'{(path or "?").rstrip("/")}/{name.strip(chr(34))}'
 
 
 def chosen(lines: Iterable[str], outlines: Outlines, some: Iterable[int]) -> Iterator[str]:
@@ -141,7 +144,7 @@ class Explaining:
         """
         pairing, moved = self.pairing, [*self.pairing.moved, *self.pairing.elsewhere] if tells_order else []
         changed = list(self.of_turns(unequal, self.take_apart(unequal | named, moved), Comparison(mask)))
-        findings = [*(finding for _, finding in changed), *self.of_the_lonely()]
+        findings = [*(finding for _, finding in changed), *self.of_the_lonely(mask)]
         if tells_order:
             findings += [*self.of_moved(), *self.of_late()]
         return Compared(sorted(findings, key=lambda finding: self.place_of(finding.first, finding.second)),
@@ -190,11 +193,13 @@ class Explaining:
             yield Finding('order', Message(connection, 'server', 1, 0, '', ()), None,
                           remark=f'{number} of {among} replies of the connection come in another order')
 
-    def of_the_lonely(self) -> Iterator[Finding]:
+    def of_the_lonely(self, mask: Mask) -> Iterator[Finding]:
         for at in self.lonely.told:
-            yield Finding('only', self.here.exchanges[at].call, None, self.here.path(at))
+            call = self.here.exchanges[at].call
+            yield Finding('only', call, None, self.here.path(at), arguments=tuple(arguments_of(call, mask)))
         for to in self.others.told:
-            yield Finding('only', None, self.there.exchanges[to].call, self.there.path(to))
+            call = self.there.exchanges[to].call
+            yield Finding('only', None, call, self.there.path(to), arguments=tuple(arguments_of(call, mask)))
         remark = 'a connection of %d calls that the other run does not have'
         for at, number in self.lonely.connections.items():
             yield Finding('connection', self.here.exchanges[at].call, None, remark=remark % number)

@@ -35,6 +35,11 @@ class Difference:
     apart: Apart | None = None
     alike: str = ''
 
+    @property
+    def is_equal(self) -> bool:
+        """Whether both runs have one value here, which stands for others elsewhere: the remark says for which."""
+        return self.first == self.second and self.apart is None
+
 
 class Side:
     """A message of one run, with the call to which it belongs if it is a reply."""

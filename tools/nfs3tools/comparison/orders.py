@@ -3,7 +3,7 @@ from collections.abc import Sequence
 from dataclasses import dataclass
 from typing import Literal
 
-from .classes import Mask
+from .classes import Mask, besides, with_class_of
 from .comparing import Compared, Explaining, Run
 from .pairing import ASKING
 from .shown import Around
@@ -57,9 +57,22 @@ class Orders:
         # (each mask has more than the one before, so what differs under the last one does under all)
         if self.explaining.tells_lonely() or not self.is_same(masks[-1]):
             return Found(self.explained(masks[-1]))
+        under, before = self.least()
+        # (what only the last class of this mask makes the same is told)
+        return Found(self.explained(before), under)
+
+    def least(self) -> tuple[Mask, Mask]:
+        """Returns a mask under which the runs are the same, with no class more than is needed, and the one without its last class. There
+        has to be one."""
+        masks = self.choices.masks
         at = next(at for at, mask in enumerate(masks) if self.is_same(mask))
-        # (what only this mask makes the same is told)
-        return Found(self.explained(masks[max(0, at - 1)]), masks[at])
+        if at == 0:
+            return masks[0], masks[0]
+        under, (last,) = masks[at], besides(masks[at], masks[at - 1])
+        for name in besides(masks[at - 1], masks[0]):
+            fewer = with_class_of(under, masks[0], name)
+            under = fewer if self.is_same(fewer) else under
+        return under, with_class_of(under, masks[0], last)
 
     def is_same(self, mask: Mask) -> bool:
         return self.trial.same(self.captures, mask) == 'same'

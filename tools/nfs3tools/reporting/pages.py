@@ -13,7 +13,7 @@ from typing import NamedTuple
 
 from . import summing, telling
 from ..comparison import apart
-from ..comparison.classes import told
+from ..comparison.classes import besides, told
 from ..comparison.comparing import Compared, Finding, Run
 from ..comparison.ignoring import Ignored
 from ..captures.listings import Message
@@ -134,9 +134,9 @@ def words_of_masks(content: Content) -> Iterator[tuple[str, str]]:
     report = content.report
     yield 'masked', f'{code(told(report.mask).replace(",", ", "))}. Xids, file handles and write verifiers are renamed one to one.'
     is_turned = report.same_under is not None
-    besides = summing.besides(report.same_under or content.compared.mask, report.mask)
-    if besides:
-        yield 'masked besides', (f'{code(told(besides).replace(",", ", "))}, ' + (
+    more = besides(report.same_under or content.compared.mask, report.mask)
+    if more:
+        yield 'masked besides', (f'{code(told(more).replace(",", ", "))}, ' + (
             'in another order.' if is_turned else 'since any order was tried. What differs in these alone is not told.'))
     if any(content.compared.left_out):
         yield 'left out', 'Calls that only ask, which one run alone has.'
@@ -165,13 +165,18 @@ def kind_of(finding: Finding) -> tuple[str, str]:
 
 
 def change_of(finding: Finding) -> Iterator[str]:
-    """The values of both runs, each with its sign."""
+    """The values of both runs, each with its sign, or the arguments of a call that one run alone has."""
     lines = [line.strip() for difference in finding.differences[:DIFFERENCES_AT_MOST] for line in telling.of_difference(difference)]
+    lines += telling.of_arguments(finding)
     yield '<div class=change>'
-    yield from (f'<div class={SIDES[SIGNS.index(line[0])]}>{line[0]}{GLUE}{escape(line[2:])}</div>' for line in lines)
+    yield from (f'<div{class_of(line[0])}>{line[0]}{GLUE}{escape(line[2:])}</div>' for line in lines)
     if len(finding.differences) > DIFFERENCES_AT_MOST:
         yield f'<div>.. and {len(finding.differences) - DIFFERENCES_AT_MOST:,} more fields</div>'
     yield '</div>'
+
+
+def class_of(sign: str) -> str:
+    return f' class={SIDES[SIGNS.index(sign)]}' if sign in SIGNS else ''
 
 
 class Body:
@@ -274,7 +279,7 @@ class Body:
                 yield f'<div class=place><span class="sign {SIDES[at]}">{SIGNS[at]}</span>{self.place(message, at)}</div>'
         if finding.remark:
             yield f'<p>{escape(finding.remark)}</p>'
-        if finding.differences:
+        if finding.differences or finding.arguments:
             yield from change_of(finding)
         anchor = self.anchors.get(places_of(finding.first, finding.second))
         if anchor:
@@ -288,6 +293,8 @@ class Body:
         finding, paths = group[0], {finding.path for finding in group} - {None}
         message = finding.first or finding.second
         assert message
+        if telling.is_summed(group):
+            return f'{len(group):,} messages have values that are equal in both runs, and that stand for others elsewhere'
         only = f'only in the {run_of(finding)} run: ' if finding.first is None or finding.second is None else ''
         if is_told_of_connections(finding):
             return f'{only if finding.kind == "connection" else ""}connection {message.connection}'
@@ -400,7 +407,7 @@ def values_of(message: Message) -> Iterator[tuple[str, str]]:
     labels = Labels(message)
     for at, item in enumerate(message.items):
         meaning = labels.meaning(at)
-        yield labels.label(at), telling.shortened(item.value) + (f' ({meaning})' if meaning else '')
+        yield labels.label(at), telling.named(item.name, item.value, meaning)
 
 
 def lines_of(first: Message | None, second: Message | None) -> Iterator[str]:

@@ -11,11 +11,12 @@ from ..comparison.differing import Difference
 from ..captures.listings import Message
 from ..shared.printed import escaped, printable
 from ..recordings.selection import count
-from .summing import IN_ANOTHER_ORDER
-from .telling import brief_of, folded, of_group
-
+from .summing import IN_ANOTHER_ORDER, short
+from .telling import brief_of, folded, is_summed, of_group
 
 CASES_AT_MOST = 1_000  # of findings
+FIELDS_AT_MOST = 4  # in the name of a case
+KINDS = {'moved': 'another turn', 'replies': 'another number of replies'}
 
 
 class Size(NamedTuple):
@@ -109,7 +110,8 @@ def of_finding(finding: Finding, first: Framing, second: Framing) -> dict[str, A
     assert message
     return {'kind': finding.kind, 'procedure': message.procedure, 'is_call': message.is_call, 'path': finding.path,
             'first': of_message(finding.first, first), 'second': of_message(finding.second, second), 'remark': finding.remark,
-            'differences': [of_difference(one) for one in finding.differences]}
+            'differences': [of_difference(one) for one in finding.differences],
+            'arguments': [{'label': one.label, 'value': one.value, 'name': one.meaning or None} for one in finding.arguments]}
 
 
 def of_message(message: Message | None, framing: Framing) -> dict[str, Any] | None:
@@ -133,11 +135,14 @@ class Suite:
     def __init__(self, names: Sequence[str]) -> None:
         self.root, self.names = xml.etree.ElementTree.Element('testsuites'), names
         self.suite = xml.etree.ElementTree.SubElement(self.root, 'testsuite', name='nfs3canon compare')
+        self.number_of = Counter[str]()  # cases of a name
 
-    def add(self, name: str, tag: str | None = None, message: str = '', text: Iterable[str] = (), **attributes: str) -> None:
-        """Adds a case, which passed if there is no tag."""
-        element = xml.etree.ElementTree.SubElement
-        case = element(self.suite, 'testcase', classname=' | '.join(map(escaped, self.names)), name=printable(name))
+    def add(self, given: str, tag: str | None = None, message: str = '', text: Iterable[str] = (), **attributes: str) -> None:
+        """Adds a case, which passed if there is no tag. If several have one name, they are numbered."""
+        element, name = xml.etree.ElementTree.SubElement, printable(given)
+        self.number_of[name] += 1
+        name += f' ({self.number_of[name]})' if self.number_of[name] > 1 else ''
+        case = element(self.suite, 'testcase', classname=' | '.join(map(escaped, self.names)), name=name)
         lines = '\n'.join(map(printable, text))
         if tag:
             element(case, tag, attributes, message=printable(message)).text = lines or None
@@ -160,9 +165,27 @@ def junit_of(line: str, report: Report, findings: Sequence[Finding], framings: S
     else:
         suite.add('the runs are the same', 'failure', line, more, type=report.word())
     for group in groups[:CASES_AT_MOST]:
-        said = brief_of(group, *framings)
-        suite.add(said.partition(' | ')[0], 'failure', said, of_group(group, *framings), type=group[0].kind)
+        suite.add(case_name(group), 'failure', brief_of(group, *framings), of_group(group, *framings), type=group[0].kind)
     return suite.written()
+
+
+def case_name(group: Sequence[Finding]) -> str:
+    """Returns the name of a case. It is the same in the next run if that differs in the same way: it has no numbers of records and frames,
+    no ports, and does not say how many there are."""
+    finding, paths, is_one_run = group[0], {one.path for one in group}, (group[0].first is None) != (group[0].second is None)
+    message = finding.first or finding.second
+    assert message
+    if finding.kind == 'order':
+        return 'the order of replies'
+    only = f'only in the {"first" if finding.first else "second"} run: ' if is_one_run else ''
+    if finding.kind == 'connection':
+        return f'{only}a connection'
+    if is_summed(group):
+        return 'values that stand for others elsewhere'
+    words = [short(message.procedure) + ('' if message.is_call else ' reply'), *({finding.path} - {None} if len(paths) == 1 else ())]
+    fields = list(dict.fromkeys(difference.field for difference in finding.differences))
+    words += [', '.join(fields[:FIELDS_AT_MOST]) + (', ..' if len(fields) > FIELDS_AT_MOST else '')] if fields else []
+    return only + ' '.join(filter(None, words)) + (f': {KINDS[finding.kind]}' if finding.kind in KINDS else '')
 
 
 def junit_of_parts(names: Sequence[str], losses: str, parts: Sequence[PartReport], framings: Sequence[Framing]) -> bytes:

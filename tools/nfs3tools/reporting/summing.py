@@ -2,7 +2,7 @@
 from collections import Counter
 from collections.abc import Iterator, Sequence
 
-from ..comparison.classes import Mask, told
+from ..comparison.classes import Mask, besides, told
 from ..comparison.comparing import Compared
 from ..comparison.orders import Found
 from ..recordings.selection import count, plural
@@ -35,11 +35,6 @@ def left_out(compared: Compared) -> Iterator[tuple[str, str]]:
     for name, procedures in zip(RUNS, compared.left_out):
         for procedure, number in sorted(procedures.items()):
             yield f'{number:,} {short(procedure)}', name
-
-
-def besides(mask: Mask, before: Mask) -> Mask:
-    """Returns the classes that one mask masks in another way than the one before."""
-    return {name: way for name, way in mask.items() if before.get(name) is not way}
 
 
 def of_same(found: Found, mask: Mask) -> str:
