@@ -13,6 +13,7 @@ import random
 import sys
 import xml.etree.ElementTree
 from collections.abc import Callable, Sequence
+from itertools import chain
 
 sys.path.insert(0, str(pathlib.Path(__file__).resolve().parents[1] / 'shared'))
 from compare import MEASURED, TOP, Comparisons, Conversation  # noqa: E402
@@ -22,7 +23,7 @@ from traffic import Names, Traffic  # noqa: E402
 sys.path[:0] = [str(TOP / 'tools'), str(TOP / 'examples')]
 import messages  # noqa: E402
 from messages import (  # noqa: E402
-    NFS, call, dirop, failed, fattr, fh, fragment, guard, how, made, ok, post_op_attr, sattr, success, wcc)
+    NFS, call, dirop, failed, fattr, fh, fragment, guard, how, made, ok, post_op_attr, sattr, success, wcc, word)
 from packets import Talk, pcap  # noqa: E402
 from nfs3tools.comparison.marks import Piece, pieces_of  # noqa: E402
 from nfs3tools.shared.programs import Died  # noqa: E402
@@ -307,6 +308,18 @@ def a_call_that_moved_in_secret(place: Comparisons) -> None:
         '"test 1": differ', '"test 2": differ', '"test 3": same: 3 calls in 3 connections'], '3 parts: 1 same, 2 differ'))
 
 
+def marks_that_fit_no_call(place: Comparisons) -> None:
+    """A pattern that fits no name of both runs compares nothing by parts: it is an error, also in JUnit XML. One run with a mark is enough."""
+    put(place, Run(1).mark('test 1').get('x'), Run(2).mark('test 1').get('x'))
+    message = "no call of LOOKUP, CREATE or MKDIR has a name that fits 'nomatch*'"
+    for words in ((), ('--order', 'any'), ('--junit', 'x.xml')):
+        answer = place.compare('--marks', 'nomatch*', *words, 'a', 'b')
+        place.want(' '.join(words), (answer[0], answer[1][1:], answer[2]), (2, [], f'compare: {message}\n'))
+    place.want('junit', f'message="{message}"'.encode() in (place.read('x.xml') or b''), True)
+    place.write('b', Run(2).get('x').recording())
+    place.want('in one run', place.compare('--marks', 'test*', 'a', 'b')[0], 1)
+
+
 def captures_connection_by_connection(place: Comparisons) -> None:
     """Without frames a mark is of its own connection, and of those after it up to the next mark."""
     def run(seed: int) -> Run:
@@ -379,9 +392,17 @@ def random_runs(place: Comparisons) -> None:
         place.put('a', *first)
         place.put('b', *second)
         status, out, error = place.compare('--mask', 'none', '--marks', '*', 'a', 'b')
+        if not any(map(is_mark, chain.from_iterable(bodies for bodies, _ in first))):
+            place.want(f'seed {seed}: no mark', (status, out[1:], error.count('\n')), (2, [], 1))
+            continue
         calls = [int(line.rpartition(': ')[2].split()[0]) for line in out[1:-1]]
         place.want(f'seed {seed}', (status, error, sum(calls)), (0, '', sum(len(bodies) for bodies, _ in first)))
-        place.want(f'sum of seed {seed}', out[-1].split(': ')[1], f'{len(calls)} same' if calls else 'nothing to compare')
+        place.want(f'sum of seed {seed}', out[-1].split(': ')[1], f'{len(calls)} same')
+
+
+def is_mark(body: bytes) -> bool:
+    """Whether a call is LOOKUP, CREATE or MKDIR of NFS version 3, by its numbers (RFC 5531, section 9)."""
+    return body[12:24] in [word(NFS) + word(3) + word(number) for number in (LOOKUP, CREATE, MKDIR)]
 
 
 # --- Words and files ---
@@ -394,7 +415,7 @@ def patterns_of_names(place: Comparisons) -> None:
     place.want('digits', names('test [0-9]*'), ['"test 10"'])
     place.want('letters', names('[tT]est ?'), ['before the first mark', '"Test 2"'])
     place.want('text', names('ü*"1"'), ['before the first mark', '"\\xc3\\xbcbung \\x221\\x22"'])
-    place.want('none', names('test'), ['before the first mark'])
+    place.want('a part of a name', place.compare('--marks', 'test', 'a', 'b')[0], 2)
     status, out, error = place.compare('--marks', '*', '--html', 'page', 'a', 'b')
     place.want('a page', (status, out, '--html is not for parts' in error, 'page' in place.names()), (2, [], True, False))
 
@@ -470,7 +491,8 @@ def many_parts(place: Comparisons) -> None:
 TESTS: list[Callable[[Comparisons], None]] = [
     few_runs_of_the_programs, few_runs_for_parts_that_differ, parts_listed_at_once,
     parts_that_are_the_same, one_part_that_differs, a_part_more, names_that_come_again, orders_within_a_part,
-    several_connections, a_call_that_moved_in_secret, captures_connection_by_connection, nothing_is_lost, calls_that_were_sent_again,
+    several_connections, a_call_that_moved_in_secret, captures_connection_by_connection, marks_that_fit_no_call, nothing_is_lost,
+    calls_that_were_sent_again,
     frames_in_another_order, random_runs, patterns_of_names, files_for_others, bytes_that_are_missing, many_parts]
 
 

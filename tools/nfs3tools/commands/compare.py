@@ -51,7 +51,8 @@ from ..comparison.classes import CLASSES, in_any_order, mask_word, told
 from ..comparison.comparing import Compared, Framing, Run
 from ..comparison.deciding import judged, run_of
 from ..comparison.ignoring import ignored_of, without
-from .messages import REFUSED, add_losses, add_options, add_program, advice_on, options_of, parser_of
+from .messages import REFUSED, add_losses, add_options, add_program, advice_on, ended, options_of, parser_of
+from ..comparison.marks import NoMark
 from ..comparison.orders import Choices
 from ..shared.outputs import held, printed_beside, try_outputs, write_file
 from ..reporting.pages import Content, Recorded
@@ -273,6 +274,9 @@ def main(words: list[str]) -> int:
         write_error(chosen, str(end))
         print(end, file=sys.stderr)
         return end.status
+    except NoMark as none:
+        write_error(chosen, str(none))
+        return ended('compare', str(none), REFUSED)
     except NotTaken as refused:
         write_error(chosen, advice_on(refused, 'compare'))
         raise

@@ -31,6 +31,10 @@ MARKING = frozenset(('NFSPROC3_LOOKUP', 'NFSPROC3_CREATE', 'NFSPROC3_MKDIR'))
 Moment = tuple[int, int, int]  # when a call was sent: its frame or 0, its connection, and its record
 
 
+class NoMark(Exception):
+    """No call of either run is a mark; its text is the message for the user."""
+
+
 class Name(NamedTuple):
     """What a part is called: the name of its mark as the listing spells it, None of the part before the first mark, and how often parts
     had that name so far, from 1."""
@@ -122,6 +126,9 @@ class MarkedRun:
         for connection in taken.connections:
             self.cut(connection, [mark.moment for mark in marks])
         self.parts = [part for part in self.parts if part.pieces]
+
+    def has_marks(self) -> bool:
+        return any(part.name.name is not None for part in self.parts)
 
     def has_silly_names(self) -> bool:
         """Whether a part may have a name that a mask changes."""

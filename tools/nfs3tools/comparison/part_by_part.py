@@ -17,10 +17,11 @@ from .ignoring import Ignored, without
 from .deciding import Judged, judged, run_of, same_of
 from .listed_parts import ListedParts, PartTrial, listed_at_once
 from ..captures.listings import Message
-from .marks import Both, MarkedRun, Name, Part, is_cut_by_records
+from .marks import Both, MarkedRun, Name, NoMark, Part, is_cut_by_records
 from .orders import Choices
 from .outlines import Outlines
 from ..recordings.taken import Taken
+from ..shared.printed import escaped
 from ..reporting.reports import PartReport
 from .trial import Trial
 
@@ -46,7 +47,8 @@ class Places:
 
 
 class PartByPart:
-    """Two runs that are cut at marks, and their parts."""
+    """Two runs that are cut at marks, and their parts. Raises `NoMark` if neither has one: then nothing would be compared by parts, though
+    the user asked for that."""
 
     def __init__(self, whole: Trial, names: Sequence[str], runs: Sequence[Run], pattern: str, choices: Choices) -> None:
         self.whole, self.names, self.runs, self.choices = whole, names, runs, choices
@@ -55,6 +57,8 @@ class PartByPart:
         first = MarkedRun(whole.runs[0], listings[0], pattern)
         is_cut_alike = self.are_wholes_same and not first.has_silly_names() and all(map(is_cut_by_records, whole.runs))
         self.marked = first, first if is_cut_alike else MarkedRun(whole.runs[1], listings[1], pattern)
+        if not any(marked.has_marks() for marked in self.marked):
+            raise NoMark(f'no call of LOOKUP, CREATE or MKDIR has a name that fits {escaped(pattern)!r}')
 
     def reports(self, ignored: Sequence[Ignored]) -> list[PartReport]:
         """Judges all parts. Returns what is said of each: in the order of the first run, and then those that only the second run has."""
