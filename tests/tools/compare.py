@@ -6,6 +6,8 @@
 PROGRAM is crates/nfs3canon/out/nfs3canon if none is named. The last line is 'N passed, M failed', and the status is 1 if any
 failed.
 """
+import hashlib
+import json
 import pathlib
 import random
 import re
@@ -395,14 +397,16 @@ def random_traffic(place: Comparisons) -> None:
 # --- Cost ---
 
 MANY, FILES_OF_MANY = 100_000, 5_000
-# Runs a tool, and then prints the processor time and the memory that it took itself, without the programs that it ran.
+# Runs a tool, and then prints the processor time and the memory that it took itself, without the programs that it ran. (ru_maxrss has the
+# memory of the tests, too, which were this process before.)
 MEASURED = """import resource, runpy, sys
 sys.argv = sys.argv[1:]
 try:
     runpy.run_path(sys.argv[0], run_name='__main__')
 finally:
     taken = resource.getrusage(resource.RUSAGE_SELF)
-    print(taken.ru_utime + taken.ru_stime, taken.ru_maxrss * 1024, file=sys.stderr)
+    most = next(line.split()[1] for line in open('/proc/self/status') if line.startswith('VmHWM'))
+    print(taken.ru_utime + taken.ru_stime, int(most) * 1024, file=sys.stderr)
 """
 
 
@@ -440,6 +444,60 @@ def one_bit_of_many_calls(place: Comparisons) -> None:
     seconds, memory = map(float, error.split())
     place.want(f'{seconds} seconds', seconds < 20, True)
     place.want(f'{memory} bytes', memory < 800e6, True)
+
+
+def measured(place: Comparisons, *words: str) -> tuple[int, list[str], float, float]:
+    """The status and the lines of a comparison, and the seconds and bytes that it took itself."""
+    command = [sys.executable, '-c', MEASURED, str(TOP / 'tools/compare'), '--program', place.program, *words]
+    status, out, error = ended(command, place.folder, limit=None).text()
+    seconds, memory = map(float, error.splitlines()[-1].split())
+    return status, out.splitlines(), seconds, memory
+
+
+MIB = 1 << 20
+
+
+def writes_of_other_data(seed: int, number: int) -> Conversation:
+    """WRITEs of 1 MiB of random data."""
+    chance = random.Random(seed)
+    return ([call(at, NFS, 3, 7, fh(b'a') + hyper(at * MIB) + word(MIB) + word(2) + messages.opaque(chance.randbytes(MIB)))
+             for at in range(number)], [success(at, ok(wcc(), word(MIB), word(2), b'verifier')) for at in range(number)])
+
+
+def data_that_differ(place: Comparisons) -> None:
+    """Memory does not grow with the data that differ: of 40 MiB in each run, with a page and JSON, it stays below what plain Python and
+    a few MiB take. The bytes round the first difference are told, and JSON has the digests."""
+    place.put('a', writes_of_other_data(1, 40))
+    place.put('b', writes_of_other_data(2, 40))
+    status, out, _, memory = measured(place, '--json', 'out.json', '--html', 'out.html', 'a', 'b')
+    place.want('verdict', (status, out[-1]), (1, '40 of 40 calls belong together; data in 40 calls'))
+    place.want(f'{memory} bytes', memory < 80e6, True)
+    first, second = (random.Random(seed).randbytes(MIB) for seed in (1, 2))
+    differing = sum(one != other for one, other in zip(first, second))
+    place.want('the first', out[3:5], [
+        f'  - data={first[:16].hex()}..', f'  + data={second[:16].hex()}..    # {differing:,} of {MIB:,} bytes differ, the first at offset 0 of '
+        'the file (byte 0 of the data)'])
+    found = json.loads(place.read('out.json') or b'')['findings'][0]['differences'][0]
+    place.want('digests', found['apart']['sha256'], [hashlib.sha256(one).hexdigest() for one in (first, second)])
+    place.want('sizes', (len(found['first']) < 200, len(place.read('out.html') or b'') < 1e6), (True, True))
+
+
+def folders_far_down(place: Comparisons) -> None:
+    """Folders each in the one before, all of whose replies differ: memory grows with their number, not with its square. Long paths are
+    cut in the middle."""
+    def chain(mode: int) -> Conversation:
+        return ([call(at, NFS, 3, 3, dirop(b'%08d' % at, b'%04d' % at + b'd' * 240)) for at in range(2_000)],
+                [success(at, ok(fh(b'%08d' % (at + 1)), post_op_attr(fattr(2, at, mode=mode)), post_op_attr())) for at in range(2_000)])
+    place.put('a', chain(0o755))
+    place.put('b', chain(0o700))
+    status, out, _, memory = measured(place, '--all', 'a', 'b')
+    headings = [line for line in out if line.startswith('NFSPROC3')]
+    place.want('findings', (status, len(headings)), (1, 2_000))
+    place.want(f'{memory} bytes', memory < 120e6, True)
+    name, last = '0000' + 'd' * 240, '1999' + 'd' * 240
+    place.want('the first', headings[0], f'NFSPROC3_LOOKUP reply ?/{name}: connection 1 server record 1 | connection 1 server record 1')
+    path = headings[-1].removeprefix('NFSPROC3_LOOKUP reply ').partition(':')[0]
+    place.want('the last', (path.startswith(f'?/{name}/ .. /'), path.endswith(f'/{last}'), len(path) <= 1_024), (True, True, True))
 
 
 # --- Recordings ---
@@ -510,7 +568,8 @@ TESTS: list[Callable[[Comparisons], None]] = [
     sequences_brought_together, sequences_in_blocks, retransmissions_are_linear, words_of_masks,
     ordinary_runs, changed_fields, statuses_that_differ, one_call_more, other_orders, bound_values, zero_cookies,
     equal_numbers_of_two_classes, users_and_groups, directories, entries_of_one_name, replies_of_one_call, files_by_their_paths,
-    raw_messages, connections_of_one_run, random_traffic, one_bit_of_many_calls, example_recordings, same_in_part, refused_runs]
+    raw_messages, connections_of_one_run, random_traffic, one_bit_of_many_calls, data_that_differ,
+    folders_far_down, example_recordings, same_in_part, refused_runs]
 
 
 if __name__ == '__main__':

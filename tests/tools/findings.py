@@ -618,7 +618,8 @@ def as_json(place: Findings) -> None:
     status = {'field': 'status', 'label': 'status', 'first': '2', 'second': '13', 'remark': '', 'names': ['NFS3ERR_NOENT', 'NFS3ERR_ACCES'],
               'apart': None}
     data = {'field': 'data', 'label': 'data', 'first': '6f' * 40, 'second': '6f' * 38, 'remark': '', 'names': [None, None],
-            'apart': {'at': 38, 'offset': 1_038, 'differing': 0, 'sizes': [40, 38]}}
+            'apart': {'at': 38, 'offset': 1_038, 'differing': 0, 'sizes': [40, 38], 'shown': ['..' + '6f' * 8 + ' 6f6f', '..' + '6f' * 8],
+                      'sha256': [None, None]}}
     wanted: dict[str, Any] = {
         'verdict': 'differ', 'position': 'connection 1 client record 3', 'mask': {'times': 'zero', 'ids': 'number'},
         'same_under': None,

@@ -12,7 +12,8 @@ from ..captures.listings import Exchange, Message, exchanges_of, messages_of
 from .matching import Pair
 from .outlines import Outlines
 from .pairing import NOBODY, Listing, Pairing
-from ..captures.paths import Paths
+from ..captures.paths import Paths, below
+from ..captures.stored import Storage
 from .shown import Around, Beside, Row, Shown
 
 Framing = Callable[[Message], Sequence[int]]
@@ -73,11 +74,11 @@ class Compared:
 
 
 class Apart:
-    """Exchanges of a run that are taken apart, with the paths of their files."""
+    """Exchanges of a run that are taken apart, with the paths of their files. Long values are in a temporary file."""
 
     def __init__(self, run: Run, outlines: Outlines, wanted: Iterable[int]) -> None:
         kept = sorted(outlines.with_origins(wanted))
-        found = exchanges_of(messages_of(chosen(run.listing() if kept else (), outlines, kept)))
+        found = exchanges_of(messages_of(chosen(run.listing() if kept else (), outlines, kept), Storage().kept))
         self.exchanges = dict(zip(kept, itertools.chain.from_iterable(some for _, some in sorted(found.items()))))
         self.paths = Paths()
         for exchange in self.exchanges.values():
@@ -87,7 +88,7 @@ class Apart:
         """Returns the path of what a call is about. A folder whose path is not known is `?`."""
         call = self.exchanges[at].call
         path, name = self.paths.of(call.value_of('fh') or ''), call.value_of('name')
-        return path if name is None else f'{(path or "?").rstrip("/")}/{name.strip(chr(34))}'
+        return path if name is None else below(path or '?', name.strip('"'))
 
 
 def chosen(lines: Iterable[str], outlines: Outlines, some: Iterable[int]) -> Iterator[str]:

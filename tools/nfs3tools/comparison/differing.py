@@ -7,6 +7,7 @@ from .apart import Apart, apart, is_long
 from .binding import HANDLES, VERIFIERS, Bindings
 from .classes import CLASSES, Mask, ValueClass, Way
 from ..captures.listings import Item, Message
+from ..captures.stored import text_of
 from ..captures.whose import Labels
 
 # After one of these the rest of a reply has another layout.
@@ -96,7 +97,7 @@ class Comparison:
 
     def of_raw(self, here: Side, at: int, there: Side, to: int) -> Difference | None:
         """Handles in raw bytes are those of the other run where they are known."""
-        first, second = here.items[at].value, there.items[to].value
+        first, second = text_of(here.items[at].value), text_of(there.items[to].value)
         renamed = self.bindings.renamed(first)
         if renamed == second:
             return None

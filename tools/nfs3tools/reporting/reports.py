@@ -9,10 +9,11 @@ from ..comparison.classes import Mask
 from ..comparison.comparing import Compared, Finding, Framing
 from ..comparison.differing import Difference
 from ..captures.listings import Message
+from ..captures.stored import Stored
 from ..shared.printed import escaped, printable
 from ..recordings.selection import count
 from .summing import IN_ANOTHER_ORDER, short
-from .telling import brief_of, folded, is_summed, of_group
+from .telling import brief_of, folded, is_summed, of_group, shortened
 
 CASES_AT_MOST = 1_000  # of findings
 FIELDS_AT_MOST = 4  # in the name of a case
@@ -111,7 +112,7 @@ def of_finding(finding: Finding, first: Framing, second: Framing) -> dict[str, A
     return {'kind': finding.kind, 'procedure': message.procedure, 'is_call': message.is_call, 'path': finding.path,
             'first': of_message(finding.first, first), 'second': of_message(finding.second, second), 'remark': finding.remark,
             'differences': [of_difference(one) for one in finding.differences],
-            'arguments': [{'label': one.label, 'value': one.value, 'name': one.meaning or None} for one in finding.arguments]}
+            'arguments': [{'label': one.label, 'value': cut(one.value), 'name': one.meaning or None} for one in finding.arguments]}
 
 
 def of_message(message: Message | None, framing: Framing) -> dict[str, Any] | None:
@@ -119,12 +120,21 @@ def of_message(message: Message | None, framing: Framing) -> dict[str, Any] | No
 
 
 def of_difference(difference: Difference) -> dict[str, Any]:
-    """The values are whole, as the listing spells them."""
+    """The values are as the listing spells them. Long ones are cut, and have a digest of their bytes."""
     parting = difference.apart and {
         'at': difference.apart.at, 'offset': difference.apart.offset, 'differing': difference.apart.differing,
-        'sizes': difference.apart.sizes}
-    return {'field': difference.field, 'label': difference.label, 'first': difference.first, 'second': difference.second,
+        'sizes': difference.apart.sizes, 'shown': difference.apart.shown, 'sha256': [*map(digest_of, (difference.first, difference.second))]}
+    return {'field': difference.field, 'label': difference.label, 'first': cut(difference.first), 'second': cut(difference.second),
             'remark': difference.remark, 'names': [name or None for name in difference.meanings], 'apart': parting}
+
+
+def cut(value: str | None) -> str | None:
+    return shortened(value) if isinstance(value, Stored) else value
+
+
+def digest_of(value: str | None) -> str | None:
+    """Returns the digest of a value of which the JSON has no more than the beginning."""
+    return value.digest if isinstance(value, Stored) else None
 
 
 # --- JUnit XML ---

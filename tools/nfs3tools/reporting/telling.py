@@ -6,6 +6,7 @@ from ..comparison import apart
 from ..comparison.comparing import Compared, Finding, Framing
 from ..comparison.differing import Difference
 from ..captures.listings import Message
+from ..captures.stored import Stored
 
 LONGEST_VALUE, LONGEST_NAME = 128, 1024  # characters, as the listing spells them
 LONGEST_LIST = 4  # frames
@@ -16,6 +17,8 @@ PLACES = frozenset(('fh', 'offset', 'count', 'data', 'cookie', 'cookieverf', 'di
 
 def shortened(value: str) -> str:
     """Returns a value as it is printed alone. Handles and names are whole."""
+    if isinstance(value, Stored):
+        return f'{value.shown(LONGEST_VALUE)}.. ({2 * value.size} characters)'
     most = LONGEST_NAME if value.startswith('"') else LONGEST_VALUE
     return value if len(value) <= most else f'{value[:most]}.. ({len(value)} characters)'
 
