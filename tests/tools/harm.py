@@ -8,6 +8,7 @@ PROGRAM is crates/nfs3canon/out/nfs3canon if none is named. Changing owners take
 """
 import errno
 import gzip
+import json
 import lzma
 import os
 import pathlib
@@ -195,6 +196,31 @@ def names_that_another_gets(tools: Tools) -> None:
             status, _, error = patched(tools, ANOTHER, *words)
             tools.want('the end', (status, last_of(error).startswith(f'{words[0]}: out: ')), (3, True))
             tools.want('what is there', (tools.read('out'), parts(tools)), (b'theirs', []))
+
+
+# As overlayfs does it: a file of its lower layer is copied once it is opened for writing, and so it is another file.
+COPIED = '''
+import shutil
+real = os.open
+def opening(path, flags, *words, **named):
+    if path == 'out' and flags & os.O_ACCMODE == os.O_WRONLY:
+        shutil.copy2('out', 'copy')
+        os.rename('copy', 'out')
+    return real(path, flags, *words, **named)
+os.open = opening
+'''
+
+
+def files_of_a_lower_layer(tools: Tools) -> None:
+    """A file with several links that gets another number as it is opened is replaced at once. Its other link stays."""
+    tools.write('a.pcap', RECORDING)
+    for links in (2, 1):
+        tools.write('out', AS_IT_WAS)
+        if links == 2:
+            os.link(tools.path('out'), tools.path('link'))
+        status, _, error = patched(tools, COPIED, 'from_pcap', 'a.pcap', 'out')
+        tools.want(f'{links} links', (status, tools.read('out') == CAPTURE), (0, True) if links == 2 else (3, False))
+    tools.want('the other link', (tools.read('link'), parts(tools)), (AS_IT_WAS, []))
 
 
 def removed_files(tools: Tools) -> None:
@@ -404,9 +430,14 @@ def names(tools: Tools) -> None:
     ended([os.fsencode(word) for word in (tool('compare'), *program, '--html', 'page', recording, capture)], tools.folder)
     page = (tools.read('page') or b'').decode()
     tools.want('the page', (page.count(SHOWN), '\x1b' in page), (4, False))
+    ended([os.fsencode(word) for word in (tool('compare'), *program, '--json', 'json', recording, capture)], tools.folder)
+    content = (tools.read('json') or b'').decode()
+    tools.want('JSON', (re.findall(r'\\ud[89a-f]', content), [run['name'] for run in json.loads(content)['runs']]),
+               ([], [SHOWN + '.pcap', SHOWN + '.nfs3cap']))
 
 
-TESTS = [outputs_that_are_inputs, outputs_that_are_recordings, full_disks, looks_that_fail, names_that_another_gets, removed_files,
+TESTS = [outputs_that_are_inputs, outputs_that_are_recordings, full_disks, looks_that_fail, names_that_another_gets,
+         files_of_a_lower_layer, removed_files,
          permissions, signals, programs_that_die, filters_that_die, closed_outputs, names]
 
 

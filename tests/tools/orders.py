@@ -291,6 +291,60 @@ def calls_that_only_ask(place: Comparisons) -> None:
     place.want('none', (status, len(found), out[-1].partition('; ')[2].endswith('3 more in the first run')), (1, 1, True))
 
 
+def looked_up(*names: bytes) -> Conversation:
+    """LOOKUPs in one folder, of names that are not there."""
+    return ([call(xid, NFS, 3, LOOKUP, dirop(b'top', name)) for xid, name in enumerate(names)],
+            [success(xid, messages.failed(2, post_op_attr())) for xid, _ in enumerate(names)])
+
+
+def runs_without_a_common_call(place: Comparisons) -> None:
+    """Runs of which all is left out are not the same in any order: nothing was compared. With as many questions in one place each is a
+    changed call."""
+    message = 'compare: nothing to compare: no call of one run is in the other\n'
+    place.put('a', looked_up(b'a0', b'a1', b'a2'))
+    for names in ((b'b0', b'b1'), (b'b0',), ()):
+        place.put('b', looked_up(*names))
+        for words in (['a', 'b'], ['b', 'a']):
+            answer = place.compare('--order', 'any', '--junit', 'x.xml', *words)
+            place.want(f'{names} {words}', (answer[0], answer[1][1:], answer[2]), (2, [], message))
+            place.want('junit', b'<error message="nothing to compare' in (place.read('x.xml') or b''), True)
+    place.put('b', looked_up(b'b0', b'b1', b'b2'))
+    status, out, _ = place.compare('--order', 'any', '--all', 'a', 'b')
+    place.want('as many', (status, out[1], [line for line in out if line.startswith('  ')]), (1, 'differ in any order', [
+        line for number in range(3) for line in (f'  - name="a{number}"', f'  + name="b{number}"')]))
+
+
+def questions_that_are_changed(place: Comparisons) -> None:
+    """A client that asks for a wrong name among others has changed a call. One that asks for another name elsewhere has not."""
+    names = [b'f%d' % number for number in range(6)]
+    def others(wrong: bytes, at: int = 3) -> list[bytes]:
+        return [*names[:at], wrong, *names[at + 1:]]
+    place.put('a', looked_up(*names))
+    place.put('b', looked_up(*others(b'wrong')))
+    status, out, _ = place.compare('--order', 'any', 'a', 'b')
+    place.want('another name', (status, out[1:5]), (1, [
+        'differ in any order', 'NFSPROC3_LOOKUP ?/f3: connection 1 client record 4 | connection 1 client record 4', '  - name="f3"',
+        '  + name="wrong"']))
+    place.put('b', looked_up(*names[:3], *names[4:], b'wrong'))
+    status, out, _ = place.compare('--order', 'any', 'a', 'b')
+    place.want('in another place', (status, out[1].partition('; ')[2]),
+               (0, 'left out: 1 LOOKUP of the first run, 1 LOOKUP of the second run'))
+
+
+def a_client_without_commit(place: Comparisons) -> None:
+    """COMMIT asks the server to keep what was written: it is not left out."""
+    def run(*procedures: int) -> Conversation:
+        said = {GETATTR: (fh(b'a'), ok(fattr(1, 1))), 21: (fh(b'a') + hyper(0) + word(0), ok(wcc(), b'verifier')),
+                WRITE: (fh(b'a') + hyper(0) + word(1) + word(0) + opaque(b'x'), ok(wcc(), word(1), word(0), b'verifier'))}
+        return ([call(xid, NFS, 3, number, said[number][0]) for xid, number in enumerate(procedures)],
+                [success(xid, said[number][1]) for xid, number in enumerate(procedures)])
+    place.put('a', run(GETATTR, WRITE, 21))
+    place.put('b', run(GETATTR, WRITE))
+    for order in ('any', 'strict'):
+        status, out, _ = place.compare('--order', order, 'a', 'b')
+        place.want(order, (status, out[2].partition(': connection')[0]), (1, 'only in the first run: NFSPROC3_COMMIT'))
+
+
 def ids_and_orders(place: Comparisons) -> None:
     """File ids are given out in the order of creation, and given again after a removal: no renaming of them can be one to one."""
     def run(*order: int) -> Conversation:
@@ -548,7 +602,8 @@ def many_in_another_order(place: Comparisons) -> None:
 
 TESTS: list[Callable[[Comparisons], None]] = [
     runs_are_written_anew, records_of_several_fragments, orders_that_are_none, wrong_writers_are_caught, clients_at_once,
-    what_differs_is_found, calls_that_only_ask, ids_and_orders, seen_in_the_middle, folders_that_others_change,
+    what_differs_is_found, calls_that_only_ask, runs_without_a_common_call, questions_that_are_changed,
+    a_client_without_commit, ids_and_orders, seen_in_the_middle, folders_that_others_change,
     masks_of_any_order, verifiers_that_repeat, values_that_stand_for_others, orders_of_replies, connections_by_what_they_ask,
     calls_between_neighbours, one_call_more_among_alike_ones, files_that_were_made_again, one_name_for_many_files,
     many_in_another_order]

@@ -53,7 +53,7 @@ from ..comparison.deciding import judged, run_of
 from ..comparison.ignoring import ignored_of, without
 from .messages import REFUSED, add_losses, add_options, add_program, advice_on, ended, options_of, parser_of
 from ..comparison.marks import NoMark
-from ..comparison.orders import Choices
+from ..comparison.orders import Choices, NothingInCommon
 from ..shared.outputs import held, printed_beside, try_outputs, write_file
 from ..reporting.pages import Content, Recorded
 from ..comparison.pairing import ASKING
@@ -274,9 +274,9 @@ def main(words: list[str]) -> int:
         write_error(chosen, str(end))
         print(end, file=sys.stderr)
         return end.status
-    except NoMark as none:
-        write_error(chosen, str(none))
-        return ended('compare', str(none), REFUSED)
+    except (NoMark, NothingInCommon) as nothing:
+        write_error(chosen, str(nothing))
+        return ended('compare', str(nothing), REFUSED)
     except NotTaken as refused:
         write_error(chosen, advice_on(refused, 'compare'))
         raise

@@ -36,6 +36,10 @@ class Found:
     same_under: Mask | None = None
 
 
+class NothingInCommon(Exception):
+    """No call of one run is in the other, and what one run alone has is left out; the text is the message for the user."""
+
+
 class Orders:
     """Two runs whose exchanges are brought together, and their captures in one order."""
 
@@ -57,6 +61,8 @@ class Orders:
         # (each mask has more than the one before, so what differs under the last one does under all)
         if self.explaining.tells_lonely() or not self.is_same(masks[-1]):
             return Found(self.explained(masks[-1]))
+        if not len(self.explaining.firsts):
+            raise NothingInCommon('nothing to compare: no call of one run is in the other')
         under, before = self.least()
         # (what only the last class of this mask makes the same is told)
         return Found(self.explained(before), under)

@@ -208,6 +208,10 @@ class Outlines:
     def procedure_of(self, at: int) -> str:
         return self.names[self.kinds[at]]
 
+    def about(self, at: int) -> tuple[str, int]:
+        """Returns the procedure of a call, and the object that it is about: the folder of a name."""
+        return self.procedure_of(at), self.identities[self.folders[at]]
+
     def connection_of(self, at: int) -> int:
         """Returns the place of an exchange's connection among all."""
         return bisect_right(self.starts, at) - 1

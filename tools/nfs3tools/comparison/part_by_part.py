@@ -18,7 +18,7 @@ from .deciding import Judged, judged, run_of, same_of
 from .listed_parts import ListedParts, PartTrial, listed_at_once
 from ..captures.listings import Message
 from .marks import Both, MarkedRun, Name, NoMark, Part, is_cut_by_records
-from .orders import Choices
+from .orders import Choices, NothingInCommon
 from .outlines import Outlines
 from ..recordings.taken import Taken
 from ..shared.printed import escaped
@@ -129,7 +129,11 @@ class PartByPart:
     def alone(self, trial: Trial, one: Part, other: Part) -> Judged:
         """Judges a part. The places of what is found are those in the whole runs."""
         runs = [run_of(trial, *each) for each in zip(trial.runs, trial.captures, self.names)]
-        said = judged(trial, runs, [one.size(), other.size()], self.choices)
+        sizes = [one.size(), other.size()]
+        try:
+            said = judged(trial, runs, sizes, self.choices)
+        except NothingInCommon:  # (then what one run alone has is all that there is)
+            said = judged(trial, runs, sizes, replace(self.choices, leaves_out=frozenset()))
         compared = said.found.compared
         findings = [replace(finding, first=finding.first and one.in_the_whole(finding.first),
                             second=finding.second and other.in_the_whole(finding.second)) for finding in compared.findings]

@@ -75,7 +75,7 @@ def json_of(report: Report, compared: Compared, left_out: Counter[tuple[str, str
     head = {
         'verdict': report.word(), 'position': report.verdict.partition(' at ')[2] or None, 'mask': words_of(report.mask),
         'same_under': report.same_under and words_of(report.same_under),
-        'runs': [{'name': name, **size._asdict(), 'missing': missing, 'only': only, 'left_out': dict(left)}
+        'runs': [{'name': escaped(name), **size._asdict(), 'missing': missing, 'only': only, 'left_out': dict(left)}
                  for name, size, missing, only, left in runs],
         'order': {'together': compared.exchanges, 'calls': compared.moved, 'replies': compared.late,
                   'connections': compared.late_connections, 'on_another_connection': compared.elsewhere},
@@ -89,7 +89,7 @@ def json_of(report: Report, compared: Compared, left_out: Counter[tuple[str, str
 
 def json_of_parts(marks: str, missing: Sequence[int], parts: Sequence[PartReport], framings: Sequence[Framing]) -> Iterator[bytes]:
     """The comparison of parts, in pieces: an object with a list of the parts. What is said of a part is an object as of whole runs."""
-    yield json.dumps({'marks': marks, 'missing': list(missing)}, indent=1).removesuffix('\n}').encode() + b',\n "parts": ['
+    yield json.dumps({'marks': escaped(marks), 'missing': list(missing)}, indent=1).removesuffix('\n}').encode() + b',\n "parts": ['
     for turn, part in enumerate(parts):
         head = {'name': part.name, 'number': part.number, 'verdict': part.word(), 'only': part.only}
         yield (b',\n' if turn else b'\n') + json.dumps(head).removesuffix('}').encode() + b', "comparison": '

@@ -166,11 +166,18 @@ def opened(path: str, found: os.stat_result, flags: int) -> typing.Iterator[int]
     """Opens the file that was found under a name, and no other. Nothing is made or emptied."""
     number = os.open(path, flags | os.O_NOCTTY)
     try:
-        if not os.path.samestat(os.fstat(number), found):
+        if not is_the_same(os.fstat(number), found):
             raise another(path)
         yield number
     finally:
         os.close(number)
+
+
+def is_the_same(now: os.stat_result, found: os.stat_result) -> bool:
+    """Whether a file that was opened is the one that was found. overlayfs gives a file of its lower layer that has several links another
+    number once it is opened for writing."""
+    kept = ('st_mode', 'st_uid', 'st_gid', 'st_size', 'st_mtime_ns')
+    return os.path.samestat(now, found) or found.st_nlink > 1 and all(getattr(now, name) == getattr(found, name) for name in kept)
 
 
 def another(path: str) -> OSError:
@@ -287,13 +294,14 @@ def replace(path: str, found: os.stat_result, blocks: typing.Iterable[bytes]) ->
         raise PermissionError(errno.EACCES, os.strerror(errno.EACCES), path)
     target = os.path.realpath(path)
     with opened(path, found, os.O_WRONLY | os.O_NONBLOCK) as number:
-        look_again(target, found)
+        old = os.fstat(number)
+        look_again(target, old)
         mode = mode_of_new(target)
         with part_of(target) as part:
             write_all(part.number, blocks)
             part.make_safe(mode_of_replaced(part, os.fstat(number), mode))
             with held():
-                look_again(target, found)
+                look_again(target, old)
                 os.rename(part.path, target)
 
 
