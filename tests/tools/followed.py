@@ -29,7 +29,7 @@ from traffic import Names, Traffic  # noqa: E402
 from messages import Bodies  # noqa: E402
 from packets import ACK, FIN, RST, Talk, pcap  # noqa: E402
 from nfs3tools.commands import following  # noqa: E402
-from nfs3tools.commands.judging import Verdict  # noqa: E402
+from nfs3tools.commands.judging import Verdict, is_row  # noqa: E402
 from nfs3tools.recordings.frames import Recording, Source  # noqa: E402
 from nfs3tools.recordings.segments import Segments, ends_of  # noqa: E402
 from nfs3tools.recordings.selection import Options  # noqa: E402
@@ -233,11 +233,11 @@ def why_early(program: str, recording: bytes, options: Options, one: Said, plain
 def differences(program: str, recording: bytes, options: Options) -> list[str]:
     """What is wrong with the rows of a recording."""
     found = followed(program, recording, options)
-    printed = [said for said in found if said.verdict.state not in ('note', 'skipped')]
-    plain = [verdict for verdict in judged(program, recording, options) if verdict.state not in ('note', 'skipped')]
+    printed = [said for said in found if is_row(said.verdict)]
+    plain = [verdict for verdict in judged(program, recording, options) if is_row(verdict)]
     rows, wanted = collections.Counter(row(said.verdict) for said in printed), collections.Counter(map(row, plain))
     others = [said for said in printed if rows[row(said.verdict)] > wanted[row(said.verdict)]]
-    is_any_skipped = any(said.verdict.state == 'skipped' and said.number for said in found)
+    is_any_skipped = any(not said.verdict.shows_calls and said.number for said in found)
     wrong = [f'{said.number}: {row(said.verdict)}' for said in others
              if not why_early(program, recording, options, said, plain, is_any_skipped)]
     if wrong or sum(rows.values()) != sum(wanted.values()) and not is_any_skipped:

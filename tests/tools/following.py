@@ -20,7 +20,7 @@ import typing
 
 sys.path.insert(0, str(pathlib.Path(__file__).resolve().parents[1] / 'shared'))
 from running import begin, pipe_of, try_tests  # noqa: E402
-from scripts import ALL, CALLS, TOP, Tools, stream, whole  # noqa: E402
+from scripts import ALL, TOP, Tools, stream, sums, whole  # noqa: E402
 from messages import NFS, call, fh, fragment, hyper, opaque, success, word  # noqa: E402
 from packets import ACK, RST, Talk, pcap  # noqa: E402
 from nfs3tools.recordings.streams import Spool, Stored  # noqa: E402
@@ -102,10 +102,6 @@ def row(number: int, port: int, calls: int, replies: int, verdict: str) -> list[
     return ['-', str(number), f'192.0.2.7:{port}', SERVER, str(calls), str(replies), verdict]
 
 
-def sums(ok: int = 0, in_part: int = 0, refused: int = 0, errors: int = 0) -> list[str]:
-    return [f'{ok} ok, {in_part} in part, {refused} refused, {errors} errors']
-
-
 def write_of(number: int, size: int) -> bytes:
     """A WRITE call with data."""
     return call(number, NFS, 3, 7, fh(b'abcd') + hyper(0) + word(size) + word(0) + opaque(bytes(size)))
@@ -142,7 +138,7 @@ def closed_connections(tools: Tools) -> None:
     tools.want('it came', fed.line(), row(4, 704, 39, 39, 'ok'))
     fed.send([talk.frame(1, ACK), talk.frame(0, RST), frames[5]])  # the last segments of connections that were judged
     fed.send(Talk(703).opened())
-    tools.want('at the end', fed.ended(), (0, [sums(4)], '-: left out: 192.0.2.7:703 and 192.0.2.1:2049: no payload\n'))
+    tools.want('at the end', fed.ended(), (0, [[sums(4, bare=1, left_out=1)]], '-: left out: 192.0.2.7:703 and 192.0.2.1:2049: no payload\n'))
 
 
 def bytes_that_never_come(tools: Tools) -> None:
@@ -153,12 +149,12 @@ def bytes_that_never_come(tools: Tools) -> None:
     fed.send(Talk(701).opened(), 10.9)
     tools.want('before', fed.line(0.5), [])
     fed.send(Talk(702).opened(), 12)
-    calls = 344 // len(stream(CALLS[:1]))
-    tools.want('after', fed.line(), row(1, 700, calls, calls, f'ok in part: {calls} calls, 344 bytes missing'))
+    # The bytes 344 to 687 have a part of each call from the 8th to the 16th.
+    tools.want('after', fed.line(), row(1, 700, 30, 30, 'ok in part: 30 calls, 344 bytes missing'))
     status, rows, error = fed.ended()
-    tools.want('the end', (status, rows), (1, [sums(0, 1)]))
+    tools.want('the end', (status, rows), (1, [[sums(0, 1, left_out=2, bare=2)]]))
     tools.want('told', error.splitlines()[0], '-: connection 1: client: 344 bytes are missing from the recording after the first 344, '
-               'before frame 5; the stream ends there')
+               'before frame 5; 52 bytes of torn records are left out')
 
 
 def faults_of_open_connections(tools: Tools) -> None:
@@ -177,7 +173,7 @@ def faults_of_open_connections(tools: Tools) -> None:
     fed.send([*talk.opened(), talk.sent(0, ALL[0]), talk.sent(1, fragment(BAD)), talk.sent(0, fragment(write_of(40, 60_000)))])
     fed.send([talk.sent(0, fragment(write_of(number, 6_000))) for number in (41, 42)])
     tools.want('at 65,536 bytes, without the next call', fed.line(), row(3, 702, 41, 1, fault % 19))
-    tools.want('the end', fed.ended()[:2], (1, [sums(0, 0, 3)]))
+    tools.want('the end', fed.ended()[:2], (1, [[sums(0, 0, 3, left_out=1, bare=1)]]))
 
 
 def what_is_no_fault_yet(tools: Tools) -> None:
@@ -193,7 +189,7 @@ def what_is_no_fault_yet(tools: Tools) -> None:
     tools.want('a record that is cut', fed.line(2.5), [])
     fed.send([talk.sent(0, ALL[0][100:]), talk.sent(1, stream([success(99)]))], 5)
     tools.want('no call', fed.line(), row(1, 700, 79, 41, 'server record 41 byte 0: NoCall, frame 11'))
-    tools.want('the end', fed.ended()[:2], (1, [sums(0, 0, 1)]))
+    tools.want('the end', fed.ended()[:2], (1, [[sums(0, 0, 1, left_out=1, bare=1)]]))
 
 
 # --- How it ends ---
@@ -207,7 +203,7 @@ def interrupted(tools: Tools) -> None:
         tools.want('closed', fed.line(), row(1, 700, 39, 39, 'ok'))
         fed.process.send_signal(number)
         tools.want('open', fed.line(), row(2, 701, 39, 39, 'ok'))
-        tools.want('sums', fed.line(), sums(2))
+        tools.want('sums', fed.line(), [sums(2)])
         tools.want('the end', fed.ended(), (0, [], ''))
 
 
@@ -222,7 +218,7 @@ def files_that_grow(tools: Tools) -> None:
         file.write(pcap(whole(port=701))[24:])
     tools.want('what came', out.readline().split()[1:3], [b'2', b'192.0.2.7:701'])
     process.send_signal(signal.SIGTERM)
-    tools.want('the end', (out.read(), process.wait(SOON)), (sums(2)[0].encode() + b'\n', 0))
+    tools.want('the end', (out.read(), process.wait(SOON)), (sums(2).encode() + b'\n', 0))
     os.mkfifo(tools.path('fifo'))
     process = begin([*words, 'fifo'], tools.folder)
     with open(tools.path('fifo'), 'wb') as fifo:
@@ -248,15 +244,15 @@ def what_is_refused(tools: Tools) -> None:
                                 ('-', pcap([]) + b'\xff' * 16, 'the recording is damaged after frame 0: frame 1 claims 4294967295 bytes')):
         status, out, _ = tools.tool('verdicts', '--follow', '--program', tools.program, name, stdin=content)
         rows = [re.split('  +', one) for one in out.splitlines()]
-        tools.want(line, (status, rows[1:]), (1, [[name, '-', '-', '-', '-', '-', line], sums(0, 0, 0, 1)]))
+        tools.want(line, (status, rows[1:]), (1, [[name, '-', '-', '-', '-', '-', line], [sums(0, 0, 0, 1)]]))
 
 
 def the_same_verdicts(tools: Tools) -> None:
-    """On the recordings of the examples, with and without --midstream, cut at the front or not: the rows of the tool without --follow, in
+    """On the recordings of the examples, with and without --no-midstream, cut at the front or not: the rows of the tool without --follow, in
     another order, and the same words on standard error."""
     for path in sorted((TOP / 'examples').glob('*.pcap')):
         content = path.read_bytes()
-        for options, begun in (([], 0), (['--midstream'], 0), (['--midstream'], 40)):
+        for options, begun in ((['--no-midstream'], 0), (['--no-midstream'], 40), ([], 0), ([], 40), (['--port', '2049,20048'], 0)):
             recording = content[:24] + content[at_frame(content, begun):]
             named = ['--program', tools.program, *options]
             answers = [tools.tool('verdicts', *named, *words, '-', stdin=recording) for words in ([], ['--follow'])]
@@ -289,14 +285,14 @@ def many_short_connections(tools: Tools) -> None:
         size = max(size, fed.stored()) if not number % 100 else size
     tools.want('memory', fed.memory() < 64_000 or fed.memory(), True)
     tools.want('the temporary file', size < 1 << 20 or size, True)
-    tools.want('the end', fed.ended()[:2], (0, [sums(2_000)]))
+    tools.want('the end', fed.ended()[:2], (0, [[sums(2_000)]]))
 
 
 def a_long_connection(tools: Tools) -> None:
     """300 MB of one connection, with and without its beginning: 64 MB of memory, and of the temporary file four times the 8 MB that are
     judged at once. A fault then has the number of its record in the whole stream, and that of its frame. A call whose reply comes
     300 MB later is not forgotten."""
-    for words, first in (([], 0), (['--midstream'], 4)):
+    for words, first in (([], 0), ([], 4)):
         fed, talk, size = Fed(tools, *words), Talk(), 0
         fed.line()
         fed.send([*talk.opened(), talk.sent(0, stream([call(7_000_000, NFS, 3, 0)]))][first:])
@@ -311,7 +307,7 @@ def a_long_connection(tools: Tools) -> None:
         tools.want('a fault', fed.line(), row(1, 700, calls, calls, f'server record {calls} byte 40: BadEnum, frame {fed.frames}'))
         tools.want('memory', fed.memory() < 64_000 or fed.memory(), True)
         tools.want('the temporary file', size < 32 << 20 or size, True)
-        tools.want('the end', fed.ended()[:2], (1, [sums(0, 0, 1)]))
+        tools.want('the end', fed.ended()[:2], (1, [[sums(0, 0, 1)]]))
 
 
 def bytes_that_are_forgotten(tools: Tools) -> None:

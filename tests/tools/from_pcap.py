@@ -8,6 +8,7 @@ there. The last line is 'N passed, M failed', and the status is 1 where any fail
 """
 import bz2
 import concurrent.futures
+import functools
 import gzip
 import itertools
 import lzma
@@ -108,7 +109,7 @@ def taken_as_whole(recording: bytes) -> bytes | None:
         taken = taken_of(recording)
     except NotTaken:
         return None
-    return None if taken.damage or taken.notes else b''.join(capture_of(taken.pairs()))
+    return None if taken.damage or taken.notes or taken.remarks else b''.join(capture_of(taken.pairs()))
 
 
 def what_is_not_decompressed(tools: Tools) -> None:
@@ -183,7 +184,7 @@ def in_member(content: bytes, size: int) -> bytes:
 
 def recordings_that_end_early(tools: Tools) -> None:
     """A recording that is cut, damaged, or none. What is before the damage is taken, and no memory for what a length claims."""
-    frames, cut = whole(), 'the recording is cut short in the middle of frame 15'
+    frames, cut = whole(), 'in part: the recording ends inside a frame (frame 15)'
     plain, blocks, packed_whole = pcap(frames), pcapng(frames), gzip.compress(pcap(frames))
     last = len(frames[-1])
     tools.told('cut in its last frame', plain[:-10], [ALL], [cut])
@@ -191,7 +192,7 @@ def recordings_that_end_early(tools: Tools) -> None:
     tools.told('pcapng cut in its last frame', blocks[:-10], [ALL], [cut])
     tools.told('pcapng cut in the head of it', blocks[:-len(enhanced(frames[-1])) + 9], [ALL], [cut])
     lines = tools.taken('gzip cut short', packed_whole[:-12], [ALL])
-    tools.want('gzip cut short', lines[0], 'the recording is damaged after frame 14: the compressed file is cut short')
+    tools.want('gzip cut short', lines[-1], cut + ': the compressed file is cut short')
     lines = tools.taken('gzip with a wrong sum', packed_whole[:-8] + bytes(8), [ALL])
     tools.want('gzip with a wrong sum', 'the recording is damaged after frame 15: the compressed file is damaged' in lines[0], True)
     claim = struct.pack('<4I', 1, 0, 0xffffffff, 0xffffffff)
@@ -284,7 +285,7 @@ def datagrams_in_fragments(tools: Tools) -> None:
         tools.taken('the first fragment counts', pcap(in_order[:5] + [changed] + in_order[5:]), [ALL])
         at = in_order.index(pieces[4][1])
         kept = ALL[0][:FIFTH // CALL * CALL], ALL[1][:FIFTH // CALL * REPLY]
-        lines = tools.taken('a fragment is lost', pcap(in_order[:at] + in_order[at + 1:]), [kept])
+        lines = tools.taken('a fragment is lost', pcap(in_order[:at] + in_order[at + 1:]), [kept], midstream=False)
         tools.want('a fragment is lost', '%d bytes are missing' % FIFTH in lines[1], True)
     lone = [ethernet(piece) for number in range(99) for piece in fragments(datagram(CLIENT, SERVER, bytes(4_000)), 2_000, number)[:1]]
     tools.taken('fragments that stay alone', pcap(lone + whole()), [ALL])
@@ -441,62 +442,64 @@ def what_is_left_out(tools: Tools) -> None:
     """Connections without a SYN or without payload."""
     ends = 'left out: 192.0.2.7:700 and 192.0.2.1:2049: '
     tools.told('no SYN', pcap(whole()[3:]), [], [ends + 'no SYN in the recording, so its streams may begin inside a record '
-                                                 '(--midstream takes it)'])
+                                                 '(--midstream takes it)'], midstream=False)
     tools.told('no payload', pcap(Talk().opened()), [], [ends + 'no payload'])
     tools.told('half a closing', pcap([*whole()[:3], Talk(first=(1_001, 5_001)).frame(0, FIN | ACK)]), [], [ends + 'no payload'])
 
 
 def bytes_are_missing(tools: Tools) -> None:
-    """A stream ends before missing bytes, after its last whole record, and replies to calls that are missing are left out."""
+    """With --no-midstream a stream ends before missing bytes, after its last whole record, and replies to calls that are missing are left
+    out."""
+    told_of_front = functools.partial(tools.told, midstream=False)
     frames, calls, replies = whole(), *ALL
     kept = FIFTH // CALL
     told = [told_of_gap('client', FIFTH, FIFTH, 5) + '; the stream ends there', dropped('client', FIFTH - kept * CALL),
             replies_left_out(len(REPLIES) - kept)]
-    tools.told('a gap in the calls', pcap(frames[:4] + frames[5:]), [(calls[:kept * CALL], replies[:kept * REPLY])], told)
-    tools.told('the same, of whole records', pcap(frames[:4] + frames[5:]), [(calls[:kept * CALL], replies[:kept * REPLY])], told,
+    told_of_front('a gap in the calls', pcap(frames[:4] + frames[5:]), [(calls[:kept * CALL], replies[:kept * REPLY])], told)
+    told_of_front('the same, of whole records', pcap(frames[:4] + frames[5:]), [(calls[:kept * CALL], replies[:kept * REPLY])], told,
                whole_records=True)
     most = 4 * FIFTH // CALL
-    tools.told('the last call is lost', pcap(frames[:7] + frames[8:]), [(calls[:most * CALL], replies[:most * REPLY])],
+    told_of_front('the last call is lost', pcap(frames[:7] + frames[8:]), [(calls[:most * CALL], replies[:most * REPLY])],
                [told_of_gap('client', len(calls) - 4 * FIFTH, 4 * FIFTH, 8) + '; the stream ends there',
                 dropped('client', 4 * FIFTH - most * CALL), replies_left_out(len(REPLIES) - most)])
-    tools.told('the first call is lost', pcap(frames[:3] + frames[4:]), [],
+    told_of_front('the first call is lost', pcap(frames[:3] + frames[4:]), [],
                ['left out: 192.0.2.7:700 and 192.0.2.1:2049: its first bytes are missing from the recording'])
     whole_replies = FIFTH_OF_REPLIES // REPLY
-    tools.told('a gap in the replies', pcap(frames[:9] + frames[10:]), [(calls, replies[:whole_replies * REPLY])],
+    told_of_front('a gap in the replies', pcap(frames[:9] + frames[10:]), [(calls, replies[:whole_replies * REPLY])],
                [told_of_gap('server', FIFTH_OF_REPLIES, FIFTH_OF_REPLIES, 10) + '; the stream ends there',
                 dropped('server', FIFTH_OF_REPLIES - whole_replies * REPLY)])
-    tools.told('the last reply is lost, as FIN shows', pcap(frames[:12] + frames[-1:]),
+    told_of_front('the last reply is lost, as FIN shows', pcap(frames[:12] + frames[-1:]),
                [(calls, replies[:4 * FIFTH_OF_REPLIES // REPLY * REPLY])],
                [told_of_gap('server', len(replies) - 4 * FIFTH_OF_REPLIES, 4 * FIFTH_OF_REPLIES, 13) + '; the stream ends there',
                 dropped('server', 4 * FIFTH_OF_REPLIES % REPLY)])
     one_side = [frame for number, frame in enumerate(frames) if number not in range(3, 8)]
-    tools.told('replies alone', pcap(one_side), [], ['left out: 192.0.2.7:700 and 192.0.2.1:2049: its first bytes are missing '
+    told_of_front('replies alone', pcap(one_side), [], ['left out: 192.0.2.7:700 and 192.0.2.1:2049: its first bytes are missing '
                                                      'from the recording'])
     talk = Talk()
     wrong = replies[:10 * REPLY] + struct.pack('>I', 0x81000001) + replies[10 * REPLY + 4:]
     lost = [*talk.opened(), talk.sent(0, calls[:7 * CALL]), talk.sent(0, calls[7 * CALL:12 * CALL]), talk.sent(0, calls[12 * CALL:]),
             talk.sent(1, wrong)]
     tools.taken('a wrong mark among replies that are left out', pcap(lost[:4] + lost[5:]),
-                [(calls[:7 * CALL], replies[:7 * REPLY] + wrong[10 * REPLY:])])
+                [(calls[:7 * CALL], replies[:7 * REPLY] + wrong[10 * REPLY:])], midstream=False)
     talk = Talk()
     closing = [*talk.opened(), *exchange(talk), talk.frame(0, FIN | ACK)]
     talk.next[0] += 1
-    tools.told('a closing that is half recorded', pcap([*closing[:-1], talk.frame(1, ACK)]), [ALL], [])
-    tools.told('the closing, acknowledged', pcap([*closing, talk.frame(1, ACK), talk.frame(1, FIN | ACK)]), [ALL], [])
+    told_of_front('a closing that is half recorded', pcap([*closing[:-1], talk.frame(1, ACK)]), [ALL], [])
+    told_of_front('the closing, acknowledged', pcap([*closing, talk.frame(1, ACK), talk.frame(1, FIN | ACK)]), [ALL], [])
 
 
 def frames_that_are_cut(tools: Tools) -> None:
     """Frames of which the snap length kept a part."""
     calls, replies = ALL
     told = '10 frames were recorded in part only (the snap length, as of `tcpdump -s`); what they lack is missing'
-    lines = tools.taken('frames cut to 154 bytes', pcap(whole(), 154), [(calls[:2 * CALL], replies[:2 * REPLY])])
+    lines = tools.taken('frames cut to 154 bytes', pcap(whole(), 154), [(calls[:2 * CALL], replies[:2 * REPLY])], midstream=False)
     tools.want('frames cut to 154 bytes', lines[0], told)
     tools.want('the gap', lines[2], told_of_gap('client', FIFTH - 100, 100, 5) + '; the stream ends there')
     talk = Talk()
     last = [*talk.opened(), talk.sent(0, calls)]
     tools.told('the last frame is cut', pcap(last, 154), [(calls[:2 * CALL], b'')],
                [told.replace('10 frames were', '1 frame was'), told_of_gap('client', len(calls) - 100, 100, 4) + '; the stream ends there',
-                dropped('client', 100 - 2 * CALL)])
+                dropped('client', 100 - 2 * CALL)], midstream=False)
     headers = tools.taken('headers that are cut', pcap(whole(), 50), [])
     tools.want('headers that are cut', headers[0].startswith('15 frames were recorded in part only'), True)
 
@@ -677,8 +680,9 @@ def files(tools: Tools) -> None:
     tools.write('out', b'old')
     limited = ['sh', '-c', 'ulimit -f 8; exec "$@"', 'sh']
     talk = Talk()
-    tools.write('long.pcap', pcap([*talk.opened(), *(talk.sent(0, bytes(50_000)) for _ in range(2))]))
-    tools.write('wide.pcap', pcap([*talk.opened(), *(talk.sent(0, bytes(9_000)) for _ in range(5))]))
+    tools.write('long.pcap', pcap([*talk.opened(), *(talk.sent(0, bytes(50_000)) for _ in range(2)), *talk.closed()]))
+    talk = Talk()
+    tools.write('wide.pcap', pcap([*talk.opened(), *(talk.sent(0, bytes(9_000)) for _ in range(5)), *talk.closed()]))
     for name, message in (('wide.pcap', 'from_pcap: out: File too large'), ('long.pcap', 'from_pcap: a temporary file: File too large')):
         status, _, error = tools.tool('from_pcap', name, 'out', before=limited)
         tools.want('a full disk', (status, error.splitlines()[-1], tools.read('out')), (3, message, b'old'))

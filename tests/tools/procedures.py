@@ -18,7 +18,7 @@ from typing import Any, NamedTuple
 sys.path.insert(0, str(pathlib.Path(__file__).resolve().parents[1] / 'shared'))
 from recordings import interface, section, simple  # noqa: E402
 from running import ended  # noqa: E402
-from scripts import TOP, Tools, in_fragments, stream, try_tools, whole  # noqa: E402
+from scripts import TOP, Tools, in_fragments, stream, sums as sum_line, try_tools, whole  # noqa: E402
 from messages import AUTH_NONE, MOUNT, NFS, call, dirop, failed, fattr, fh, fragment, ok, opaque, post_op_attr, success, word  # noqa: E402
 from packets import ACK, Talk, pcap  # noqa: E402
 
@@ -108,7 +108,7 @@ def counts_by_hand(tools: Tools) -> None:
     tools.write('a.pcap', pcap(frames + whole(port=701)))
     status, tables, error = procedures(tools, 'a.pcap')
     titles = [f'a.pcap: connection 1: {ENDS}: ok', f'a.pcap: connection 2: {ENDS.replace("700", "701")}: ok',
-              'a.pcap in all: 2 ok, 0 in part, 0 refused, 0 errors']
+              'a.pcap in all: ' + sum_line(2, raw='1 PORTMAP DUMP, 1 PORTMAP GETPORT')]
     tools.want('titles', (status, list(tables), error), (0, titles, ''))
     tools.want('heads', [table[0] for table in tables.values()], [HEADS] * 3)
     tools.want('the first', tables[titles[0]][1:-1], [row.cells() for row in rows])
@@ -125,7 +125,7 @@ def counts_by_hand(tools: Tools) -> None:
     tools.want('--total', (status, list(tables)), (0, titles[2:]))
     status, tables, _ = procedures(tools, '--total', 'a.pcap', '-', stdin=pcap(whole()))
     tools.want('two recordings', (list(tables)[-1], [cells[1] for cells in tables[list(tables)[-1]]][-1]),
-               ('all recordings: 3 ok, 0 in part, 0 refused, 0 errors', '87'))
+               ('all recordings: ' + sum_line(3, raw='1 PORTMAP DUMP, 1 PORTMAP GETPORT'), '87'))
 
 
 def times_of_records(tools: Tools) -> None:
@@ -232,7 +232,7 @@ def side_by_side(tools: Tools) -> None:
     tools.write('b.pcap', pcap([*frames[:-2], *whole(port=701)]))  # without the last raw call, and with 39 NULL calls
     status, out, error = tools.tool('procedures', '--program', tools.program, '--beside', 'a.pcap', 'b.pcap')
     lines = out.splitlines()
-    sums = ['A: a.pcap: 1 ok, 0 in part, 0 refused, 0 errors', 'B: b.pcap: 2 ok, 0 in part, 0 refused, 0 errors']
+    sums = ['A: a.pcap: ' + sum_line(1, raw='1 PORTMAP DUMP, 1 PORTMAP GETPORT'), 'B: b.pcap: ' + sum_line(2, raw='1 PORTMAP GETPORT')]
     tools.want('heads', (status, lines[:2], error), (0, sums, ''))
     cells = [re.split('  +', line.strip()) for line in lines[2:]]
     tools.want('rows', [row[0] for row in cells], ['procedure', *(row.procedure for row in rows), 'in all'])
@@ -247,7 +247,7 @@ def side_by_side(tools: Tools) -> None:
     tools.want('what is gone', last, [gone.procedure, '1 -> 0', '0', '1 -> 0', '0', *fewer, *['0.001 -> -'] * 3, 'RPC_MISMATCH 1 -> 0'])
     tools.write('c.pcap', pcap(whole()[:4] + whole()[5:]))
     status, out, _ = tools.tool('procedures', '--program', tools.program, '--beside', 'a.pcap', 'c.pcap')
-    tools.want('in part', (status, out.splitlines()[1]), (1, 'c.pcap: connection 1: ok in part: 7 calls, 344 bytes missing'))
+    tools.want('in part', (status, out.splitlines()[1]), (1, 'c.pcap: connection 1: ok in part: 30 calls, 344 bytes missing'))
     for words in (('a.pcap',), ('a.pcap', 'b.pcap', 'c.pcap')):
         tools.want('not two', tools.tool('procedures', '--beside', *words)[0], 2)
 

@@ -23,8 +23,8 @@ import xml.etree.ElementTree
 sys.path.insert(0, str(pathlib.Path(__file__).resolve().parents[1] / 'shared'))
 from recordings import NANOSECONDS, fragments, interface, section, simple  # noqa: E402
 from running import begin, ended, pipe_of  # noqa: E402
-from scripts import ALL, CALLS, REPLIES, TOP, Tools, exchange, in_fragments, stream, taken_of, try_tools, whole  # noqa: E402
-from messages import NFS, call, fh, hyper, opaque, success, word  # noqa: E402
+from scripts import ALL, CALLS, REPLIES, TOP, Tools, exchange, in_fragments, stream, sums, taken_of, try_tools, whole  # noqa: E402
+from messages import MOUNT, NFS, call, fh, hyper, opaque, success, word  # noqa: E402
 from packets import ACK, Talk, ethernet, pcap  # noqa: E402
 from nfs3tools.shared.places import SIDES, Place  # noqa: E402
 
@@ -122,9 +122,10 @@ def places_of_other_recordings(tools: Tools) -> None:
     tools.want('the third of Wireshark', lines[0].endswith('tcp.stream == 2') and lines[-1], 'frame.number == 31')
     tools.write('a.pcap', pcap(frames[:4] + frames[5:]))
     first = 2 * 344 // CALL + 1
-    tools.want('after a gap', where(tools, 'connection 1 client record 8 byte 39')[0], 1)
-    tools.want('after a gap, with --midstream', where(tools, f'connection 1 client record {first - 7} byte 39', '--midstream')[1][-1],
-               'frame.number == 5')
+    tools.want('after a gap', where(tools, 'connection 1 client record 8 byte 39', '--no-midstream')[0], 1)
+    for words in ([], ['--midstream']):
+        tools.want('after a gap, gone on', where(tools, f'connection 1 client record {first - 7} byte 39', *words)[1][-1],
+                   'frame.number == 5')
     tools.write('a.pcap', pcap(frames[4:]))
     tools.want('cut', where(tools, 'connection 1 client record 1 byte 0', '--midstream')[1][-1], 'frame.number == 1')
     tools.want('its record', where(tools, 'connection 1 client record 8', '--midstream')[1][-1], 'frame.number in {1..2}')
@@ -168,9 +169,9 @@ def parts_of_a_recording(tools: Tools) -> None:
     for name, low, high in (('run.pcap1', 0, 6), ('run.pcap2', 6, 20), ('run.pcap10', 20, 21), ('run.pcap0', 21, 30)):
         tools.write(name, head + records[ends[low]:ends[high]])
     tools.write('whole.pcap', pcap(frames))
-    status, rows, sums, error = verdicts(tools, 'run.pcap*')
-    tools.want('verdicts', (status, [row[-3:] for row in rows], sums, error),
-               (0, [['39', '39', 'ok']] * 2, '2 ok, 0 in part, 0 refused, 0 errors', ''))
+    status, rows, last, error = verdicts(tools, 'run.pcap*')
+    tools.want('verdicts', (status, [row[-3:] for row in rows], last, error),
+               (0, [['39', '39', 'ok']] * 2, sums(2), ''))
     for name, recording in (('of_parts', 'run.pcap*'), ('of_whole', 'whole.pcap')):
         tools.want('from_pcap', tools.tool('from_pcap', recording, name)[:2], (0, ''))
     tools.want('one capture', tools.read('of_parts'), tools.read('of_whole'))
@@ -190,7 +191,7 @@ def parts_of_a_recording(tools: Tools) -> None:
 
 def parts_that_are_none(tools: Tools) -> None:
     """After the parts of `parts_of_a_recording`: a part alone, times that are equal, and files that are no parts."""
-    status, _, _, error = verdicts(tools, 'run.pcap10')
+    status, _, _, error = verdicts(tools, '--no-midstream', 'run.pcap10')
     tools.want('a part alone', (status, error.splitlines()[0]), (1, (
         'run.pcap10: it begins in the middle of 1 connection: if it is a part of a recording, as of `tcpdump -C`, name all parts in its '
         "place, as 'run.pcap*'")))
@@ -198,8 +199,7 @@ def parts_that_are_none(tools: Tools) -> None:
         tools.write(f'equal{number or ""}', pcap([frame]))
     tools.want('equal times', [row[-1] for row in verdicts(tools, 'equal*')[1]], ['ok'])
     tools.write('run.pcap3', pcap(whole(port=702))[:-3])
-    tools.want('a part that is cut', verdicts(tools, 'run.pcap[013]')[3].splitlines()[0],
-               'run.pcap[013]: run.pcap3: the recording is cut short in the middle of frame 15')
+    tools.want('a part that is cut', verdicts(tools, 'run.pcap[013]')[1][-1][-1], 'in part: run.pcap3: the recording ends inside a frame (frame 15)')
     tools.write('run.pcap.txt', b'no recording')
     tools.want('no recording', verdicts(tools, 'run.pcap*')[:2], (1, [['run.pcap*', *['-'] * 5, 'run.pcap.txt: it is neither pcap nor pcapng']]))
     tools.want('no file', verdicts(tools, 'absent*')[1][0][-1], 'absent*: No such file or directory')
@@ -221,6 +221,12 @@ def recordings_that_are_compressed(tools: Tools) -> None:
 
 
 # --- verdicts ---
+
+def rows_of(tools: Tools, name: str) -> list[dict[str, object]]:
+    """The rows of a file that --json wrote."""
+    rows: list[dict[str, object]] = json.loads(tools.read(name) or b'{"rows": []}')['rows']
+    return rows
+
 
 def verdicts(tools: Tools, *words: str, stdin: bytes | None = None) -> tuple[int, list[list[str]], str, str]:
     """The status, the cells of the rows, the last line, and what is told on standard error."""
@@ -255,8 +261,8 @@ def rows_of_all_kinds(tools: Tools) -> None:
               ['a.pcap', '2', '192.0.2.7:701', '192.0.2.1:2049', '2', '3', fault % 20],
               ['a.pcap', '3', '192.0.2.7:702', '192.0.2.1:2049', '1', '1', 'ok'],
               ['a.pcap', '4', '192.0.2.7:703', '192.0.2.1:2049', '2', '3', fault % 34]]
-    tools.want('four connections', verdicts(tools, 'a.pcap'), (1, wanted, '2 ok, 0 in part, 2 refused, 0 errors', ''))
-    tools.want('one at a time', verdicts(tools, '-j', '1', 'a.pcap'), (1, wanted, '2 ok, 0 in part, 2 refused, 0 errors', ''))
+    tools.want('four connections', verdicts(tools, 'a.pcap'), (1, wanted, sums(2, 0, 2), ''))
+    tools.want('one at a time', verdicts(tools, '-j', '1', 'a.pcap'), (1, wanted, sums(2, 0, 2), ''))
     tools.want('standard input', verdicts(tools, '-', stdin=pcap(frames))[1], [['-', *row[1:]] for row in wanted])
     tools.write('b.pcap', pcap(whole()))
     shutil.copy(TOP / 'examples/two_connections.nfs3cap', tools.path('c.nfs3cap'))
@@ -264,7 +270,7 @@ def rows_of_all_kinds(tools: Tools) -> None:
     status, rows, last, error = verdicts(tools, 'b.pcap', 'c.nfs3cap', 'd.nfs3cap')
     tools.want('all ok', (status, [[row[0], *row[-3:]] for row in rows], last, error),
                (0, [['b.pcap', '39', '39', 'ok'], *([['c.nfs3cap', '1', '1', 'ok']] * 2), ['d.nfs3cap', '7', '7', 'ok'],
-                    ['d.nfs3cap', '51', '51', 'ok'], ['d.nfs3cap', '2', '2', 'ok']], '6 ok, 0 in part, 0 refused, 0 errors', ''))
+                    ['d.nfs3cap', '51', '51', 'ok'], ['d.nfs3cap', '2', '2', 'ok']], sums(6, raw='1 NFSACL GETACL'), ''))
     rows_of_files_that_are_not_whole(tools)
     tools.want('no program', tools.tool('verdicts', '--program', './absent', 'b.pcap'), (2, '', 'verdicts: ./absent is missing\n'))
     tools.want('no processes', tools.tool('verdicts', '-j', '0', 'b.pcap')[0], 2)
@@ -285,7 +291,7 @@ def rows_of_files_that_are_not_whole(tools: Tools) -> None:
          [[*as_a_whole, 'it is compressed by lz4: decompress it first, as in `lz4 -dc FILE | tools/verdicts -`']]),
         ('xz', lzma.compress(pcap(whole()))[:-1],
          [['1', '192.0.2.7:700', '192.0.2.1:2049', '39', '39', 'ok'],
-          [*as_a_whole, 'the recording is damaged after frame 15: the compressed file is cut short']]),
+          [*as_a_whole, 'in part: the recording ends inside a frame (frame 16): the compressed file is cut short']]),
         ('damaged', pcap(whole()) + b'\xff' * 16,
          [['1', '192.0.2.7:700', '192.0.2.1:2049', '39', '39', 'ok'],
           [*as_a_whole, 'the recording is damaged after frame 15: frame 16 claims 4294967295 bytes']]),
@@ -304,14 +310,15 @@ def what_is_told(tools: Tools) -> None:
     frames = whole()
     tools.write('a.pcap', pcap(frames[:4] + frames[5:] + Talk(800).opened()))
     kept = 344 // CALL
-    status, rows, last, error = verdicts(tools, 'a.pcap')
+    status, rows, last, error = verdicts(tools, '--no-midstream', 'a.pcap')
     tools.want('a loss', (status, [row[-3:] for row in rows], last),
-               (1, [[str(kept), str(kept), f'ok in part: {kept} calls, 344 bytes missing']], '0 ok, 1 in part, 0 refused, 0 errors'))
+               (1, [[str(kept), str(kept), f'ok in part: {kept} calls, 344 bytes missing']], sums(0, 1, left_out=1, bare=1)))
     tools.want('told', error.splitlines()[0], 'a.pcap: connection 1: client: 344 bytes are missing from the recording after the first '
                '344, before frame 5; the stream ends there')
     tools.want('left out', error.splitlines()[-1], 'a.pcap: left out: 192.0.2.7:800 and 192.0.2.1:2049: no payload')
-    status, rows, last, error = verdicts(tools, '--midstream', 'a.pcap')
-    tools.want('--midstream', (status, int(rows[0][4]) > 3 * kept), (1, True))
+    for words in ([], ['--midstream']):
+        status, rows, last, error = verdicts(tools, *words, 'a.pcap')
+        tools.want('gone on after it', (status, int(rows[0][4]) > 3 * kept), (1, True))
 
 
 def ok_in_part(tools: Tools) -> None:
@@ -322,9 +329,9 @@ def ok_in_part(tools: Tools) -> None:
     lost_first, lost_last = one[:3] + one[4:], one[:12] + one[-1:]
     calls, replies = 344 // CALL, 4 * FIFTH_OF_REPLIES // REPLY
     cases: list[tuple[str, bytes, list[str], str, tuple[int, int]]] = [
-        ('a frame', pcap(one[:4] + one[5:]), [], f'ok in part: {calls} calls, 344 bytes missing', (calls, calls)),
+        ('a frame', pcap(one[:4] + one[5:]), ['--no-midstream'], f'ok in part: {calls} calls, 344 bytes missing', (calls, calls)),
         # The bytes 344 to 687 have a part of each call from the 8th to the 16th.
-        ('a frame, gone on after', pcap(one[:4] + one[5:]), ['--midstream'], 'ok in part: 30 calls, 344 bytes missing', (30, 30)),
+        ('a frame, gone on after', pcap(one[:4] + one[5:]), [], 'ok in part: 30 calls, 344 bytes missing', (30, 30)),
         ('the last reply, as FIN shows', pcap(lost_last), [],
          f'ok in part: 39 calls, {len(ALL[1]) - 4 * FIFTH_OF_REPLIES} bytes missing', (39, replies)),
         # A frame of 1,000 bytes has 946 of its segment, and the call after the first 44 has 72 bytes before its data.
@@ -332,56 +339,59 @@ def ok_in_part(tools: Tools) -> None:
     for what, recording, options, verdict, numbers in cases:
         tools.write('a.pcap', pcap(good) + recording[24:])
         for words, status in ALLOWING:
-            found, rows, sums, _ = verdicts(tools, *options, *words, 'a.pcap')
-            tools.want(what, (found, [row[1] for row in rows], [row[-1] for row in rows], sums),
-                       (status, ['1', '2'], ['ok', verdict], '1 ok, 1 in part, 0 refused, 0 errors'))
+            found, rows, last_line, _ = verdicts(tools, *options, *words, 'a.pcap')
+            tools.want(what, (found, [row[1] for row in rows], [row[-1] for row in rows], last_line),
+                       (status, ['1', '2'], ['ok', verdict], sums(1, 1)))
             tools.want(what + ', its numbers', rows[1][-3:-1], [str(number) for number in numbers])
     tools.write('a.pcap', pcap(good + lost_first))
     why = '192.0.2.7:700 and 192.0.2.1:2049: its first bytes are missing from the recording'
     for words, status in ALLOWING:
-        found, rows, sums, _ = verdicts(tools, *words, 'a.pcap')
-        tools.want('the first bytes', (found, [row[-1] for row in rows], sums),
-                   (status, ['ok', 'left out: ' + why], '1 ok, 1 in part, 0 refused, 0 errors'))
+        found, rows, last_line, _ = verdicts(tools, '--no-midstream', *words, 'a.pcap')
+        tools.want('the first bytes', (found, [row[-1] for row in rows], last_line),
+                   (status, ['ok', 'left out: ' + why], sums(1, left_out=1)))
     wrong = (TOP / 'examples/bad_bool.pcap').read_bytes()
     tools.write('a.pcap', pcap(one[:4] + one[5:]))
     tools.write('b.pcap', wrong)
-    tools.want('a fault beside it', verdicts(tools, '--allow-losses', 'a.pcap', 'b.pcap')[::2], (1, '0 ok, 1 in part, 1 refused, 0 errors'))
+    tools.want('a fault beside it', verdicts(tools, '--allow-losses', 'a.pcap', 'b.pcap')[::2], (1, sums(0, 1, 1)))
 
 
 def ok_in_part_in_files(tools: Tools) -> None:
     """JUnit has a failure of a type of its own, or a case that passed and says it, and the number; JSON has a state and the number of bytes."""
     tools.write('a.pcap', pcap(whole(port=701) + whole()[:4] + whole()[5:]))
-    line = f'ok in part: {344 // CALL} calls, 344 bytes missing'
+    line = 'ok in part: 30 calls, 344 bytes missing'
     for words, failures in ALLOWING:
         verdicts(tools, '--junit', 'x.xml', '--json', 'x.json', *words, 'a.pcap')
         suite = xml.etree.ElementTree.fromstring((tools.read('x.xml') or b'').decode())[0]
         tools.want('the suite', [suite.get(key) for key in ('tests', 'failures', 'errors', 'skipped')], ['2', str(failures), '0', '0'])
-        tools.want('properties', [(item.get('name'), item.get('value')) for item in suite.iter('property')], [('in part', '1')])
+        tools.want('properties', [(item.get('name'), item.get('value')) for item in suite.iter('property')], [
+            ('judged', '1'), ('ok', '1'), ('refused', '0'), ('in part', '1'), ('left out', '0'), ('without calls', '0'),
+            ('not checked', '0'), ('errors', '0'), ('raw', '')])
         first, second = suite.iter('testcase')
         tools.want('the cases', ([item.tag for item in first], [item.tag for item in second]), ([], ['failure'] * failures + ['system-out']))
         tools.want('the type', [(item.get('type'), item.get('message')) for item in second if item.tag == 'failure'],
                    [('in part', line)] if not words else [])
         tools.want('what the case says', (second.findtext('system-out') or '').partition('\n')[0], line)
-        rows = json.loads(tools.read('x.json') or b'[]')
+        rows = rows_of(tools, 'x.json')
         tools.want('JSON', [(row['state'], row['message'], row['missing']) for row in rows], [('ok', 'ok', 0), ('in part', line, 344)])
 
 
 def notes_on_a_recording(tools: Tools) -> None:
     """A note on a whole recording is none of its first connection: a line, a row of JSON, and output of the suite."""
     frames = whole(port=701) + whole()
-    tools.write('a.pcap', pcap(frames) + struct.pack('<4I', 1, 0, 9, 9) + b'x')
-    tools.write('b.pcap', pcap(whole(), 154))
-    cut, told = 'the recording is cut short in the middle of frame 31', '10 frames were recorded in part only (the snap length, '
-    told += 'as of `tcpdump -s`); what they lack is missing'
+    lying = frames[0][:16] + b'\xff\xff' + frames[0][18:]
+    tools.write('a.pcap', pcap(frames + [lying]))
+    tools.write('b.pcap', pcap(whole(port=702) + [lying]))
+    told = '1 frame has headers that do not fit its length, and is passed over'
     status, rows, _, error = verdicts(tools, '--json', 'x.json', '--junit', 'x.xml', 'a.pcap')
-    tools.want('a cut', (status, [row[-1] for row in rows], error), (0, ['ok', 'ok'], f'a.pcap: {cut}\n'))
-    found = [(row['connection'], row['state'], row['message'], row['notes']) for row in json.loads(tools.read('x.json') or b'[]')]
-    tools.want('JSON', found, [(None, 'note', cut, []), (1, 'ok', 'ok', []), (2, 'ok', 'ok', [])])
+    tools.want('a note', (status, [row[-1] for row in rows], error), (0, ['ok', 'ok'], f'a.pcap: {told}\n'))
+    found = [(row['connection'], row['state'], row['message'], row['notes']) for row in rows_of(tools, 'x.json')]
+    tools.want('JSON', found, [(None, 'note', told, []), (1, 'ok', 'ok', []), (2, 'ok', 'ok', [])])
     suite = xml.etree.ElementTree.fromstring((tools.read('x.xml') or b'').decode())[0]
     tools.want('JUnit', (suite.get('tests'), suite.findtext('system-out'), [len(case) for case in suite.iter('testcase')]),
-               ('2', f'a.pcap: {cut}', [0, 0]))
+               ('2', f'a.pcap: {told}', [0, 0]))
     error = verdicts(tools, 'a.pcap', 'b.pcap')[3]
-    tools.want('two recordings', [line for line in error.splitlines() if ' connection ' not in line], [f'a.pcap: {cut}', f'b.pcap: {told}'])
+    tools.want('two recordings', [line for line in error.splitlines() if ' connection ' not in line],
+               [f'a.pcap: {told}', f'b.pcap: {told}'])
 
 
 def files_for_others(tools: Tools) -> None:
@@ -389,7 +399,7 @@ def files_for_others(tools: Tools) -> None:
     name = 'a\1\n<&"]]>\udcff.pcap'
     tools.write(name, (TOP / 'examples/bad_server_record.pcap').read_bytes())
     tools.write('b.pcap', pcap(whole()[:4] + whole()[5:] + Talk(800).opened()))
-    words = ['--junit', 'x.xml', '--json', 'x.json', '--program', tools.program, name, 'b.pcap', 'c']
+    words = ['--no-midstream', '--junit', 'x.xml', '--json', 'x.json', '--program', tools.program, name, 'b.pcap', 'c']
     done = ended([VERDICTS, *words], tools.folder)
     tools.want('status', (done.status, b'Traceback' in done.error), (1, False))
     suites = xml.etree.ElementTree.fromstring((tools.read('x.xml') or b'').decode())
@@ -405,16 +415,17 @@ def files_for_others(tools: Tools) -> None:
         (escaped, 'connection 1 ' + ends % 700, []),
         (escaped, 'connection 2 ' + ends % 701, [('failure', 'server record 2 byte 0: NoCall, frame 13')]),
         ('b.pcap', 'connection 1 ' + ends % 700, [('failure', in_part)]),
-        ('b.pcap', '192.0.2.7:800 and 192.0.2.1:2049: no payload', [('skipped', '192.0.2.7:800 and 192.0.2.1:2049: no payload')]),
+        ('b.pcap', 'left out: 192.0.2.7:800 and 192.0.2.1:2049: no payload',
+         [('skipped', 'left out: 192.0.2.7:800 and 192.0.2.1:2049: no payload')]),
         ('c', 'as a whole', [('error', 'c: No such file or directory')])])
     told = [item.text or '' for case in suite.iter('testcase') for item in case if item.tag == 'system-out']
     tools.want('what is told', [text.splitlines()[:2] for text in told],
                [[in_part, 'client: 344 bytes are missing from the recording after the first 344, before frame 5; the stream ends there']])
-    rows = json.loads(tools.read('x.json') or b'[]')
+    rows = rows_of(tools, 'x.json')
     tools.want('JSON', [(row['state'], row['connection'], row['tcp_stream'], row['position'], row['reason'], row['frames']) for row in rows], [
         ('ok', 1, 0, None, None, []),
         ('refused', 2, 1, 'server record 2 byte 0', 'NoCall', [{'number': 13, 'time': 1_000_012_000}]),
-        ('in part', 1, 0, None, None, []), ('skipped', None, None, None, None, []), ('error', None, None, None, None, [])])
+        ('in part', 1, 0, None, None, []), ('left out', None, None, None, None, []), ('error', None, None, None, None, [])])
     status, _, _ = tools.tool('verdicts', '--program', tools.program, '--junit', 'absent/x', 'b.pcap')
     tools.want('a file that cannot be written', status, 3)
 

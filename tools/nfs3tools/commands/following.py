@@ -16,18 +16,20 @@ import time
 import typing
 
 from ..captures.container import Streamed, capture_of
-from .judging import HEADS, Before, State, Verdict, error_of, of_left_out, row_of, status_of_states, sums_of_counts, tell_notes, verdict_of
+from .judging import HEADS, Before, Verdict, counts_after, error_of, is_row, of_covered, row_of, status_of, tell_notes, verdict_of
 from ..recordings.kinds import MAGICS
 from .messages import advice_on, words_of
 from ..shared.outputs import held
 from ..shared.printed import escaped
 from ..shared.programs import CHECKED, Died, run_program
+from ..recordings.coverage import Allowed, Counts, Covered, called_in
 from ..recordings.frames import NANOSECONDS, Frame, NoRecording, Recording, Source, opened
 from ..recordings.records import Window, end_of_whole, xids
 from ..recordings.segments import ACK, RST, Segment, Segments
 from ..recordings.selection import Kept, Options, Selected, select
 from ..recordings.streams import Connection, Connections, Spool, Stored, Stream
-from ..recordings.taken import NotTaken, Taken, TakenStream, add, notes_of, taken_connection, whole
+from ..recordings.taken import (NotTaken, Taken, TakenStream, left_out_of, notes_of, ports_of, remarks_of, taken_connection,
+                                whole)
 from ..recordings.unpacking import Damaged
 
 FIRST_SIZE = 1 << 16  # bytes of a section that is judged for the first time, if it has not had its turn before
@@ -201,7 +203,8 @@ class Following:
 
     def __init__(self, recording: str, program: str, options: Options, say: typing.Callable[[Verdict], None]) -> None:
         self.recording, self.program, self.options, self.say = recording, program, options, say
-        self.segments, self.connections = Segments(), Connections(True, HELD_BY_ALL)
+        self.ports = ports_of(options)
+        self.segments, self.connections = Segments(self.ports), Connections(True, HELD_BY_ALL)
         self.open: dict[int, Open] = {}
         self.judged: collections.OrderedDict[int, Connection] = collections.OrderedDict()
         self.waiting: dict[int, int] = {}  # since when a connection has bytes that are not judged
@@ -209,7 +212,7 @@ class Following:
 
     def take(self, frame: Frame) -> None:
         segment = self.segments.segment(frame)
-        if segment is not None:
+        if segment is not None and (not self.options.ports or segment.has_port(self.options.ports)):
             self.take_segment(segment, frame.number, frame.time)
         if self.waiting and frame.time >= self.next_turn:
             self.give_turn(frame.time)
@@ -291,7 +294,7 @@ class Following:
         if not any(kept.ranges for kept in selected.kept):
             return
         verdict = self.verdict(one, selected)
-        if verdict.state in ('ok', 'in part'):
+        if verdict.state != 'refused' and verdict.state != 'error':
             one.doubted = None
             if one.size >= SECTION and all(map(is_sure_of_end, streams, selected.kept)):
                 self.tell(one, verdict)
@@ -309,10 +312,10 @@ class Following:
 
     def verdict(self, one: Open, selected: Selected) -> Verdict:
         """The verdict on what is selected of a section, after what was judged before."""
-        begin, taken = time.monotonic(), Taken(self.connections.spool, True, True)
-        if one.before == Before() and not any(kept.ranges for kept in selected.kept):
-            add(taken, one.connection, selected, self.options)
-            return of_left_out(self.recording, taken.left_out[0])
+        begin, taken = time.monotonic(), Taken(self.connections.spool, True, True, self.ports)
+        left_out = left_out_of(one.connection, selected, self.options) if one.before == Before() else None
+        if left_out:
+            return of_covered(self.recording, left_out.covered())
         connection = taken_connection(1, one.connection, selected)
         taken.connections.append(connection)
         pair = one.client_stream(connection.client), connection.server
@@ -388,7 +391,8 @@ def forget_section(one: Open, selected: Selected, verdict: Verdict, spool: Spool
     if one.carried:
         one.carried.close()
     one.carried = carried
-    one.before = Before(verdict.calls or 0, verdict.replies or 0, verdict.missing, len(calls))
+    one.before = Before(verdict.calls or 0, verdict.replies or 0, verdict.missing, len(calls), verdict.lacks,
+                        one.before.called + called_in(client))
     connection.client = selected.client
     for stream, kept in zip(streams, selected.kept):
         if stream.runs:
@@ -423,23 +427,24 @@ def without_reply(streams: list[TakenStream], server: TakenStream) -> tuple[list
 class Lines:
     """Prints a line for each verdict as it comes, and counts them."""
 
-    def __init__(self) -> None:
-        self.counts: collections.Counter[State] = collections.Counter()
+    def __init__(self, allowed: Allowed) -> None:
+        self.allowed, self.counts, self.status = allowed, Counts(), 0
         self.print(HEADS)
 
     def say(self, verdict: Verdict) -> None:
         tell_notes([verdict])
-        self.counts[verdict.state] += 1
-        if verdict.state not in ('skipped', 'note'):
+        self.counts += counts_after([verdict])
+        self.status = self.status or status_of([verdict], self.allowed)
+        if is_row(verdict):
             self.print(row_of(verdict))
 
     def print(self, cells: tuple[str, ...]) -> None:
         print('  '.join(cell.ljust(width) for cell, width in zip(cells, WIDTHS)), flush=True)
 
 
-def follow(recording: str, program: str, options: Options, allows_losses: bool) -> int:
+def follow(recording: str, program: str, options: Options, allowed: Allowed) -> int:
     """Judges a recording while it is made, and returns the status of the tool."""
-    lines = Lines()
+    lines = Lines(allowed)
     following = Following(recording, program, options, lines.say)
     try:
         with contextlib.closing(following.connections.spool), opened_for_following(recording) as file, ended_by_signals() as wakes:
@@ -449,8 +454,8 @@ def follow(recording: str, program: str, options: Options, allows_losses: bool) 
         lines.say(error_of(recording, advice_on(refused, 'verdicts')))
     except Died as died:
         raise Died(f'{escaped(recording)}: {died}') from died
-    print(sums_of_counts(lines.counts))
-    return status_of_states(lines.counts, allows_losses)
+    print(lines.counts.words())
+    return lines.status
 
 
 @contextlib.contextmanager
@@ -478,8 +483,10 @@ def take_all(following: Following, growing: Growing) -> None:
     for frame in recording.frames():
         following.take(frame)
     following.finish()
-    for note in [*notes_of(following.segments), *([recording.cut] if recording.cut else [])]:
+    for note in notes_of(following.segments):
         following.say(Verdict(following.recording, state='note', message=note))
+    for remark in [*([Covered('in part', recording.cut)] if recording.cut else []), *remarks_of(following.segments)]:
+        following.say(of_covered(following.recording, remark))
     if recording.damage:
         following.say(error_of(following.recording, recording.damage))
     elif not following.taken:

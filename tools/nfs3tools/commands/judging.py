@@ -1,18 +1,19 @@
 """Verdicts on connections: what the program's answer says of one, and the row that is printed of it."""
-import collections
 import re
 import sys
 import typing
+from collections.abc import Iterable, Mapping
 
 from ..shared.places import FilePlace, parse_fault
 from ..shared.printed import escaped, printable
 from ..shared.programs import Answer
+from ..recordings.coverage import Allowed, Called, Counts, Covered, called_in, counts_of, of_connection
 from ..recordings.selection import count
-from ..recordings.taken import FrameRef, LeftOut, Taken, TakenConnection
+from ..recordings.taken import FrameRef, Taken, TakenConnection
 
 NOT_ALL_OK = 1
 HEADS = ('recording', 'connection', 'client', 'server', 'calls', 'replies', 'verdict')
-State = typing.Literal['ok', 'in part', 'refused', 'error', 'skipped', 'note']
+State = typing.Literal['ok', 'refused', 'in part', 'left out', 'not checked', 'error', 'note']
 COUNTS = re.compile(r'ok connections=1 calls=(\d+) replies=(\d+) handles=\d+\n')
 
 
@@ -21,6 +22,9 @@ class Verdict(typing.NamedTuple):
 
     position: where its first fault is, without the connection; reason: that of the program; message: all of it in words
     missing: how many of its bytes the recording lacks
+    lacks: why it is in part, other than for these bytes
+    raw: the calls of other programs, by name
+    shows_calls: whether calls may be in it; a connection that is left out and shows none changes no status
     """
     recording: str
     connection: int | None = None
@@ -34,30 +38,41 @@ class Verdict(typing.NamedTuple):
     position: str | None = None
     reason: str | None = None
     missing: int = 0
+    lacks: tuple[str, ...] = ()
+    raw: Mapping[str, int] = {}
+    shows_calls: bool = True
     frames: list[FrameRef] = []
     notes: list[str] = []
     seconds: float = 0.0
 
+    def is_good(self, allowed: Allowed) -> bool:
+        """Whether the status may be 0 beside it."""
+        if self.state in ('in part', 'left out', 'not checked'):
+            return Covered(self.state, missing=self.missing, lacks=self.lacks, shows_calls=self.shows_calls).is_good(allowed)
+        return self.state in ('ok', 'note')
+
 
 class Before(typing.NamedTuple):
-    """What was judged of a connection before the streams that are taken: its calls and replies, and the bytes missing among them. `carried`
-    is how many of these calls are put before the client's stream again, since their replies are not there."""
+    """What was judged of a connection before the streams that are taken: its calls and replies, the bytes missing among them, why it is
+    in part besides, and its calls by kind. `carried` is how many of the calls are put before the client's stream again, since their
+    replies are not there."""
     calls: int = 0
     replies: int = 0
     missing: int = 0
     carried: int = 0
+    lacks: tuple[str, ...] = ()
+    called: Called = Called()
 
 
 def verdict_of(recording: str, taken: Taken, connection: TakenConnection, answer: Answer, before: Before = Before()) -> Verdict:
     """What the program's answer on a connection's capture says."""
     verdict = Verdict(recording, connection.number, connection.stream_number, connection.client_end, connection.server_end)
     counts, fault = COUNTS.fullmatch(answer.out), parse_fault(answer.error)
-    missing = before.missing + connection.missing
-    verdict = verdict._replace(missing=missing)
+    covered = covered_of(taken, connection, before)
+    verdict = verdict._replace(missing=covered.missing, lacks=covered.lacks, raw=covered.called.raw)
     if answer.status == 0 and counts:
         calls = before.calls + int(counts[1]) - before.carried
-        verdict = verdict._replace(calls=calls, replies=before.replies + int(counts[2]))
-        return verdict._replace(state='in part', message=in_part(calls, missing)) if missing else verdict
+        return with_word(verdict._replace(calls=calls, replies=before.replies + int(counts[2])), covered)
     calls, replies = before.calls + connection.client.count_records(), before.replies + connection.server.count_records()
     verdict = verdict._replace(calls=calls, replies=replies)
     if answer.status != 2 or fault is None or isinstance(fault.place, FilePlace):
@@ -71,15 +86,28 @@ def verdict_of(recording: str, taken: Taken, connection: TakenConnection, answer
     return verdict._replace(state='refused', message=message, position=position, reason=fault.reason, frames=frames)
 
 
-def in_part(calls: int, missing: int) -> str:
-    return f'ok in part: {count(calls, "call")}, {count(missing, "byte")} missing'
+def covered_of(taken: Taken, connection: TakenConnection, before: Before) -> Covered:
+    """Returns the word of a connection with what was judged of it before."""
+    lacks = tuple(dict.fromkeys((*before.lacks, *connection.lacks)))
+    return of_connection(before.called + called_in(connection.client), connection.server_port, taken.ports,
+                         before.missing + connection.missing, lacks)
 
 
-def of_left_out(recording: str, left_out: LeftOut) -> Verdict:
-    """A connection that is left out is skipped, but not if it is for bytes that the recording lacks."""
-    if left_out.missing:
-        return Verdict(recording, state='in part', message=f'left out: {left_out}', missing=left_out.missing)
-    return Verdict(recording, state='skipped', message=str(left_out))
+def with_word(verdict: Verdict, covered: Covered) -> Verdict:
+    """The verdict on a connection in which the program finds no fault."""
+    if covered.word == 'judged':
+        return verdict
+    message = f'not checked: {covered.reason}'
+    if covered.word == 'in part':
+        message = f'ok in part: {count(verdict.calls or 0, "call")}, {covered.reason}'
+    return verdict._replace(state=covered.word, message=message)
+
+
+def of_covered(recording: str, covered: Covered) -> Verdict:
+    """What is said of a connection that is left out, or of what no connection stands for."""
+    ends = f'{covered.ends}: ' if covered.ends else ''
+    return Verdict(recording, state=covered.word, message=f'{covered.word}: {ends}{covered.reason}', missing=covered.missing,
+                   shows_calls=covered.shows_calls)
 
 
 def error_of(recording: str, message: str) -> Verdict:
@@ -91,24 +119,22 @@ def told(answer: Answer) -> str:
     return (answer.error or answer.out).strip() or f'the program ended with status {answer.status}'
 
 
-def status_of(verdicts: list[Verdict], allows_losses: bool) -> int:
+def status_of(verdicts: Iterable[Verdict], allowed: Allowed) -> int:
     """The status of a tool after these verdicts."""
-    return status_of_states((verdict.state for verdict in verdicts), allows_losses)
+    return 0 if all(verdict.is_good(allowed) for verdict in verdicts) else NOT_ALL_OK
 
 
-def status_of_states(states: typing.Iterable[State], allows_losses: bool) -> int:
-    """The status of a tool after verdicts with these states."""
-    good = ['ok', 'skipped', 'note', *(['in part'] if allows_losses else [])]
-    return 0 if all(state in good for state in states) else NOT_ALL_OK
+def counts_after(verdicts: Iterable[Verdict]) -> Counts:
+    """How many of the verdicts are under each word."""
+    return counts_of((verdict.state, verdict.shows_calls, verdict.raw) for verdict in verdicts)
 
 
 # --- What is printed ---
 
-def tell_notes(verdicts: list[Verdict]) -> None:
-    """Prints on standard error what is missing from recordings, and which connections are left out."""
+def tell_notes(verdicts: Iterable[Verdict]) -> None:
+    """Prints on standard error what is missing from recordings, and which connections are left out that show no call."""
     for verdict in verdicts:
-        said = {'skipped': [f'left out: {verdict.message}'], 'note': [verdict.message]}.get(verdict.state, [])
-        for line in [*verdict.notes, *said]:
+        for line in [*verdict.notes, *([] if is_row(verdict) else [verdict.message])]:
             print(printable(f'{named(verdict)}: {line}'), file=sys.stderr)
 
 
@@ -118,12 +144,13 @@ def named(verdict: Verdict) -> str:
     return name if verdict.connection is None else f'{name}: connection {verdict.connection}'
 
 
-def sums_of(verdicts: list[Verdict]) -> str:
-    return sums_of_counts(collections.Counter(verdict.state for verdict in verdicts))
+def is_row(verdict: Verdict) -> bool:
+    """Whether a verdict has a row: notes have none, nor have connections that show no call."""
+    return verdict.state != 'note' and verdict.shows_calls
 
 
-def sums_of_counts(counts: collections.Counter[State]) -> str:
-    return f'{counts["ok"]} ok, {counts["in part"]} in part, {counts["refused"]} refused, {counts["error"]} errors'
+def sums_of(verdicts: Iterable[Verdict]) -> str:
+    return counts_after(verdicts).words()
 
 
 def row_of(verdict: Verdict) -> tuple[str, ...]:

@@ -10,6 +10,7 @@ from ..shared.outputs import ENDING, Refused
 from ..shared.places import NoPlace
 from ..shared.printed import escaped, printable
 from ..shared.programs import Died, FilterRefused, Missing
+from ..recordings.coverage import Allowed
 from ..recordings.selection import Options
 from ..recordings.taken import NotTaken, Taken
 from ..shared.version import version
@@ -172,14 +173,33 @@ def installed_name(tool: str) -> str:
 def add_options(parser: argparse.ArgumentParser) -> None:
     """The options of how a recording is taken."""
     parser.add_argument('--filter', metavar='FILTER', help='takes the connections for which a display filter of Wireshark is true')
-    parser.add_argument('--midstream', action='store_true',
-                        help='takes connections whose beginning or end was not recorded, and goes on after missing bytes')
+    parser.add_argument('--port', metavar='PORT,..', type=ports_of, default=frozenset(), help='takes the connections that have one of these ports')
+    parser.add_argument('--midstream', action=argparse.BooleanOptionalAction, default=True,
+                        help='takes connections whose beginning was not recorded, and goes on after missing bytes; it is so unless '
+                             '--no-midstream is said')
     parser.add_argument('--whole-records', action='store_true', help='ends each stream after its last whole record')
 
 
-def add_losses(parser: argparse.ArgumentParser, words: str) -> None:
+def ports_of(word: str) -> frozenset[int]:
+    """The ports that a word names, as `2049,20048`."""
+    ports = frozenset(int(port) for port in word.split(',') if port.isascii() and port.isdigit())
+    if len(word.split(',')) != len(ports) or not all(0 < port < 1 << 16 for port in ports):
+        raise argparse.ArgumentTypeError(f'no ports: {word}')
+    return ports
+
+
+def add_losses(parser: argparse.ArgumentParser, words: str = 'in part` and `left out') -> None:
     """The option that takes runs in part as whole ones."""
     parser.add_argument('--allow-losses', action='store_true', help=f'takes `{words}` as the status 0')
+
+
+def add_unchecked(parser: argparse.ArgumentParser) -> None:
+    """The option that takes what is not checked as good."""
+    parser.add_argument('--allow-not-checked', action='store_true', help='takes `not checked` as the status 0')
+
+
+def allowed_of(chosen: argparse.Namespace) -> Allowed:
+    return Allowed(chosen.allow_losses, chosen.allow_not_checked)
 
 
 def add_program(parser: argparse.ArgumentParser) -> None:
@@ -188,7 +208,7 @@ def add_program(parser: argparse.ArgumentParser) -> None:
 
 
 def options_of(chosen: argparse.Namespace) -> Options:
-    return Options(chosen.midstream, chosen.whole_records, chosen.filter)
+    return Options(chosen.midstream, chosen.whole_records, chosen.filter, chosen.port)
 
 
 def lines_of(taken: Taken) -> list[str]:
@@ -198,7 +218,7 @@ def lines_of(taken: Taken) -> list[str]:
         sizes = f'{connection.client.size} and {connection.server.size} bytes'
         lines.append(f'connection {connection.number}: {connection.ends}: client {connection.client_end} {connection.why}, {sizes}')
         lines += [f'connection {connection.number} {note}' for note in connection.notes]
-    return lines + [f'left out: {line}' for line in taken.left_out]
+    return lines + [f'left out: {line}' for line in taken.left_out] + [f'{remark.word}: {remark.reason}' for remark in taken.remarks]
 
 
 def tell(taken: Taken) -> None:

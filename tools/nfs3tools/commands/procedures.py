@@ -30,15 +30,15 @@ import typing
 from collections import Counter
 from collections.abc import Iterator, Sequence
 
-from .judging import Verdict, named, status_of, sums_of, tell_notes
-from .messages import add_losses, add_options, add_program, options_of, parser_of
+from .judging import Verdict, counts_after, is_row, named, status_of, sums_of, tell_notes
+from .messages import add_losses, add_options, add_program, add_unchecked, allowed_of, options_of, parser_of
 from ..shared.outputs import check_output, write_file
 from ..recordings.parts import files_of
 from ..shared.printed import columns, escaped, printable
 from ..shared.programs import program_path
 from ..recordings.taken import Taken, TakenConnection
 from .tallies import Tallies, Tally, counted_of, in_order, sum_of
-from .verdicts import CONNECTIONS_AT_ONCE, Judge, objects_of
+from .verdicts import CONNECTIONS_AT_ONCE, VERSION, Judge, objects_of
 
 PARTS = (0.5, 0.99, 1)  # of the latencies: the median, the 99th percentile, and the longest
 COUNTS = ('calls', 'again', 'replies', 'unanswered', 'call_bytes', 'reply_bytes')
@@ -135,7 +135,7 @@ def print_tables(found: Sequence[Counted], is_total: bool) -> None:
             assert table.verdict
             print_table(title_of(table.verdict), table)
         for verdict in one.verdicts:
-            if verdict.state == 'error' or verdict.connection is None and verdict.state in ('in part', 'refused'):
+            if is_row(verdict) and (verdict.state == 'error' or verdict.connection is None):
                 print('\n' + printable(f'{named(verdict)}: {verdict.message}'))
         print_table(printable(f'{escaped(one.recording)} in all: {sums_of(one.verdicts)}'), one.in_all)
     if len(found) > 1:
@@ -147,7 +147,7 @@ def print_beside(first: Counted, second: Counted) -> None:
     """Prints two recordings in one table."""
     for name, one in zip('AB', (first, second)):
         for verdict in one.verdicts:
-            if verdict.state not in ('ok', 'skipped', 'note'):
+            if is_row(verdict) and verdict.state != 'ok':
                 print(printable(f'{named(verdict)}: {verdict.message}'))
         print(printable(f'{name}: {escaped(one.recording)}: {sums_of(one.verdicts)}'))
     here, there = (dict(one.in_all.rows()) for one in (first, second))
@@ -195,10 +195,11 @@ def whose(table: Table) -> dict[str, typing.Any]:
 
 def json_of(found: Sequence[Counted]) -> bytes:
     """The verdicts, as tools/verdicts writes them, and the tables; of each the last object of its procedures is the sum."""
-    verdicts = objects_of([verdict for one in found for verdict in one.verdicts])
+    verdicts = [verdict for one in found for verdict in one.verdicts]
     tables = [{**whose(table), 'procedures': [object_of(*row) for row in table.rows()]}
               for one in found for table in (*one.tables, one.in_all)]
-    return json.dumps({'verdicts': verdicts, 'tables': tables}, indent=1).encode() + b'\n'
+    whole = {'version': VERSION, 'counts': counts_after(verdicts).members(), 'verdicts': objects_of(verdicts), 'tables': tables}
+    return json.dumps(whole, indent=1).encode() + b'\n'
 
 
 def csv_of(found: Sequence[Counted]) -> bytes:
@@ -224,7 +225,8 @@ def words_of(words: list[str]) -> argparse.Namespace:
     parser.add_argument('--csv', metavar='FILE', help='writes the tables as comma-separated values')
     add_program(parser)
     add_options(parser)
-    add_losses(parser, 'ok in part')
+    add_losses(parser)
+    add_unchecked(parser)
     chosen = parser.parse_args(words)
     if chosen.beside and len(chosen.recordings) != 2:
         parser.error('--beside takes two recordings')
@@ -248,4 +250,4 @@ def main(words: list[str]) -> int:
         write_file(chosen.json, [json_of(found)], inputs)
     if chosen.csv:
         write_file(chosen.csv, [csv_of(found)], inputs)
-    return status_of(verdicts, chosen.allow_losses)
+    return status_of(verdicts, allowed_of(chosen))

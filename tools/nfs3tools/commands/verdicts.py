@@ -33,17 +33,21 @@ import typing
 import xml.etree.ElementTree
 
 from .following import follow
-from .judging import HEADS, Verdict, error_of, of_left_out, row_of, status_of, sums_of, tell_notes, told, verdict_of
-from .messages import add_losses, add_options, add_program, advice_on, options_of, parser_of, words_of
+from .judging import (HEADS, Verdict, counts_after, error_of, is_row, of_covered, row_of, status_of, sums_of, tell_notes, told,
+                      verdict_of)
+from .messages import add_losses, add_options, add_program, add_unchecked, advice_on, allowed_of, options_of, parser_of, words_of
 from ..shared.outputs import check_output, write_file
 from ..recordings.parts import files_of
 from ..shared.places import Place, parse_fault
 from ..shared.printed import columns, escaped, printable
 from ..shared.programs import CHECKED, Died, FilterRefused, Missing, program_path, run_program
+from ..recordings.coverage import Allowed
+from ..recordings.coverage import named as named_calls
 from ..recordings.selection import Options
 from ..recordings.taken import NotTaken, Taken, TakenConnection, take
 
 CONNECTIONS_AT_ONCE = 32  # of a recording
+VERSION = 2  # of the form of --json; the first was a list of the rows
 Look = typing.Callable[[Taken, list[Verdict]], object]
 
 
@@ -77,7 +81,7 @@ class Judge(typing.NamedTuple):
     def of_taken(self, recording: str, taken: Taken) -> list[Verdict]:
         with concurrent.futures.ThreadPoolExecutor(self.at_once) as threads:
             verdicts = list(threads.map(functools.partial(self.of_connection, recording, taken), taken.connections))
-        verdicts += [of_left_out(recording, left_out) for left_out in taken.left_out]
+        verdicts += [of_covered(recording, covered) for covered in taken.not_taken()]
         if taken.damage and not taken.is_recording:
             verdicts += self.of_container(recording, verdicts)
         elif taken.damage:
@@ -115,12 +119,13 @@ def main(words: list[str]) -> int:
     parser.add_argument('--follow', action='store_true', help='judges one recording while it is made, and prints each verdict at once')
     add_program(parser)
     add_options(parser)
-    add_losses(parser, 'ok in part')
+    add_losses(parser)
+    add_unchecked(parser)
     chosen = parser.parse_args(words)
     if chosen.follow:
         if len(chosen.recordings) > 1 or any((chosen.j, chosen.junit, chosen.json, chosen.filter)):
             parser.error('--follow takes one recording, and none of -j, --junit, --json and --filter')
-        return follow(chosen.recordings[0], program_path(chosen.program), options_of(chosen), chosen.allow_losses)
+        return follow(chosen.recordings[0], program_path(chosen.program), options_of(chosen), allowed_of(chosen))
     recordings_at_once = chosen.j or os.cpu_count() or 1
     at_once = max(1, min(CONNECTIONS_AT_ONCE, recordings_at_once // len(chosen.recordings)))
     inputs = [file for recording in chosen.recordings for file in files_of(recording)]
@@ -133,10 +138,10 @@ def main(words: list[str]) -> int:
         raise OSError('a process that judged a recording was killed, as when memory runs out') from broken
     print_table(verdicts)
     if chosen.junit:
-        write_file(chosen.junit, [junit_of(verdicts, chosen.allow_losses)], inputs)
+        write_file(chosen.junit, [junit_of(verdicts, allowed_of(chosen))], inputs)
     if chosen.json:
         write_file(chosen.json, [json_of(verdicts)], inputs)
-    return status_of(verdicts, chosen.allow_losses)
+    return status_of(verdicts, allowed_of(chosen))
 
 
 def positive(word: str) -> int:
@@ -171,32 +176,35 @@ def leave_interrupts() -> None:
 # --- What is printed and written ---
 
 def print_table(verdicts: list[Verdict]) -> None:
-    """Prints a row for each verdict but those on connections that are left out, which with all notes go to standard error."""
+    """Prints a row for each verdict but those on connections that show no call, which with all notes go to standard error."""
     tell_notes(verdicts)
-    for line in columns([HEADS, *(row_of(verdict) for verdict in verdicts if verdict.state not in ('skipped', 'note'))]):
+    for line in columns([HEADS, *(row_of(verdict) for verdict in verdicts if is_row(verdict))]):
         print(line)
     print(sums_of(verdicts))
 
 
-def junit_of(verdicts: list[Verdict], allows_losses: bool) -> bytes:
-    """The verdicts as JUnit XML: a suite with a test case for each, and the notes on whole recordings as the suite's output."""
+def junit_of(verdicts: list[Verdict], allowed: Allowed) -> bytes:
+    """The verdicts as JUnit XML: a suite with a test case for each, the counts as its properties, and the notes on whole recordings as its
+    output."""
     element = xml.etree.ElementTree.SubElement
     suites = xml.etree.ElementTree.Element('testsuites')
-    elements = {'ok': None, 'in part': None if allows_losses else 'failure', 'refused': 'failure', 'error': 'error', 'skipped': 'skipped'}
     cases = [verdict for verdict in verdicts if verdict.state != 'note']
-    found = [elements[verdict.state] for verdict in cases]
+    found = [tag_of(verdict, allowed) for verdict in cases]
     suite = element(suites, 'testsuite', name='nfs3canon', tests=str(len(cases)), failures=str(found.count('failure')),
                     errors=str(found.count('error')), skipped=str(found.count('skipped')),
                     time=f'{sum(verdict.seconds for verdict in verdicts):.3f}')
-    number = sum(verdict.state == 'in part' for verdict in cases)
-    element(element(suite, 'properties'), 'property', name='in part', value=str(number))
+    properties = element(suite, 'properties')
+    counts = counts_after(verdicts)
+    for name, value in [*counts.numbers().items(), ('raw', named_calls(counts.raw))]:
+        element(properties, 'property', name=name, value=str(value))
     for verdict, tag in zip(cases, found):
         case = element(suite, 'testcase', classname=escaped(verdict.recording), name=name_of(verdict),
                        time=f'{verdict.seconds:.3f}')
+        is_word = verdict.state in ('in part', 'left out', 'not checked')
         if tag:
-            element(case, tag, {'type': 'in part'} if verdict.state == 'in part' else {}, message=printable(verdict.message))
-        told = [verdict.message] * (verdict.state == 'in part') + verdict.notes
-        if told:
+            element(case, tag, {'type': verdict.state} if is_word and tag == 'failure' else {}, message=printable(verdict.message))
+        told = [verdict.message] * is_word + verdict.notes
+        if told and tag != 'skipped':
             element(case, 'system-out').text = '\n'.join(map(printable, told))
     notes = [printable(f'{escaped(verdict.recording)}: {verdict.message}') for verdict in verdicts if verdict.state == 'note']
     if notes:
@@ -204,15 +212,24 @@ def junit_of(verdicts: list[Verdict], allows_losses: bool) -> bytes:
     return bytes(xml.etree.ElementTree.tostring(suites, encoding='utf-8', xml_declaration=True)) + b'\n'
 
 
+def tag_of(verdict: Verdict, allowed: Allowed) -> str | None:
+    """The element of JUnit of a verdict, if it has one."""
+    if not verdict.shows_calls:
+        return 'skipped'
+    return None if verdict.is_good(allowed) else 'error' if verdict.state == 'error' else 'failure'
+
+
 def name_of(verdict: Verdict) -> str:
     if verdict.connection is None:
-        return printable(verdict.message) if verdict.state in ('skipped', 'in part') else 'as a whole'
+        return printable(verdict.message) if verdict.state in ('left out', 'in part') else 'as a whole'
     ends = f' {verdict.client} to {verdict.server}' if verdict.client else ''
     return f'connection {verdict.connection}{ends}'
 
 
 def json_of(verdicts: list[Verdict]) -> bytes:
-    return json.dumps(objects_of(verdicts), indent=1).encode() + b'\n'
+    """The verdicts as JSON, with the version of this form, the counts, and an object for each."""
+    whole = {'version': VERSION, 'counts': counts_after(verdicts).members(), 'rows': objects_of(verdicts)}
+    return json.dumps(whole, indent=1).encode() + b'\n'
 
 
 def objects_of(verdicts: list[Verdict]) -> list[dict[str, object]]:
@@ -220,7 +237,7 @@ def objects_of(verdicts: list[Verdict]) -> list[dict[str, object]]:
     rows = []
     for verdict in verdicts:
         row = verdict._asdict()
-        row.update(recording=escaped(verdict.recording), frames=[frame._asdict() for frame in verdict.frames],
+        row.update(recording=escaped(verdict.recording), raw=dict(verdict.raw), frames=[frame._asdict() for frame in verdict.frames],
                    seconds=round(verdict.seconds, 3))
         rows.append(row)
     return rows

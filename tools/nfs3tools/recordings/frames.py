@@ -5,10 +5,11 @@ import sys
 import typing
 
 from .kinds import LONGEST_MAGIC, PACKED_BY, PCAP, SECTION
-from .unpacking import READ_AT_ONCE, Damaged, Readable, unpacked
+from .unpacking import READ_AT_ONCE, CutShort, Damaged, Readable, unpacked
 
 LONGEST = 1 << 24  # bytes of a frame or block; a greater length is damage, and is never allocated
 NANOSECONDS = 1_000_000_000
+ENDS_INSIDE = 'the recording ends inside a frame'
 
 SECTION_HEADER, INTERFACE, OBSOLETE_PACKET, SIMPLE_PACKET, ENHANCED_PACKET = 0x0a0d0d0a, 1, 2, 3, 6
 TIME_UNIT, TIME_OFFSET = 9, 14  # options of an interface: if_tsresol, if_tsoffset
@@ -116,6 +117,8 @@ class Recording:
         """Iterates over the frames, up to the end or to the first damage."""
         try:
             yield from self.of_pcap() if self.magic[:4] in PCAP else self.of_pcapng()
+        except CutShort as cut:
+            self.cut = f'{ENDS_INSIDE} (frame {self.count + 1}): {cut}'
         except Damaged as damaged:
             self.damage = f'the recording is damaged after frame {self.count}: {damaged}'
 
@@ -123,7 +126,7 @@ class Recording:
         """Takes exactly so many bytes, or notes that the recording is cut short."""
         piece = self.source.take(size)
         if len(piece) < size:
-            self.cut = f'the recording is cut short in the middle of frame {self.count + 1}'
+            self.cut = f'{ENDS_INSIDE} (frame {self.count + 1})'
             return None
         return piece
 

@@ -11,7 +11,7 @@ ETHERNET = 1
 IPV4, IPV6, ANY_IP = 0x0800, 0x86dd, 0
 PLAIN_IPV4 = b'\x08\0\x45'  # the kind of Ethernet, and the first byte of IPv4 without options
 VLAN_TAGS = {0x8100, 0x88a8, 0x9100}
-TCP, FRAGMENT, AUTHENTICATION = 6, 44, 51
+TCP, UDP, FRAGMENT, AUTHENTICATION = 6, 17, 44, 51
 EXTENSIONS = {0, 43, 60, AUTHENTICATION, 135, 139, 140}  # of IPv6, each with its length in its second byte
 PENDING_AT_MOST = 4 << 20  # bytes of fragments whose datagrams are not whole
 DATAGRAM_AT_MOST = 1 << 17
@@ -39,6 +39,10 @@ class Segment(typing.NamedTuple):
     flags: int
     payload: bytes
     missing: int
+
+    def has_port(self, ports: frozenset[int]) -> bool:
+        """Whether the port of its source or target is one of these."""
+        return int.from_bytes(self.key[-4:-2], 'big') in ports or int.from_bytes(self.key[-2:], 'big') in ports
 
 
 def turned(key: bytes) -> bytes:
@@ -101,22 +105,27 @@ class Segments:
     lying: frames whose headers claim more bytes than were on the wire
     given_up: datagrams of more fragments than an eighth of their bytes
     links: frames whose link type is not known, by link type
+    datagrams: those of UDP to or from a port of NFS, by port
     """
 
-    def __init__(self) -> None:
+    def __init__(self, ports: frozenset[int] = frozenset()) -> None:
+        self.ports, self.is_chosen = ports, True  # of NFS; whether datagrams of this frame count
         self.cut = self.lying = self.given_up = 0
         self.links: dict[int, int] = {}
+        self.datagrams: dict[int, int] = {}
         self.pending: dict[bytes, Pending] = {}
         self.held = 0
 
-    def segment(self, frame: Frame) -> Segment | None:
-        """Returns the segment that the frame carries, or completes as the last fragment, if there is one."""
+    def segment(self, frame: Frame, is_chosen: bool = True) -> Segment | None:
+        """Returns the segment that the frame carries, or completes as the last fragment, if there is one. If the frame is not chosen, no
+        datagram of it is counted."""
         data = frame.data
         if frame.link == ETHERNET and data[12:15] == PLAIN_IPV4 and len(data) >= PLAIN.size:
             total, fragment, protocol, sequence, acknowledged, size, flags = PLAIN.unpack_from(data)
             begin, end = 34 + (size >> 4) * 4, 14 + total
             if protocol == TCP and not fragment & 0x3fff and 54 <= begin <= end <= len(data):
                 return Segment(data[26:38], sequence, acknowledged, flags, data[begin:end], 0)
+        self.is_chosen = is_chosen
         return self.of_any(frame)
 
     def of_any(self, frame: Frame) -> Segment | None:
@@ -143,6 +152,8 @@ class Segments:
         if begin < at + 20 or end < begin or end > length:
             self.lying += protocol == TCP
             return None
+        if protocol == UDP and not fragment & 0x1fff:
+            self.count_datagram(data, begin)
         if fragment & 0x3fff:
             name = data[at + 4:at + 6] + data[at + 9:at + 10] + data[at + 12:at + 20]
             piece = data[begin:end]
@@ -165,6 +176,8 @@ class Segments:
             return None
         if following == FRAGMENT and begin + 8 <= len(data):
             following, place = data[begin], int.from_bytes(data[begin + 2:begin + 4], 'big')
+            if following == UDP and not place & 0xfff8:
+                self.count_datagram(data, begin + 8)
             piece = data[begin + 8:end]
             joined = self.joined(data[begin + 4:begin + 8] + addresses, place & 0xfff8, piece,
                                  len(piece) < end - begin - 8, not place & 1)
@@ -172,6 +185,8 @@ class Segments:
                 return None
             data, begin, end, length = joined, 0, len(joined), len(joined)
             following, begin = after_extensions(data, following, begin)
+        elif following == UDP:
+            self.count_datagram(data, begin)
         return self.of_tcp(data, begin, end, length, addresses) if following == TCP else None
 
     def of_tcp(self, data: bytes, at: int, end: int, length: int, addresses: bytes) -> Segment | None:
@@ -187,6 +202,13 @@ class Segments:
         missing = end - max(there, begin)
         self.cut += missing > 0
         return Segment(addresses + data[at:at + 4], sequence, acknowledged, flags, data[begin:there], missing)
+
+    def count_datagram(self, data: bytes, at: int) -> None:
+        """Counts a datagram of UDP, or the first fragment of one, if it has a port of NFS."""
+        for port in (int.from_bytes(data[at:at + 2], 'big'), int.from_bytes(data[at + 2:at + 4], 'big')):
+            if port in self.ports and self.is_chosen:
+                self.datagrams[port] = self.datagrams.get(port, 0) + 1
+                return
 
     def shortened(self, wanted: int, there: int, on_the_wire: int) -> None:
         """Counts a frame whose headers are not whole."""

@@ -8,28 +8,34 @@ from .streams import Connection, Gap, Stream
 
 SERVER_PORTS = {'2049', '20048', '111'}  # NFS, MOUNT as Linux has it, and the port mapper
 REPLY = 1  # mtype
+BEGUN_BEFORE = 'its beginning is not in the recording'
+ENDS_INSIDE = 'the recording ends inside a record'
+RESET_INSIDE = 'the other end reset it inside a record'
 
 
 class Options(typing.NamedTuple):
     """How a recording is taken. None of these changes what is taken of a capture.
 
-    midstream: takes connections whose beginning or end was not recorded, and goes on after bytes that are missing
+    midstream: takes connections whose beginning was not recorded, and goes on after bytes that are missing
     whole_records: ends each stream after its last whole record
     filter: a display filter of Wireshark that is true of whole connections, or None; needs tshark
+    ports: of which each connection has one; any connection if there are none
     """
-    midstream: bool = False
+    midstream: bool = True
     whole_records: bool = False
     filter: str | None = None
+    ports: frozenset[int] = frozenset()
 
 
 @dataclasses.dataclass
 class Kept:
-    """The ranges of a stream's stored bytes that are kept, whether any of its bytes are not, how many the recording lacks, and what is
-    told of it."""
+    """The ranges of a stream's stored bytes that are kept, whether any of its bytes are not, how many the recording lacks, what is
+    told of it, and why it is in part, other than for bytes that the recording lacks."""
     ranges: list[tuple[int, int]] = dataclasses.field(default_factory=list)
     lacks: bool = False
     missing: int = 0
     notes: list[str] = dataclasses.field(default_factory=list)
+    reasons: list[str] = dataclasses.field(default_factory=list)
 
     @property
     def size(self) -> int:
@@ -41,6 +47,20 @@ class Selected(typing.NamedTuple):
     client: int
     why: str
     kept: tuple[Kept, Kept]
+
+    @property
+    def missing(self) -> int:
+        """The bytes of both streams that the recording lacks."""
+        return sum(kept.missing for kept in self.kept)
+
+    @property
+    def lacks(self) -> tuple[str, ...]:
+        """Why it is in part, other than for these bytes, each once."""
+        return tuple(dict.fromkeys(reason for kept in self.kept for reason in kept.reasons))
+
+    @property
+    def notes(self) -> list[str]:
+        return [note for kept in self.kept for note in kept.notes]
 
 
 class Part(typing.NamedTuple):
@@ -69,9 +89,11 @@ def select(connection: Connection, options: Options, known: typing.Iterable[int]
     """Chooses what is kept of a connection. `known` has the xids of calls that were kept before. If it goes on, a record that is cut at
     its end is kept."""
     client, why = client_of(connection, options)
+    ends = client, 1 - client
     streams = connection.streams[client], connection.streams[1 - client]
     choose = keep_midstream if options.midstream else keep_front
-    calls, replies = (choose(stream, side, options, connection.is_closed or goes_on) for stream, side in zip(streams, SIDES))
+    calls, replies = (choose(connection.streams[end], side, options, '' if goes_on else cut_by(connection, end))
+                      for end, side in zip(ends, SIDES))
     if calls.lacks and replies.ranges:
         leave_out_replies(streams, calls, replies, known)
     for stream, kept in zip(streams, (calls, replies)):
@@ -79,6 +101,13 @@ def select(connection: Connection, options: Options, known: typing.Iterable[int]
             kept.notes.append(f'{count(stream.conflicts, "frame")} {plural(stream.conflicts, "repeats", "repeat")} bytes with '
                               f'other content, first frame {stream.conflict}; the bytes that came first are taken')
     return Selected(client, why, (calls, replies))
+
+
+def cut_by(connection: Connection, end: int) -> str:
+    """Why an end is not at fault if its stream ends inside a record; '' if it closed its stream or reset the connection."""
+    if connection.streams[end].end is not None or connection.is_reset[end]:
+        return ''
+    return RESET_INSIDE if connection.is_reset[1 - end] else ENDS_INSIDE
 
 
 def client_of(connection: Connection, options: Options) -> tuple[int, str]:
@@ -95,13 +124,21 @@ def client_of(connection: Connection, options: Options) -> tuple[int, str]:
     return (guess, 'by the ports') if guess is not None else (connection.first_payload or 0, 'by the first payload')
 
 
+def is_of_rpc(connection: Connection, ports: frozenset[int]) -> bool:
+    """Whether a connection has a port of NFS, or bytes that may be the head of a message of RPC."""
+    served = SERVER_PORTS | {str(port) for port in ports}
+    return any(end.rpartition(':')[2] in served for end in connection.ends) or any(
+        next(Search(stream.stored, side, stream.begin, stream.stored.size).places(), None) is not None
+        for stream in connection.streams for side in SIDES)
+
+
 def has_calls(stream: Stream) -> bool:
     """Whether calls follow one another in a run of the stream."""
     return any(Search(stream.stored, 'client', part.begin, part.end).first() is not None for part in parts_of(stream))
 
 
-def keep_front(stream: Stream, side: Side, options: Options, is_closed: bool) -> Kept:
-    """Keeps a stream from its beginning up to the first gap."""
+def keep_front(stream: Stream, side: Side, options: Options, cut: str) -> Kept:
+    """Keeps a stream from its beginning up to the first gap. `cut` is why a record at its end that is cut is none of its sender's fault."""
     kept, parts, gaps = Kept(lacks=stream.lacks or not stream.is_begin, missing=missing_of(stream)), parts_of(stream), gaps_of(stream)
     if not stream.is_begin:
         if stream.stored.size:
@@ -112,14 +149,16 @@ def keep_front(stream: Stream, side: Side, options: Options, is_closed: bool) ->
         kept.lacks = True
         kept.notes.append(f'{side}: {told_of(gaps[0])}; the stream ends there')
     if parts and not (gaps and gaps[0].position == 0):
-        keep_up_to_whole(stream, parts[0], side, kept, bool(gaps) or options.whole_records)
+        keep_up_to_whole(stream, parts[0], side, kept, cut, options)
     return kept
 
 
-def keep_midstream(stream: Stream, side: Side, options: Options, is_closed: bool) -> Kept:
-    """Keeps of each run of a stream what follows from the first record on."""
+def keep_midstream(stream: Stream, side: Side, options: Options, cut: str) -> Kept:
+    """Keeps of each run of a stream what follows from the first record on. `cut` is as for `keep_front`."""
     kept, gaps, parts = Kept(missing=missing_of(stream)), gaps_of(stream), parts_of(stream)
     kept.lacks, left_out = bool(gaps) or stream.lacks or not stream.is_begin, 0
+    if stream.stored.size and not stream.is_begin:
+        kept.reasons.append(BEGUN_BEFORE)
     for part in parts:
         is_first = part is parts[0] and not stream.runs[0].gap
         begin = part.begin if is_first and stream.is_begin else Search(stream.stored, side, part.begin, part.end).first()
@@ -132,9 +171,7 @@ def keep_midstream(stream: Stream, side: Side, options: Options, is_closed: bool
         else:
             left_out += begin - part.begin
         if begin is not None:
-            is_open = part is parts[-1] and not is_closed
-            dropped = keep_up_to_whole(stream, part._replace(begin=begin), side, kept,
-                                       bool(part.gap_after) or is_open or options.whole_records, not part.gap_after)
+            dropped = keep_up_to_whole(stream, part._replace(begin=begin), side, kept, cut if part is parts[-1] else '', options)
             left_out += dropped if part.gap_after else 0
     if gaps:
         kept.notes.append(f'{side}: {told_of_all(gaps)}; {count(left_out, "byte")} of torn records '
@@ -142,15 +179,19 @@ def keep_midstream(stream: Stream, side: Side, options: Options, is_closed: bool
     return kept
 
 
-def keep_up_to_whole(stream: Stream, part: Part, side: Side, kept: Kept, is_whole: bool, is_told: bool = True) -> int:
-    """Keeps a run, if asked only up to the end of its last whole record, and gives how many bytes that leaves out."""
+def keep_up_to_whole(stream: Stream, part: Part, side: Side, kept: Kept, cut: str, options: Options) -> int:
+    """Keeps a run, up to the end of its last whole record if bytes are missing after it, if `cut` says why it is cut, or if that is asked
+    for. Returns how many bytes that leaves out."""
+    is_whole = bool(part.gap_after or cut or options.whole_records)
     end = end_of_whole(Window(stream.stored), part.begin, part.end) if is_whole else part.end
     dropped = part.end - end
     if end > part.begin:
         kept.ranges.append((part.begin, end))
     if dropped:
         kept.lacks = True
-        if is_told:
+        if not part.gap_after:
+            kept.reasons.append(cut or f'{count(dropped, "byte")} left out')
+        if not part.gap_after or not options.midstream:
             kept.notes.append(f'{side}: the last {dropped:,} bytes are no whole record, and are dropped')
     return dropped
 

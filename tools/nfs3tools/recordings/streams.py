@@ -387,7 +387,7 @@ class Stream:
 
 class Connection:
     """Two ends, 0 the one that sent the first segment, each with its stream."""
-    __slots__ = 'number', 'key', 'client', 'first_payload', 'is_closed', 'is_chosen', 'is_judged', 'streams'
+    __slots__ = 'number', 'key', 'client', 'first_payload', 'is_closed', 'is_chosen', 'is_judged', 'is_reset', 'streams'
 
     def __init__(self, number: int, key: bytes, spool: Spool, budget: Budget, keeps_frames: bool) -> None:
         self.number, self.key = number, key  # the number as Wireshark counts tcp.stream, from 0
@@ -395,6 +395,7 @@ class Connection:
         self.first_payload: int | None = None  # the end that sent payload first
         self.is_closed = self.is_chosen = False
         self.is_judged = False  # nothing of it is wanted any more
+        self.is_reset = [False, False]  # by which end
         self.streams = [Stream(spool, budget, Frames(spool) if keeps_frames else None) for _ in range(2)]
 
     @property
@@ -413,7 +414,7 @@ class Connection:
         _, sequence, acknowledged, flags, payload, missing = segment
         own, other = self.streams[side], self.streams[1 - side]
         if flags & RST:
-            self.is_closed = True
+            self.is_closed = self.is_reset[side] = True
             return
         if flags & SYN:
             self.client = 1 - side if flags & ACK else side

@@ -26,10 +26,11 @@ from ..shared.outputs import CAPTURE, write_file
 from .parts import Part, files_of, in_order, pattern_beside
 from ..shared.places import SIDES, FilePlace, NoPlace, Place, Side
 from ..shared.programs import chosen_frames
+from .coverage import NFS_PORTS, PORT_MAPPER, Covered, called_in, of_connection
 from .frames import NoRecording, Recording, Source, opened
 from .records import Extent, Window, body_of, extents, extent_of, fragments
 from .segments import Segments
-from .selection import Options, Selected, count, plural, select
+from .selection import Options, Selected, count, is_of_rpc, plural, select
 from .streams import Brought, Connection, Connections, Frames, Spool, Stored
 from .unpacking import READ_AT_ONCE, Damaged, Readable
 
@@ -159,6 +160,7 @@ class TakenConnection(typing.NamedTuple):
     why: how it is known which end is the client, as 'by the SYN'; '' if read from a capture
     notes: what was left out of its streams, each beginning with the side, as 'client: 12 bytes are missing ..'
     missing: the bytes of both sides that were sent and are not in the recording, as far as it shows
+    lacks: why it is in part, other than for these bytes
     """
     number: int
     stream_number: int | None
@@ -170,6 +172,11 @@ class TakenConnection(typing.NamedTuple):
     server: TakenStream
     notes: list[str]
     missing: int = 0
+    lacks: tuple[str, ...] = ()
+
+    @property
+    def server_port(self) -> int | None:
+        return int(self.server_end.rpartition(':')[2]) if self.server_end else None
 
     def stream(self, side: Side) -> TakenStream:
         """Returns the stream of one side."""
@@ -181,32 +188,39 @@ class TakenConnection(typing.NamedTuple):
 
 
 class LeftOut(typing.NamedTuple):
-    """A connection that is not taken: its ends, why, how many bytes are missing if that is why, else 0, and whether it begins before the
-    recording."""
+    """A connection that is not taken: its ends, why, how many bytes are missing if that is why, else 0, whether it begins before the
+    recording, and whether calls may be in it."""
     ends: str
     why: str
     missing: int = 0
     is_begun_before: bool = False
+    shows_calls: bool = True
 
     def __str__(self) -> str:
         return f'{self.ends}: {self.why}'
+
+    def covered(self) -> Covered:
+        return Covered('left out', self.why, ends=self.ends, missing=self.missing, shows_calls=self.shows_calls)
 
 
 class Taken:
     """The connections of a recording or capture. As a context manager it removes the temporary files at its end.
 
     left_out: the connections that are not taken
-    notes: what is told of the whole recording or capture, a sentence each
+    remarks: what else is not judged, though no connection stands for it
+    notes: what is told of the whole recording or capture, a sentence each, without these
     damage: why what follows could not be read, or None; a recording that ends in the middle of a frame is not damaged
     is_recording: False if read from a capture
     has_frames: whether the frames of bytes are noted
     parts: those of a recording that has several, in order
+    ports: those of NFS
     """
 
-    def __init__(self, spool: Spool, is_recording: bool, has_frames: bool) -> None:
-        self.spool, self.is_recording, self.has_frames = spool, is_recording, has_frames
+    def __init__(self, spool: Spool, is_recording: bool, has_frames: bool, ports: frozenset[int] = NFS_PORTS) -> None:
+        self.spool, self.is_recording, self.has_frames, self.ports = spool, is_recording, has_frames, ports
         self.connections: list[TakenConnection] = []
         self.left_out: list[LeftOut] = []
+        self.remarks: list[Covered] = []
         self.notes: list[str] = []
         self.damage: str | None = None
         self.parts: list[Part] = []
@@ -215,6 +229,21 @@ class Taken:
     def missing(self) -> int:
         """The bytes of all connections that are missing from the recording."""
         return sum(one.missing for one in self.connections) + sum(one.missing for one in self.left_out)
+
+    def covered_connection(self, connection: TakenConnection) -> Covered:
+        """Returns under which word a connection that is taken comes."""
+        covered = of_connection(called_in(connection.client), connection.server_port, self.ports, connection.missing, connection.lacks)
+        return covered._replace(number=connection.number, ends=connection.ends)
+
+    def covered(self) -> typing.Iterator[Covered]:
+        """Iterates over all connections and remarks, each under its word."""
+        yield from map(self.covered_connection, self.connections)
+        yield from self.not_taken()
+
+    def not_taken(self) -> typing.Iterator[Covered]:
+        """Iterates over the connections that are left out, and the remarks."""
+        yield from (left_out.covered() for left_out in self.left_out)
+        yield from self.remarks
 
     def pairs(self) -> list[tuple[TakenStream, TakenStream]]:
         return [(connection.client, connection.server) for connection in self.connections]
@@ -317,7 +346,7 @@ def take(path: str, options: Options = Options(), frames: bool = True, shows_pro
 
 def take_parts(files: list[str], options: Options, keeps_frames: bool, progress: 'Progress') -> Taken:
     """Takes several files as the parts of one recording."""
-    taking = Taking(keeps_frames, progress)
+    taking = Taking(options, keeps_frames, progress)
     try:
         for path in in_order(files):
             with contextlib.ExitStack() as stack:
@@ -326,7 +355,7 @@ def take_parts(files: list[str], options: Options, keeps_frames: bool, progress:
                 taking.add(Recording(source), chosen, f'{path}: ')
     except (NoRecording, Damaged) as refused:
         raise NotTaken(str(refused)) from refused
-    return taking.ended(options)
+    return taking.ended()
 
 
 def opened_for(path: str, options: Options, stack: contextlib.ExitStack) -> tuple[Source, set[int] | None]:
@@ -360,9 +389,9 @@ def take_from(source: Source, chosen: set[int] | None, options: Options, keeps_f
     try:
         if source.peek(8) in MAGICS:
             return of_capture(source)
-        taking = Taking(keeps_frames, progress)
+        taking = Taking(options, keeps_frames, progress)
         taking.add(Recording(source), chosen)
-        return taking.ended(options)
+        return taking.ended()
     except NoRecording as refused:
         raise NotTaken(str(refused), refused.packed_by) from refused
     except Damaged as damaged:
@@ -390,32 +419,49 @@ def whole(stored: Stored) -> list[tuple[int, int]]:
 class Taking:
     """Takes the frames of a recording, or of its parts one after the other."""
 
-    def __init__(self, keeps_frames: bool, progress: 'Progress') -> None:
-        self.segments, self.connections, self.progress = Segments(), Connections(keeps_frames), progress
-        self.taken = Taken(self.connections.spool, True, keeps_frames)
+    def __init__(self, options: Options, keeps_frames: bool, progress: 'Progress') -> None:
+        self.options, self.connections, self.progress = options, Connections(keeps_frames), progress
+        self.taken = Taken(self.connections.spool, True, keeps_frames, ports_of(options))
+        self.segments = Segments(self.taken.ports)
         self.count = 0  # frames
 
     def add(self, recording: Recording, chosen: set[int] | None, name: str = '') -> None:
         """Takes a part, of which only the frames that are chosen count, if `chosen` is not None. A name stands before what is told."""
-        before, segments, connections = self.count, self.segments, self.connections
+        before, segments, connections, ports = self.count, self.segments, self.connections, self.options.ports
         for frame in recording.frames():
-            segment = segments.segment(frame)
+            is_chosen = chosen is None or frame.number in chosen
+            segment = segments.segment(frame, is_chosen)
             if segment is not None:
-                connections.take(segment, before + frame.number, frame.time, chosen is None or frame.number in chosen)
+                is_chosen = is_chosen and (not ports or segment.has_port(ports))
+                connections.take(segment, before + frame.number, frame.time, is_chosen)
             if not frame.number % FRAMES_A_STEP:
                 self.progress.step(before + frame.number)
         self.count += recording.count
-        self.taken.notes += [name + note for note in (recording.cut, recording.damage) if note]
-        if recording.damage and not self.taken.damage:
-            self.taken.damage = name + recording.damage
+        if recording.cut:
+            self.taken.remarks.append(Covered('in part', name + recording.cut))
+        if recording.damage:
+            self.taken.notes.append(name + recording.damage)
+            self.taken.damage = self.taken.damage or name + recording.damage
 
-    def ended(self, options: Options) -> Taken:
+    def ended(self) -> Taken:
         """What is taken. Nothing is added after this."""
         self.progress.end()
         self.taken.notes += notes_of(self.segments)
+        self.taken.remarks += remarks_of(self.segments)
         for connection in self.connections.finish():
-            add(self.taken, connection, select(connection, options), options)
+            add(self.taken, connection, select(connection, self.options), self.options)
         return self.taken
+
+
+def ports_of(options: Options) -> frozenset[int]:
+    """The ports of NFS: those that were chosen, or else the usual ones."""
+    return (options.ports or NFS_PORTS) - {PORT_MAPPER}
+
+
+def remarks_of(segments: Segments) -> list[Covered]:
+    """What is not judged of the frames that are no segments of TCP."""
+    return [Covered('left out', f'{count(number, "UDP datagram")} to or from port {port} {plural(number, "is", "are")} not taken')
+            for port, number in sorted(segments.datagrams.items())]
 
 
 def notes_of(segments: Segments) -> list[str]:
@@ -436,28 +482,35 @@ def notes_of(segments: Segments) -> list[str]:
 
 def add(taken: Taken, connection: Connection, selected: Selected, options: Options) -> None:
     """Takes a connection, or says why it is left out."""
+    left_out = left_out_of(connection, selected, options)
+    if left_out:
+        taken.left_out.append(left_out)
+    else:
+        taken.connections.append(taken_connection(len(taken.connections) + 1, connection, selected))
+
+
+def left_out_of(connection: Connection, selected: Selected, options: Options) -> LeftOut | None:
+    """Why a connection is left out, or `None` if it is not."""
     ends = ' and '.join(connection.ends)
-    if not any(kept.ranges for kept in selected.kept):
-        is_for_losses = connection.client is not None or options.midstream
-        missing = sum(kept.missing for kept in selected.kept) if is_for_losses else 0
-        is_begun_before = connection.client is None and connection.first_payload is not None
-        taken.left_out.append(LeftOut(ends, why_left_out(connection, options), missing, is_begun_before))
-        return
-    taken.connections.append(taken_connection(len(taken.connections) + 1, connection, selected))
+    if connection.first_payload is None and not any(stream.gap_at_end() for stream in connection.streams):
+        return LeftOut(ends, 'no payload', shows_calls=False)
+    if not is_of_rpc(connection, options.ports):
+        return LeftOut(ends, 'no RPC', shows_calls=False)
+    if any(kept.ranges for kept in selected.kept):
+        return None
+    is_for_losses = connection.client is not None or options.midstream
+    return LeftOut(ends, why_left_out(connection, options), selected.missing if is_for_losses else 0, connection.client is None)
 
 
 def taken_connection(number: int, connection: Connection, selected: Selected) -> TakenConnection:
     """What is taken of a connection."""
     streams = connection.streams[selected.client], connection.streams[1 - selected.client]
     client, server = (TakenStream(stream.stored, stream.frames, kept.ranges) for stream, kept in zip(streams, selected.kept))
-    notes, missing = [note for kept in selected.kept for note in kept.notes], sum(kept.missing for kept in selected.kept)
     return TakenConnection(number, connection.number, connection.ends[selected.client], connection.ends[1 - selected.client],
-                           ' and '.join(connection.ends), selected.why, client, server, notes, missing)
+                           ' and '.join(connection.ends), selected.why, client, server, selected.notes, selected.missing, selected.lacks)
 
 
 def why_left_out(connection: Connection, options: Options) -> str:
-    if connection.first_payload is None and not any(stream.gap_at_end() for stream in connection.streams):
-        return 'no payload'
     if connection.client is None and not options.midstream:
         return 'no SYN in the recording, so its streams may begin inside a record (--midstream takes it)'
     if options.midstream:

@@ -15,11 +15,16 @@ from ..shared.programs import begun, died, text_of
 READ_AT_ONCE = 1 << 20
 FIRST_STEP = 1 << 9  # compressed bytes of a member of gzip that are decompressed at first
 STEP = 1 << 12  # the same of any others: what they decompress to is lost if they are damaged
+PREMATURE = 'premature'  # is said by zstd of a file that ends too early
 MOST_MEMORY = 128 << 20  # of the decompressor of xz; that of `xz -9` takes 65 MiB
 
 
 class Damaged(Exception):
     """The recording cannot be read any further."""
+
+
+class CutShort(Damaged):
+    """The same, because the compressed file ends too early."""
 
 
 class Readable(typing.Protocol):
@@ -78,7 +83,7 @@ class Inflated(Packed):
                 self.begin_member()
             piece = self.peek(1) and self.packed[self.at:self.at + self.step]
             if not piece:
-                self.damage = Damaged('the compressed file is cut short')
+                self.damage = CutShort('the compressed file is cut short')
             elif content := self.inflated(piece, size):
                 return content
         return self.end()
@@ -144,7 +149,7 @@ class Unpacked(Packed):
             piece = self.peek(1) and self.packed[self.at:self.at + STEP]
             self.at += len(piece)
             if not piece:
-                self.damage = Damaged('the compressed file is cut short')
+                self.damage = CutShort('the compressed file is cut short')
                 return b''
         try:
             content = self.decompressor.decompress(piece, size)
@@ -187,7 +192,7 @@ class Piped:
             raise died(self.command[:1], status, '')
         if status:
             said = text_of(self.error).strip().rpartition('\n')[2]
-            raise Damaged(f'the compressed file is damaged or cut short: {printable(said)}')
+            raise (CutShort if PREMATURE in said else Damaged)(f'the compressed file is damaged or cut short: {printable(said)}')
         return b''
 
     def __del__(self) -> None:
