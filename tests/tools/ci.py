@@ -258,7 +258,7 @@ def cases_of_runs(tools: Tools) -> None:
             (concurrent, 1, [['failure']], 'same in another order', 'same in another order: 100 calls; 3 connections in another turn'),
             (['--order', 'any', *concurrent], 0, [[]], None, None),
             (['part.pcap', 'part.pcap'], 1, [['failure']], 'same in part',
-             'same in part: 7 calls in 1 connection, 344 bytes missing from the first run, 344 bytes missing from the second run'),
+             'same in part: 30 calls in 1 connection, 344 bytes missing from the first run, 344 bytes missing from the second run'),
             (['--allow-losses', 'part.pcap', 'part.pcap'], 0, [[]], None, None),
             ([FIRST, str(EXAMPLES / 'bad_bool.pcap')], 2, [['error']], None,
              f'{EXAMPLES}/bad_bool.pcap: connection 1 server record 1 byte 28: BadBool (frame 5)'),

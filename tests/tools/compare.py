@@ -23,11 +23,12 @@ from traffic import Names, Traffic  # noqa: E402
 TOP = pathlib.Path(__file__).resolve().parents[2]
 sys.path[:0] = [str(TOP / 'tools'), str(TOP / 'examples')]
 import messages  # noqa: E402
-from messages import NFS, NFSACL, auth_sys, call, dirop, fattr, fh, hyper, ok, post_op_attr, success, wcc, word  # noqa: E402
+from messages import MOUNT, NFS, NFSACL, auth_sys, call, dirop, fattr, fh, hyper, ok, post_op_attr, success, wcc, word  # noqa: E402
 from packets import Talk, pcap  # noqa: E402
 from nfs3tools.comparison.classes import CLASSES, Way, default_mask, mask_of, told  # noqa: E402
 from nfs3tools.comparison.matching import aligned, blocks_of, increasing  # noqa: E402
 
+COUNTS = re.compile(r'(both runs|first run|second run): [\d,]+ judged')
 Conversation = tuple[list[bytes], list[bytes]]
 # What finds the names of items in the lines that tell of differences, without whose they are.
 NAMES = r'^  [-+] (?:[^=]*\.)?(\w+)='
@@ -37,12 +38,13 @@ class Comparisons(Runs):
     """A folder, and runs of tools/compare there."""
 
     def compare(self, *words: str) -> tuple[int, list[str], str]:
+        """The status, the lines without those that count connections, and standard error."""
         kept, self.program = self.program, str(TOP / 'tools/compare')
         try:
             status, out, error = self.run('--program', kept, *words)
         finally:
             self.program = kept
-        return status, out.splitlines(), error
+        return status, [line for line in out.splitlines() if not COUNTS.match(line)], error
 
     def put(self, name: str, *connections: Conversation) -> None:
         self.write(name, messages.capture(*connections))
@@ -390,8 +392,21 @@ def random_traffic(place: Comparisons) -> None:
         place.put('b', *Traffic(seed, Names.drawn(chance)).connections)
         status, out, error = place.compare('a', 'b')
         number = sum(len(calls) for calls, _ in connections)
+        if number == 0:
+            place.want('seed %d' % seed, (status, out, error), (2, [], 'compare: nothing to compare: no call of a is taken\n'))
+            continue
         size = '%d call%s in %d connection%s' % (number, 's' * (number != 1), len(connections), 's' * (len(connections) != 1))
-        place.want('seed %d' % seed, (status, out[1], error), (0, 'same: ' + size, ''))
+        others = sum(any(map(is_unchecked, calls)) for calls, _ in connections)
+        part = [f'{others} connection{"s" * (others != 1)} of the {run} run not checked' for run in ('first', 'second')] if others else []
+        line = f'same{" in part" if others else ""}: ' + ', '.join([size, *part])
+        place.want('seed %d' % seed, (status, out[1], error.count('\n')), (int(others > 0), line, 2 * others))
+        place.want('seed %d, if that is allowed' % seed, place.compare('--allow-not-checked', 'a', 'b')[0], 0)
+
+
+def is_unchecked(body: bytes) -> bool:
+    """Whether a call is of NFS or MOUNT, and none of the procedures of version 3, by its numbers (RFC 5531, section 9)."""
+    program, version, procedure = (int.from_bytes(body[at:at + 4], 'big') for at in (12, 16, 20))
+    return program in (NFS, MOUNT) and (version != 3 or procedure > (21 if program == NFS else 5))
 
 
 # --- Cost ---
@@ -437,7 +452,7 @@ def one_bit_of_many_calls(place: Comparisons) -> None:
     words = [sys.executable, '-c', MEASURED, str(TOP / 'tools/compare'), '--program', place.program, 'a', 'b']
     status, out, error = ended(words, place.folder, limit=None).text()
     where = 'connection 1 server record 70002'
-    place.want('finding', (status, out.splitlines()[2:]), (1, [
+    place.want('finding', (status, out.splitlines()[3:]), (1, [
         f'NFSPROC3_GETATTR reply ?/name1: {where} | {where}', '  - obj.mode=0644 (420)', '  + obj.mode=0645 (421)',
         'fields that differ, and how often: obj.mode of NFSPROC3_GETATTR 1',
         '100,000 of 100,000 calls belong together; obj.mode in 1 reply']))
@@ -474,7 +489,7 @@ def data_that_differ(place: Comparisons) -> None:
     place.want(f'{memory} bytes', memory < 80e6, True)
     first, second = (random.Random(seed).randbytes(MIB) for seed in (1, 2))
     differing = sum(one != other for one, other in zip(first, second))
-    place.want('the first', out[3:5], [
+    place.want('the first', out[4:6], [
         f'  - data={first[:16].hex()}..', f'  + data={second[:16].hex()}..    # {differing:,} of {MIB:,} bytes differ, the first at offset 0 of '
         'the file (byte 0 of the data)'])
     found = json.loads(place.read('out.json') or b'')['findings'][0]['differences'][0]
@@ -556,7 +571,7 @@ def refused_runs(place: Comparisons) -> None:
     place.write('a', (EXAMPLES / 'bad_status.nfs3cap').read_bytes())
     place.write('b', (EXAMPLES / 'null.nfs3cap').read_bytes())
     for words in (('a', 'b'), ('b', 'a')):
-        place.want('refused', place.compare(*words), (2, [], 'a: connection 1 server record 1 byte 24: BadEnum\n'))
+        place.want('refused', place.compare(*words), (2, [], 'compare: a: connection 1 server record 1 byte 24: BadEnum\n'))
     status, out, error = place.compare('absent', 'b')
     place.want('absent', (status, out, 'absent' in error, 'Traceback' in error), (3, [], True, False))
     place.write('text', b'no recording')

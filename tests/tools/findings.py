@@ -17,7 +17,7 @@ from collections.abc import Callable, Sequence
 from typing import Any
 
 sys.path.insert(0, str(pathlib.Path(__file__).resolve().parents[1] / 'shared'))
-from compare import CHANGED, FIRST, Comparisons  # noqa: E402
+from compare import CHANGED, COUNTS, FIRST, Comparisons  # noqa: E402
 from running import try_tests  # noqa: E402
 from traffic import Names, Traffic  # noqa: E402
 import messages  # noqa: E402
@@ -620,11 +620,12 @@ def as_json(place: Findings) -> None:
     data = {'field': 'data', 'label': 'data', 'first': '6f' * 40, 'second': '6f' * 38, 'remark': '', 'names': [None, None],
             'apart': {'at': 38, 'offset': 1_038, 'differing': 0, 'sizes': [40, 38], 'shown': ['..' + '6f' * 8 + ' 6f6f', '..' + '6f' * 8],
                       'sha256': [None, None]}}
+    counts = {'judged': 1, 'ok': 1, 'refused': 0, 'in part': 0, 'left out': 0, 'without calls': 0, 'not checked': 0, 'errors': 0, 'raw': {}}
+    whole = {'connections': 1, 'missing': 0, 'counts': counts, 'not_judged': [], 'left_out': {}}
     wanted: dict[str, Any] = {
         'verdict': 'differ', 'position': 'connection 1 client record 3', 'mask': {'times': 'zero', 'ids': 'number'},
         'same_under': None,
-        'runs': [{'name': 'a', 'calls': 4, 'connections': 1, 'missing': 0, 'only': 1, 'left_out': {}},
-                 {'name': 'b', 'calls': 3, 'connections': 1, 'missing': 0, 'only': 0, 'left_out': {}}],
+        'runs': [{'name': 'a', 'calls': 4, 'only': 1, **whole}, {'name': 'b', 'calls': 3, 'only': 0, **whole}],
         'order': {'together': 3, 'calls': 0, 'replies': 0, 'connections': 0, 'on_another_connection': 0},
         'fields': [{'procedure': 'NFSPROC3_LOOKUP', 'field': 'status', 'count': 1},
                    {'procedure': 'NFSPROC3_WRITE', 'field': 'data', 'count': 1}],
@@ -700,8 +701,8 @@ def json_on_standard_output(place: Findings) -> None:
     _, printed, _ = place.compare('a', 'b')
     for option, begin in (('--json', '{'), ('--html', '<!DOCTYPE html>'), ('--junit', '<?xml')):
         status, out, error = place.compare(option, '-', 'a', 'b')
-        place.want(option, (status, out[0].startswith(begin), [line for line in error.splitlines() if ' belong together' not in line]),
-                   (1, True, printed))
+        told = [line for line in error.splitlines() if ' belong together' not in line and not COUNTS.match(line)]
+        place.want(option, (status, out[0].startswith(begin), told), (1, True, printed))
     out = '\n'.join(place.compare('--json', '-', 'a', 'b')[1])
     place.want('read again', json.loads(out)['verdict'], 'differ')
     place.want('no file', '-' in place.names(), False)

@@ -376,12 +376,12 @@ def filters_that_die(tools: Tools) -> None:
 def closed_outputs(tools: Tools) -> None:
     """A standard stream that is closed, or on a full device, is a failure: one line at most, and never the status of an answer."""
     program, place = ['--program', tools.program], 'connection 1 client record 1 byte 0'
-    lost = Talk(701)
-    tools.write('lost.pcap', pcap([*whole(), lost.sent(0, bytes(8))]))
+    bare = Talk(701)
+    tools.write('bare.pcap', pcap([*whole(), *bare.opened(), *bare.closed()]))
     rows: list[tuple[list[str], bool, bool]] = [  # whether something goes to standard output, and to standard error
         (['compare', *program, FIRST, CHANGED], True, False), (['compare', *program, FIRST, FIRST], True, False),
         (['compare', *program, str(EXAMPLES / 'bad_bool.pcap'), FIRST], False, True), (['verdicts', *program, FIRST], True, False),
-        (['verdicts', *program, 'lost.pcap'], True, True), (['procedures', *program, 'lost.pcap'], True, True),
+        (['verdicts', *program, 'bare.pcap'], True, True), (['procedures', *program, 'bare.pcap'], True, True),
         (['procedures', *program, '--beside', FIRST, CHANGED], True, False), (['cut', *program, FIRST, place, 'out'], True, False),
         (['where', FIRST, place], True, False),
         (['where', FIRST, 'connection 9 client record 1'], False, True), (['where', FIRST, 'nothing'], False, True),
@@ -396,7 +396,7 @@ def closed_outputs(tools: Tools) -> None:
                 status, _, error = through_bash(tools, f'exec "$@" {streams}', tool(words[0]), *words[1:])
                 last = error.splitlines()[-1:]
                 tools.want(f'{" ".join(words)} {streams}', (status, [line for line in last if not line.startswith(words[0] + ': ')]), (3, []))
-                tools.want('lines', len(error.splitlines()) - tells * (words[-1] == 'lost.pcap' and streams != '>&-'
+                tools.want('lines', len(error.splitlines()) - tells * (words[-1] == 'bare.pcap' and streams != '>&-'
                                                                        and not streams.startswith('2')) <= 1, True)
     answer = through_bash(tools, 'exec "$@" <&-', tool('from_pcap'), '-', 'out')
     one_line(tools, 'standard input that is closed', answer, 3, 'from_pcap: ')

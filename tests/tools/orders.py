@@ -300,10 +300,10 @@ def looked_up(*names: bytes) -> Conversation:
 def runs_without_a_common_call(place: Comparisons) -> None:
     """Runs of which all is left out are not the same in any order: nothing was compared. With as many questions in one place each is a
     changed call."""
-    message = 'compare: nothing to compare: no call of one run is in the other\n'
     place.put('a', looked_up(b'a0', b'a1', b'a2'))
     for names in ((b'b0', b'b1'), (b'b0',), ()):
         place.put('b', looked_up(*names))
+        message = f'compare: nothing to compare: {"no call of one run is in the other" if names else "no call of b is taken"}\n'
         for words in (['a', 'b'], ['b', 'a']):
             answer = place.compare('--order', 'any', '--junit', 'x.xml', *words)
             place.want(f'{names} {words}', (answer[0], answer[1][1:], answer[2]), (2, [], message))

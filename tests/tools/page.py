@@ -202,7 +202,7 @@ def the_top(place: Pages) -> None:
     place.want('first', runs['first frame'], [f'{some[0][1]}, frame {some[0][0]}' for some in ends])
     place.want('last', runs['last frame'], [f'{some[-1][1]}, frame {some[-1][0]}' for some in ends])
     place.want('how much', (runs['calls'], runs['connections']), (['103'] * 2, ['3'] * 2))
-    place.want('no losses', [name for name in runs if name in ('missing', 'left out', 'only in this run')], [])
+    place.want('no losses', [name for name in runs if name in ('missing', 'calls left out', 'only in this run')], [])
     place.want('masked', 'times=zero, stamps=zero' in page.all('dl')[0].text(), True)
     place.put('a', gets([1]))
     runs = runs_of(place.page('a', FIRST))
@@ -219,7 +219,7 @@ def what_does_not_count(place: Pages) -> None:
     place.put('b', gets(with_modes(9)))
     page = place.page('--ignore=*.mode')
     runs = runs_of(page)
-    place.want('left out', (runs['left out'], 'only in this run' in runs), (['1 GETATTR', 'nothing'], False))
+    place.want('left out', (runs['calls left out'], 'only in this run' in runs), (['1 GETATTR', 'nothing'], False))
     place.want('ignored', '*.mode: obj.mode of NFSPROC3_GETATTR 2.' in page.all('dl')[0].text(), True)
     place.want('all is ignored', 'All fields that differ are ignored.' in page.text(), True)
     place.want('marks', [one for one in rows_and_gaps(page) if one[0] == '≠'], ['≠ 4 4', '≠ 5 5'])
@@ -245,7 +245,7 @@ def turned(*order: int) -> Conversation:
 
 
 def other_verdicts(place: Pages) -> None:
-    """Pages of runs that are the same, in another order, and of ones without calls."""
+    """Pages of runs that are the same, in another order, and of empty connections. Of a run without calls there is none."""
     def wants(what: str, page: Node, heading: str, remark: str, calls: str) -> None:
         place.want(what, ([one.text() for one in page.all('h1')], remark in page.text(), page.all('section')[-1].text()),
                    ([heading], True, 'Calls' + calls))
@@ -253,11 +253,12 @@ def other_verdicts(place: Pages) -> None:
           '103 equal calls in 3 connections')
     wants('another order', place.page(*CONCURRENT[:2]), 'The runs are the same in another order', 'Nothing differs but the order.',
           '100 equal calls in 12 connections')
-    place.put('a', ([], []))
-    wants('no calls', place.page('a', 'a'), 'The runs are the same', 'Nothing differs', 'The runs have no calls.')
-    place.put('b', ([], []), ([], []))
+    place.put('a', ([null(1)], [success(1)]))
+    place.put('b', ([null(1)], [success(1)]), ([], []))
     wants('empty connections', place.page(), 'The runs differ', 'Only which messages share a value, or empty connections, can.',
-          'The runs have no calls.')
+          '1 equal call in 1 connection')
+    place.put('b', ([], []))
+    place.want('no calls', (place.compare('--html', 'none', 'a', 'b')[0], 'none' in place.names()), (2, False))
     place.put('a', turned(1, 2, 3))
     place.put('b', turned(2, 1, 3))
     page = place.page()
@@ -353,7 +354,7 @@ def places_of_many_findings(place: Pages) -> None:
         message = Message(1, 'server', number + 1, 1, 'NFSPROC3_GETATTR', ())
         difference = Difference('mode', str(number % 100), '1000', label='obj.mode', field='obj.mode')
         findings.append(Finding('changed', message, message, None, (difference,)))
-    report = Report('differ', {}, ('a', 'b'), (Size(22_000, 1),) * 2, (0, 0))
+    report = Report('differ', {}, ('a', 'b'), (Size(22_000, 1),) * 2)
     runs, recorded = [Run(name, lambda: (), lambda message: ()) for name in 'ab'], [Recorded(None, None, ())] * 2
     content = Content('differ', report, Compared(findings), [], Counter(), runs, recorded)
     articles = tree_of(''.join(pages.page(content))).all('article')

@@ -36,8 +36,8 @@ class Found:
     same_under: Mask | None = None
 
 
-class NothingInCommon(Exception):
-    """No call of one run is in the other, and what one run alone has is left out; the text is the message for the user."""
+class NothingToCompare(Exception):
+    """A run has no call that can be compared, or none that is not left out; the text is the message for the user."""
 
 
 class Orders:
@@ -62,7 +62,7 @@ class Orders:
         if self.explaining.tells_lonely() or not self.is_same(masks[-1]):
             return Found(self.explained(masks[-1]))
         if not len(self.explaining.firsts):
-            raise NothingInCommon('nothing to compare: no call of one run is in the other')
+            raise NothingToCompare('nothing to compare: no call of one run is in the other')
         under, before = self.least()
         # (what only the last class of this mask makes the same is told)
         return Found(self.explained(before), under)

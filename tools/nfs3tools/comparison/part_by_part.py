@@ -18,7 +18,7 @@ from .deciding import Judged, judged, run_of, same_of
 from .listed_parts import ListedParts, PartTrial, listed_at_once
 from ..captures.listings import Message
 from .marks import Both, MarkedRun, Name, NoMark, Part, is_cut_by_records
-from .orders import Choices, NothingInCommon
+from .orders import Choices, NothingToCompare
 from .outlines import Outlines
 from ..recordings.taken import Taken
 from ..shared.printed import escaped
@@ -132,7 +132,7 @@ class PartByPart:
         sizes = [one.size(), other.size()]
         try:
             said = judged(trial, runs, sizes, self.choices)
-        except NothingInCommon:  # (then what one run alone has is all that there is)
+        except NothingToCompare:  # (then what one run alone has is all that there is)
             said = judged(trial, runs, sizes, replace(self.choices, leaves_out=frozenset()))
         compared = said.found.compared
         findings = [replace(finding, first=finding.first and one.in_the_whole(finding.first),

@@ -15,8 +15,10 @@ from . import summing, telling
 from ..comparison import apart
 from ..comparison.classes import besides, told
 from ..comparison.comparing import Compared, Finding, Run
+from ..comparison.covering import Cover, Row as NotJudged
 from ..comparison.ignoring import Ignored
 from ..captures.listings import Message
+from ..recordings.coverage import named
 from ..recordings.parts import Part
 from .reports import Report
 from ..recordings.selection import count, plural
@@ -29,6 +31,7 @@ from ..commands.where import filters_of, time_of
 SHOWN_AT_MOST = 2_000  # findings
 OTHERS_AT_MOST, OTHERS_OF_ALL = 300, 20_000  # places of findings that say the same as one: of one, and about so many of all
 DIFFERENCES_AT_MOST = 200  # of a finding
+NOT_JUDGED_AT_MOST = 20  # connections of a run that are named
 FIELDS_AT_MOST = 6_000  # characters of a message's fields
 MANY = 2_000  # messages whose calls are shown
 BOTH = (0, 1)
@@ -94,7 +97,8 @@ def page(content: Content) -> Iterator[str]:
 def head(content: Content, word: str) -> Iterator[str]:
     """The verdict in words, and as it is printed."""
     is_same = word.startswith('same')
-    yield f'<h1 class={"same" if is_same else "differ"}>The runs {"are the " if is_same else ""}{escape(word)}</h1>'
+    look = 'differ' if not is_same else 'part' if content.report.is_in_part else 'same'
+    yield f'<h1 class={look}>The runs {"are the " if is_same else ""}{escape(word)}</h1>'
     yield ''.join(f'<p>{code(line)}</p>' for line in content.line.splitlines())
     yield f'<p>{escape(summing.of_compared(content.compared))}.</p>'
 
@@ -120,13 +124,36 @@ def rows_of_runs(content: Content) -> Iterator[tuple[str, Sequence[str]]]:
             yield what, [f'{time_of(one.ends[at])}, frame {one.ends[at].number}' if one.ends else 'no frames' for one in content.recorded]
     yield 'calls', [f'{size.calls:,}' for size in report.sizes]
     yield 'connections', [f'{size.connections:,}' for size in report.sizes]
-    if any(report.missing):
-        yield 'missing', [count(missing, 'byte') for missing in report.missing]
+    if report.covers:
+        yield from rows_of_counts(report.covers)
     if any(compared.lonely):
         yield 'only in this run', [count(number, 'call') for number in compared.lonely]
     if any(compared.left_out):
-        yield 'left out', [', '.join(f'{number:,} {summing.short(name)}' for name, number in sorted(some.items())) or 'nothing'
+        yield 'calls left out', [', '.join(f'{number:,} {summing.short(name)}' for name, number in sorted(some.items())) or 'nothing'
                            for some in compared.left_out]
+
+
+def rows_of_counts(covers: Sequence[Cover]) -> Iterator[tuple[str, Sequence[str]]]:
+    """How much of both runs is compared: the four counts, the calls of other programs, and what is not judged as a whole."""
+    if any(cover.missing for cover in covers):
+        yield 'missing', [count(cover.missing, 'byte') for cover in covers]
+    for name in covers[0].counts().numbers():
+        yield name, [f'{cover.counts().numbers()[name]:,}' for cover in covers]
+    if any(cover.counts().raw for cover in covers):
+        yield 'raw', [named(cover.counts().raw) or 'nothing' for cover in covers]
+    rows = [[said_of(row) for row in cover.rows()] for cover in covers]
+    if any(rows):
+        yield 'not judged as a whole', [more_of(some) for some in rows]
+
+
+def said_of(row: NotJudged) -> str:
+    number = f'connection {row.connection}: ' if row.connection is not None else ''
+    return f'{number}{row.ends}{": " if row.ends else ""}{row.word}: {row.reason}'
+
+
+def more_of(some: Sequence[str]) -> str:
+    more = f'; .. and {len(some) - NOT_JUDGED_AT_MOST:,} more' if len(some) > NOT_JUDGED_AT_MOST else ''
+    return '; '.join(some[:NOT_JUDGED_AT_MOST]) + more if some else 'nothing'
 
 
 def words_of_masks(content: Content) -> Iterator[tuple[str, str]]:
@@ -330,8 +357,6 @@ class Body:
         """The calls that differ, those around them, and how many are between, by connections."""
         # (a browser lays out many rows only as they come into sight)
         yield f'<section id=calls{" class=many" if len(self.anchors) > MANY else ""}><h2>Calls</h2>'
-        if not any(self.compared.calls):
-            yield '<p>The runs have no calls.</p>'
         if self.beside.connections:
             yield '<p class=quiet>In the order of the first run. A click opens the fields of a call and its replies.</p>'
         number = 0

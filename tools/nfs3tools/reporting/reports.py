@@ -7,12 +7,13 @@ from typing import Any, NamedTuple
 
 from ..comparison.classes import Mask
 from ..comparison.comparing import Compared, Finding, Framing
+from ..comparison.covering import Cover, Size
 from ..comparison.differing import Difference
 from ..captures.listings import Message
 from ..captures.stored import Stored
 from ..shared.printed import escaped, printable
-from ..recordings.selection import count
-from .summing import IN_ANOTHER_ORDER, short
+from ..recordings.coverage import Allowed
+from .summing import IN_ANOTHER_ORDER, RUNS, short
 from .telling import brief_of, folded, is_summed, of_group, shortened
 
 CASES_AT_MOST = 1_000  # of findings
@@ -20,29 +21,25 @@ FIELDS_AT_MOST = 4  # in the name of a case
 KINDS = {'moved': 'another turn', 'replies': 'another number of replies'}
 
 
-class Size(NamedTuple):
-    """How much a run has."""
-    calls: int
-    connections: int
-
-    def __str__(self) -> str:
-        return f'{count(self.calls, "call")} in {count(self.connections, "connection")}'
-
-
 class Report(NamedTuple):
-    """What is said of two runs as a whole: what `same` says of them, what is masked, and of both their names, how much they have, and
-    how many bytes are missing from them; and the mask under which they are the same in another order, if they are."""
+    """What is said of two runs as a whole: what `same` says of them, what is masked, and of both their names and how much they have; the
+    mask under which they are the same in another order, if they are; and how much of both is compared, unless they are parts."""
     verdict: str
     mask: Mask
     names: tuple[str, str]
     sizes: tuple[Size, Size]
-    missing: tuple[int, int]
     same_under: Mask | None = None
+    covers: tuple[Cover, Cover] | None = None
+
+    @property
+    def is_in_part(self) -> bool:
+        """Whether something of a run is not compared."""
+        return self.covers is not None and not all(cover.is_good(Allowed()) for cover in self.covers)
 
     def word(self) -> str:
         """Returns the verdict as a word."""
         verdict = IN_ANOTHER_ORDER if self.same_under is not None else self.verdict.partition(' at ')[0]
-        return f'{verdict} in part' if verdict.startswith('same') and any(self.missing) else verdict
+        return f'{verdict} in part' if verdict.startswith('same') and self.is_in_part else verdict
 
 
 class PartReport(NamedTuple):
@@ -71,12 +68,13 @@ class PartReport(NamedTuple):
 
 def json_of(report: Report, compared: Compared, left_out: Counter[tuple[str, str]], framings: Sequence[Framing]) -> Iterator[bytes]:
     """The comparison, in pieces: an object, each of whose findings is a line. Without findings there need be no framings."""
-    runs = zip(report.names, report.sizes, report.missing, compared.lonely, compared.left_out)
+    covers = [members_of(cover) for cover in report.covers] if report.covers else [{}, {}]
+    runs = zip(report.names, report.sizes, covers, compared.lonely, compared.left_out)
     head = {
         'verdict': report.word(), 'position': report.verdict.partition(' at ')[2] or None, 'mask': words_of(report.mask),
         'same_under': report.same_under and words_of(report.same_under),
-        'runs': [{'name': escaped(name), **size._asdict(), 'missing': missing, 'only': only, 'left_out': dict(left)}
-                 for name, size, missing, only, left in runs],
+        'runs': [{'name': escaped(name), **size._asdict(), **cover, 'only': only, 'left_out': dict(left)}
+                 for name, size, cover, only, left in runs],
         'order': {'together': compared.exchanges, 'calls': compared.moved, 'replies': compared.late,
                   'connections': compared.late_connections, 'on_another_connection': compared.elsewhere},
         'fields': counts_of(compared.fields()), 'ignored': counts_of(left_out)}
@@ -87,9 +85,15 @@ def json_of(report: Report, compared: Compared, left_out: Counter[tuple[str, str
     yield b'\n ]\n}\n'
 
 
-def json_of_parts(marks: str, missing: Sequence[int], parts: Sequence[PartReport], framings: Sequence[Framing]) -> Iterator[bytes]:
+def members_of(cover: Cover) -> dict[str, Any]:
+    """How much of a run is compared: the bytes that are missing, the counts, and what is not judged as a whole."""
+    return {'missing': cover.missing, 'counts': cover.counts().members(),
+            'not_judged': [{**row._asdict(), 'ends': row.ends or None} for row in cover.rows()]}
+
+
+def json_of_parts(marks: str, covers: Sequence[Cover], parts: Sequence[PartReport], framings: Sequence[Framing]) -> Iterator[bytes]:
     """The comparison of parts, in pieces: an object with a list of the parts. What is said of a part is an object as of whole runs."""
-    yield json.dumps({'marks': escaped(marks), 'missing': list(missing)}, indent=1).removesuffix('\n}').encode() + b',\n "parts": ['
+    yield json.dumps({'marks': escaped(marks), 'runs': [*map(members_of, covers)]}, indent=1).removesuffix('\n}').encode() + b',\n "parts": ['
     for turn, part in enumerate(parts):
         head = {'name': part.name, 'number': part.number, 'verdict': part.word(), 'only': part.only}
         yield (b',\n' if turn else b'\n') + json.dumps(head).removesuffix('}').encode() + b', "comparison": '
@@ -142,10 +146,24 @@ def digest_of(value: str | None) -> str | None:
 class Suite:
     """A suite of test cases about two runs."""
 
-    def __init__(self, names: Sequence[str]) -> None:
+    def __init__(self, names: Sequence[str], covers: Sequence[Cover] = ()) -> None:
         self.root, self.names = xml.etree.ElementTree.Element('testsuites'), names
         self.suite = xml.etree.ElementTree.SubElement(self.root, 'testsuite', name='nfs3canon compare')
         self.number_of = Counter[str]()  # cases of a name
+        self.add_counts(covers)
+        for run, cover in zip(RUNS, covers):
+            if cover.is_refused:
+                self.add(f'the {run} run is valid', 'error', '; '.join(cover.faults()))
+
+    def add_counts(self, covers: Sequence[Cover]) -> None:
+        """Adds the four counts of both runs as properties."""
+        element = xml.etree.ElementTree.SubElement
+        properties = element(self.suite, 'properties') if covers else self.suite
+        for run, cover in zip(RUNS, covers):
+            for name, number in cover.counts().numbers().items():
+                element(properties, 'property', name=f'{run} run: {name}', value=str(number))
+            for name, number in cover.counts().raw.items():
+                element(properties, 'property', name=f'{run} run: raw: {name}', value=str(number))
 
     def add(self, given: str, tag: str | None = None, message: str = '', text: Iterable[str] = (), **attributes: str) -> None:
         """Adds a case, which passed if there is no tag. If several have one name, they are numbered."""
@@ -162,13 +180,14 @@ class Suite:
     def written(self) -> bytes:
         for tag, total in (('failure', 'failures'), ('error', 'errors'), ('skipped', 'skipped')):
             self.suite.set(total, str(len(self.suite.findall(f'testcase/{tag}'))))
-        self.suite.set('tests', str(len(self.suite)))
+        self.suite.set('tests', str(len(self.suite.findall('testcase'))))
         return bytes(xml.etree.ElementTree.tostring(self.root, encoding='utf-8', xml_declaration=True)) + b'\n'
 
 
 def junit_of(line: str, report: Report, findings: Sequence[Finding], framings: Sequence[Framing], is_good: bool) -> bytes:
-    """The verdict as a case, which passed if it is good, and else each finding as one that failed. Findings that say the same are one."""
-    suite, groups = Suite(report.names), [] if is_good else folded(findings)
+    """The verdict as a case, which passed if it is good, and else each finding as one that failed. Findings that say the same are one. The
+    counts are properties, and each run of which a part is refused has a case with an error."""
+    suite, groups = Suite(report.names, report.covers or ()), [] if is_good else folded(findings)
     more = [f'{len(groups) - CASES_AT_MOST:,} more findings have no case'] if len(groups) > CASES_AT_MOST else []
     if is_good:
         suite.add('the runs are the same', text=[line])
@@ -198,9 +217,10 @@ def case_name(group: Sequence[Finding]) -> str:
     return only + ' '.join(filter(None, words)) + (f': {KINDS[finding.kind]}' if finding.kind in KINDS else '')
 
 
-def junit_of_parts(names: Sequence[str], losses: str, parts: Sequence[PartReport], framings: Sequence[Framing]) -> bytes:
+def junit_of_parts(names: Sequence[str], covers: Sequence[Cover], losses: str, parts: Sequence[PartReport],
+                   framings: Sequence[Framing]) -> bytes:
     """A case for each part, which passed if the part is good, with what differs. Before them one for what is missing, if that counts."""
-    suite = Suite(names)
+    suite = Suite(names, covers)
     if losses:
         suite.add('the runs are whole', 'failure', losses, type='same in part')
     for part in parts:
