@@ -629,7 +629,7 @@ def as_json(place: Findings) -> None:
         'order': {'together': 3, 'calls': 0, 'replies': 0, 'connections': 0, 'on_another_connection': 0},
         'fields': [{'procedure': 'NFSPROC3_LOOKUP', 'field': 'status', 'count': 1},
                    {'procedure': 'NFSPROC3_WRITE', 'field': 'data', 'count': 1}],
-        'ignored': [],
+        'ignored': [], 'left_out': [],
         'findings': [
             finding('changed', 'NFSPROC3_LOOKUP', '/m/x', is_call=False, first=at('server', 2), second=at('server', 2),
                     differences=[status]),

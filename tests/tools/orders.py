@@ -6,13 +6,16 @@
 PROGRAM is crates/nfs3canon/out/nfs3canon if none is named. The last line is 'N passed, M failed', and the status is 1 if any
 failed.
 """
+import json
 import pathlib
 import random
+import re
 import sys
 from array import array
 from collections import Counter
 from collections.abc import Callable, Iterator, Sequence
 from dataclasses import dataclass, field
+from typing import NamedTuple
 
 sys.path.insert(0, str(pathlib.Path(__file__).resolve().parents[1] / 'shared'))
 from compare import MEASURED, TOP, Comparisons, Conversation  # noqa: E402
@@ -282,7 +285,12 @@ def calls_that_only_ask(place: Comparisons) -> None:
     place.put('b', *mixed(random.Random(2), [Client('c2'), Client('c1')], 2))
     status, out, _ = place.compare('--order', 'any', 'a', 'b')
     place.want('left out', (status, '; left out: 3 GETATTR of the first run' in out[1]), (0, True))
-    place.want('in words', out[2].endswith('; 3 GETATTR more in the first run'), True)
+    where = out[2].partition(': ')
+    place.want('listed', (where[0], re.fullmatch(r'3 NFSPROC3_GETATTR /c2/f1, first: connection \d client record \d+', where[2]) is not None),
+               ('left out of the first run', True))
+    place.want('in words', out[3].endswith('; 3 GETATTR more in the first run'), True)
+    every = [line for line in place.compare('--order', 'any', '--all', 'a', 'b')[1] if line.startswith('left out of the first run: 1 ')]
+    place.want('all', (len(every), len(set(every))), (3, 3))
     place.want('by default', place.compare('a', 'b')[0], 1)
     status, out, _ = place.compare('b', 'a')
     place.want('of the second', '; left out: 3 GETATTR of the second run' in out[1], True)
@@ -343,6 +351,101 @@ def a_client_without_commit(place: Comparisons) -> None:
     for order in ('any', 'strict'):
         status, out, _ = place.compare('--order', order, 'a', 'b')
         place.want(order, (status, out[2].partition(': connection')[0]), (1, 'only in the first run: NFSPROC3_COMMIT'))
+
+
+Half = tuple[int, int, bytes]  # a message: the shell, its side, 0 for a call, and its body
+MKDIR_OK = ok(messages.made(None, None, wcc()))
+
+
+def shared_folder(*steps: Half) -> bytes:
+    """A recording of two shells that work in one folder, each over a connection of its own, message by message."""
+    talks = [Talk(700 + number) for number in range(2)]
+    frames = [frame for talk in talks for frame in talk.opened()]
+    frames += [talks[shell].sent(side, messages.fragment(body)) for shell, side, body in steps]
+    return pcap([*frames, *(frame for talk in talks for frame in talk.closed())])
+
+
+class Asked(NamedTuple):
+    """What a shell, 0 or 1, asks and is answered."""
+    shell: int
+    xid: int
+    procedure: int
+    arguments: bytes
+    results: bytes
+
+    def call(self) -> Half:
+        return self.shell, 0, call(self.xid, NFS, 3, self.procedure, self.arguments)
+
+    def reply(self) -> Half:
+        return self.shell, 1, success(self.xid, self.results)
+
+
+def made_in_folder(xid: int, name: bytes, shell: int = 1) -> Asked:
+    return Asked(shell, xid, MKDIR, dirop(b'folder', name) + sattr(), MKDIR_OK)
+
+
+def listed_names(xid: int, *names: bytes) -> Asked:
+    """READDIR of the folder, with these names."""
+    entries = messages.entries(fattr(2, 1), bytes(8), [messages.entry(1, name, 0) for name in names], is_end=True)
+    return Asked(0, xid, 16, fh(b'folder') + bytes(16) + word(512), ok(entries))
+
+
+def in_folder(xid: int, name: bytes, found: int | None) -> Asked:
+    """LOOKUP of a name, which is there if it has a mode."""
+    answer = messages.failed(2, post_op_attr()) if found is None else ok(fh(b'at ' + name), post_op_attr(fattr(1, 9, mode=found)), post_op_attr())
+    return Asked(0, xid, LOOKUP, dirop(b'folder', name), answer)
+
+
+def one_by_one(*steps: Asked) -> bytes:
+    return shared_folder(*(half for step in steps for half in (step.call(), step.reply())))
+
+
+def in_which_others_worked(place: Comparisons) -> None:
+    """What a folder shows depends on whether another shell's call came first. Such a question is left out, and listed with its folder; if the
+    other's calls came as before, or changed nothing, it still differs. So does it with --extra none, in the order of the runs, and in
+    captures, which have no frames."""
+    top = Asked(0, 1, LOOKUP, dirop(b'top', b'w'), ok(fh(b'folder'), post_op_attr(), post_op_attr()))
+    new, last = made_in_folder(5, b'new'), Asked(0, 9, GETATTR, fh(b'top'), ok(fattr(2, 3)))
+    without, with_new, wrong = listed_names(7, b'x'), listed_names(7, b'x', b'new'), listed_names(7, b'x', b'another')
+    failing = new._replace(results=messages.failed(17, wcc()))
+    during = [*map(Asked.call, (new, without)), without.reply(), new.reply()]
+    rows: list[tuple[str, bytes, bytes, int]] = [
+        ('before and after', one_by_one(top, without, new, last), one_by_one(top, new, with_new, last), 0),
+        ('during', one_by_one(top, new, with_new, last),
+         shared_folder(*(half(top) for half in (Asked.call, Asked.reply)), *during, last.call(), last.reply()), 0),
+        ('as before', one_by_one(top, new, with_new, last), one_by_one(top, new, wrong, last), 1),
+        ('after both', one_by_one(top, without, new, last), one_by_one(top, wrong, new, last), 1),
+        ('a change that fails', one_by_one(top, without, failing, last), one_by_one(top, failing, wrong, last), 1),
+        ('a name that comes', one_by_one(top, in_folder(7, b'new', None), new, last), one_by_one(top, new, in_folder(7, b'new', 0o755), last), 0),
+        ('another name', one_by_one(top, in_folder(7, b'x', 0o644), new, last), one_by_one(top, new, in_folder(7, b'x', 0o600), last), 1),
+        ('another folder', one_by_one(top, without, new._replace(arguments=dirop(b'other', b'new') + sattr()), last),
+         one_by_one(top, new._replace(arguments=dirop(b'other', b'new') + sattr()), with_new, last), 1)]
+    for what, first, second, wanted in rows:
+        place.write('a', first)
+        place.write('b', second)
+        for words in (['a', 'b'], ['b', 'a']):
+            status, out, error = place.compare('--order', 'any', *words)
+            place.want(f'{what} {words}', (status, error), (wanted, ''))
+            listed = [line for line in out if line.startswith('left out: 1 ')]
+            place.want(f'{what} {words}: listed', len(listed), 1 - wanted)
+        for more in (['--extra', 'none', '--order', 'any'], ['--order', 'strict']):
+            place.want(f'{what} {more}', place.compare(*more, 'a', 'b')[0], 1)
+    place.write('a', rows[0][1])
+    place.write('b', rows[0][2])
+    status, out, _ = place.compare('--order', 'any', '--json', 'out.json', '--html', 'out.html', '--junit', 'out.xml', 'a', 'b')
+    line = ('left out: 1 NFSPROC3_READDIR ?/w, in which others worked: connection 1 client record 2 (frame 9) | '
+            'connection 1 client record 2 (frame 11)')
+    place.want('the verdict', out[1], 'same in another order: 3 calls; left out: 1 READDIR of ?/w, in which others worked')
+    place.want('the list', out[2], line)
+    found = json.loads(place.read('out.json') or b'')['left_out']
+    place.want('JSON', found, [{'procedure': 'NFSPROC3_READDIR', 'path': '?/w', 'first': {'position': 'connection 1 client record 2', 'frames': [9]},
+                                'second': {'position': 'connection 1 client record 2', 'frames': [11]}}])
+    for name in ('out.html', 'out.xml'):
+        place.want(name, line.encode() in (place.read(name) or b''), True)
+    for name in 'ab':
+        captured = ended([str(TOP / 'tools/from_pcap'), name, f'{name}.nfs3cap'], place.folder).status
+        place.want('captured', captured, 0)
+    place.want('captures', place.compare('--order', 'any', 'a.nfs3cap', 'b.nfs3cap')[0], 1)
 
 
 def ids_and_orders(place: Comparisons) -> None:
@@ -532,7 +635,7 @@ def one_call_more_among_alike_ones(place: Comparisons) -> None:
     made = 'only in the second run: NFSPROC3_MKDIR ?/folder/new: connection 1 client record 10'
     status, out, _ = place.compare('--order', 'any', 'a', 'b')
     place.want('any', (status, out[2:]), (1, [
-        made, '18 of 20 calls belong together; 1 LOOKUP more in the second run; 1 more in the second run']))
+        made, 'left out of the second run: 1 NFSPROC3_LOOKUP ?/folder: connection 1 client record 11', '18 of 20 calls belong together; 1 LOOKUP more in the second run; 1 more in the second run']))
     status, out, _ = place.compare('--order', 'strict', 'a', 'b')
     place.want('strict', (status, [line for line in out[2:-2] if line[:2] != '  ']), (1, [
         made, '4 replies of NFSPROC3_LOOKUP ?/folder, first: connection 1 server record 11 | connection 1 server record 13',
@@ -602,7 +705,7 @@ def many_in_another_order(place: Comparisons) -> None:
 
 TESTS: list[Callable[[Comparisons], None]] = [
     runs_are_written_anew, records_of_several_fragments, orders_that_are_none, wrong_writers_are_caught, clients_at_once,
-    what_differs_is_found, calls_that_only_ask, runs_without_a_common_call, questions_that_are_changed,
+    what_differs_is_found, calls_that_only_ask, runs_without_a_common_call, questions_that_are_changed, in_which_others_worked,
     a_client_without_commit, ids_and_orders, seen_in_the_middle, folders_that_others_change,
     masks_of_any_order, verifiers_that_repeat, values_that_stand_for_others, orders_of_replies, connections_by_what_they_ask,
     calls_between_neighbours, one_call_more_among_alike_ones, files_that_were_made_again, one_name_for_many_files,

@@ -43,6 +43,7 @@ import tempfile
 from collections import Counter
 from collections.abc import Iterator, Sequence
 from contextlib import ExitStack
+from dataclasses import replace
 from pathlib import Path
 from typing import NamedTuple
 
@@ -70,7 +71,7 @@ from ..recordings.taken import NotTaken, Taken, take
 from ..comparison.trial import Trial
 
 SAME, DIFFERENT = range(2)
-FINDINGS_AT_MOST = 20
+FINDINGS_AT_MOST, SILENT_AT_MOST = 20, 12
 AROUND = Around(3, pages.SHOWN_AT_MOST)  # on a page
 
 
@@ -221,8 +222,8 @@ def explain(words: argparse.Namespace, whole: Whole, line: str, report: Report, 
     """Writes and prints what differs between two runs."""
     compared, left_out = without(found, words.ignore)
     if words.junit:
-        findings = compared.findings if is_told(words, report) else []
-        write_file(words.junit, [junit_of(line, report, findings, whole.framings(), is_good)], whole.inputs)
+        told_of = compared if is_told(words, report) else replace(compared, findings=[])
+        write_file(words.junit, [junit_of(line, report, told_of, whole.framings(), is_good)], whole.inputs)
     if words.html:
         recorded = [recorded_of(*one) for one in zip(whole.taken, whole.names)]
         write_page(words.html, whole.inputs, Content(line, report, compared, words.ignore, left_out, whole.runs, recorded))
@@ -243,6 +244,8 @@ def print_found(words: argparse.Namespace, whole: Whole, report: Report, compare
         first, second = whole.framings()
         for text in telling.of_compared(compared, first, second, None if words.all else FINDINGS_AT_MOST, left_out, words.brief):
             print(text)
+    for text in telling.of_silent(compared, *whole.framings(), None if words.all else SILENT_AT_MOST):
+        print(text)
     print(summing.of_compared(compared))
 
 

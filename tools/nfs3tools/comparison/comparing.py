@@ -41,6 +41,20 @@ class Finding:
     arguments: tuple[Argument, ...] = ()
 
 
+@dataclass(frozen=True)
+class Silent:
+    """A call that is left out: that of the run that alone has it, or those of both if others overtook the question; and its path."""
+    first: Message | None
+    second: Message | None
+    path: str | None = None
+
+    @property
+    def call(self) -> Message:
+        call = self.first or self.second
+        assert call
+        return call
+
+
 @dataclass
 class Compared:
     """All findings, in the order of the first run, and what belongs together.
@@ -51,7 +65,8 @@ class Compared:
     late: how many replies come in another order
     late_connections: how many connections do
     lonely: how many calls the first and the second run have alone, which are told
-    left_out: how often a procedure was left out of the first and of the second run
+    left_out: how often a procedure was left out of the first and of the second run, that one run alone has
+    silent: all calls that are left out
     beside: what differs with some pairs before and after it, for those who show both runs side by side
     mask: that under which they were compared
     """
@@ -64,6 +79,7 @@ class Compared:
     late_connections: int = 0
     lonely: tuple[int, int] = (0, 0)
     left_out: tuple[Counter[str], Counter[str]] = field(default_factory=lambda: (Counter[str](), Counter[str]()))
+    silent: list[Silent] = field(default_factory=list)
     beside: Beside = field(default_factory=Beside)
     mask: Mask = field(default_factory=dict)
 
@@ -104,8 +120,9 @@ def chosen(lines: Iterable[str], outlines: Outlines, some: Iterable[int]) -> Ite
 @dataclass
 class Lonely:
     """The exchanges of a run that have no partner: those that are told, the connections of which there are no others (the first
-    exchange of each, and how many it has), and how often a procedure is left out."""
+    exchange of each, and how many it has), those that are left out, and how often a procedure is."""
     told: list[int] = field(default_factory=list)
+    silent: list[int] = field(default_factory=list)
     connections: dict[int, int] = field(default_factory=dict)
     left_out: Counter[str] = field(default_factory=Counter)
 
@@ -119,7 +136,8 @@ class Lonely:
                 out.connections[some[0]] = len(some)
             else:
                 out.told += told
-                out.left_out.update(outlines.procedure_of(at) for at in some if outlines.procedure_of(at) in leaves_out)
+                out.silent += [at for at in some if outlines.procedure_of(at) in leaves_out]
+        out.left_out.update(map(outlines.procedure_of, out.silent))
         return out
 
     def number(self) -> int:
@@ -131,11 +149,13 @@ class Explaining:
     """Tells what differs between two runs whose exchanges are brought together. What is in one run alone is told, unless its procedure
     is one of those that are left out."""
 
-    def __init__(self, first: Run, second: Run, pairing: Pairing, leaves_out: frozenset[str]) -> None:
-        self.first, self.second, self.pairing = first, second, pairing
+    def __init__(self, first: Run, second: Run, pairing: Pairing, leaves_out: frozenset[str], overtaken: Sequence[Pair] = ()) -> None:
+        """`overtaken` are pairs that were taken apart again, and are left out."""
+        self.first, self.second, self.pairing, self.overtaken = first, second, pairing, overtaken
         self.firsts, self.seconds = pairing.order_of_first(), pairing.order_of_second()
-        self.lonely = Lonely.of(pairing.here, pairing.only_first(), leaves_out)
-        self.others = Lonely.of(pairing.there, pairing.only_second(), leaves_out)
+        here, there = ({pair[side] for pair in overtaken} for side in (0, 1))
+        self.lonely = Lonely.of(pairing.here, (at for at in pairing.only_first() if at not in here), leaves_out)
+        self.others = Lonely.of(pairing.there, (to for to in pairing.only_second() if to not in there), leaves_out)
 
     def explained(self, unequal: set[int], named: set[int], mask: Mask, tells_order: bool, around: Around | None) -> Compared:
         """Returns what differs in the pairs of the unequal turns, and besides.
@@ -152,12 +172,12 @@ class Explaining:
                         len(self.firsts), (len(pairing.here), len(pairing.there)), len(pairing.moved), len(pairing.elsewhere),
                         sum(number for _, number, _ in pairing.late_replies), pairing.late_connections,
                         (self.lonely.number(), self.others.number()), (self.lonely.left_out, self.others.left_out),
-                        self.beside([*(pair for pair, _ in changed), *moved], around) if around else Beside(), mask)
+                        list(self.of_the_silent()), self.beside([*(pair for pair, _ in changed), *moved], around) if around else Beside(), mask)
 
     def has_another_order(self) -> bool:
         """Returns whether it makes a difference that the order does not count."""
         pairing = self.pairing
-        return bool(self.lonely.left_out or self.others.left_out or pairing.moved or pairing.elsewhere or pairing.late_replies
+        return bool(self.overtaken or self.lonely.silent or self.others.silent or pairing.moved or pairing.elsewhere or pairing.late_replies
                     or pairing.late_connections)
 
     def tells_lonely(self) -> bool:
@@ -170,9 +190,10 @@ class Explaining:
         pairs = [*((self.firsts[turn], self.seconds[turn]) for turn in turns), *moved]
         here = self.pairing.here.with_origins({*(at for at, _ in pairs), *self.lonely.told, *self.lonely.connections})
         there = self.pairing.there.with_origins({*(to for _, to in pairs), *self.others.told, *self.others.connections})
+        silent = {*self.lonely.silent, *(at for at, _ in self.overtaken)}, {*self.others.silent, *(to for _, to in self.overtaken)}
         turns = {turn for turn, (at, to) in enumerate(zip(self.firsts, self.seconds)) if at in here or to in there}
-        self.here = Apart(self.first, self.pairing.here, here.union(self.firsts[turn] for turn in turns))
-        self.there = Apart(self.second, self.pairing.there, there.union(self.seconds[turn] for turn in turns))
+        self.here = Apart(self.first, self.pairing.here, here.union(silent[0], (self.firsts[turn] for turn in turns)))
+        self.there = Apart(self.second, self.pairing.there, there.union(silent[1], (self.seconds[turn] for turn in turns)))
         return turns
 
     def of_turns(self, unequal: set[int], turns: set[int], comparison: Comparison) -> Iterator[tuple[Pair, Finding]]:
@@ -206,6 +227,14 @@ class Explaining:
             yield Finding('connection', self.here.exchanges[at].call, None, remark=remark % number)
         for to, number in self.others.connections.items():
             yield Finding('connection', None, self.there.exchanges[to].call, remark=remark % number)
+
+    def of_the_silent(self) -> Iterator[Silent]:
+        for at, to in self.overtaken:
+            yield Silent(self.here.exchanges[at].call, self.there.exchanges[to].call, self.here.path(at))
+        for at in self.lonely.silent:
+            yield Silent(self.here.exchanges[at].call, None, self.here.path(at))
+        for to in self.others.silent:
+            yield Silent(None, self.there.exchanges[to].call, self.there.path(to))
 
     def place_of(self, first: Message | None, second: Message | None) -> tuple[int, int, bool]:
         """Where a finding stands: in the order of the first run; what the second run alone has comes at its own place."""

@@ -46,6 +46,13 @@ class Pairing:
     def pairs(self) -> Iterator[Pair]:
         return ((at, to) for at, to in enumerate(self.partners) if to != NOBODY)
 
+    def without(self, some: Iterable[Pair]) -> 'Pairing':
+        """Returns the same without some pairs, whose exchanges have no partner then."""
+        partners = self.partners[:]
+        for at, _ in some:
+            partners[at] = NOBODY
+        return Pairing(self.here, self.there, partners, self.homes)
+
     @cached_property
     def is_in_place(self) -> bool:
         """Whether each message stands in the same place in both runs."""

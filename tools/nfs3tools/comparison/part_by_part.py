@@ -137,7 +137,9 @@ class PartByPart:
         compared = said.found.compared
         findings = [replace(finding, first=finding.first and one.in_the_whole(finding.first),
                             second=finding.second and other.in_the_whole(finding.second)) for finding in compared.findings]
-        found = replace(said.found, compared=replace(compared, findings=findings))
+        silent = [replace(call, first=call.first and one.in_the_whole(call.first), second=call.second and other.in_the_whole(call.second))
+                  for call in compared.silent]
+        found = replace(said.found, compared=replace(compared, findings=findings, silent=silent))
         return said._replace(verdict=said.verdict.partition(' at ')[0], found=found)
 
     @contextmanager

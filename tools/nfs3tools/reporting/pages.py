@@ -90,6 +90,7 @@ def page(content: Content) -> Iterator[str]:
         yield from body.bar()
     yield from body.fields()
     yield from body.findings()
+    yield from body.silent()
     yield from body.calls()
     yield f'<script>{SCRIPT}</script></html>\n'
 
@@ -165,8 +166,8 @@ def words_of_masks(content: Content) -> Iterator[tuple[str, str]]:
     if more:
         yield 'masked besides', (f'{code(told(more).replace(",", ", "))}, ' + (
             'in another order.' if is_turned else 'since any order was tried. What differs in these alone is not told.'))
-    if any(content.compared.left_out):
-        yield 'left out', 'Calls that only ask, which one run alone has.'
+    if content.compared.silent:
+        yield 'left out', 'Calls that only ask, which one run alone has, or which the calls of others overtook.'
     if content.ignored:
         often = f': {telling.told(content.left_out.most_common())}' if content.left_out else ''
         yield 'ignored', f'{", ".join(code(str(one)) for one in content.ignored)}{escape(often)}.'
@@ -350,6 +351,16 @@ class Body:
             yield f'<li>{path}{f"<a href=#r{anchor}>{places}</a>" if anchor else places}</li>'
         left = len(group) - 1 - self.others_at_most
         yield f'</ol>{f"<p>.. and {left:,} more</p>" if left > 0 else ""}</details>'
+
+    # --- What is left out ---
+
+    def silent(self) -> Iterator[str]:
+        """The calls that are left out, by procedures and paths."""
+        lines = list(telling.of_silent(self.compared, *(run.frames for run in self.runs), OTHERS_AT_MOST))
+        if lines:
+            yield '<section><h2>Left out</h2>'
+            yield from (f'<p>{escape(line)}</p>' for line in lines)
+            yield '</section>'
 
     # --- Calls ---
 

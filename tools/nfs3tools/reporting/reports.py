@@ -14,7 +14,7 @@ from ..captures.stored import Stored
 from ..shared.printed import escaped, printable
 from ..recordings.coverage import Allowed
 from .summing import IN_ANOTHER_ORDER, RUNS, short
-from .telling import brief_of, folded, is_summed, of_group, shortened
+from .telling import brief_of, folded, is_summed, of_group, of_silent, shortened
 
 CASES_AT_MOST = 1_000  # of findings
 FIELDS_AT_MOST = 4  # in the name of a case
@@ -77,7 +77,9 @@ def json_of(report: Report, compared: Compared, left_out: Counter[tuple[str, str
                  for name, size, cover, only, left in runs],
         'order': {'together': compared.exchanges, 'calls': compared.moved, 'replies': compared.late,
                   'connections': compared.late_connections, 'on_another_connection': compared.elsewhere},
-        'fields': counts_of(compared.fields()), 'ignored': counts_of(left_out)}
+        'fields': counts_of(compared.fields()), 'ignored': counts_of(left_out),
+        'left_out': [{'procedure': one.call.procedure, 'path': one.path, 'first': of_message(one.first, framings[0]),
+                      'second': of_message(one.second, framings[1])} for one in compared.silent]}
     yield json.dumps(head, indent=1).removesuffix('\n}').encode() + b',\n "findings": ['
     for number, finding in enumerate(compared.findings):
         yield b',\n  ' if number else b'\n  '
@@ -184,15 +186,16 @@ class Suite:
         return bytes(xml.etree.ElementTree.tostring(self.root, encoding='utf-8', xml_declaration=True)) + b'\n'
 
 
-def junit_of(line: str, report: Report, findings: Sequence[Finding], framings: Sequence[Framing], is_good: bool) -> bytes:
+def junit_of(line: str, report: Report, compared: Compared, framings: Sequence[Framing], is_good: bool) -> bytes:
     """The verdict as a case, which passed if it is good, and else each finding as one that failed. Findings that say the same are one. The
     counts are properties, and each run of which a part is refused has a case with an error."""
-    suite, groups = Suite(report.names, report.covers or ()), [] if is_good else folded(findings)
+    suite, groups = Suite(report.names, report.covers or ()), [] if is_good else folded(compared.findings)
+    silent = list(of_silent(compared, *framings, CASES_AT_MOST))
     more = [f'{len(groups) - CASES_AT_MOST:,} more findings have no case'] if len(groups) > CASES_AT_MOST else []
     if is_good:
-        suite.add('the runs are the same', text=[line])
+        suite.add('the runs are the same', text=[line, *silent])
     else:
-        suite.add('the runs are the same', 'failure', line, more, type=report.word())
+        suite.add('the runs are the same', 'failure', line, [*more, *silent], type=report.word())
     for group in groups[:CASES_AT_MOST]:
         suite.add(case_name(group), 'failure', brief_of(group, *framings), of_group(group, *framings), type=group[0].kind)
     return suite.written()
@@ -224,11 +227,12 @@ def junit_of_parts(names: Sequence[str], covers: Sequence[Cover], losses: str, p
     if losses:
         suite.add('the runs are whole', 'failure', losses, type='same in part')
     for part in parts:
+        silent = list(of_silent(part.compared, *framings, CASES_AT_MOST))
         if part.is_good:
-            suite.add(part.label, text=[part.line])
+            suite.add(part.label, text=[part.line, *silent])
         else:
             groups = folded(part.compared.findings)
-            texts = [line for group in groups[:CASES_AT_MOST] for line in of_group(group, *framings)]
+            texts = [line for group in groups[:CASES_AT_MOST] for line in of_group(group, *framings)] + silent
             more = [f'{len(groups) - CASES_AT_MOST:,} more findings'] if len(groups) > CASES_AT_MOST else []
             suite.add(part.label, 'failure', part.line, [*texts, *more], type=part.word())
     return suite.written()

@@ -1,9 +1,9 @@
 """What is printed of a comparison."""
-from collections import Counter
+from collections import Counter, defaultdict
 from collections.abc import Iterable, Iterator, Sequence
 
 from ..comparison import apart
-from ..comparison.comparing import Compared, Finding, Framing
+from ..comparison.comparing import Compared, Finding, Framing, Silent
 from ..comparison.differing import Difference
 from ..captures.listings import Message
 from ..captures.stored import Stored
@@ -132,7 +132,7 @@ def heading_of(findings: Sequence[Finding], first: Framing, second: Framing) -> 
     if finding.kind == 'order':
         return f'connection {message.connection}'
     if one and other:
-        return f'{what_of(findings)}: {one.place}{frames_of(one, first)} | {other.place}{frames_of(other, second)}'
+        return f'{what_of(findings)}: {places_of(one, other, first, second)}'
     if finding.kind == 'connection':
         return f'only in the {run} run: connection {message.connection}'
     return f'only in the {run} run: {what_of(findings)}: {message.place}{frames_of(message, first if one else second)}'
@@ -171,6 +171,35 @@ def brief_difference(difference: Difference) -> str:
     if difference.is_equal:
         return f'{difference.label}={value_of(difference, 0)} in both runs{remark}'
     return f'{difference.label}={value_of(difference, 0)} -> {value_of(difference, 1)}{remark}'
+
+
+def of_silent(compared: Compared, first: Framing, second: Framing, most: int | None) -> Iterator[str]:
+    """The calls that are left out, those together of one procedure and path, up to `most` of such groups, or each by itself."""
+    groups = defaultdict[object, list[Silent]](list)
+    for number, call in enumerate(compared.silent):
+        key = call.first is None, call.second is None, call.call.procedure, call.path
+        groups[number if most is None else key].append(call)
+    for some in list(groups.values())[:most]:
+        yield f'left out{of_whom(some[0])}: {silent_of(some)}: {places_of(some[0].first, some[0].second, first, second)}'
+    if most is not None and len(groups) > most:
+        yield f'.. and {len(groups) - most:,} more left out (--all prints them)'
+
+
+def of_whom(call: Silent) -> str:
+    """Returns which run has a call that is left out."""
+    return '' if call.first and call.second else f' of the {"first" if call.first else "second"} run'
+
+
+def silent_of(some: Sequence[Silent]) -> str:
+    """Returns which calls are left out, of one procedure and path."""
+    call, path = some[0], f' {some[0].path}' if some[0].path else ''
+    others = ', in which others worked' if call.first and call.second else ''
+    return f'{len(some):,} {call.call.procedure}{path}{others}{", first" if len(some) > 1 else ""}'
+
+
+def places_of(one: Message | None, other: Message | None, first: Framing, second: Framing) -> str:
+    """Returns the places of messages in both runs, with their frames."""
+    return ' | '.join(f'{message.place}{frames_of(message, framing)}' for message, framing in ((one, first), (other, second)) if message)
 
 
 def of_compared(compared: Compared, first: Framing, second: Framing, most: int | None, left_out: Counter[tuple[str, str]],
