@@ -15,6 +15,7 @@ import pathlib
 import re
 import signal
 import stat
+import struct
 import sys
 
 sys.path.insert(0, str(pathlib.Path(__file__).resolve().parents[1] / 'shared'))
@@ -279,6 +280,64 @@ def permissions(tools: Tools) -> None:
     tools.want('what is left', parts(tools), [])
 
 
+# An access control list as Linux keeps it (linux/posix_acl_xattr.h): tags, permissions and numbers.
+OWN, USER, GROUP, MASK, OTHER, NO_NUMBER = 0x01, 0x02, 0x04, 0x10, 0x20, 0xffffffff
+
+
+def access_list(group: int, mask: int, other: int = 0) -> bytes:
+    """Its owner and the user nobody may read and write, the latter as far as the mask allows it."""
+    rows = [(OWN, 6, NO_NUMBER), (USER, 6, NOBODY), (GROUP, group, NO_NUMBER), (MASK, mask, NO_NUMBER), (OTHER, other, NO_NUMBER)]
+    return struct.pack('<I', 2) + b''.join(struct.pack('<HHI', *row) for row in rows)
+
+
+def found_list(path: str) -> bytes | None:
+    try:
+        return os.getxattr(path, 'system.posix_acl_access')
+    except OSError:
+        return None
+
+
+def access_control_lists(tools: Tools) -> None:
+    """A file that is replaced keeps its list with its owner and group, or its owner alone has rights to the new one; a list that its folder
+    would give to new files is not put on a file that had none. A new file has what its folder gives."""
+    tools.write('a.pcap', RECORDING)
+    os.chmod(tools.folder, 0o777)
+    tools.write('out', AS_IT_WAS)
+    try:
+        os.setxattr(tools.path('out'), 'system.posix_acl_access', access_list(0, 6))
+    except OSError:
+        print('left out: access control lists, which the file system does not have')
+        return
+    me = (os.getuid(), os.getgid())
+    rows = [('', me, access_list(0, 6), access_list(0, 6), 0o660), ('', me, access_list(4, 4, 4), access_list(4, 4, 4), 0o644),
+            ('def refused(*_): raise OSError(1, "no")\nos.setxattr = refused', me, access_list(0, 6), None, 0o600),
+            ('def refused(*_): raise OSError(5, "no")\nos.getxattr = refused', me, access_list(0, 6), None, 0o600)]
+    if IS_ROOT:
+        rows += [(AS_NOBODY, (NOBODY, 0), access_list(0, 6), None, 0o600), (AS_NOBODY, (NOBODY, 0), access_list(6, 6, 4), None, 0o600),
+                 ('', (12, 13), access_list(0, 6), access_list(0, 6), 0o660)]
+    for patch, owner, before, after, mode in rows:
+        tools.write('out', AS_IT_WAS)
+        os.chown(tools.path('out'), *owner)
+        os.setxattr(tools.path('out'), 'system.posix_acl_access', before)
+        status, _, error = patched(tools, patch, 'from_pcap', 'a.pcap', 'out')
+        found = os.stat(tools.path('out'))
+        tools.want(f'{patch} {owner}', (status, tools.read('out') == CAPTURE, found_list(tools.path('out')), f'{found.st_mode & 0o7777:o}'),
+                   (0, True, after, f'{mode:o}'))
+        os.remove(tools.path('out'))
+    os.setxattr(tools.folder, 'system.posix_acl_default', access_list(4, 6, 4))
+    for mode in (0o640, 0o660, 0o600):
+        tools.write('out', AS_IT_WAS)
+        os.removexattr(tools.path('out'), 'system.posix_acl_access')
+        os.chmod(tools.path('out'), mode)
+        status, _, _ = patched(tools, '', 'from_pcap', 'a.pcap', 'out')
+        tools.want(f'in a folder with a list, {mode:o}', (status, found_list(tools.path('out')), os.stat(tools.path('out')).st_mode & 0o777),
+                   (0, None, mode))
+        os.remove(tools.path('out'))
+    tools.write('plain', b'')
+    tools.want('a new file', (patched(tools, '', 'from_pcap', 'a.pcap', 'out')[0], found_list(tools.path('out')), os.stat(tools.path('out')).st_mode),
+               (0, found_list(tools.path('plain')), os.stat(tools.path('plain')).st_mode))
+
+
 # A signal comes after a call of the system, which are counted.
 SIGNAL = '''
 left = [%d]
@@ -438,7 +497,7 @@ def names(tools: Tools) -> None:
 
 TESTS = [outputs_that_are_inputs, outputs_that_are_recordings, full_disks, looks_that_fail, names_that_another_gets,
          files_of_a_lower_layer, removed_files,
-         permissions, signals, programs_that_die, filters_that_die, closed_outputs, names]
+         permissions, access_control_lists, signals, programs_that_die, filters_that_die, closed_outputs, names]
 
 
 def main() -> None:

@@ -20,6 +20,7 @@ STANDARD_OUTPUT = '-'
 PART = '.nfs3canon-'  # begins the name of a file that is being written
 TRIES = 16  # such names
 AT_ONCE = 1 << 16  # bytes that are written
+ACCESS_LIST = 'system.posix_acl_access'  # an extended attribute
 OWNER_ALONE, EVERYBODY, PERMISSIONS, WRITERS = 0o600, 0o666, 0o777, 0o222
 ENDING = {signal.SIGHUP, signal.SIGINT, signal.SIGTERM}
 # What a file may be that is not to be lost by a slip of the hand.
@@ -299,7 +300,7 @@ def replace(path: str, found: os.stat_result, blocks: typing.Iterable[bytes]) ->
         mode = mode_of_new(target)
         with part_of(target) as part:
             write_all(part.number, blocks)
-            part.make_safe(mode_of_replaced(part, os.fstat(number), mode))
+            part.make_safe(mode_of_replaced(part, number, mode))
             with held():
                 look_again(target, old)
                 os.rename(part.path, target)
@@ -311,16 +312,46 @@ def look_again(target: str, found: os.stat_result) -> None:
         raise another(target)
 
 
-def mode_of_replaced(part: Part, old: os.stat_result, new: int) -> int:
-    """Gives a file the owner and the group of the old one as far as that can be, and returns its permissions: nobody gets more than the
-    old one gave, of whichever group they are."""
+def mode_of_replaced(part: Part, number: int, new: int) -> int:
+    """Gives a file the owner, the group and the access control list of the old one, which is open, as far as that can be, and returns its
+    permissions: nobody gets more than the old one gave, of whichever group they are."""
+    old = os.fstat(number)
     owner, group, others = (old.st_mode >> shift & 7 for shift in (6, 3, 0))
-    if is_given(part, old.st_uid, old.st_gid):
+    is_kept = is_given(part, old.st_uid, old.st_gid)
+    if not has_list_of(part, number, is_kept):
+        # (with a list, the group's bits are those of the list's mask, and the others' may be more than somebody in the list has)
+        return owner << 6 if is_kept or is_given(part, old.st_uid, -1) else new & OWNER_ALONE
+    if is_kept:
         return old.st_mode & PERMISSIONS
     if is_given(part, old.st_uid, -1):
         return owner << 6 | group & others
     common = owner & group & others
     return new & (OWNER_ALONE | common << 3 | common)
+
+
+def has_list_of(part: Part, number: int, is_kept: bool) -> bool:
+    """Gives a file the access control list of another that is open, if owner and group are kept, and else none: its folder may have given it
+    one. Returns whether it has that list now, or the other had none."""
+    try:
+        wanted = list_of(number)
+        if wanted is not None and is_kept:
+            os.setxattr(part.number, ACCESS_LIST, wanted)
+            return True
+        if list_of(part.number) is not None:
+            os.removexattr(part.number, ACCESS_LIST)
+        return wanted is None
+    except OSError:
+        return False
+
+
+def list_of(number: int) -> bytes | None:
+    """Returns the access control list of an open file, if it has one. Raises `OSError` if that cannot be known."""
+    try:
+        return os.getxattr(number, ACCESS_LIST)
+    except OSError as failed:
+        if failed.errno in (errno.ENODATA, errno.ENOTSUP):
+            return None
+        raise
 
 
 def is_given(part: Part, owner: int, group: int) -> bool:
