@@ -39,6 +39,7 @@ SMALL = 30_000  # bytes of a section, in place of 8 MiB, so that much is forgott
 SECOND = 1_000_000  # microseconds
 # How long nothing comes after a frame: not at all, less than a turn, some turns, and longer than late bytes are waited for.
 PAUSES = ((0,), (0, 1_000, 100_000), (1_000, 400_000), (0,) * 12 + (3 * SECOND,), (0,) * 20 + (12 * SECOND,))
+LATER = ' came after it was judged'
 Row = tuple[object, ...]
 
 
@@ -183,7 +184,7 @@ def told(several: typing.Iterable[Verdict]) -> set[str]:
 def ends_named(verdict: Verdict) -> frozenset[str]:
     """The ends of the connection that a verdict is on."""
     return frozenset([verdict.client, verdict.server] if verdict.client else
-                     verdict.message.removeprefix('left out: ').partition(': ')[0].split(' and '))
+                     verdict.message.removeprefix(f'{verdict.state}: ').partition(': ')[0].split(' and '))
 
 
 def prefix(recording: bytes, number: int) -> bytes:
@@ -233,13 +234,16 @@ def why_early(program: str, recording: bytes, options: Options, one: Said, plain
 def differences(program: str, recording: bytes, options: Options) -> list[str]:
     """What is wrong with the rows of a recording."""
     found = followed(program, recording, options)
-    printed = [said for said in found if is_row(said.verdict)]
+    printed = [said for said in found if is_row(said.verdict) and not said.verdict.message.endswith(LATER)]
     plain = [verdict for verdict in judged(program, recording, options) if is_row(verdict)]
     rows, wanted = collections.Counter(row(said.verdict) for said in printed), collections.Counter(map(row, plain))
     others = [said for said in printed if rows[row(said.verdict)] > wanted[row(said.verdict)]]
     is_any_skipped = any(not said.verdict.shows_calls and said.number for said in found)
     wrong = [f'{said.number}: {row(said.verdict)}' for said in others
              if not why_early(program, recording, options, said, plain, is_any_skipped)]
+    wrong += [f'told, and not judged before: {said.verdict.message}' for said in found
+              if said.verdict.message.endswith(LATER) and not any(ends_named(said.verdict) == ends_named(other.verdict)
+                                                                  for other in found if other is not said)]
     if wrong or sum(rows.values()) != sum(wanted.values()) and not is_any_skipped:
         wrong.append(f'wanted {list((wanted - rows).elements())}')
     if not others and (untold := told(verdict for verdict in plain if verdict.state != 'refused') - told(said.verdict for said in found)):

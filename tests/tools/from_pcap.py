@@ -295,7 +295,7 @@ def repeated_last_fragments(tools: Tools) -> None:
     """Repetitions of a fragment cost what their bytes cost, and a datagram of too many is given up and told."""
     last = ethernet(fragments(datagram(CLIENT, SERVER, bytes(65_508)), 65_504)[-1])
     begin = os.times()
-    told = '2 datagrams are given up, of which more fragments came than an eighth of their bytes'
+    told = 'in part: 3 datagrams of TCP are not taken, since not all fragments of them came in time'
     tools.told('the last one', pcap([last] * 20_000 + whole()), [ALL], [told])  # 65,508 bytes are 8,189 eighths
     tools.want('seconds', os.times().user - begin.user < 30, True)
     small = [[ethernet(piece) for piece in fragments(frame[14:], 8, number)] for number, frame in enumerate(whole())]
@@ -382,15 +382,17 @@ def beginnings_and_ends(tools: Tools) -> None:
     tools.taken('payload with SYN', pcap([*frames, talk.sent(0, ALL[0][99:])]), [(ALL[0], b'')])
     talk = Talk()
     frames = [*talk.opened(), talk.sent(0, ALL[0]), talk.frame(1, FIN | ACK, ALL[1])]
-    tools.taken('payload with FIN', pcap([*frames, talk.frame(1, ACK, b'after the end', len(ALL[1]))]), [ALL])
+    tools.told('payload with FIN', pcap([*frames, talk.frame(1, ACK, b'after the end', len(ALL[1]))]), [ALL],
+               ['connection 1 server: 13 bytes fit nowhere in the stream, and are left out, first frame 6'])
     talk = Talk()
     frames = [*talk.opened(), *exchange(talk), talk.frame(0, RST, b'a reason in words'), talk.frame(1, RST | ACK)]
     tools.told('RST', pcap(frames), [ALL], [])
     talk = Talk()
     frames = [*talk.opened(), *exchange(talk)]
     talk.next[0] += 1 << 30
-    tools.told('an acknowledgement of an older connection', pcap([*frames, talk.frame(1, ACK)]), [ALL], [])
-    tools.told('FIN of an older connection', pcap([*frames, talk.frame(0, FIN | ACK)]), [ALL], [])
+    far = 'connection 1 client: frame 6 shows bytes far beyond the last that is known, and no other frame does'
+    tools.told('an acknowledgement of an older connection', pcap([*frames, talk.frame(1, ACK)]), [ALL], [far])
+    tools.told('FIN of an older connection', pcap([*frames, talk.frame(0, FIN | ACK)]), [ALL], [far])
     talk = Talk()
     frames = [*talk.opened(), talk.sent(0, ALL[0]), talk.frame(0, RST), talk.sent(1, ALL[1])]
     tools.told('what is on its way as RST comes', pcap(frames), [ALL], [])

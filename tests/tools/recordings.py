@@ -75,6 +75,40 @@ def content_kind(content: bytes) -> int:
     return IPV6 if content[0] >> 4 == 6 else IPV4
 
 
+# --- Tunnels ---
+
+def udp(source: int, target: int, content: bytes) -> bytes:
+    """A datagram of UDP, without a checksum."""
+    return struct.pack('>4H', source, target, 8 + len(content), 0) + content
+
+
+def in_vxlan(frame: bytes, port: int = 4789) -> bytes:
+    """A frame of Ethernet in a datagram of UDP (RFC 7348)."""
+    return udp(50_000, port, struct.pack('>II', 0x0800_0000, 7 << 8) + frame)
+
+
+def in_geneve(kind: int, content: bytes, options: bytes = b'') -> bytes:
+    """The same (RFC 8926), of what has this kind."""
+    return udp(50_000, 6_081, struct.pack('>BBHI', len(options) // 4, 0, kind, 7 << 8) + options + content)
+
+
+def in_gre(kind: int, content: bytes, key: bytes = b'', number: bytes = b'') -> bytes:
+    """What has this kind in GRE (RFC 2890), with a key of four bytes and a number of four bytes, or without."""
+    return struct.pack('>HH', 0x2000 * bool(key) | 0x1000 * bool(number), kind) + key + number + content
+
+
+def in_labels(content: bytes, labels: int = 2) -> bytes:
+    """A frame of Ethernet with a datagram behind labels of MPLS (RFC 3032)."""
+    packed = b''.join(struct.pack('>I', (16 + number) << 12 | (number == labels - 1) << 8 | 64) for number in range(labels))
+    return bytes(12) + struct.pack('>H', 0x8847) + packed + content
+
+
+def in_session(content: bytes) -> bytes:
+    """A frame of Ethernet with a datagram in a session of PPPoE (RFC 2516)."""
+    kind = 0x0021 if content[0] >> 4 == 4 else 0x0057
+    return bytes(12) + struct.pack('>HBBHHH', 0x8864, 0x11, 0, 1, 2 + len(content), kind) + content
+
+
 # --- Fragments ---
 
 def fragments(content: bytes, size: int, identification: int = 77) -> list[bytes]:

@@ -25,10 +25,10 @@ from ..shared.programs import CHECKED, Died, run_program
 from ..recordings.coverage import Allowed, Counts, Covered, called_in
 from ..recordings.frames import NANOSECONDS, Frame, NoRecording, Recording, Source, opened
 from ..recordings.records import Window, end_of_whole, xids
-from ..recordings.segments import ACK, RST, Segment, Segments
-from ..recordings.selection import Kept, Options, Selected, select
-from ..recordings.streams import Connection, Connections, Spool, Stored, Stream
-from ..recordings.taken import (NotTaken, Taken, TakenStream, left_out_of, notes_of, ports_of, remarks_of, taken_connection,
+from ..recordings.segments import Segment, Segments
+from ..recordings.selection import Kept, Options, Selected, count, select
+from ..recordings.streams import Connection, Connections, Spool, Stored, Stream, is_of_stray
+from ..recordings.taken import (NO_RPC, NotTaken, Taken, TakenStream, left_out_of, nothing_in, notes_of, ports_of, remarks_of, taken_connection,
                                 whole)
 from ..recordings.unpacking import Damaged
 
@@ -61,7 +61,7 @@ class Growing:
         self.number, self.wakes, self.is_waited_for, self.idle = number, wakes, is_waited_for, idle
 
     def read(self, size: int, /) -> bytes:
-        """Raises `Damaged` if the file cannot be read."""
+        """Raises `Damaged` if the file cannot be read, or has become shorter."""
         since, wait = time.monotonic(), IDLE
         while True:
             ready = waits.select([self.wakes, *([] if wait == POLL else [self.number])], [], [], wait)[0]
@@ -78,7 +78,10 @@ class Growing:
 
     def piece(self, size: int) -> bytes:
         try:
-            return os.read(self.number, size)
+            piece = os.read(self.number, size)
+            if not piece and self.is_waited_for and os.fstat(self.number).st_size < os.lseek(self.number, 0, os.SEEK_CUR):
+                raise Damaged('the file has become shorter than what was read of it')
+            return piece
         except OSError as failed:
             raise Damaged(failed.strerror or str(failed)) from failed
 
@@ -118,7 +121,6 @@ class Open:
     before: what was judged of it and is forgotten; `carried` and `known` have the calls without a reply among that, and their xids
     next_size: how many bytes its section has when it is judged again
     doubted: a fault that may go away, since the call of a reply may come yet
-    sent: how many bytes each end had sent when the connection was reset, as far as that segment shows
     walked: up to where the stored bytes of each end were seen to be whole records, after that
     """
     connection: Connection
@@ -128,8 +130,6 @@ class Open:
     known: frozenset[int] = frozenset()
     next_size: int = dataclasses.field(default_factory=lambda: FIRST_SIZE)
     doubted: str | None = None
-    is_reset: bool = False
-    sent: list[int] = dataclasses.field(default_factory=lambda: [0, 0])
     walked: list[int] = dataclasses.field(default_factory=lambda: [0, 0])
     time: int = 0
     frame: int = 0
@@ -141,13 +141,13 @@ class Open:
 
     @property
     def is_complete(self) -> bool:
-        """Whether it is closed by both sides or reset, and no byte is missing. A segment that resets it need not show all that was
+        """Whether it is closed by both sides or reset, and no byte is missing, nor SYN, which may come late. A segment that resets it need not show all that was
         sent, but a record of which the end is missing does."""
-        if not self.connection.is_closed or self.lacks:
+        if self.lacks or not all(stream.is_begin for stream in self.connection.streams if stream.runs):
             return False
-        if not self.is_reset:
-            return all(stream.end is not None for stream in self.connection.streams)
-        return all(stream.next >= sent for stream, sent in zip(self.connection.streams, self.sent)) and self.has_whole_records()
+        if any(map(self.connection.is_reset_by, range(2))):
+            return self.has_whole_records()
+        return all(stream.end is not None for stream in self.connection.streams)
 
     @property
     def lacks(self) -> bool:
@@ -163,15 +163,6 @@ class Open:
                 if self.walked[end] < stream.stored.size:
                     return False
         return True
-
-    def reset(self, side: int, segment: Segment) -> None:
-        """Takes the segment by which an end resets the connection. It has the numbers of the next bytes of both ends."""
-        self.is_reset = True
-        for end, sequence in ((side, segment.sequence), *([(1 - side, segment.acknowledged)] if segment.flags & ACK else [])):
-            stream = self.connection.streams[end]
-            position = stream.position(sequence)
-            if stream.first is not None and stream.is_likely(position):
-                self.sent[end] = max(self.sent[end], position if stream.end is None else min(position, stream.end))
 
     def is_over(self, midstream: bool) -> bool:
         """Whether nothing that comes can be of use: without --midstream after bytes that are missing for good, or if the beginning is."""
@@ -205,7 +196,7 @@ class Following:
         self.recording, self.program, self.options, self.say = recording, program, options, say
         self.ports = ports_of(options)
         self.segments, self.connections = Segments(self.ports), Connections(True, HELD_BY_ALL)
-        self.open: dict[int, Open] = {}
+        self.open: collections.OrderedDict[int, Open] = collections.OrderedDict()  # by their last segments
         self.judged: collections.OrderedDict[int, Connection] = collections.OrderedDict()
         self.waiting: dict[int, int] = {}  # since when a connection has bytes that are not judged
         self.taken = self.numbered = self.next_turn = self.next_look = self.looked = 0
@@ -220,26 +211,22 @@ class Following:
             self.look_round(frame.number, frame.time)
 
     def take_segment(self, segment: Segment, number: int, time: int) -> None:
-        before = self.connections.sides.get(segment.key)
         connection = self.connections.take(segment, number, time, True)
-        if before and before[0] is not connection:
-            self.end(before[0].number)
         if connection.is_judged:
             self.judged.move_to_end(connection.number)
             return
-        one = self.open.get(connection.number) or self.begin(connection, number)
+        one = self.open.get(connection.number) or self.begin(connection)
         one.time, one.frame = time, number
+        self.open.move_to_end(connection.number)
         if segment.payload:
             self.grown(one)
-        if segment.flags & RST:
-            one.reset(self.connections.sides[segment.key][1], segment)
         if connection.is_closed and not connection.is_judged and one.is_complete:
             self.end(connection.number)
 
-    def begin(self, connection: Connection, number: int) -> Open:
-        one = self.open[connection.number] = Open(connection, frame=number)
+    def begin(self, connection: Connection) -> Open:
+        one = self.open[connection.number] = Open(connection)
         if len(self.open) > OPEN_AT_MOST:
-            self.end(min(self.open.values(), key=lambda other: other.frame).connection.number)
+            self.end(next(iter(self.open)))
         return one
 
     def grown(self, one: Open) -> None:
@@ -275,8 +262,13 @@ class Following:
         self.next_look, self.looked = time + NANOSECONDS, number
         for one in list(self.open.values()):
             is_late = not one.time <= time < one.time + LATE or number >= one.frame + LATE_FRAMES
-            if one.connection.is_closed and is_late:
+            if is_late and (one.connection.is_closed or self.is_superseded(one.connection)):
                 self.end(one.connection.number)
+
+    def is_superseded(self, connection: Connection) -> bool:
+        """Whether another connection of the same ends has begun, and has had payload."""
+        newest = self.connections.sides.get(connection.key)
+        return newest is not None and newest[0] is not connection and newest[0].first_payload is not None
 
     # --- Judging ---
 
@@ -329,6 +321,9 @@ class Following:
         one = self.open.get(number)
         if one is None:
             return
+        if is_of_stray(one.connection):
+            self.drop(one)
+            return
         for stream in one.connection.streams:
             stream.finish()
         selected = select(one.connection, self.options, one.known)
@@ -336,11 +331,31 @@ class Following:
             self.give_number(one)
         self.conclude(one, self.verdict(one, selected))
 
+    def drop(self, one: Open) -> None:
+        """Forgets a connection that is none. The older one of the same ends may have been judged before that was known."""
+        older = one.connection.older
+        if older is not None and older.is_judged:
+            self.tell_strays(older)
+        self.forget(one, is_told=False)
+
+    def tell_strays(self, connection: Connection) -> None:
+        """Tells which frames of a connection were passed over after its line."""
+        for note in connection.strays:
+            self.say(Verdict(self.recording, state='note', message=f'{" and ".join(connection.ends)}: {note}'))
+        connection.strays = []
+
     def conclude(self, one: Open, verdict: Verdict) -> None:
-        """Keeps nothing of a connection but that it was judged."""
-        connection = one.connection
+        """Prints the verdict on a connection, and keeps nothing of it but that it was judged."""
         self.say(verdict)
+        one.connection.strays = []
         self.taken += verdict.connection is not None
+        is_lasting = verdict.state in ('refused', 'error') or not self.options.midstream and verdict.state == 'in part'
+        self.forget(one, not is_lasting and not verdict.message.endswith(NO_RPC))
+
+    def forget(self, one: Open, is_told: bool) -> None:
+        """Keeps nothing of a connection. `is_told` says whether bytes that come later are to be told."""
+        connection = one.connection
+        connection.is_told = is_told
         del self.open[connection.number]
         self.waiting.pop(connection.number, None)
         connection.is_judged = True
@@ -350,12 +365,26 @@ class Following:
             one.carried.close()
         self.judged[connection.number] = connection
         if len(self.judged) > REMEMBERED:
-            self.connections.forget(self.judged.popitem(last=False)[1])
+            forgotten = self.judged.popitem(last=False)[1]
+            self.tell_later(forgotten)
+            self.connections.forget(forgotten)
+
+    def tell_later(self, connection: Connection) -> None:
+        """Tells of bytes that came after a connection was judged, or by which others are missing, unless it is refused."""
+        told = []
+        if connection.after:
+            told.append(f'{count(connection.after, "byte")} came after it was judged')
+        if connection.shown_after:
+            told.append(f'frame {connection.shown_after} shows bytes that did not come before it was judged')
+        if connection.is_told and told:
+            self.say(of_covered(self.recording, Covered('in part', ', and '.join(reversed(told)), ends=' and '.join(connection.ends))))
 
     def finish(self) -> None:
         """Judges all connections that are open."""
         for number in list(self.open):
             self.end(number)
+        for connection in self.judged.values():
+            self.tell_later(connection)
 
 
 def streams_of(connection: Connection, selected: Selected) -> tuple[Stream, Stream]:
@@ -393,11 +422,11 @@ def forget_section(one: Open, selected: Selected, verdict: Verdict, spool: Spool
     one.carried = carried
     one.before = Before(verdict.calls or 0, verdict.replies or 0, verdict.missing, len(calls), verdict.lacks,
                         one.before.called + called_in(client))
-    connection.client = selected.client
+    connection.client, connection.strays = selected.client, []
     for stream, kept in zip(streams, selected.kept):
         if stream.runs:
             begin = kept.ranges[-1][1] if kept.ranges else stream.begin
-            stream.conflicts = stream.conflict = 0  # which are told
+            stream.conflicts = stream.conflict = stream.unplaced = stream.unplaced_by = 0  # which are told
             stream.drop(end_of_whole(Window(stream.stored), begin, stream.stored.size))
     streams[0].lacks |= left_out
     one.next_size = one.size + FIRST_SIZE
@@ -490,4 +519,4 @@ def take_all(following: Following, growing: Growing) -> None:
     if recording.damage:
         following.say(error_of(following.recording, recording.damage))
     elif not following.taken:
-        following.say(error_of(following.recording, 'no connection to judge'))
+        following.say(error_of(following.recording, nothing_in(following.segments)))

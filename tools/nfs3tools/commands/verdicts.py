@@ -87,7 +87,7 @@ class Judge(typing.NamedTuple):
         elif taken.damage:
             verdicts.append(error_of(recording, taken.damage))
         elif not taken.connections and taken.is_recording:
-            verdicts.append(error_of(recording, 'no connection to judge'))
+            verdicts.append(error_of(recording, taken.nothing))
         return [Verdict(recording, state='note', message=note) for note in taken.notes] + verdicts
 
     def of_connection(self, recording: str, taken: Taken, connection: TakenConnection) -> Verdict:

@@ -18,6 +18,11 @@ class Held:
         """Bytes of memory, about."""
         return self.size + COST_OF_PIECE * len(self.pieces)
 
+    @property
+    def end(self) -> int:
+        """Where the last piece ends, 0 if there is none."""
+        return self.begins[-1] + len(self.pieces[-1][0]) if self.begins else 0
+
     def add(self, begin: int, piece: bytes, number: int, time: int) -> bool:
         """Holds what is new of a piece. False if it differs from what is held."""
         agrees, at = True, max(0, bisect.bisect_right(self.begins, begin) - 1)

@@ -1,20 +1,33 @@
-"""TCP segments out of frames: link layers, IPv4 and IPv6 with their fragments, TCP."""
+"""TCP segments out of frames: link layers, tunnels whose header has a fixed form, IPv4 and IPv6 with their fragments, TCP."""
 import ipaddress
 import struct
 import typing
 
 from .held import COST_OF_PIECE, Held
-from .frames import Frame
+from .frames import NANOSECONDS, Frame
 
 FIN, SYN, RST, ACK = 1, 2, 4, 16
 ETHERNET = 1
-IPV4, IPV6, ANY_IP = 0x0800, 0x86dd, 0
+IPV4, IPV6, ANY_IP = 0x0800, 0x86dd, -1
+BRIDGED, PPPOE = 0x6558, 0x8864  # kinds of what a tunnel carries: Ethernet; PPP over Ethernet
+MPLS = {0x8847, 0x8848}
+FIRST_KIND = 0x600  # of Ethernet; a lesser number is a length (IEEE 802.3)
+PPP = {0x0021: IPV4, 0x0057: IPV6}
 PLAIN_IPV4 = b'\x08\0\x45'  # the kind of Ethernet, and the first byte of IPv4 without options
 VLAN_TAGS = {0x8100, 0x88a8, 0x9100}
-TCP, UDP, FRAGMENT, AUTHENTICATION = 6, 17, 44, 51
+IP_IN_IP, TCP, UDP, IPV6_IN_IP, FRAGMENT, GRE, AUTHENTICATION = 4, 6, 17, 41, 44, 47, 51
+VXLAN, GENEVE = {4789, 8472}, 6081  # ports of UDP; Linux has 8472 unless it is told the other
+TUNNELS_AT_MOST = 4  # one in the other
 EXTENSIONS = {0, 43, 60, AUTHENTICATION, 135, 139, 140}  # of IPv6, each with its length in its second byte
 PENDING_AT_MOST = 4 << 20  # bytes of fragments whose datagrams are not whole
 DATAGRAM_AT_MOST = 1 << 17
+WAITING_4, WAITING_6 = 30 * NANOSECONDS, 60 * NANOSECONDS  # for the fragments of a datagram (RFC 791, section 3.2; RFC 8200, section 4.5)
+LONGEST_NAME_4 = 11  # bytes that name a datagram of IPv4: identification, protocol, addresses
+
+# The names of what is no segment of TCP, by the kind of Ethernet and by the protocol of IP. What may have segments in it has a star.
+KINDS = {0x0806: 'ARP', 0x88cc: 'LLDP', 0x8863: 'PPPoE', PPPOE: 'PPPoE*', 0x8847: 'MPLS*', 0x8848: 'MPLS*', 0x88e5: 'MACsec*'}
+PROTOCOLS = {1: 'ICMP', 2: 'IGMP', 58: 'ICMP', IP_IN_IP: 'IP in IP*', UDP: 'UDP', IPV6_IN_IP: 'IP in IP*', GRE: 'GRE*', 50: 'ESP*',
+             AUTHENTICATION: 'AH*', 115: 'L2TP*', 132: 'SCTP'}
 
 # Where the kind of the network layer stands (None: in the datagram itself), and where the datagram begins, by link type.
 LINKS: dict[int, tuple[int | None, int]] = {
@@ -63,13 +76,16 @@ def end_of(address: bytes, port: bytes) -> str:
 
 
 class Pending:
-    """The fragments of a datagram that is not whole yet. Of bytes that came twice the first count."""
+    """The fragments of a datagram. Of bytes that came twice the first count. A datagram that is whole is kept for a while, so that
+    fragments that were recorded twice begin no other."""
 
-    def __init__(self) -> None:
+    def __init__(self, counts: bool, expires: int) -> None:
+        self.counts, self.expires = counts, expires  # whether it counts if it is given up, and when, in nanoseconds since 1970
         self.held = Held()
         self.size: int | None = None
         self.count = 0  # of the fragments that came
         self.there = 0  # bytes of the datagram
+        self.is_done = False
 
     @property
     def cost(self) -> int:
@@ -79,6 +95,11 @@ class Pending:
     def has_too_many(self) -> bool:
         """Whether more fragments came than an eighth of the datagram's bytes, as offsets count by eight (RFC 791)."""
         return self.count > -(-(DATAGRAM_AT_MOST if self.size is None else self.size) // 8)
+
+    def has(self, begin: int, piece: bytes, is_last: bool) -> bool:
+        """Whether a fragment is one of a datagram that is whole."""
+        end = begin + len(piece)
+        return self.is_done and (end == self.size) == is_last and end <= (self.size or 0) and self.held.add(begin, piece, 0, 0)
 
     def add(self, begin: int, piece: bytes, is_last: bool) -> None:
         self.count += 1
@@ -95,6 +116,7 @@ class Pending:
         """The datagram's payload, once no byte of it is missing."""
         if self.size is None or self.there < self.size:
             return None
+        self.is_done = True
         return b''.join(piece for piece, _, _ in self.held.pieces)[:self.size]
 
 
@@ -103,9 +125,10 @@ class Segments:
 
     cut: frames of which the recording has fewer bytes than were on the wire, and which lack payload or headers for it
     lying: frames whose headers claim more bytes than were on the wire
-    given_up: datagrams of more fragments than an eighth of their bytes
+    given_up: datagrams with TCP that never were whole: not in time, or of more fragments than an eighth of their bytes
     links: frames whose link type is not known, by link type
     datagrams: those of UDP to or from a port of NFS, by port
+    others: frames of known link types that carry no segment of TCP, by kind; a star marks those that may have one in a tunnel
     """
 
     def __init__(self, ports: frozenset[int] = frozenset()) -> None:
@@ -113,8 +136,9 @@ class Segments:
         self.cut = self.lying = self.given_up = 0
         self.links: dict[int, int] = {}
         self.datagrams: dict[int, int] = {}
+        self.others: dict[str, int] = {}
         self.pending: dict[bytes, Pending] = {}
-        self.held = 0
+        self.held = self.tunnels = self.time = 0  # bytes of fragments; tunnels round what is read; the time of the frame
 
     def segment(self, frame: Frame, is_chosen: bool = True) -> Segment | None:
         """Returns the segment that the frame carries, or completes as the last fragment, if there is one. If the frame is not chosen, no
@@ -134,13 +158,25 @@ class Segments:
         if link is None:
             self.links[frame.link] = self.links.get(frame.link, 0) + 1
             return None
-        kind, at = network_layer(data, *link)
+        self.tunnels, self.time = 0, frame.time
+        return self.of_kind(*network_layer(data, *link), data, frame.length)
+
+    def of_kind(self, kind: int, at: int, data: bytes, length: int) -> Segment | None:
+        """The segment in what a link layer or a tunnel carries."""
+        if kind == BRIDGED:
+            kind, at = network_layer(data, at + 12, at + 14)
+        kind, at = in_labels(data, kind, at)
         version = data[at] >> 4 if at < len(data) else 0
         if version == 4 and kind in (IPV4, ANY_IP):
-            return self.of_ipv4(data, at, frame.length)
+            return self.of_ipv4(data, at, length)
         if version == 6 and kind in (IPV6, ANY_IP):
-            return self.of_ipv6(data, at, frame.length)
-        return None
+            return self.of_ipv6(data, at, length)
+        return self.other(kind_named(kind))
+
+    def other(self, name: str) -> None:
+        """Counts a frame that carries no segment of TCP."""
+        if self.is_chosen:
+            self.others[name] = self.others.get(name, 0) + 1
 
     def of_ipv4(self, data: bytes, at: int, length: int) -> Segment | None:
         if at + 20 > len(data):
@@ -157,11 +193,11 @@ class Segments:
         if fragment & 0x3fff:
             name = data[at + 4:at + 6] + data[at + 9:at + 10] + data[at + 12:at + 20]
             piece = data[begin:end]
-            joined = self.joined(name, (fragment & 0x1fff) * 8, piece, len(piece) < end - begin, not fragment & 0x2000)
-            if joined is None or protocol != TCP:
+            joined = self.joined(protocol, name, (fragment & 0x1fff) * 8, piece, len(piece) < end - begin, not fragment & 0x2000)
+            if joined is None:
                 return None
-            return self.of_tcp(joined, 0, len(joined), len(joined), data[at + 12:at + 20])
-        return self.of_tcp(data, begin, end, length, data[at + 12:at + 20]) if protocol == TCP else None
+            return self.of_protocol(protocol, joined, 0, len(joined), len(joined), data[at + 12:at + 20])
+        return self.of_protocol(protocol, data, begin, end, length, data[at + 12:at + 20])
 
     def of_ipv6(self, data: bytes, at: int, length: int) -> Segment | None:
         if at + 40 > len(data):
@@ -179,7 +215,7 @@ class Segments:
             if following == UDP and not place & 0xfff8:
                 self.count_datagram(data, begin + 8)
             piece = data[begin + 8:end]
-            joined = self.joined(data[begin + 4:begin + 8] + addresses, place & 0xfff8, piece,
+            joined = self.joined(following, data[begin + 4:begin + 8] + addresses, place & 0xfff8, piece,
                                  len(piece) < end - begin - 8, not place & 1)
             if joined is None:
                 return None
@@ -187,7 +223,17 @@ class Segments:
             following, begin = after_extensions(data, following, begin)
         elif following == UDP:
             self.count_datagram(data, begin)
-        return self.of_tcp(data, begin, end, length, addresses) if following == TCP else None
+        return self.of_protocol(following, data, begin, end, length, addresses)
+
+    def of_protocol(self, protocol: int, data: bytes, begin: int, end: int, length: int, addresses: bytes) -> Segment | None:
+        """The segment in the payload of a datagram of IP."""
+        if protocol == TCP:
+            return self.of_tcp(data, begin, end, length, addresses)
+        carried = in_tunnel(protocol, data, begin, end)
+        if carried is None or self.tunnels == TUNNELS_AT_MOST:
+            return self.other(PROTOCOLS.get(protocol, f'the protocol {protocol} of IP') if carried is None else 'many tunnels*')
+        self.tunnels += 1
+        return self.of_kind(*carried, data, end)
 
     def of_tcp(self, data: bytes, at: int, end: int, length: int, addresses: bytes) -> Segment | None:
         there = min(end, len(data))
@@ -214,28 +260,50 @@ class Segments:
         """Counts a frame whose headers are not whole."""
         self.cut += there < wanted <= on_the_wire
 
-    def joined(self, name: bytes, begin: int, piece: bytes, is_cut: bool, is_last: bool) -> bytes | None:
+    def joined(self, protocol: int, name: bytes, begin: int, piece: bytes, is_cut: bool, is_last: bool) -> bytes | None:
         """Takes a fragment, and returns the datagram's payload if this completes it."""
         self.cut += is_cut
         if is_cut or begin + len(piece) > DATAGRAM_AT_MOST:
             return None
-        pending = self.pending.get(name)
-        if pending is None:
-            pending = self.pending[name] = Pending()
-            self.held += pending.cost
+        pending = self.pending_of(protocol, name)
+        if pending.has(begin, piece, is_last):
+            return None
+        if pending.is_done:
+            self.forget(name)
+            pending = self.pending_of(protocol, name)
         cost = pending.cost
         pending.add(begin, piece, is_last)
         self.held += pending.cost - cost
         whole = pending.whole()
-        self.given_up += whole is None and pending.has_too_many
-        if whole is not None or pending.has_too_many:
+        if whole is None and pending.has_too_many:
             self.forget(name)
         while self.held > PENDING_AT_MOST:
             self.forget(next(iter(self.pending)))
         return whole
 
+    def pending_of(self, protocol: int, name: bytes) -> Pending:
+        """The datagram of which a fragment has come. Those that have waited for too long are given up, the oldest first."""
+        while self.pending and (first := next(iter(self.pending.items())))[1].expires < self.time:
+            self.forget(first[0])
+        pending = self.pending.get(name)
+        if pending is not None and pending.expires < self.time:
+            self.forget(name)
+            pending = None
+        if pending is None:
+            waits = WAITING_6 if len(name) > LONGEST_NAME_4 else WAITING_4
+            pending = self.pending[name] = Pending(protocol == TCP and self.is_chosen, self.time + waits)
+            self.held += pending.cost
+        return pending
+
     def forget(self, name: bytes) -> None:
-        self.held -= self.pending.pop(name).cost
+        pending = self.pending.pop(name)
+        self.held -= pending.cost
+        self.given_up += pending.counts and not pending.is_done
+
+    def finish(self) -> None:
+        """Gives up the datagrams that are not whole."""
+        for name in list(self.pending):
+            self.forget(name)
 
 
 def network_layer(data: bytes, kind_at: int | None, at: int) -> tuple[int, int]:
@@ -246,6 +314,48 @@ def network_layer(data: bytes, kind_at: int | None, at: int) -> tuple[int, int]:
     while kind in VLAN_TAGS and at + 4 <= len(data):
         kind, at = int.from_bytes(data[at + 2:at + 4], 'big'), at + 4
     return kind, at
+
+
+def kind_named(kind: int) -> str:
+    """The name of what a link layer or a tunnel carries, if that is neither IPv4 nor IPv6."""
+    if kind in (ANY_IP, IPV4, IPV6):
+        return 'an unknown version of IP'
+    return KINDS.get(kind, f'the kind 0x{kind:04x}' if kind >= FIRST_KIND else 'IEEE 802.3')
+
+
+def in_labels(data: bytes, kind: int, at: int) -> tuple[int, int]:
+    """The kind of what is in MPLS (RFC 3032) or in a session of PPPoE (RFC 2516), and where it begins; of anything else its own."""
+    if kind == PPPOE:
+        carried = PPP.get(int.from_bytes(data[at + 6:at + 8], 'big'))
+        return (kind, at) if carried is None else (carried, at + 8)
+    if kind not in MPLS:
+        return kind, at
+    while at + 4 < len(data) and not data[at + 2] & 1:
+        at += 4
+    return (ANY_IP if data[at + 4:at + 5] and data[at + 4] >> 4 in (4, 6) else kind), at + 4
+
+
+def in_tunnel(protocol: int, data: bytes, begin: int, end: int) -> tuple[int, int] | None:
+    """The kind of what a datagram of IP carries as a tunnel, and where that begins; `None` if it carries nothing that is known."""
+    if protocol in (IP_IN_IP, IPV6_IN_IP):
+        return (IPV4 if protocol == IP_IN_IP else IPV6), begin
+    if protocol == GRE and begin + 4 <= len(data):
+        return in_gre(data, begin)
+    if protocol == UDP and begin + 16 <= min(end, len(data)):
+        port, head = int.from_bytes(data[begin + 2:begin + 4], 'big'), begin + 8
+        if port in VXLAN and data[head] & 0x08:  # RFC 7348
+            return BRIDGED, head + 8
+        if port == GENEVE and not data[head] >> 6:  # RFC 8926
+            return int.from_bytes(data[head + 2:head + 4], 'big'), head + 8 + (data[head] & 0x3f) * 4
+    return None
+
+
+def in_gre(data: bytes, begin: int) -> tuple[int, int] | None:
+    """The same of GRE (RFC 2784, 2890) without routing."""
+    flags, kind = int.from_bytes(data[begin:begin + 2], 'big'), int.from_bytes(data[begin + 2:begin + 4], 'big')
+    if flags & 0x4007:  # routing, or another version
+        return None
+    return kind, begin + 4 + 4 * (flags >> 12 & 0b1011).bit_count()
 
 
 def after_extensions(data: bytes, following: int, at: int) -> tuple[int, int]:

@@ -96,18 +96,31 @@ def select(connection: Connection, options: Options, known: typing.Iterable[int]
                       for end, side in zip(ends, SIDES))
     if calls.lacks and replies.ranges:
         leave_out_replies(streams, calls, replies, known)
-    for stream, kept in zip(streams, (calls, replies)):
-        if stream.conflicts:
-            kept.notes.append(f'{count(stream.conflicts, "frame")} {plural(stream.conflicts, "repeats", "repeat")} bytes with '
-                              f'other content, first frame {stream.conflict}; the bytes that came first are taken')
+    for stream, kept, side in zip(streams, (calls, replies), SIDES):
+        add_uncertain(stream, kept, side)
     return Selected(client, why, (calls, replies))
+
+
+def add_uncertain(stream: Stream, kept: Kept, side: Side) -> None:
+    """Adds what is told of bytes that are recorded and not taken, and of others that may be missing."""
+    if stream.conflicts:
+        kept.notes.append(f'{count(stream.conflicts, "frame")} {plural(stream.conflicts, "repeats", "repeat")} bytes with '
+                          f'other content, first frame {stream.conflict}; the bytes that came first are taken')
+        kept.reasons.append(f'{count(stream.conflicts, "frame")} with other content')
+    if stream.unplaced:
+        kept.notes.append(f'{side}: {count(stream.unplaced, "byte")} {plural(stream.unplaced, "fits", "fit")} nowhere in the stream, and '
+                          f'{plural(stream.unplaced, "is", "are")} left out, first frame {stream.unplaced_by}')
+        kept.reasons.append(f'{count(stream.unplaced, "byte")} left out')
+    if stream.far is not None:
+        kept.notes.append(f'{side}: frame {stream.far_by} shows bytes far beyond the last that is known, and no other frame does')
+        kept.reasons.append('bytes far beyond the last may be missing')
 
 
 def cut_by(connection: Connection, end: int) -> str:
     """Why an end is not at fault if its stream ends inside a record; '' if it closed its stream or reset the connection."""
-    if connection.streams[end].end is not None or connection.is_reset[end]:
+    if connection.streams[end].end is not None or connection.is_reset_by(end):
         return ''
-    return RESET_INSIDE if connection.is_reset[1 - end] else ENDS_INSIDE
+    return RESET_INSIDE if connection.is_reset_by(1 - end) else ENDS_INSIDE
 
 
 def client_of(connection: Connection, options: Options) -> tuple[int, str]:

@@ -13,7 +13,12 @@ WRITTEN_AT_ONCE = 1 << 16
 UNWRITTEN_AT_MOST = 8 << 20  # bytes of all streams together that are not in the temporary file yet
 HELD_AT_MOST = 8 << 20  # bytes of a stream behind a gap; then the bytes of the gap count as lost
 HELD_BY_ALL = 64 << 20  # the same of all streams together
-LIKELY_AT_MOST = 64 << 20  # bytes that were sent beyond the last that is known
+LIKELY_AT_MOST = 64 << 20  # bytes that were sent beyond the last that is known, or before those that were acknowledged
+IN_FLIGHT_AT_MOST = 1 << 30  # bytes that were sent and not acknowledged (RFC 7323, section 2.3)
+TAIL = 4 << 10  # bytes of a connection that was judged, for the same
+COMPARED_AT_MOST = 4 << 20  # bytes before those that are forgotten, with which others that come again are compared
+NUMBERS = 1 << 32  # of sequence
+STRAYS_AT_MOST = 10  # frames of a connection that are told
 
 
 class Room:
@@ -184,9 +189,10 @@ class Gap(typing.NamedTuple):
 
 
 class Run(typing.NamedTuple):
-    """Bytes without a gap, up to the next run: where they begin among the stored bytes, and the gap before them."""
+    """Bytes without a gap, up to the next run: where they begin among the stored bytes, the gap before them, and their position."""
     begin: int
     gap: Gap | None
+    position: int = 0
 
 
 class Brought(typing.NamedTuple):
@@ -236,63 +242,148 @@ class Frames:
 
 
 class Stream:
-    """The bytes that one end sends, in order. Positions count the bytes from the first one on."""
-    __slots__ = ('stored', 'budget', 'frames', 'first', 'is_begin', 'begin', 'lacks', 'next', 'expected', 'acknowledged', 'runs', 'held',
-                 'end', 'known_end', 'known_by', 'conflicts', 'conflict')
+    """The bytes that one end sends, in order. Positions count the bytes from the first one on.
+
+    Each byte of payload is taken, or equals one that was taken, or is counted: in `unplaced`, or as one of a frame in `conflicts`.
+    """
+    __slots__ = ('stored', 'budget', 'frames', 'first', 'is_begin', 'begin', 'compared', 'lacks', 'next', 'expected', 'acknowledged',
+                 'acked', 'runs', 'held', 'end', 'beyond', 'known_end', 'known_by', 'far', 'far_by', 'far_fin', 'conflicts', 'conflict',
+                 'unplaced', 'unplaced_by', 'tail', 'tail_end')
 
     def __init__(self, spool: Spool, budget: Budget, frames: Frames | None) -> None:
         self.stored, self.budget, self.frames = Stored(spool), budget, frames
         self.first: int | None = None  # the sequence number of position 0
         self.is_begin = False  # the bytes at `begin` are the first that were sent, or the first of a record
         self.begin = 0  # the stored bytes before it are forgotten
+        self.compared = 0  # but for those from here on, with which others are compared
         self.lacks = False  # some of these were not whole
         self.next = 0  # the position after the last byte in order
         self.expected: int | None = None  # its sequence number
         self.acknowledged: int | None = None  # the sequence number that was acknowledged last
+        self.acked = 0  # bytes that were taken were acknowledged up to there
         self.runs: list[Run] = []
         self.held = Held()
         self.end: int | None = None  # the position of FIN
+        self.beyond = Held()  # what came at or after it
         self.known_end, self.known_by = 0, 0  # bytes were sent up to there, which a frame shows
+        self.far: int | None = None  # an end far beyond that, which a single frame shows
+        self.far_by = 0
+        self.far_fin: int | None = None  # the same of FIN
         self.conflicts, self.conflict = 0, 0  # frames that repeat bytes with other content, and the first of them
+        self.unplaced, self.unplaced_by = 0, 0  # bytes that could not be taken, and the first frame of them
+        self.tail, self.tail_end = b'', 0  # the last bytes, once all are forgotten, and the position after them
 
     def position(self, sequence: int) -> int:
-        """The position of a sequence number, which wraps."""
-        beyond = (sequence - (self.first or 0) - self.next) & 0xffffffff
-        return self.next + beyond - (beyond >> 31 << 32)
+        """The position of a sequence number, which wraps: the first one that is not long before what was acknowledged."""
+        low = max(min(self.acked, self.next), self.next - IN_FLIGHT_AT_MOST) - LIKELY_AT_MOST
+        return low + (sequence - (self.first or 0) - low) % NUMBERS
 
     def begins_at(self, sequence: int) -> None:
         """The sequence number of the first byte is known."""
         if self.first is None:
-            self.first = self.expected = sequence & 0xffffffff
+            self.first = self.expected = sequence % NUMBERS
             self.is_begin = True
 
+    def begun_late(self, sequence: int, number: int) -> None:
+        """The same by SYN, which may be recorded after some bytes."""
+        before = 0 if self.first is None else (self.first - sequence) % NUMBERS
+        if self.first is None or not before:
+            self.begins_at(sequence)
+            self.is_begin |= not self.begin
+        elif self.may_begin_at(sequence) and not self.begin:
+            self.first, self.is_begin = sequence % NUMBERS, True
+            self.move(before, number)
+
+    def may_begin_at(self, sequence: int) -> bool:
+        """Whether SYN with this number may be that of the stream, though it comes after bytes."""
+        return not self.is_begin and self.first is not None and (self.first - sequence) % NUMBERS <= LIKELY_AT_MOST
+
+    def move(self, before: int, number: int) -> None:
+        """Bytes are missing before the first that was known."""
+        if self.runs:
+            gap = Gap(0, before, number)
+            self.runs = [Run(run.begin, run.gap and run.gap._replace(position=run.gap.position + before), run.position + before) for run in self.runs]
+            self.runs[0] = self.runs[0]._replace(gap=gap)
+            self.next += before
+            self.acked += before
+        for held in (self.held, self.beyond):
+            held.begins = [begin + before for begin in held.begins]
+        self.known_end += before if self.known_end else 0
+        self.end, self.far, self.far_fin = (None if at is None else at + before for at in (self.end, self.far, self.far_fin))
+        self.expected = ((self.first or 0) + self.next) % NUMBERS
+
     def shows(self, end: int, number: int) -> None:
-        """A frame shows that bytes were sent up to a position. FIN is acknowledged as one more."""
-        end = end if self.end is None else min(end, self.end)
-        if end > self.known_end and self.is_likely(end):
-            self.known_end, self.known_by = end, number
+        """A frame shows that bytes were sent up to a position. FIN is acknowledged as one more. An end that is far beyond all that is known
+        counts once a second frame agrees."""
+        if self.end is not None and end <= self.end + 1:
+            end = min(end, self.end)
+        if end <= self.known_end:
+            return
+        if not self.is_likely(end):
+            if self.far is None or abs(end - self.far) > LIKELY_AT_MOST:
+                self.far, self.far_by = end, number
+                return
+            end = max(end, self.far)
+        if self.far is not None and end >= self.far:
+            self.far = None
+        if self.end is not None:
+            self.go_on()
+        if self.far_fin is not None and end in (self.far_fin, self.far_fin + 1):
+            self.end = end = self.far_fin
+        self.known_end, self.known_by = end, number
 
     def is_likely(self, position: int) -> bool:
         """Whether an end of the bytes that were sent is not far beyond all that is known, as that of an older connection."""
-        return position <= max(self.next, self.known_end) + LIKELY_AT_MOST
+        return position <= max(self.next, self.known_end, self.held.end, self.beyond.end) + LIKELY_AT_MOST
+
+    def is_acknowledged(self, acknowledged: int, number: int) -> None:
+        """The other end has received all bytes before a sequence number."""
+        self.acknowledged = acknowledged
+        if acknowledged == self.expected:  # it shows nothing that was not taken
+            self.acked = self.next
+            return
+        position = self.position(acknowledged)
+        self.acked = max(self.acked, min(position, self.next))
+        self.shows(position, number)
+
+    def is_beyond(self, acknowledged: int) -> bool:
+        """Whether an acknowledgement shows bytes after all that are known. FIN is acknowledged as one more."""
+        return self.first is not None and self.position(acknowledged) > max(self.next, self.known_end) + 1
 
     def ends_at(self, end: int, number: int) -> None:
         """The position of the end is known, unless bytes beyond it were sent."""
-        if self.end is None and end >= self.next and self.is_likely(end):
-            self.shows(end, number)
+        if end < max(self.next, self.held.end, self.known_end - 1) or self.end is not None and end <= self.end:
+            return
+        if not self.is_likely(end):
+            self.far_fin = end
+        self.shows(end, number)
+        if self.known_end >= end or end == self.next:
             self.end, self.known_end = end, min(end, self.known_end)
+
+    def go_on(self) -> None:
+        """FIN was not the end."""
+        beyond, self.end, self.beyond = self.beyond, None, Held()
+        self.budget.held -= beyond.cost
+        for begin, (piece, number, time) in zip(beyond.begins, beyond.pieces):
+            self.place(begin, piece, number, time)
 
     def take(self, sequence: int, payload: bytes, missing: int, number: int, time: int) -> None:
         """Takes the payload of a segment, of which some bytes at the end may be missing."""
         if sequence == self.expected and not (missing or self.held.begins) and self.end is None:
             return self.append(payload, number, time)
         if self.first is None:
-            self.first = self.expected = sequence & 0xffffffff
+            self.first = self.expected = sequence % NUMBERS
         position = self.position(sequence)
-        if self.end is not None and position + len(payload) > self.end:
-            payload = payload[:max(0, self.end - position)]
         if missing:
             self.shows(position + len(payload) + missing, number)
+        if self.end is not None and position + len(payload) > self.end:
+            kept = max(0, self.end - position)
+            self.keep_beyond(position + kept, payload[kept:], number, time)
+            payload = payload[:kept]
+        self.place(position, payload, number, time)
+
+    def place(self, position: int, payload: bytes, number: int, time: int) -> None:
+        """Takes bytes that begin at a position."""
         if position == self.next and not self.held.begins:
             self.append(payload, number, time)
         elif position > self.next:
@@ -300,10 +391,26 @@ class Stream:
         elif payload:
             self.take_late(position, payload, number, time)
 
+    def keep_beyond(self, position: int, payload: bytes, number: int, time: int) -> None:
+        """Keeps bytes at or after FIN, until the other end acknowledges them."""
+        if self.beyond.cost + len(payload) > HELD_AT_MOST:
+            self.leave_out(len(payload), number)
+            return
+        cost = self.beyond.cost
+        if not self.beyond.add(position, payload, number, time):
+            self.differs(number)
+        self.budget.held += self.beyond.cost - cost
+
+    def leave_out(self, size: int, number: int) -> None:
+        """Counts bytes that cannot be taken."""
+        if size:
+            self.unplaced_by = self.unplaced_by or number
+            self.unplaced += size
+
     def append(self, payload: bytes, number: int, time: int) -> None:
         if payload:
             if not self.runs:
-                self.runs.append(Run(0, None))
+                self.runs.append(Run(0, None, self.next))
             if self.frames is not None:
                 self.frames.append(self.stored.size, number, time)
             self.stored.append(payload)
@@ -322,8 +429,8 @@ class Stream:
         """Takes what is new of a segment that begins before the next position or at it."""
         old = payload[:self.next - position]
         is_keep_alive = len(payload) == 1 and position == self.next - 1
-        if old and not is_keep_alive and position >= 0 and self.bytes_at(position, len(old)) not in (None, old):
-            self.differs(number)
+        if old and not is_keep_alive:
+            self.compare(position, old, number)
         if len(payload) > len(old):
             begin, cost = self.next, self.held.cost
             if not self.held.add(begin, payload[len(old):], number, time):
@@ -331,10 +438,29 @@ class Stream:
             self.budget.held += self.held.cost - cost
             self.drain()
 
-    def bytes_at(self, position: int, size: int) -> bytes | None:
-        """The bytes of positions that were taken, unless a gap is before them or they are forgotten."""
-        begin = self.stored.size - (self.next - position)
-        return self.stored.read(begin, size) if len(self.runs) == 1 and not self.runs[0].gap and begin >= self.begin else None
+    def compare(self, position: int, old: bytes, number: int) -> None:
+        """Compares bytes that come again with those that were taken, and counts those for which there are none."""
+        end, compared, is_other = position + len(old), 0, False
+        for begin, at, size in self.ranges_from(position):
+            if begin >= end:
+                break
+            low, high = max(position, begin), min(end, begin + size)
+            if low < high:
+                compared += high - low
+                is_other |= self.stored.read(at + low - begin, high - low) != old[low - position:high - position]
+        if is_other:
+            self.differs(number)
+        self.leave_out(len(old) - compared, number)
+
+    def ranges_from(self, position: int) -> typing.Iterator[tuple[int, int, int]]:
+        """Iterates over runs of bytes with which others can be compared, from the last that begins at a position or before it, or from the
+        first: the position of each, where it is stored, and its size."""
+        if self.compared < self.begin and self.runs and position < self.runs[0].position:
+            size = self.begin - self.compared
+            yield self.runs[0].position - size, self.compared, size
+        for at in range(max(0, bisect.bisect_right(self.runs, position, key=lambda run: run.position) - 1), len(self.runs)):
+            end = self.runs[at + 1].begin if at + 1 < len(self.runs) else self.stored.size
+            yield self.runs[at].position, self.runs[at].begin, end - self.runs[at].begin
 
     def differs(self, number: int) -> None:
         self.conflict = self.conflict or number
@@ -350,7 +476,7 @@ class Stream:
     def give_up_gap(self) -> None:
         """Goes on after the bytes that are missing."""
         begin = self.held.begins[0]
-        self.runs.append(Run(self.stored.size, Gap(self.next, begin - self.next, self.held.pieces[0][1])))
+        self.runs.append(Run(self.stored.size, Gap(self.next, begin - self.next, self.held.pieces[0][1]), begin))
         self.next = begin
         self.drain()  # which appends bytes, so that the sequence number that is expected follows
 
@@ -358,24 +484,43 @@ class Stream:
         """Nothing comes after this."""
         while self.held.begins:
             self.give_up_gap()
+        if self.beyond.begins:
+            self.leave_out(self.beyond.size, self.beyond.pieces[0][1])
+            self.budget.held -= self.beyond.cost
+            self.beyond = Held()
 
     def drop(self, begin: int) -> None:
-        """Forgets the stored bytes before a place at which a record begins."""
+        """Forgets the stored bytes before a place at which a record begins, but for some with which others are compared."""
         passed = [run for run in self.runs if run.begin <= begin]
         self.lacks |= not self.is_begin or any(run.gap for run in passed)
-        self.runs = [Run(begin, None), *self.runs[len(passed):]]
+        last = passed[-1] if passed else Run(begin, None, self.next)
+        together = self.compared if len(passed) <= 1 and not last.gap else last.begin
+        self.runs = [Run(begin, None, last.position + begin - last.begin), *self.runs[len(passed):]]
         self.begin, self.is_begin = begin, True
-        self.stored.drop(begin)
+        self.compared = max(together, begin - COMPARED_AT_MOST)
+        self.stored.drop(self.compared)
         if self.frames is not None:
             self.frames.drop(begin)
 
     def close(self) -> None:
-        """Forgets all bytes. Nothing is taken after this."""
-        self.budget.held -= self.held.cost
-        self.held = Held()
+        """Forgets all bytes but the last, with which others that come later are compared. Nothing is taken after this."""
+        begin = max(self.begin, self.runs[-1].begin if self.runs else 0, self.stored.size - TAIL)
+        self.tail, self.tail_end = self.stored.read(begin, self.stored.size - begin), self.next
+        self.budget.held -= self.held.cost + self.beyond.cost
+        self.held, self.beyond = Held(), Held()
         self.stored.close()
         if self.frames is not None:
             self.frames.stored.close()
+
+    def new_in(self, position: int, payload: bytes) -> int:
+        """How many bytes of a segment that comes after all are forgotten cannot be seen to be those that were taken."""
+        if len(payload) == 1 and position == self.next - 1:  # a keep-alive
+            return 0
+        first = self.tail_end - len(self.tail)
+        low, high = max(position, first), min(position + len(payload), self.tail_end)
+        if low < high and self.tail[low - first:high - first] == payload[low - position:high - position]:
+            return len(payload) - (high - low)
+        return len(payload)
 
     def gap_at_end(self) -> Gap | None:
         """The bytes that are missing after the last one."""
@@ -386,16 +531,28 @@ class Stream:
 
 
 class Connection:
-    """Two ends, 0 the one that sent the first segment, each with its stream."""
-    __slots__ = 'number', 'key', 'client', 'first_payload', 'is_closed', 'is_chosen', 'is_judged', 'is_reset', 'streams'
+    """Two ends, 0 the one that sent the first segment, each with its stream.
 
-    def __init__(self, number: int, key: bytes, spool: Spool, budget: Budget, keeps_frames: bool) -> None:
-        self.number, self.key = number, key  # the number as Wireshark counts tcp.stream, from 0
+    older: the connection of the same ends before this one, of which segments may come yet
+    strays: frames of which nothing is taken, and why
+    """
+    __slots__ = ('number', 'key', 'client', 'has_syn', 'first_payload', 'is_chosen', 'is_judged', 'is_closed_later', 'reset_at', 'streams', 'older',
+                 'begun_by', 'is_stray', 'strays', 'after', 'shown_after', 'is_told')
+
+    def __init__(self, number: int, key: bytes, spool: Spool, budget: Budget, keeps_frames: bool, begun_by: int = 0) -> None:
+        self.number, self.key, self.begun_by = number, key, begun_by  # the number as Wireshark counts tcp.stream, from 0
         self.client: int | None = None  # the end that sent SYN
+        self.has_syn = [False, False]  # whether SYN of each end was recorded
         self.first_payload: int | None = None  # the end that sent payload first
-        self.is_closed = self.is_chosen = False
+        self.is_chosen = False
         self.is_judged = False  # nothing of it is wanted any more
-        self.is_reset = [False, False]  # by which end
+        self.is_closed_later = False  # after that
+        self.after, self.is_told = 0, True  # bytes that came after that, and whether they are told
+        self.shown_after = 0  # the first frame after that by which others are missing
+        self.reset_at: list[int | None] = [None, None]  # the position at which each end reset it
+        self.older: Connection | None = None
+        self.is_stray = False  # the older one went on
+        self.strays: list[str] = []
         self.streams = [Stream(spool, budget, Frames(spool) if keeps_frames else None) for _ in range(2)]
 
     @property
@@ -403,40 +560,104 @@ class Connection:
         """Both ends, each an address with its port."""
         return ends_of(self.key)
 
+    @property
+    def is_closed(self) -> bool:
+        """Whether an end closed or reset it."""
+        return (self.streams[0].end is not None or self.streams[1].end is not None or self.is_reset_by(0) or self.is_reset_by(1)
+                or self.is_closed_later)
+
+    def is_reset_by(self, side: int) -> bool:
+        """Whether an end reset it, and sent nothing after that."""
+        position, stream = self.reset_at[side], self.streams[side]
+        return position is not None and stream.next <= position
+
+    def side_of(self, key: bytes) -> int:
+        """The end that sends segments with a key."""
+        return 0 if key == self.key else 1
+
     def is_other(self, side: int, segment: Segment) -> bool:
         """Whether a segment with SYN begins another connection of the same ends."""
-        first = self.streams[side].first
-        if first is None:
-            return self.is_judged
-        return first != (segment.sequence + 1) & 0xffffffff or self.is_closed and not segment.flags & ACK
+        own, other = self.streams[side], self.streams[1 - side]
+        first = (segment.sequence + 1) % NUMBERS
+        if own.first is None:
+            answers = not segment.flags & ACK or not other.is_begin or (segment.acknowledged - (other.first or 0)) % NUMBERS <= other.next
+            return self.is_judged or not answers
+        if own.first == first:
+            return self.has_syn[side] and self.is_closed and not segment.flags & ACK
+        return not own.may_begin_at(first)
+
+    def distance(self, side: int, segment: Segment) -> int:
+        """How far the numbers of a segment are from those that are expected, as far as these are known."""
+        own, other = self.streams[side], self.streams[1 - side]
+        found = [apart(segment.sequence, own.expected)] if own.expected is not None else []
+        if segment.flags & ACK and other.expected is not None:
+            found.append(apart(segment.acknowledged, other.expected))
+        return sum(found) if found else NUMBERS
 
     def take(self, side: int, segment: Segment, number: int, time: int) -> None:
         _, sequence, acknowledged, flags, payload, missing = segment
         own, other = self.streams[side], self.streams[1 - side]
         if flags & RST:
-            self.is_closed = self.is_reset[side] = True
+            self.reset(side, segment, number)
             return
         if flags & SYN:
-            self.client = 1 - side if flags & ACK else side
-            own.begins_at(sequence + 1)
+            self.client, self.has_syn[side] = 1 - side if flags & ACK else side, True
+            own.begun_late(sequence + 1, number)
             sequence += 1
-        if flags & ACK and acknowledged != other.acknowledged:
-            self.acknowledge(other, acknowledged, bool(flags & SYN) or own.is_begin and sequence == own.first, number)
+        if flags & ACK and (acknowledged != other.acknowledged or flags & SYN):
+            is_first = bool(flags & SYN) or other.first is None and own.is_begin and sequence == own.first
+            self.acknowledge(other, acknowledged, is_first, number)
         if payload or missing:
             self.first_payload = side if self.first_payload is None else self.first_payload
             own.take(sequence, payload, missing, number, time)
         if flags & FIN and own.first is not None:
-            self.is_closed = True
             own.ends_at(own.position(sequence) + len(payload) + missing, number)
+
+    def reset(self, side: int, segment: Segment, number: int) -> None:
+        """Takes RST, unless its receiver would not expect it (RFC 5961, section 3.2). It has the numbers of the next bytes of both ends.
+        Bytes in it are no part of the stream."""
+        own, other = self.streams[side], self.streams[1 - side]
+        position = own.position(segment.sequence) if own.first is not None else 0
+        if own.first is not None and not (own.acked <= position and own.is_likely(position)):
+            self.note_stray(f'frame {number}: a RST that its receiver does not expect')
+            return
+        self.reset_at[side] = position
+        if own.first is not None:
+            own.shows(position, number)
+        if segment.flags & ACK and other.first is not None:
+            other.is_acknowledged(segment.acknowledged, number)
+
+    def note_stray(self, text: str) -> None:
+        if len(self.strays) < STRAYS_AT_MOST:
+            self.strays.append(text)
 
     def acknowledge(self, other: Stream, acknowledged: int, is_first: bool, number: int) -> None:
         """Takes what an end says that it received. The first time this tells where the other's stream begins."""
         if is_first and self.client is not None:
-            other.begins_at(acknowledged)
+            other.begun_late(acknowledged, number)
         if other.first is not None:
-            other.acknowledged = acknowledged
-            if acknowledged != other.expected:  # else it shows nothing that was not taken
-                other.shows(other.position(acknowledged), number)
+            other.is_acknowledged(acknowledged, number)
+
+    def pass_by(self, side: int, segment: Segment, number: int) -> None:
+        """Counts the bytes of a segment that comes after the connection was judged, but for those that were taken before."""
+        own, size = self.streams[side], len(segment.payload) + segment.missing
+        self.is_closed_later |= bool(segment.flags & (FIN | RST))
+        if segment.flags & ACK and self.streams[1 - side].is_beyond(segment.acknowledged):
+            self.shown_after = self.shown_after or number
+        if not size or segment.flags & RST or not self.is_told:
+            return
+        if own.first is None:
+            own.first = segment.sequence
+        position = own.position(segment.sequence)
+        self.after += own.new_in(position, segment.payload) + segment.missing
+        own.next = max(own.next, position + size)
+        own.expected = (own.first + own.next) % NUMBERS
+
+
+def apart(first: int, second: int) -> int:
+    """How far two sequence numbers are apart, which wrap."""
+    ahead = (first - second) % NUMBERS
+    return min(ahead, NUMBERS - ahead)
 
 
 class Connections:
@@ -451,15 +672,42 @@ class Connections:
     def take(self, segment: Segment, number: int, time: int, is_chosen: bool) -> Connection:
         """Takes a segment, and returns its connection. One that is not chosen only counts as one of its connection."""
         found = self.sides.get(segment.key)
-        if found is None or segment.flags & SYN and found[0].is_other(found[1], segment):
-            found = self.begin(segment.key), 0
-        if is_chosen and not found[0].is_judged:
+        if found is None:
+            found = self.begin(segment.key, number), 0
+        elif segment.flags & SYN or found[0].older is not None:
+            found = self.among_two(found, segment, number)
+        if is_chosen:
             found[0].is_chosen = True
-            found[0].take(found[1], segment, number, time)
+            if found[0].is_judged:
+                found[0].pass_by(found[1], segment, number)
+            else:
+                found[0].take(found[1], segment, number, time)
         return found[0]
 
-    def begin(self, key: bytes) -> Connection:
-        connection = self.all[self.count] = Connection(self.count, key, self.spool, self.budget, self.keeps_frames)
+    def among_two(self, found: tuple[Connection, int], segment: Segment, number: int) -> tuple[Connection, int]:
+        """The connection of a segment that may be one of the older connection of the same ends, or begin another."""
+        newer, older = found[0], found[0].older
+        if segment.flags & SYN:
+            if not newer.is_other(found[1], segment):
+                return found
+            if older is None or older.is_other(older.side_of(segment.key), segment):
+                return self.begin(segment.key, number, newer), 0
+            return older, older.side_of(segment.key)
+        assert older is not None
+        side = older.side_of(segment.key)
+        there, here = older.distance(side, segment), newer.distance(found[1], segment)
+        if there > here or there == here and older.is_closed:
+            return found
+        newer.is_stray |= bool(segment.payload) and newer.first_payload is None
+        return older, side
+
+    def begin(self, key: bytes, begun_by: int, older: Connection | None = None) -> Connection:
+        """Begins a connection. That of the same ends before it is not forgotten: one that has not had any payload gives way to its own."""
+        connection = self.all[self.count] = Connection(self.count, key, self.spool, self.budget, self.keeps_frames, begun_by)
+        if older is not None:
+            is_kept = older.first_payload is not None or older.older is None
+            connection.older = older if is_kept else older.older
+            older.older = None if is_kept else older.older
         self.count += 1
         self.sides[turned(key)] = connection, 1
         self.sides[key] = connection, 0
@@ -471,11 +719,26 @@ class Connections:
         for key in (connection.key, turned(connection.key)):
             if key in self.sides and self.sides[key][0] is connection:
                 del self.sides[key]
+            elif key in self.sides and self.sides[key][0].older is connection:
+                self.sides[key][0].older = None
 
     def finish(self) -> list[Connection]:
-        """The connections of which a segment was chosen. Nothing is taken after this."""
-        chosen = [connection for connection in self.all.values() if connection.is_chosen]
+        """The connections of which a segment was chosen, but those of a SYN that fits none. Nothing is taken after this."""
+        chosen = [connection for connection in self.all.values() if connection.is_chosen and not is_of_stray(connection)]
         for connection in chosen:
             connection.streams[0].finish()
             connection.streams[1].finish()
         return chosen
+
+
+def is_of_stray(connection: Connection) -> bool:
+    """Whether a connection is none, since the older one went on; if so, that is noted there, and what its frames show of missing bytes."""
+    older = connection.older
+    if not connection.is_stray or connection.first_payload is not None or older is None:
+        return False
+    older.note_stray(f'frame {connection.begun_by}: a SYN that fits no connection')
+    for key, stream in zip((connection.key, turned(connection.key)), connection.streams):
+        shown = older.streams[older.side_of(key)]
+        if stream.far is not None or stream.gap_at_end():
+            shown.far, shown.far_by = shown.next, stream.far_by or stream.known_by
+    return True

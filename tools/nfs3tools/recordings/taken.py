@@ -35,6 +35,8 @@ from .streams import Brought, Connection, Connections, Frames, Spool, Stored
 from .unpacking import READ_AT_ONCE, Damaged, Readable
 
 FRAMES_A_STEP = 1_000
+NO_RPC = 'no RPC'  # is why a connection is left out
+TUNNEL = '*'  # ends the name of frames that may have segments of TCP in them
 NOTHING, NOTHING_MORE = Brought(0, 0, 0), Brought(sys.maxsize, 0, 0)
 __all__ = ['FrameRef', 'LeftOut', 'NotTaken', 'Options', 'Record', 'Taken', 'TakenConnection', 'TakenStream', 'take']
 
@@ -210,6 +212,7 @@ class Taken:
     remarks: what else is not judged, though no connection stands for it
     notes: what is told of the whole recording or capture, a sentence each, without these
     damage: why what follows could not be read, or None; a recording that ends in the middle of a frame is not damaged
+    nothing: what is said if there is no connection
     is_recording: False if read from a capture
     has_frames: whether the frames of bytes are noted
     parts: those of a recording that has several, in order
@@ -223,6 +226,7 @@ class Taken:
         self.remarks: list[Covered] = []
         self.notes: list[str] = []
         self.damage: str | None = None
+        self.nothing = 'no connection to judge'
         self.parts: list[Part] = []
 
     @property
@@ -449,6 +453,7 @@ class Taking:
         self.progress.end()
         self.taken.notes += notes_of(self.segments)
         self.taken.remarks += remarks_of(self.segments)
+        self.taken.nothing = nothing_in(self.segments)
         for connection in self.connections.finish():
             add(self.taken, connection, select(connection, self.options), self.options)
         return self.taken
@@ -459,8 +464,28 @@ def ports_of(options: Options) -> frozenset[int]:
     return (options.ports or NFS_PORTS) - {PORT_MAPPER}
 
 
+def nothing_in(segments: Segments) -> str:
+    """What is said of a recording in which there is no connection: the kinds of its frames, if it has some."""
+    kinds = sorted(segments.others.items(), key=lambda one: (-one[1], one[0]))
+    told = ', '.join(f'{number:,} of {name.rstrip(TUNNEL)}' for name, number in kinds)
+    return f'no connection to judge: {count(sum(segments.others.values()), "frame")} without TCP: {told}' if kinds else 'no connection to judge'
+
+
 def remarks_of(segments: Segments) -> list[Covered]:
     """What is not judged of the frames that are no segments of TCP."""
+    segments.finish()
+    return [*fragments_of(segments), *datagrams_of(segments)]
+
+
+def fragments_of(segments: Segments) -> list[Covered]:
+    """Datagrams of which fragments are missing."""
+    number = segments.given_up
+    return [Covered('in part', f'{count(number, "datagram")} of TCP {plural(number, "is", "are")} not taken, since not all fragments of '
+                               f'{plural(number, "it", "them")} came in time')] if number else []
+
+
+def datagrams_of(segments: Segments) -> list[Covered]:
+    """Datagrams of UDP, which may have calls and replies in them."""
     return [Covered('left out', f'{count(number, "UDP datagram")} to or from port {port} {plural(number, "is", "are")} not taken')
             for port, number in sorted(segments.datagrams.items())]
 
@@ -473,9 +498,10 @@ def notes_of(segments: Segments) -> list[str]:
     if segments.lying:
         notes.append(f'{count(segments.lying, "frame")} {plural(segments.lying, "has", "have")} headers that do not fit '
                      f'{plural(segments.lying, "its", "their")} length, and {plural(segments.lying, "is", "are")} passed over')
-    if segments.given_up:
-        notes.append(f'{count(segments.given_up, "datagram")} {plural(segments.given_up, "is", "are")} given up, of which more '
-                     f'fragments came than an eighth of {plural(segments.given_up, "its", "their")} bytes')
+    for name, number in sorted(segments.others.items()):
+        if name.endswith(TUNNEL):
+            notes.append(f'{count(number, "frame")} of {name.rstrip(TUNNEL)} {plural(number, "is", "are")} passed over; '
+                         'what is in them is not known')
     for link, number in segments.links.items():
         notes.append(f'{count(number, "frame")} of the link type {link} {plural(number, "is", "are")} passed over')
     return notes
@@ -496,7 +522,7 @@ def left_out_of(connection: Connection, selected: Selected, options: Options) ->
     if connection.first_payload is None and not any(stream.gap_at_end() for stream in connection.streams):
         return LeftOut(ends, 'no payload', shows_calls=False)
     if not is_of_rpc(connection, options.ports):
-        return LeftOut(ends, 'no RPC', shows_calls=False)
+        return LeftOut(ends, NO_RPC, shows_calls=False)
     if any(kept.ranges for kept in selected.kept):
         return None
     is_for_losses = connection.client is not None or options.midstream
@@ -508,7 +534,8 @@ def taken_connection(number: int, connection: Connection, selected: Selected) ->
     streams = connection.streams[selected.client], connection.streams[1 - selected.client]
     client, server = (TakenStream(stream.stored, stream.frames, kept.ranges) for stream, kept in zip(streams, selected.kept))
     return TakenConnection(number, connection.number, connection.ends[selected.client], connection.ends[1 - selected.client],
-                           ' and '.join(connection.ends), selected.why, client, server, selected.notes, selected.missing, selected.lacks)
+                           ' and '.join(connection.ends), selected.why, client, server, [*selected.notes, *connection.strays],
+                           selected.missing, selected.lacks)
 
 
 def why_left_out(connection: Connection, options: Options) -> str:
