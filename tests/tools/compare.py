@@ -118,7 +118,8 @@ def words_of_masks(place: Comparisons) -> None:
     place.want('one more', mask_of('+owners')['owners'], Way.NUMBER)
     place.want('another way', mask_of('ids=zero'), {'ids': Way.ZERO})
     place.want('told', mask_of(told(default_mask())), default_mask())
-    for bad in ('nothing', 'times=half'):
+    place.want('raw', (mask_of('+raw')['raw'], 'raw' in default_mask()), (Way.ZERO, False))
+    for bad in ('nothing', 'times=half', '+raw=number'):
         status, out, error = place.compare('--mask', bad, 'a', 'b')
         place.want(bad, (status, out, 'error' in error), (2, [], True))
 

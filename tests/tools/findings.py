@@ -447,6 +447,18 @@ def names_of_numbers(place: Findings) -> None:
                ['  - auth_stat=1 (AUTH_BADCRED)', '  + auth_stat=13 (RPCSEC_GSS_CREDPROBLEM)'])
 
 
+def raw_bytes_that_are_masked(place: Findings) -> None:
+    """Of raw bodies that are masked the lengths alone differ."""
+    def of_bodies(one: bytes, other: bytes) -> list[str]:
+        comparison, found = Comparison({'raw': Way.ZERO}), list[str]()
+        pair = [of_exchange(place, NFSACL, 1, body, [success(7, body)]) for body in (one, other)]
+        for first, second in zip(*pair):
+            found += [difference.label for difference in comparison.of_messages(first, second)]
+        return found
+    place.want('other bytes', of_bodies(b'abcd', b'efgh'), [])
+    place.want('more bytes', of_bodies(b'abcd', b'abcdefgh'), ['rest', 'rest'])
+
+
 # --- Findings that say the same ---
 
 def asked_for(*files: tuple[bytes, int], more: int = 0) -> tuple[list[bytes], list[bytes]]:
@@ -722,7 +734,7 @@ def each_error_names_its_run(place: Findings) -> None:
 
 TESTS: list[Callable[[Findings], None]] = [
     labels_of_every_procedure, labels_of_fewer_parts, fields_are_those_of_labels, differing_labels, sizes_of_changes,
-    names_of_removed_files, names_of_hosts, data_of_files, values_that_part, long_names, long_handles, names_of_numbers, equal_findings,
+    names_of_removed_files, names_of_hosts, data_of_files, values_that_part, raw_bytes_that_are_masked, long_names, long_handles, names_of_numbers, equal_findings,
     equal_findings_of_one_run, arguments_of_one_run, calls_of_one_run_with_other_arguments, equal_findings_of_renamed_values, the_first_twenty, fields_left_out, as_json, json_of_recordings,
     json_is_an_output, outputs_are_tried_before_the_work, json_on_standard_output, each_error_names_its_run]
 

@@ -506,6 +506,8 @@ def masks_of_any_order(place: Comparisons) -> None:
     relaxed = ('ids', 'createverfs', 'cookies', 'wcc')
     masks = in_any_order(None)
     place.want('default', masks, [{**default_mask(), **dict.fromkeys(relaxed[:number], Way.ZERO)} for number in range(5)])
+    place.want('with raw bodies', in_any_order(None, True), [*masks, {**masks[-1], 'raw': Way.ZERO}])
+    place.want('raw bodies that are named', in_any_order('-raw', True)[-1].get('raw'), None)
     for word_of_mask in ('times', 'none', 'ids=number,times'):
         place.want(word_of_mask, in_any_order(word_of_mask), [mask_of(word_of_mask)])
     place.want('named', all(mask['ids'] is Way.NUMBER for mask in in_any_order('+ids=number')), True)
@@ -536,6 +538,28 @@ def verifiers_that_repeat(place: Comparisons) -> None:
         place.want(name, (status, out[1].partition('; masked besides: ')[2], error), (0, more, ''))
         status, out, _ = place.compare(f'--mask=+createverfs=number,+cookies=number', '--order', 'any', 'a', 'b')
         place.want(f'{name}: compared if they are named', (status, out[1]), (1, 'differ in any order'))
+
+
+def raw_bodies_in_any_order(place: Comparisons) -> None:
+    """Bodies of other programs, with handles and times of their own in each run, are zero in any order if nothing else is enough, and that is
+    said; their lengths count. nfs3mask may be older, and not have the class: then it is not tried, and refused if it is asked for."""
+    def run(order: Sequence[int], body: bytes) -> Conversation:
+        return ([call(xid, messages.NFSACL, 3, 1, b'acl %d' % xid + body) if xid else call(xid, NFS, 3, 0) for xid in order],
+                [success(xid, b'answer %d' % xid + body if xid else b'') for xid in order])
+    place.put('a', run((0, 1, 2), b'1234'))
+    place.put('b', run((0, 2, 1), b'5678'))
+    if 'raw=' not in place.run('nfs3mask', '--help')[2]:
+        place.want('not tried', place.compare('--order', 'any', 'a', 'b')[0], 1)
+        place.want('asked for', place.compare('--mask', '+raw', 'a', 'b')[0::2],
+                   (2, 'compare: this nfs3mask does not have the class raw: it is older than the tools\n'))
+        return
+    status, out, error = place.compare('--order', 'any', 'a', 'b')
+    place.want('masked', (status, out[1].partition('; masked besides: ')[2], error), (0, 'raw=zero', ''))
+    place.want('asked for', place.compare('--mask', '+raw', '--order', 'any', 'a', 'b')[0], 0)
+    place.want('kept', place.compare('--mask=-raw', '--order', 'any', 'a', 'b')[0], 1)
+    place.put('b', run((0, 2, 1), b'12345678'))
+    status, out, _ = place.compare('--mask', '+raw', '--order', 'any', 'a', 'b')
+    place.want('lengths', (status, any('only the lengths count' in line for line in out)), (1, True))
 
 
 def values_that_stand_for_others(place: Comparisons) -> None:
@@ -707,7 +731,7 @@ TESTS: list[Callable[[Comparisons], None]] = [
     runs_are_written_anew, records_of_several_fragments, orders_that_are_none, wrong_writers_are_caught, clients_at_once,
     what_differs_is_found, calls_that_only_ask, runs_without_a_common_call, questions_that_are_changed, in_which_others_worked,
     a_client_without_commit, ids_and_orders, seen_in_the_middle, folders_that_others_change,
-    masks_of_any_order, verifiers_that_repeat, values_that_stand_for_others, orders_of_replies, connections_by_what_they_ask,
+    masks_of_any_order, verifiers_that_repeat, raw_bodies_in_any_order, values_that_stand_for_others, orders_of_replies, connections_by_what_they_ask,
     calls_between_neighbours, one_call_more_among_alike_ones, files_that_were_made_again, one_name_for_many_files,
     many_in_another_order]
 

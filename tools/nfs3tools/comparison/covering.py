@@ -79,6 +79,11 @@ class Cover:
         if self.taken.damage:
             yield Row('error', None, '', self.taken.damage)
 
+    @property
+    def has_raw(self) -> bool:
+        """Whether it has calls whose bodies are kept as they are."""
+        return any(one.called.raw or one.called.unchecked for one in self.covered)
+
     def faults(self) -> Iterator[str]:
         """What of it is not valid, or cannot be read."""
         yield from self.refused.values()

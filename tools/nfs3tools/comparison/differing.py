@@ -3,7 +3,7 @@ from collections import Counter
 from collections.abc import Iterable, Iterator, Sequence
 from dataclasses import dataclass
 
-from .apart import Apart, apart, is_long
+from .apart import Apart, Content, apart, is_long
 from .binding import HANDLES, VERIFIERS, Bindings
 from .classes import CLASSES, Mask, ValueClass, Way
 from ..captures.listings import Item, Message
@@ -86,14 +86,21 @@ class Comparison:
         owner = self.class_of(name, here.is_call)
         if owner is not None and not (is_of(owner, here, at) and is_of(owner, there, to)):
             owner = None
-        if first == second == '' or owner is not None and self.mask[owner.name] is Way.ZERO:
+        if first == second == '':
             return None
+        if owner is not None and self.mask[owner.name] is Way.ZERO:
+            return self.of_lengths(here, at, there, to) if owner.is_raw else None
         renaming = owner.name if owner is not None else RENAMED.get(name)
         if renaming is not None:
             return self.of_renamed(renaming, owner, here, at, there, to)
         if name == 'rest':
             return self.of_raw(here, at, there, to)
         return None if first == second or self.is_length_of_a_machine(here.items[at]) else difference_of(here, at, there, to)
+
+    def of_lengths(self, here: Side, at: int, there: Side, to: int) -> Difference | None:
+        """Raw bytes that are masked differ only in their number."""
+        sizes = [Content(side.items[place].value).size for side, place in ((here, at), (there, to))]
+        return None if sizes[0] == sizes[1] else difference_of(here, at, there, to, remark='only the lengths count')
 
     def of_raw(self, here: Side, at: int, there: Side, to: int) -> Difference | None:
         """Handles in raw bytes are those of the other run where they are known."""

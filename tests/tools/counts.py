@@ -1,7 +1,7 @@
 #!/usr/bin/env python3
 """Tests of how much of two runs tools/compare says that it compared: the four counts in each form of its output, and the status.
 
-    python3 tests/tools/covering.py [PROGRAM] [--only TEXT] [-v]
+    python3 tests/tools/counts.py [PROGRAM] [--only TEXT] [-v]
 
 PROGRAM is crates/nfs3canon/out/nfs3canon if none is named. The runs are recordings of connections of known kinds, so the counts are known by
 hand. The last line is 'N passed, M failed', and the status is 1 if any failed.
