@@ -42,7 +42,7 @@ TESTS = {
     'program': ('shipped', 'run', 'captures', 'fuzz', 'large', 'instructions'),
     'faults': ('failures', 'memory', 'hostile', 'exchanged'),
     'sources': ('must_fail', 'agreement'),
-    'tools': ('from_pcap', 'lossy', 'verdicts', 'covered', 'following', 'followed', 'procedures', 'compare', 'orders', 'marks',
+    'tools': ('from_pcap', 'lossy', 'verdicts', 'covered', 'following', 'followed', 'procedures', 'compare', 'orders', 'counts', 'marks',
               'findings', 'page', 'ci', 'reasons', 'explain', 'cut', 'installing', 'harm'),
 }
 PROVED = re.compile(r'^rt: (\w+) (?:proved$|is kept: )')

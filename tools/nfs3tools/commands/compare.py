@@ -6,14 +6,16 @@
 A and B are recordings (pcap, pcapng; a pattern in quotes names the parts of one) or captures. Values that each run has its own
 of are masked first: of the classes below, those marked with a star by default. What is masked is always printed. Then
 `nfs3canon same` compares the masked captures, up to a renaming of xids, file handles and write verifiers: `same` is its word, and
-how many calls were compared follows it. If bytes are missing from a recording, equal runs are `same in part`, and what is missing
-is told.
+how many calls were compared follows it. Then come the four counts of both runs: how many connections are judged, in part, left out and not
+checked. If something of a run is not compared, equal runs are `same in part`. A connection that is refused is not compared, and the others
+are. A run without a call that can be compared is an error.
 
 If the runs differ, calls are brought together over all connections and in any order. If nothing else than the order differs, they are
-`same in another order`: that is the word of `nfs3canon same` on both runs in the order of the first. File ids are zero then (and the
-class wcc, if that is not enough), and calls that only ask (GETATTR, LOOKUP ..) and that one run alone has are left out; all that is
-told. Otherwise each difference is printed as `diff` would: which call, which field and whose (`dir after.size`), both values, and the
-frames. Of values of over 60 characters it is the bytes round the first that differs. Messages of one procedure that differ in the same
+`same in another order`: that is the word of `nfs3canon same` on both runs in the order of the first. File ids are zero then, and the classes
+createverfs, cookies, wcc and raw, of these only those that are needed. Calls that only ask (GETATTR, LOOKUP ..) and that one run alone has
+are left out, and so are questions about a folder that the calls of others overtook. All that is told, and listed. Otherwise each difference
+is printed as `diff` would: which call, which field and whose (`dir after.size`), both values, and the frames. Of values of over 60 characters
+it is the bytes round the first that differs; a call of one run alone has its arguments. Messages of one procedure that differ in the same
 way are printed once, with their number. --brief prints a line for each.
 
 --order strict tries no other order. With --order any the status of `same in another order` is 0. --extra none leaves out no calls.
@@ -24,17 +26,18 @@ their labels, or by the name of items, as `nlink`, whose ever they are; the verd
 
 --marks compares the parts of a test run one by one, each as a run of its own. A part begins with a call of LOOKUP, CREATE or MKDIR whose
 name fits PATTERN (of the shell, as 'test_*'), and has that name. It has the calls that were sent up to the next mark, over all connections,
-and their replies. What is before the first mark is a part, too. A line for each part has its verdict. Then come the findings of those that
-differ, and last how many parts have which verdict. The status is 1 if a part differs, or is in one run alone.
+and their replies. What is before the first mark is a part, too. It is an error if no call of both runs is a mark. A line for each part has
+its verdict. Then come the findings of those that differ, and last how many parts have which verdict. The status is 1 if a part differs, or
+is in one run alone.
 
 --junit writes a test case for the verdict, which fails if the status is 1, and then one that fails for each difference. Runs that cannot
 be compared are a case with an error.
 
 FILE is written beside its name, and gets it once it is whole. It is refused if it is an input or another output, or begins as a recording
 or a capture; whether it can be written is tried before the work. If FILE is `-` it is standard output, and all else is printed on standard
-error. The status is 0 if the runs are the same under the mask (with --allow-losses also in part), 1 if they differ or are the
-same in part or in another order, 2 if a recording, a capture, FILE or the command line is refused, 3 if a file, a program or memory
-failed.
+error. The status is 0 if the runs are the same under the mask, 1 if they differ, are the same in another order, or in part (which the options
+--allow-losses and --allow-not-checked change), 2 if a recording, a connection, a capture, FILE or the command line is refused, or if there is
+nothing to compare, 3 if a file, a program or memory failed.
 """
 import argparse
 import os
