@@ -42,8 +42,8 @@ TESTS = {
     'program': ('shipped', 'run', 'captures', 'fuzz', 'large', 'instructions'),
     'faults': ('failures', 'memory', 'hostile', 'exchanged'),
     'sources': ('must_fail', 'agreement'),
-    'tools': ('from_pcap', 'lossy', 'verdicts', 'covered', 'following', 'followed', 'procedures', 'compare', 'orders', 'counts', 'marks',
-              'findings', 'page', 'ci', 'reasons', 'explain', 'cut', 'installing', 'harm'),
+    'tools': ('from_pcap', 'lossy', 'verdicts', 'covered', 'dropped', 'shuffled', 'following', 'followed', 'procedures', 'compare', 'orders',
+              'counts', 'marks', 'findings', 'page', 'ci', 'reasons', 'explain', 'cut', 'installing', 'harm'),
 }
 PROVED = re.compile(r'^rt: (\w+) (?:proved$|is kept: )')
 COUNTS = re.compile(r'^(?:rt: )?(\d+) passed, (\d+) failed')

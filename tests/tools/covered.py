@@ -82,7 +82,7 @@ CASES = [
     Case('begun before the recording', whole(port=701)[3:], ['in part'],
          ['ok in part: 39 calls, its beginning is not in the recording'], {'in_part': 1}, LOSSES),
     Case('the same, not taken', whole(port=701)[3:], ['left out'],
-         ['left out: ' + ENDS % (701, 2049) + 'no SYN in the recording, so its streams may begin inside a record (--midstream takes it)'],
+         ['left out: ' + ENDS % (701, 2049) + 'no SYN in the recording, so its streams may begin inside a record (--no-midstream leaves it out)'],
          {'left_out': 1}, LOSSES, ['--no-midstream']),
     Case('a lost frame', LOST, ['in part'], ['ok in part: 30 calls, 344 bytes missing'], {'in_part': 1}, LOSSES),
     Case('the first frame is lost', whole(port=701)[:3] + whole(port=701)[4:], ['left out'],

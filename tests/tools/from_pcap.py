@@ -444,7 +444,7 @@ def what_is_left_out(tools: Tools) -> None:
     """Connections without a SYN or without payload."""
     ends = 'left out: 192.0.2.7:700 and 192.0.2.1:2049: '
     tools.told('no SYN', pcap(whole()[3:]), [], [ends + 'no SYN in the recording, so its streams may begin inside a record '
-                                                 '(--midstream takes it)'], midstream=False)
+                                                 '(--no-midstream leaves it out)'], midstream=False)
     tools.told('no payload', pcap(Talk().opened()), [], [ends + 'no payload'])
     tools.told('half a closing', pcap([*whole()[:3], Talk(first=(1_001, 5_001)).frame(0, FIN | ACK)]), [], [ends + 'no payload'])
 

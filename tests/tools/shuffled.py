@@ -265,8 +265,8 @@ class Side:
 class Model:
     """Takes the frames of one connection."""
 
-    def __init__(self, connection: Connection) -> None:
-        self.connection = connection
+    def __init__(self, connection: Connection, counts: dict[int, int]) -> None:
+        self.connection, self.counts = connection, counts  # how many fragments each segment has
         self.sides = [Side(len(content)) for content in connection.streams]
         self.parts: dict[int, set[int]] = collections.defaultdict(set)
         self.seen = set[str]()
@@ -288,8 +288,9 @@ class Model:
         self.begins_inside |= not self.seen and not sent.flags & SYN
         if sent.flags & SYN:
             self.seen.add('syn-ack' if sent.flags & ACK else 'syn')
-        if not sent.flags & RST:
-            own.add(sent.begin, len(sent.content) - sent.lacks) if sent.content else None
+        if sent.content and not sent.flags & RST:
+            self.is_unsure |= not self.seen and sent.begin > 0 and not own.shown  # SYN and the first bytes may come late
+            own.add(sent.begin, len(sent.content) - sent.lacks)
         own.shown = max(own.shown, min(sent.end if not sent.flags & RST else sent.begin, len(own.there)))
         if sent.flags & ACK:
             other.shown = max(other.shown, min(sent.acknowledged, len(other.there)))
@@ -303,20 +304,16 @@ class Model:
             return False
         if any(side.shown % size for side, size in zip(self.sides, (CALL, REPLY))) or not self.seen:
             return False
-        if any(len(parts) < self.count_of(number) for number, parts in self.parts.items()):
+        if any(len(parts) < self.counts[number] for number, parts in self.parts.items()):
             return None
         return None if self.is_unsure or 'syn-ack' not in self.seen else True
 
-    def count_of(self, number: int) -> int:
-        return self.counts[number]
-
-    counts: dict[int, int]
 
 
 def modelled(connections: list[Connection], frames: list[Recorded]) -> dict[int, Whole]:
     """What the model says, by the client's port."""
-    models = {id(connection): Model(connection) for connection in connections}
-    Model.counts = {id(one.sent): one.parts for one in frames}
+    counts = {id(one.sent): one.parts for one in frames}
+    models = {id(connection): Model(connection, counts) for connection in connections}
     for one in frames:
         models[id(one.connection)].take(one)
     found = dict[int, Whole]()

@@ -173,10 +173,11 @@ def installed_name(tool: str) -> str:
 def add_options(parser: argparse.ArgumentParser) -> None:
     """The options of how a recording is taken."""
     parser.add_argument('--filter', metavar='FILTER', help='takes the connections for which a display filter of Wireshark is true')
-    parser.add_argument('--port', metavar='PORT,..', type=ports_of, default=frozenset(), help='takes the connections that have one of these ports')
-    parser.add_argument('--midstream', action=argparse.BooleanOptionalAction, default=True,
-                        help='takes connections whose beginning was not recorded, and goes on after missing bytes; it is so unless '
-                             '--no-midstream is said')
+    parser.add_argument('--port', metavar='PORT,..', type=ports_of, default=frozenset(),
+                        help='takes the connections that have one of these ports')
+    parser.add_argument('--midstream', action='store_true', default=True, help=argparse.SUPPRESS)  # is the default; scripts may have it still
+    parser.add_argument('--no-midstream', action='store_false', dest='midstream',
+                        help='leaves out connections whose beginning was not recorded, and ends streams before missing bytes')
     parser.add_argument('--whole-records', action='store_true', help='ends each stream after its last whole record')
 
 

@@ -14,13 +14,13 @@ the median and the 99th percentile, each the smallest latency that 50 or 99 % of
 and so no latencies.
 
 Each connection is judged as by tools/verdicts, whose verdict is above its table: one of which bytes are missing is `ok in part`, and one
-that is refused is counted up to its fault. --total leaves out the tables of the connections. --beside has two recordings in one table: a
-number that differs is `A -> B`, with the change in per cent for bytes and latencies. --json and --csv write all tables.
+that is refused is counted up to its fault. The counts of tools/verdicts stand above the table of a recording. --total leaves out the tables
+of the connections. --beside has two recordings in one table: a number that differs is `A -> B`, with the change in per cent for bytes and
+latencies. --json and --csv write all tables.
 
-The recordings are taken as by tools/from_pcap (--midstream, --whole-records, --filter, patterns in quotes for the parts of one recording);
-`-` is standard input. FILE is written beside its name, and gets it once it is whole. It is refused if it is an input, or begins as a
-recording or a capture. The status is 0 if all are ok (with --allow-losses also if they are ok in part), 1 if one is not, 2 if the command
-line or FILE is refused or the program is missing, 3 if FILE cannot be written or a program died.
+The recordings are taken as by tools/from_pcap (--port, --no-midstream, --whole-records, --filter, patterns in quotes for the parts of one
+recording); `-` is standard input. FILE is written beside its name, and gets it once it is whole. It is refused if it is an input, or begins
+as a recording or a capture. The status is that of tools/verdicts, with the same options --allow-losses and --allow-not-checked.
 """
 import argparse
 import csv

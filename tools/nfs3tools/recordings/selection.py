@@ -156,7 +156,7 @@ def keep_front(stream: Stream, side: Side, options: Options, cut: str) -> Kept:
     if not stream.is_begin:
         if stream.stored.size:
             kept.missing += stream.stored.size
-            kept.notes.append(f'{side}: its beginning is not in the recording, so nothing of it is taken (--midstream does)')
+            kept.notes.append(f'{side}: its beginning is not in the recording, so nothing of it is taken (as --no-midstream asks)')
         return kept
     if gaps:
         kept.lacks = True

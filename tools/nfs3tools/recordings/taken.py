@@ -1,6 +1,6 @@
 """What is taken of a recording or of a capture: its connections, each with the streams of both sides.
 
-    with take('run.pcap', Options(midstream=True)) as taken:
+    with take('run.pcap', Options(midstream=False)) as taken:
         for connection in taken.connections:
             print(connection.number, connection.client_end, connection.server_end, connection.client.size)
         taken.write_capture('run.nfs3cap')
@@ -540,7 +540,7 @@ def taken_connection(number: int, connection: Connection, selected: Selected) ->
 
 def why_left_out(connection: Connection, options: Options) -> str:
     if connection.client is None and not options.midstream:
-        return 'no SYN in the recording, so its streams may begin inside a record (--midstream takes it)'
+        return 'no SYN in the recording, so its streams may begin inside a record (--no-midstream leaves it out)'
     if options.midstream:
         return 'no position was found from which its records follow one another'
     return 'its first bytes are missing from the recording'
