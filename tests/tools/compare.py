@@ -491,8 +491,8 @@ def data_that_differ(place: Comparisons) -> None:
     first, second = (random.Random(seed).randbytes(MIB) for seed in (1, 2))
     differing = sum(one != other for one, other in zip(first, second))
     place.want('the first', out[4:6], [
-        f'  - data={first[:16].hex()}..', f'  + data={second[:16].hex()}..    # {differing:,} of {MIB:,} bytes differ, the first at offset 0 of '
-        'the file (byte 0 of the data)'])
+        f'  - data={first[:16].hex()}..',
+        f'  + data={second[:16].hex()}..    # {differing:,} of {MIB:,} bytes differ, the first at offset 0 of the file (byte 0 of the data)'])
     found = json.loads(place.read('out.json') or b'')['findings'][0]['differences'][0]
     place.want('digests', found['apart']['sha256'], [hashlib.sha256(one).hexdigest() for one in (first, second)])
     place.want('sizes', (len(found['first']) < 200, len(place.read('out.html') or b'') < 1e6), (True, True))

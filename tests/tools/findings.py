@@ -384,7 +384,8 @@ def long_handles(place: Findings) -> None:
     def asked(first: bytes, second: bytes, acl: bytes, rest: bytes) -> tuple[list[bytes], list[bytes]]:
         return [call(1, NFS, 3, 1, fh(first)), call(2, NFS, 3, 1, fh(second)), call(3, NFSACL, 3, 1, fh(acl) + rest)], []
     found = lines_on(place, asked(one, two, one, bytes(100)), asked(other, other, other, bytes(99) + b'!'), 'fh')
-    place.want('handles', found, [f'  - fh={two.hex()}', f'  + fh={other.hex()}    # elsewhere {other.hex()} of the second run is {one.hex()} of the first'])
+    place.want('handles', found, [f'  - fh={two.hex()}', f'  + fh={other.hex()}    # elsewhere {other.hex()} of the second run is '
+                                  f'{one.hex()} of the first'])
     found = lines_on(place, asked(one, two, one, bytes(100)), asked(other, one, other, bytes(99) + b'!'), 'rest')
     place.want('raw bytes', found, [
         '  - rest=..0000000000000000 00', '  + rest=..0000000000000000 21    # 1 of 168 bytes differs, at byte 167; '
@@ -734,8 +735,9 @@ def each_error_names_its_run(place: Findings) -> None:
 
 TESTS: list[Callable[[Findings], None]] = [
     labels_of_every_procedure, labels_of_fewer_parts, fields_are_those_of_labels, differing_labels, sizes_of_changes,
-    names_of_removed_files, names_of_hosts, data_of_files, values_that_part, raw_bytes_that_are_masked, long_names, long_handles, names_of_numbers, equal_findings,
-    equal_findings_of_one_run, arguments_of_one_run, calls_of_one_run_with_other_arguments, equal_findings_of_renamed_values, the_first_twenty, fields_left_out, as_json, json_of_recordings,
+    names_of_removed_files, names_of_hosts, data_of_files, values_that_part, raw_bytes_that_are_masked, long_names, long_handles,
+    names_of_numbers, equal_findings, equal_findings_of_one_run, arguments_of_one_run, calls_of_one_run_with_other_arguments,
+    equal_findings_of_renamed_values, the_first_twenty, fields_left_out, as_json, json_of_recordings,
     json_is_an_output, outputs_are_tried_before_the_work, json_on_standard_output, each_error_names_its_run]
 
 

@@ -334,8 +334,8 @@ def access_control_lists(tools: Tools) -> None:
                    (0, None, mode))
         os.remove(tools.path('out'))
     tools.write('plain', b'')
-    tools.want('a new file', (patched(tools, '', 'from_pcap', 'a.pcap', 'out')[0], found_list(tools.path('out')), os.stat(tools.path('out')).st_mode),
-               (0, found_list(tools.path('plain')), os.stat(tools.path('plain')).st_mode))
+    status, out, plain = patched(tools, '', 'from_pcap', 'a.pcap', 'out')[0], tools.path('out'), tools.path('plain')
+    tools.want('a new file', (status, found_list(out), os.stat(out).st_mode), (0, found_list(plain), os.stat(plain).st_mode))
 
 
 # A signal comes after a call of the system, which are counted.

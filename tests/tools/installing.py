@@ -57,8 +57,10 @@ def works(place: Place, prefix: pathlib.Path) -> None:
         page = prefix / 'share/man/man1' / ('nfs3-%s.1' % tool)
         place.want('page of ' + tool, page.is_file(), True)
     runs = [str(TOP / ('examples/ganesha_%s.pcap' % name)) for name in 'ab']
-    place.want('compare', place.command(str(prefix / 'bin/nfs3-compare'), *runs)[1].splitlines()[-1], 'same: 103 calls in 3 connections')
-    place.want('verdicts', place.command(str(prefix / 'bin/nfs3-verdicts'), runs[0])[1].splitlines()[-1], '3 ok, 0 in part, 0 refused, 0 errors')
+    sums = '3 judged (3 ok, 0 refused), 0 in part, 0 left out, 0 not checked, 0 errors'
+    place.want('compare', place.command(str(prefix / 'bin/nfs3-compare'), *runs)[1].splitlines()[1:],
+               ['same: 103 calls in 3 connections', f'both runs: {sums}'])
+    place.want('verdicts', place.command(str(prefix / 'bin/nfs3-verdicts'), runs[0])[1].splitlines()[-1], sums)
     for name in PROGRAMS:
         for path in ('bash-completion/completions/' + name, 'zsh/site-functions/_' + name, 'fish/vendor_completions.d/%s.fish' % name,
                      'man/man1/%s.1' % name):

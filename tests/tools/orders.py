@@ -392,7 +392,9 @@ def listed_names(xid: int, *names: bytes) -> Asked:
 
 def in_folder(xid: int, name: bytes, found: int | None) -> Asked:
     """LOOKUP of a name, which is there if it has a mode."""
-    answer = messages.failed(2, post_op_attr()) if found is None else ok(fh(b'at ' + name), post_op_attr(fattr(1, 9, mode=found)), post_op_attr())
+    answer = messages.failed(2, post_op_attr())
+    if found is not None:
+        answer = ok(fh(b'at ' + name), post_op_attr(fattr(1, 9, mode=found)), post_op_attr())
     return Asked(0, xid, LOOKUP, dirop(b'folder', name), answer)
 
 
@@ -407,19 +409,18 @@ def in_which_others_worked(place: Comparisons) -> None:
     top = Asked(0, 1, LOOKUP, dirop(b'top', b'w'), ok(fh(b'folder'), post_op_attr(), post_op_attr()))
     new, last = made_in_folder(5, b'new'), Asked(0, 9, GETATTR, fh(b'top'), ok(fattr(2, 3)))
     without, with_new, wrong = listed_names(7, b'x'), listed_names(7, b'x', b'new'), listed_names(7, b'x', b'another')
-    failing = new._replace(results=messages.failed(17, wcc()))
-    during = [*map(Asked.call, (new, without)), without.reply(), new.reply()]
+    failing, elsewhere = new._replace(results=messages.failed(17, wcc())), new._replace(arguments=dirop(b'other', b'new') + sattr())
+    during = [top.call(), top.reply(), new.call(), without.call(), without.reply(), new.reply(), last.call(), last.reply()]
     rows: list[tuple[str, bytes, bytes, int]] = [
         ('before and after', one_by_one(top, without, new, last), one_by_one(top, new, with_new, last), 0),
-        ('during', one_by_one(top, new, with_new, last),
-         shared_folder(*(half(top) for half in (Asked.call, Asked.reply)), *during, last.call(), last.reply()), 0),
+        ('during', one_by_one(top, new, with_new, last), shared_folder(*during), 0),
         ('as before', one_by_one(top, new, with_new, last), one_by_one(top, new, wrong, last), 1),
         ('after both', one_by_one(top, without, new, last), one_by_one(top, wrong, new, last), 1),
         ('a change that fails', one_by_one(top, without, failing, last), one_by_one(top, failing, wrong, last), 1),
-        ('a name that comes', one_by_one(top, in_folder(7, b'new', None), new, last), one_by_one(top, new, in_folder(7, b'new', 0o755), last), 0),
+        ('a name that comes', one_by_one(top, in_folder(7, b'new', None), new, last),
+         one_by_one(top, new, in_folder(7, b'new', 0o755), last), 0),
         ('another name', one_by_one(top, in_folder(7, b'x', 0o644), new, last), one_by_one(top, new, in_folder(7, b'x', 0o600), last), 1),
-        ('another folder', one_by_one(top, without, new._replace(arguments=dirop(b'other', b'new') + sattr()), last),
-         one_by_one(top, new._replace(arguments=dirop(b'other', b'new') + sattr()), with_new, last), 1)]
+        ('another folder', one_by_one(top, without, elsewhere, last), one_by_one(top, elsewhere, with_new, last), 1)]
     for what, first, second, wanted in rows:
         place.write('a', first)
         place.write('b', second)
@@ -430,16 +431,23 @@ def in_which_others_worked(place: Comparisons) -> None:
             place.want(f'{what} {words}: listed', len(listed), 1 - wanted)
         for more in (['--extra', 'none', '--order', 'any'], ['--order', 'strict']):
             place.want(f'{what} {more}', place.compare(*more, 'a', 'b')[0], 1)
-    place.write('a', rows[0][1])
-    place.write('b', rows[0][2])
+
+
+def what_is_left_out_is_listed(place: Comparisons) -> None:
+    """A question that others overtook is in the verdict and in a line of its own, with both positions, in each form of output. Captures do not
+    say what came first."""
+    top = Asked(0, 1, LOOKUP, dirop(b'top', b'w'), ok(fh(b'folder'), post_op_attr(), post_op_attr()))
+    new, last = made_in_folder(5, b'new'), Asked(0, 9, GETATTR, fh(b'top'), ok(fattr(2, 3)))
+    place.write('a', one_by_one(top, listed_names(7, b'x'), new, last))
+    place.write('b', one_by_one(top, new, listed_names(7, b'x', b'new'), last))
     status, out, _ = place.compare('--order', 'any', '--json', 'out.json', '--html', 'out.html', '--junit', 'out.xml', 'a', 'b')
     line = ('left out: 1 NFSPROC3_READDIR ?/w, in which others worked: connection 1 client record 2 (frame 9) | '
             'connection 1 client record 2 (frame 11)')
     place.want('the verdict', out[1], 'same in another order: 3 calls; left out: 1 READDIR of ?/w, in which others worked')
     place.want('the list', out[2], line)
     found = json.loads(place.read('out.json') or b'')['left_out']
-    place.want('JSON', found, [{'procedure': 'NFSPROC3_READDIR', 'path': '?/w', 'first': {'position': 'connection 1 client record 2', 'frames': [9]},
-                                'second': {'position': 'connection 1 client record 2', 'frames': [11]}}])
+    first, second = ({'position': 'connection 1 client record 2', 'frames': [frame]} for frame in (9, 11))
+    place.want('JSON', found, [{'procedure': 'NFSPROC3_READDIR', 'path': '?/w', 'first': first, 'second': second}])
     for name in ('out.html', 'out.xml'):
         place.want(name, line.encode() in (place.read(name) or b''), True)
     for name in 'ab':
@@ -659,7 +667,8 @@ def one_call_more_among_alike_ones(place: Comparisons) -> None:
     made = 'only in the second run: NFSPROC3_MKDIR ?/folder/new: connection 1 client record 10'
     status, out, _ = place.compare('--order', 'any', 'a', 'b')
     place.want('any', (status, out[2:]), (1, [
-        made, 'left out of the second run: 1 NFSPROC3_LOOKUP ?/folder: connection 1 client record 11', '18 of 20 calls belong together; 1 LOOKUP more in the second run; 1 more in the second run']))
+        made, 'left out of the second run: 1 NFSPROC3_LOOKUP ?/folder: connection 1 client record 11',
+        '18 of 20 calls belong together; 1 LOOKUP more in the second run; 1 more in the second run']))
     status, out, _ = place.compare('--order', 'strict', 'a', 'b')
     place.want('strict', (status, [line for line in out[2:-2] if line[:2] != '  ']), (1, [
         made, '4 replies of NFSPROC3_LOOKUP ?/folder, first: connection 1 server record 11 | connection 1 server record 13',
@@ -729,9 +738,11 @@ def many_in_another_order(place: Comparisons) -> None:
 
 TESTS: list[Callable[[Comparisons], None]] = [
     runs_are_written_anew, records_of_several_fragments, orders_that_are_none, wrong_writers_are_caught, clients_at_once,
-    what_differs_is_found, calls_that_only_ask, runs_without_a_common_call, questions_that_are_changed, in_which_others_worked,
+    what_differs_is_found, calls_that_only_ask, runs_without_a_common_call, questions_that_are_changed,
+    in_which_others_worked, what_is_left_out_is_listed,
     a_client_without_commit, ids_and_orders, seen_in_the_middle, folders_that_others_change,
-    masks_of_any_order, verifiers_that_repeat, raw_bodies_in_any_order, values_that_stand_for_others, orders_of_replies, connections_by_what_they_ask,
+    masks_of_any_order, verifiers_that_repeat, raw_bodies_in_any_order, values_that_stand_for_others, orders_of_replies,
+    connections_by_what_they_ask,
     calls_between_neighbours, one_call_more_among_alike_ones, files_that_were_made_again, one_name_for_many_files,
     many_in_another_order]
 

@@ -224,7 +224,8 @@ def what_does_not_count(place: Pages) -> None:
     place.want('all is ignored', 'All fields that differ are ignored.' in page.text(), True)
     place.want('marks', [one for one in rows_and_gaps(page) if one[0] == '≠'], ['≠ 4 4', '≠ 5 5'])
     page = place.page(*CONCURRENT[::2])
-    place.want('masked in any order', 'masked besidesids=zero, cookies=zero, createverfs=zero, wcc=zero, since any order was tried.' in page.all('dl')[0].text(), True)
+    masked = 'masked besidesids=zero, cookies=zero, createverfs=zero, wcc=zero, since any order was tried.'
+    place.want('masked in any order', masked in page.all('dl')[0].text(), True)
     place.want('strictly', 'masked besides' in place.page('--order', 'strict', *CONCURRENT[::2]).text(), False)
     talk = Talk()
     bodies = [body for at in range(4) for body in (null(at), success(at))]

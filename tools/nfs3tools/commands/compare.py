@@ -266,7 +266,7 @@ def compared_by_parts(words: argparse.Namespace, whole: Whole, choices: Choices,
     if words.json:
         write_file(words.json, json_of_parts(words.marks, whole.covers, parts, whole.framings()), whole.inputs)
     for part in parts:
-        if part.report and part.report.verdict != 'same' and is_told(words, part.report):
+        if part.report and part.report.verdict != 'same' and (part.compared.silent or is_told(words, part.report)):
             print(part.label)
             print_found(words, whole, part.report, part.compared, part.left_out)
     if losses:

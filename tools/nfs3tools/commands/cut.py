@@ -14,8 +14,8 @@ or the reason for which the message was refused before.
 
 A recording is taken as by tools/from_pcap (--midstream, --whole-records, --filter, a pattern in quotes for the parts of one recording).
 OUT is written beside its name, and gets it once it is whole. It is refused if it is an input or begins as a recording; an older capture is
-replaced. If OUT is `-` it is standard output, and the lines are printed on standard error. The status is 0 if OUT was written, 1 if there is no such position, 2 if POSITION, RECORDING, FILTER or OUT is refused or a
-program is missing, 3 if a file, a program or memory failed.
+replaced. If OUT is `-` it is standard output, and the lines are printed on standard error. The status is 0 if OUT was written, 1 if there is
+no such position, 2 if POSITION, RECORDING, FILTER or OUT is refused or a program is missing, 3 if a file, a program or memory failed.
 """
 import os
 import tempfile

@@ -10,9 +10,10 @@ from collections.abc import Iterator, Sequence
 from contextlib import contextmanager
 from dataclasses import replace
 from functools import cache
+from itertools import chain
 from pathlib import Path
 
-from .comparing import Apart, Compared, Finding, Run
+from .comparing import Apart, Compared, Finding, Run, Silent
 from .ignoring import Ignored, without
 from .deciding import Judged, judged, run_of, same_of
 from .listed_parts import ListedParts, PartTrial, listed_at_once
@@ -153,20 +154,24 @@ class PartByPart:
         return [marked.taken_of(parts) for marked, parts in zip(self.marked, zip(*pairs))]
 
     def with_paths(self, compared: Sequence[Compared]) -> list[Compared]:
-        """Returns what was found in the parts with the paths that are known from the whole runs."""
+        """Returns what was found in the parts, and what is left out, with the paths that are known from the whole runs."""
         messages: tuple[list[Message], list[Message]] = ([], [])
-        for message, is_second in map(named_by, (finding for one in compared for finding in one.findings)):
+        for message, is_second in map(named_by, chain.from_iterable((*one.findings, *one.silent) for one in compared)):
             messages[is_second].append(message)
         places = [Places(run, marked, some) for run, marked, some in zip(self.runs, self.marked, messages)]
 
-        def with_path(finding: Finding) -> Finding:
+        def path_of(finding: Finding | Silent) -> str | None:
             message, is_second = named_by(finding)
-            return finding if finding.kind in ('order', 'connection') else replace(finding, path=places[is_second].path(message))
-        return [replace(one, findings=list(map(with_path, one.findings))) for one in compared]
+            return places[is_second].path(message)
+
+        def with_path(finding: Finding) -> Finding:
+            return finding if finding.kind in ('order', 'connection') else replace(finding, path=path_of(finding))
+        return [replace(one, findings=list(map(with_path, one.findings)), silent=[replace(call, path=path_of(call)) for call in one.silent])
+                for one in compared]
 
 
-def named_by(finding: Finding) -> tuple[Message, bool]:
-    """Returns the message by which a finding is named, and whether it is of the second run."""
+def named_by(finding: Finding | Silent) -> tuple[Message, bool]:
+    """Returns the message by which a finding or a call that is left out is named, and whether it is of the second run."""
     message = finding.first or finding.second
     assert message
     return message, finding.first is None
