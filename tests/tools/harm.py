@@ -461,6 +461,24 @@ def closed_outputs(tools: Tools) -> None:
     one_line(tools, 'standard input that is closed', answer, 3, 'from_pcap: ')
 
 
+def outputs_before_the_work(tools: Tools) -> None:
+    """Each tool tries its outputs before it reads anything, takes none twice, and writes to standard output if one is called `-`; the table
+    goes to standard error then."""
+    program = ['--program', tools.program]
+    for name, *options in (['verdicts', '--json', '--junit'], ['procedures', '--json', '--csv'], ['compare', '--json', '--html']):
+        inputs = ['no recording'] * (2 if name == 'compare' else 1)
+        for words, status, told in (([options[0], 'absent/x'], 3, 'absent/x: '), ([options[0], 'x', options[1], './x'], 2, 'are one file')):
+            answer = tools.tool(name, *program, *words, *inputs)
+            tools.want(f'{name} {words}', (answer[0], answer[1], told in answer[2], 'no recording' in answer[2]), (status, '', True, False))
+        status, out, error = tools.tool(name, *program, options[0], '-', FIRST, *([FIRST] if name == 'compare' else []))
+        tools.want(f'{name} {options[0]} -', (status, isinstance(json.loads(out), (dict, list)), '103' in error or 'judged' in error), (0, True, True))
+    done = ended([tool('from_pcap'), FIRST, '-'], tools.folder)
+    tools.want('a capture on standard output', (done.status, done.out[:8]), (0, b'NFS3CAP1'))
+    answer = tools.tool('from_pcap', 'no recording', 'absent/x')
+    tools.want('from_pcap', (answer[0], 'absent/x: ' in answer[2]), (3, True))
+    tools.want('what is there', tools.names(), [])
+
+
 HOSTILE = 'a\x1b[31m\n\\ä\udcff'
 SHOWN = 'a\\x1b[31m\\x0a\\x5cä\\xff'
 
@@ -497,7 +515,8 @@ def names(tools: Tools) -> None:
 
 TESTS = [outputs_that_are_inputs, outputs_that_are_recordings, full_disks, looks_that_fail, names_that_another_gets,
          files_of_a_lower_layer, removed_files,
-         permissions, access_control_lists, signals, programs_that_die, filters_that_die, closed_outputs, names]
+         permissions, access_control_lists, signals, programs_that_die, filters_that_die, closed_outputs, outputs_before_the_work,
+         names]
 
 
 def main() -> None:
