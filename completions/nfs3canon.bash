@@ -22,8 +22,8 @@ complete -o filenames -F _nfs3canon nfs3canon
 
 # The tools, by the names under which they are installed, and those with a name of their own also by that: compare and where are
 # names of other programs.
-complete -o default -W '--midstream --no-midstream --whole-records --port --filter --version --help' from_pcap nfs3-from-pcap nfs3-where nfs3-explain
-complete -o default -W '--follow --junit --json -j --allow-losses --midstream --whole-records --filter --program --version --help' verdicts nfs3-verdicts
-complete -o default -W '--beside --total --json --csv --allow-losses --midstream --whole-records --filter --program --version --help' procedures nfs3-procedures
-complete -o default -W '--origins --midstream --no-midstream --whole-records --port --filter --program --version --help' nfs3-cut
-complete -o default -W '--mask --order --extra --ignore --marks --all --brief --html --json --junit --allow-losses --allow-not-checked --midstream --no-midstream --whole-records --port --filter --program --version --help' nfs3-compare
+complete -o default -W '--port --no-midstream --whole-records --filter --version --help' from_pcap nfs3-from-pcap nfs3-where nfs3-explain
+complete -o default -W '--follow --junit --json -j --allow-losses --allow-not-checked --port --no-midstream --whole-records --filter --program --version --help' verdicts nfs3-verdicts
+complete -o default -W '--beside --total --json --csv --allow-losses --allow-not-checked --port --no-midstream --whole-records --filter --program --version --help' procedures nfs3-procedures
+complete -o default -W '--origins --port --no-midstream --whole-records --filter --program --version --help' nfs3-cut
+complete -o default -W '--mask --order --extra --ignore --marks --all --brief --html --json --junit --allow-losses --allow-not-checked --port --no-midstream --whole-records --filter --program --version --help' nfs3-compare

@@ -19,17 +19,16 @@ complete -c nfs3canon -n '__fish_seen_subcommand_from pack' -F
 
 # The tools for recordings.
 for tool in from_pcap verdicts procedures nfs3-from-pcap nfs3-where nfs3-verdicts nfs3-procedures nfs3-compare nfs3-explain nfs3-cut
-    complete -c $tool -l midstream -d 'Take connections whose beginning was not recorded'
-    complete -c $tool -l no-midstream -d 'Leave connections out whose beginning was not recorded'
     complete -c $tool -l port -x -d 'Take the connections that have one of these ports'
+    complete -c $tool -l no-midstream -d 'Leave out connections whose beginning was not recorded'
     complete -c $tool -l whole-records -d 'End each stream after its last whole record'
     complete -c $tool -l filter -x -d 'A display filter of Wireshark'
     complete -c $tool -l version -d 'Print the version'
     complete -c $tool -l help -d 'Print help'
 end
 for tool in verdicts nfs3-verdicts procedures nfs3-procedures nfs3-compare
-    complete -c $tool -l allow-losses -d 'Take runs in part as the status 0'
-    complete -c $tool -l allow-not-checked -d 'Take calls that are not checked as the status 0'
+    complete -c $tool -l allow-losses -d 'Take what is in part or left out as the status 0'
+    complete -c $tool -l allow-not-checked -d 'Take what is not checked as the status 0'
 end
 for tool in verdicts nfs3-verdicts
     complete -c $tool -l follow -d 'Judge one recording while it is made'

@@ -23,7 +23,7 @@ from rows import rows_of  # noqa: E402
 from rooms import (crowded_folders, in_the_wrong_room, long_lines, of_private_fields, of_several_meanings, of_two_files,  # noqa: E402
                    scans_without_values)
 from running import Answer, ended, program_named, try_all, words_of  # noqa: E402
-from scripts import TOP, Tools, tried  # noqa: E402
+from scripts import TOP, Tools, sums, tried  # noqa: E402
 import messages  # noqa: E402
 from messages import NFS, call, success  # noqa: E402
 
@@ -95,16 +95,15 @@ def lines_for_many_captures(tools: Tools) -> None:
     version = ['sh', '-c', 'parallel --version 2>&1 </dev/null']
     here = {'tools/verdicts': 'tools/verdicts --program ' + tools.program, 'host1,host2': ':', '/opt/nfs3canon': str(TOP),
             'runs/': 'examples/'}
-    last = {'tools/verdicts': ['13 ok, 0 in part, 7 refused, 0 errors'],
-            'parallel': [f'{ok} ok, 0 in part, {refused} refused, 0 errors' for ok, refused in
-                         [(0, 1)] * 4 + [(1, 1)] + [(12, 0)] * 3 + [(3, 0)] * 3]}
+    last = {'tools/verdicts': [sums(13, refused=7, raw='2 NFSACL GETACL')],
+            'parallel': sorted(sums(ok, refused=refused) for ok, refused in [(0, 1)] * 4 + [(1, 1)] + [(12, 0)] * 3 + [(3, 0)] * 3)}
     for line in lines[1:]:
         if line.startswith('parallel') and b'GNU' not in ended(version, TOP).out:
             continue
         for word, local in here.items():
             line = line.replace(word, local)
         status, out, _ = ended(['sh', '-c', line], TOP, stderr=subprocess.DEVNULL, limit=None).text()
-        found = sorted(told for told in out.splitlines() if told.endswith(' errors'))
+        found = sorted(told for told in out.splitlines() if ' judged (' in told)
         tools.want(line, (found, status), (last[line.split()[0]], 5 if line.startswith('parallel') else 1))
 
 

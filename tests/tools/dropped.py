@@ -6,21 +6,27 @@
 PROGRAM is crates/nfs3canon/out/nfs3canon if none is named. Each recording is judged plain and with --follow. The last line is 'N passed,
 M failed', and the status is 1 if any failed.
 """
+import io
 import pathlib
 import re
 import struct
 import sys
 import time
 import typing
+from unittest.mock import patch
 
 sys.path.insert(0, str(pathlib.Path(__file__).resolve().parents[1] / 'shared'))
 from recordings import fragments, fragments_6  # noqa: E402
-from running import try_tests  # noqa: E402
-from scripts import ALL, CALLS, REPLIES, Tools, stream, taken_of, whole  # noqa: E402
+from running import begin, pipe_of, try_tests  # noqa: E402
+from scripts import ALL, CALLS, REPLIES, TOP, Tools, stream, taken_of, whole  # noqa: E402
 from messages import fragment  # noqa: E402
 from packets import ACK, FIN, RST, SYN, Talk, ethernet, pcap  # noqa: E402
+from nfs3tools.commands import following  # noqa: E402
+from nfs3tools.commands.judging import Verdict  # noqa: E402
 from nfs3tools.recordings import streams  # noqa: E402
+from nfs3tools.recordings.selection import Options  # noqa: E402
 
+VERDICTS = str(TOP / 'tools/verdicts')
 CALL, REPLY = len(stream(CALLS[:1])), len(stream(REPLIES[:1]))
 BAD = 77  # an accept_stat that is not defined
 RECORD_16 = 'server record 16 byte 20: BadEnum, frame %d'
@@ -148,14 +154,18 @@ def what_comes_after_a_line(tools: Tools) -> None:
 
 
 def many_idle_connections(tools: Tools) -> None:
-    """A connection that was judged early, since more than 2,048 are open, is told if it has bytes later."""
-    talks = [Talk(1_000 + number) for number in range(2_060)]
+    """A connection that was judged early, since too many are open, is told if it has bytes later."""
+    talks = [Talk(1_000 + number) for number in range(32)]
     frames = [frame for talk in talks for frame in talk.opened()]
     frames += [frame for talk in talks for frame in exchanged(talk, range(2))]
-    tools.write('a.pcap', pcap(frames))
-    status, out, _ = tools.tool('verdicts', '--program', tools.program, '--follow', '-', stdin=pcap(frames))
-    late = [line for line in out.splitlines() if line.endswith(f'{2 * (CALL + REPLY)} bytes came after it was judged')]
-    tools.want('followed', (status, len(late)), (1, 12))
+    said = list[Verdict]()
+    one = following.Following('-', tools.program, Options(), said.append)
+    with patch.object(following, 'OPEN_AT_MOST', 20):
+        following.take_all(one, typing.cast(following.Growing, io.BytesIO(pcap(frames))))
+    one.connections.spool.close()
+    late = [verdict for verdict in said if verdict.message.endswith(f'{2 * (CALL + REPLY)} bytes came after it was judged')]
+    tools.want('followed', (len(late), {verdict.state for verdict in late}), (12, {'in part'}))
+    tools.want('the others', sum(verdict.state == 'ok' for verdict in said), 20)
 
 
 def stray_ends(tools: Tools) -> None:
@@ -245,11 +255,8 @@ def bytes_of_a_gap_that_was_given_up(tools: Tools) -> None:
     talk = Talk()
     frames = [*talk.opened(), *exchanged(talk, range(10))]
     lost = talk.sent(0, fragment(CALLS[10]))
-    body = CALLS[11][:40] + bytes(60_000)
-    large = [talk.sent(0, struct.pack('>I', 1 << 31 | 40) + body[:40]) for _ in range(1)]
-    big = bytes(60_000)
-    many = [talk.sent(0, big) for _ in range(150)]
-    with taken_of(pcap([*frames, *large, *many, lost])) as taken:
+    many = [talk.sent(0, fragment(CALLS[11])), *(talk.sent(0, bytes(60_000)) for _ in range(150))]
+    with taken_of(pcap([*frames, *many, lost])) as taken:
         connection = taken.connections[0]
         tools.want('late', (connection.missing, f'{CALL} bytes left out' in connection.lacks or connection.lacks), (CALL, True))
 
@@ -282,9 +289,7 @@ def stale_fragments(tools: Tools) -> None:
 def a_file_that_becomes_shorter(tools: Tools) -> None:
     """With --follow that is told, and the status is 1."""
     tools.write('a.pcap', pcap(whole()))
-    from following import VERDICTS, take_signals
-    from running import begin, pipe_of
-    process = begin([VERDICTS, '--follow', '--program', tools.program, 'a.pcap'], tools.folder, prepare=take_signals)
+    process = begin([VERDICTS, '--follow', '--program', tools.program, 'a.pcap'], tools.folder)
     out = pipe_of(process.stdout)
     tools.want('what is there', [out.readline().split()[0], out.readline().split()[-1]], [b'recording', b'ok'])
     with open(tools.path('a.pcap'), 'r+b') as file:

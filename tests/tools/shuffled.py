@@ -71,7 +71,6 @@ class Connection:
     first: tuple[int, int]
     streams: tuple[bytes, bytes]
     segments: list[Sent] = dataclasses.field(default_factory=list)
-    is_far: bool = False  # a segment acknowledges bytes far beyond all
 
     def datagram(self, sent: Sent) -> bytes:
         """A datagram of a segment. The position -1 of a stream is that of SYN."""
@@ -150,10 +149,13 @@ class Make:
         xids = range(first_xid, first_xid + self.chance.choice((1, 2, 5, 20)))
         return stream(call(xid, NFS, 3, 0) for xid in xids), stream(success(xid) for xid in xids)
 
-    def connection(self, port: int, first: tuple[int, int] | None = None) -> Connection:
+    def connection(self, port: int) -> Connection:
         """A connection with what belongs to nothing among its segments."""
         chance = self.chance
-        made = Connection(port, first or self.numbers(), self.streams(1_000 * len(self.connections) + 1))
+        first = self.numbers()
+        while any(abs(first[0] - other.first[0]) < FAR // 2 for other in self.connections if other.port == port):
+            first = self.numbers()
+        made = Connection(port, first, self.streams(1_000 * len(self.connections) + 1))
         self.connections.append(made)
         exchanged(chance, made)
         for at in range(len(made.segments) - 1, 3, -1):
@@ -180,7 +182,6 @@ class Make:
             case 'fin':
                 return Sent(side, FIN | ACK, max(0, end - chance.choice((0, 0, 30))), b'', other, True)
             case 'ack':
-                made.is_far = True
                 return Sent(side, ACK, end, b'', other + FAR, True)
             case 'far':
                 return Sent(side, ACK, end + chance.randrange(1 << 32), b'belongs to nothing', other, True)
@@ -281,15 +282,16 @@ class Model:
         if len(parts) < one.parts:
             return
         if sent.extra:
-            self.is_odd |= bool(sent.content) or self.connection.is_far and sent.acknowledged >= FAR
-            self.is_unsure |= bool(sent.flags & FIN)
+            is_far, is_known = sent.acknowledged >= FAR, bool(self.seen or self.sides[1 - sent.side].shown)
+            self.is_odd |= bool(sent.content) or is_far and is_known
+            self.is_unsure |= bool(sent.flags & FIN) or is_far
             return
         own, other = self.sides[sent.side], self.sides[1 - sent.side]
         self.begins_inside |= not self.seen and not sent.flags & SYN
         if sent.flags & SYN:
             self.seen.add('syn-ack' if sent.flags & ACK else 'syn')
         if sent.content and not sent.flags & RST:
-            self.is_unsure |= not self.seen and sent.begin > 0 and not own.shown  # SYN and the first bytes may come late
+            self.is_unsure |= not self.seen and sent.begin > 0 and not any(own.there)  # SYN and the first bytes may come late
             own.add(sent.begin, len(sent.content) - sent.lacks)
         own.shown = max(own.shown, min(sent.end if not sent.flags & RST else sent.begin, len(own.there)))
         if sent.flags & ACK:

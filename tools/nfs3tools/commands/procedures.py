@@ -20,7 +20,8 @@ latencies. --json and --csv write all tables.
 
 The recordings are taken as by tools/from_pcap (--port, --no-midstream, --whole-records, --filter, patterns in quotes for the parts of one
 recording); `-` is standard input. FILE is written beside its name, and gets it once it is whole. It is refused if it is an input, or begins
-as a recording or a capture. The status is that of tools/verdicts, with the same options --allow-losses and --allow-not-checked.
+as a recording or a capture. The status is 0 if that of
+tools/verdicts is, and 1 to 3 as there; --allow-losses and --allow-not-checked are the same.
 """
 import argparse
 import csv

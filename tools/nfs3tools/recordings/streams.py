@@ -581,18 +581,20 @@ class Connection:
         first = (segment.sequence + 1) % NUMBERS
         if own.first is None:
             answers = not segment.flags & ACK or not other.is_begin or (segment.acknowledged - (other.first or 0)) % NUMBERS <= other.next
-            return self.is_judged or not answers
+            return self.is_judged or self.is_stray or not answers
         if own.first == first:
             return self.has_syn[side] and self.is_closed and not segment.flags & ACK
         return not own.may_begin_at(first)
 
-    def distance(self, side: int, segment: Segment) -> int:
-        """How far the numbers of a segment are from those that are expected, as far as these are known."""
-        own, other = self.streams[side], self.streams[1 - side]
-        found = [apart(segment.sequence, own.expected)] if own.expected is not None else []
-        if segment.flags & ACK and other.expected is not None:
-            found.append(apart(segment.acknowledged, other.expected))
-        return sum(found) if found else NUMBERS
+    def distances(self, side: int, segment: Segment) -> tuple[int | None, int | None]:
+        """How far the numbers of a segment are from those that are expected of its end and of the other, if these are known."""
+        own, other = self.streams[side].expected, self.streams[1 - side].expected
+        return (None if own is None else apart(segment.sequence, own),
+                None if other is None or not segment.flags & ACK else apart(segment.acknowledged, other))
+
+    def repeats_syn(self, side: int, segment: Segment) -> bool:
+        """Whether SYN has the number before the first byte of its end."""
+        return self.streams[side].first == (segment.sequence + 1) % NUMBERS
 
     def take(self, side: int, segment: Segment, number: int, time: int) -> None:
         _, sequence, acknowledged, flags, payload, missing = segment
@@ -649,7 +651,8 @@ class Connection:
         if own.first is None:
             own.first = segment.sequence
         position = own.position(segment.sequence)
-        self.after += own.new_in(position, segment.payload) + segment.missing
+        self.after += own.new_in(position, segment.payload)
+        self.after += max(0, position + size - max(own.next, position + len(segment.payload)))
         own.next = max(own.next, position + size)
         own.expected = (own.first + own.next) % NUMBERS
 
@@ -687,16 +690,16 @@ class Connections:
     def among_two(self, found: tuple[Connection, int], segment: Segment, number: int) -> tuple[Connection, int]:
         """The connection of a segment that may be one of the older connection of the same ends, or begin another."""
         newer, older = found[0], found[0].older
+        side = older.side_of(segment.key) if older is not None else 0
         if segment.flags & SYN:
-            if not newer.is_other(found[1], segment):
-                return found
-            if older is None or older.is_other(older.side_of(segment.key), segment):
-                return self.begin(segment.key, number, newer), 0
-            return older, older.side_of(segment.key)
+            if older is not None and older.repeats_syn(side, segment) and not newer.repeats_syn(found[1], segment):
+                return older, side
+            return (self.begin(segment.key, number, newer), 0) if newer.is_other(found[1], segment) else found
         assert older is not None
-        side = older.side_of(segment.key)
-        there, here = older.distance(side, segment), newer.distance(found[1], segment)
-        if there > here or there == here and older.is_closed:
+        here, there = newer.distances(found[1], segment), older.distances(side, segment)
+        known = [(one, other) for one, other in zip(here, there) if one is not None and other is not None]
+        nearer = sum(one - other for one, other in known) if known else -1
+        if nearer < 0 or nearer == 0 and older.is_closed:
             return found
         newer.is_stray |= bool(segment.payload) and newer.first_payload is None
         return older, side
