@@ -52,7 +52,7 @@ def exchanges(tools: Tools) -> None:
 
 
 def on_standard_output(tools: Tools) -> None:
-    """`-` is standard output, which has the capture alone; the lines go to standard error. A folder that is not there is told first."""
+    """`-` is standard output, which has the capture alone; the lines go to standard error. A folder that is not there is an error before the work."""
     tools.write('1', capture((CALLS, REPLIES)))
     place = 'connection 1 client record 3'
     done = ended([str(TOP / 'tools/cut'), '--program', tools.program, '1', place, '-'], tools.folder)

@@ -309,6 +309,19 @@ def a_call_that_moved_in_secret(place: Comparisons) -> None:
         '"test 1": differ', '"test 2": differ', '"test 3": same: 3 calls in 3 connections'], '3 parts: 1 same, 2 differ'))
 
 
+def what_is_left_out_of_parts(place: Comparisons) -> None:
+    """Calls that one run alone has in a part are listed under the part, at their positions and paths in the whole run."""
+    def run(seed: int, more: int) -> Run:
+        run = Run(seed).reach('x').mark('test 1').get('x').mark('test 2').set('x', 0o600)
+        for _ in range(more):
+            run.get('x')
+        return run.mark('test 3').get('x')
+    put(place, run(1, 0), run(2, 2))
+    status, out, _ = place.compare('--marks', PATTERN, '--order', 'any', 'a', 'b')
+    line = 'left out of the second run: 2 NFSPROC3_GETATTR ?/x, first: connection 1 client record 6 (frame 14)'
+    place.want('listed', (status, out[5:7], out[-1]), (0, ['"test 2"', line], '4 parts: 3 same, 1 same in another order'))
+
+
 def marks_that_fit_no_call(place: Comparisons) -> None:
     """A pattern that fits no name of both runs compares nothing by parts: it is an error, also in JUnit XML. One run with a mark is enough."""
     put(place, Run(1).mark('test 1').get('x'), Run(2).mark('test 1').get('x'))
@@ -493,7 +506,8 @@ def many_parts(place: Comparisons) -> None:
 TESTS: list[Callable[[Comparisons], None]] = [
     few_runs_of_the_programs, few_runs_for_parts_that_differ, parts_listed_at_once,
     parts_that_are_the_same, one_part_that_differs, a_part_more, names_that_come_again, orders_within_a_part,
-    several_connections, a_call_that_moved_in_secret, captures_connection_by_connection, marks_that_fit_no_call, nothing_is_lost,
+    several_connections, a_call_that_moved_in_secret, captures_connection_by_connection, marks_that_fit_no_call,
+    what_is_left_out_of_parts, nothing_is_lost,
     calls_that_were_sent_again,
     frames_in_another_order, random_runs, patterns_of_names, files_for_others, bytes_that_are_missing, many_parts]
 

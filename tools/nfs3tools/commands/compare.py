@@ -13,7 +13,7 @@ are. A run without a call that can be compared is an error.
 If the runs differ, calls are brought together over all connections and in any order. If nothing else than the order differs, they are
 `same in another order`: that is the word of `nfs3canon same` on both runs in the order of the first. File ids are zero then, and the classes
 createverfs, cookies, wcc and raw, of these only those that are needed. Calls that only ask (GETATTR, LOOKUP ..) and that one run alone has
-are left out, and so are questions about a folder that the calls of others overtook. All that is told, and listed. Otherwise each difference
+are left out, and so are questions about a folder that the calls of others overtook. All that is printed and listed. Otherwise each difference
 is printed as `diff` would: which call, which field and whose (`dir after.size`), both values, and the frames. Of values of over 60 characters
 it is the bytes round the first that differs; a call of one run alone has its arguments. Messages of one procedure that differ in the same
 way are printed once, with their number. --brief prints a line for each.
@@ -197,7 +197,7 @@ def compared_runs(words: argparse.Namespace, stack: ExitStack) -> int:
 
 
 def whole_of(program: str, folder: Path, names: list[str], inputs: list[str], runs: Sequence[Taken]) -> Whole:
-    """Checks both runs, and tells what is refused. Raises `NothingToCompare` if a run has no call that can be compared."""
+    """Checks both runs, and prints what is refused. Raises `NothingToCompare` if a run has no call that can be compared."""
     trial = Trial(program, folder, runs)
     covers = [cover_of(program, *one) for one in zip(runs, trial.captures)]
     for cover, name in zip(covers, names):
@@ -205,7 +205,7 @@ def whole_of(program: str, folder: Path, names: list[str], inputs: list[str], ru
             faults = '; '.join(f'{escaped(name)}: {fault}' for fault in cover.faults())
             raise NothingToCompare(faults or f'nothing to compare: no call of {escaped(name)} is taken')
     for cover, name in zip(covers, names):
-        for line in cover.told():
+        for line in cover.notes():
             print(f'{escaped(name)}: {line}', file=sys.stderr)
     if any(cover.refused for cover in covers):
         trial = Trial(program, folder, [cover.taken for cover in covers])

@@ -11,7 +11,7 @@ LAST_OF_HEAD = 'verf_body'  # RFC 5531, section 9
 CHOICES = frozenset(('set_mode', 'set_uid', 'set_gid', 'set_size', 'check'))
 # set_atime and set_mtime: only the server's time has no value.
 TIMES, SERVER_TIME = frozenset(('set_atime', 'set_mtime')), '1'
-# What a call is about: its path is told before.
+# What a call is about: its path names it.
 ABOUT = ('fh', 'name')
 
 
@@ -26,7 +26,7 @@ class Argument(NamedTuple):
 
 
 def arguments_of(call: Message, mask: Mask) -> Iterator[Argument]:
-    """Returns the arguments of a call. Values that are masked as zero are not told, nor words that only say what follows."""
+    """Returns the arguments of a call. Values that are masked as zero are left out, and words that only say what follows."""
     labels, about = Labels(call), set(ABOUT)
     begin = next((at for at, item in enumerate(call.items) if item.name == LAST_OF_HEAD), -1) + 1
     for at, (name, value) in enumerate(call.items[begin:], begin):

@@ -90,8 +90,8 @@ class Cover:
         if self.taken.damage:
             yield self.taken.damage
 
-    def told(self) -> Iterator[str]:
-        """What is told of the run beside what `Taken` tells: what is refused or not checked, and why."""
+    def notes(self) -> Iterator[str]:
+        """What `Taken` does not have among its notes: the connections that are refused or not checked, and why."""
         yield from self.refused.values()
         for row in self.rows():
             if row.word == 'not checked' or row.word == 'in part' and row.connection is not None:
@@ -101,7 +101,7 @@ class Cover:
         """What of the run is not compared, in words."""
         if self.missing:
             yield f'{count(self.missing, "byte")} missing from the {name} run'
-        # (what is missing is told for all)
+        # (missing bytes are counted for all)
         number = Counter(self.word_of(one) for one in self.covered if is_connection(one) and one.shows_calls
                          and not (one.word == 'in part' and one.missing))
         if number['left out']:

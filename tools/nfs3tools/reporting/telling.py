@@ -104,7 +104,7 @@ def said_by(finding: Finding) -> object:
 
 
 def is_summed(findings: Sequence[Finding]) -> bool:
-    """Whether findings are told in one line: several that print no other values than equal ones."""
+    """Whether findings are one line: several that print no other values than equal ones."""
     return len(findings) > 1 and is_of_equal_values(findings[0])
 
 

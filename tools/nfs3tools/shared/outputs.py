@@ -100,7 +100,7 @@ def try_outputs(paths: typing.Iterable[str | None], inputs: typing.Iterable[str]
 
 
 def identity_of(path: str, found: os.stat_result | None) -> object:
-    """Returns what tells whether two outputs are one file. Devices swallow any number of them, but standard output does not."""
+    """Returns what is equal for two outputs that are one file. Devices swallow any number of them, but standard output does not."""
     if found is None:
         return os.path.realpath(path)
     if path != STANDARD_OUTPUT and stat.S_ISCHR(found.st_mode):
