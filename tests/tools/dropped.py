@@ -23,7 +23,7 @@ from messages import fragment  # noqa: E402
 from packets import ACK, FIN, RST, SYN, Talk, ethernet, pcap  # noqa: E402
 from nfs3tools.commands import following  # noqa: E402
 from nfs3tools.commands.judging import Verdict  # noqa: E402
-from nfs3tools.recordings import streams  # noqa: E402
+from nfs3tools.recordings import spool, streams  # noqa: E402
 from nfs3tools.recordings.selection import Options  # noqa: E402
 
 VERDICTS = str(TOP / 'tools/verdicts')
@@ -113,7 +113,7 @@ def one_frame_that_is_far(tools: Tools) -> None:
 
 def much_in_flight(tools: Tools) -> None:
     """Acknowledgements that lag behind by 200 MB show nothing that is missing, nor does a segment that comes again as late."""
-    stream_of_much = streams.Stream(streams.Spool(), streams.Budget(), None)
+    stream_of_much = streams.Stream(spool.Spool(), streams.Budget(), None)
     stream_of_much.first, stream_of_much.next, stream_of_much.acked = 50, 5_300_000_000, 5_100_000_000
     for position in (5_100_000_000, 5_100_000_100, 5_040_000_000, 5_290_000_000):
         tools.want(f'{position}', stream_of_much.position((50 + position) % (1 << 32)), position)

@@ -23,7 +23,7 @@ from running import begin, pipe_of, try_tests  # noqa: E402
 from scripts import ALL, TOP, Tools, stream, sums, whole  # noqa: E402
 from messages import NFS, call, fh, fragment, hyper, opaque, success, word  # noqa: E402
 from packets import ACK, RST, Talk, pcap  # noqa: E402
-from nfs3tools.recordings.streams import Spool, Stored  # noqa: E402
+from nfs3tools.recordings.spool import Spool, Stored  # noqa: E402
 
 VERDICTS = str(TOP / 'tools/verdicts')
 HEADS = ['recording', 'connection', 'client', 'server', 'calls', 'replies', 'verdict']

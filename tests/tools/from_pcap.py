@@ -32,7 +32,7 @@ import messages  # noqa: E402
 from messages import NFS, call, success  # noqa: E402
 from packets import ACK, CLIENT, FIN, RST, SERVER, SYN, Talk, datagram, ethernet, pcap  # noqa: E402
 from nfs3tools.captures import container as captures  # noqa: E402
-from nfs3tools.recordings import streams  # noqa: E402
+from nfs3tools.recordings import spool, streams  # noqa: E402
 from nfs3tools.captures.container import capture_of  # noqa: E402
 from nfs3tools.recordings.frames import Frame  # noqa: E402
 from nfs3tools.recordings.segments import Segments  # noqa: E402
@@ -325,7 +325,7 @@ def segments_in_any_order(tools: Tools) -> None:
     tools.taken('one byte at a time', pcap(bytewise(content)), [(content, b'')])
     one, two = whole(port=700), whole(port=701, service=111)
     tools.taken('two at once', pcap([frame for pair in zip(one, two) for frame in pair]), [ALL, ALL])
-    stream_of_4_gb = streams.Stream(streams.Spool(), streams.Budget(), None)
+    stream_of_4_gb = streams.Stream(spool.Spool(), streams.Budget(), None)
     stream_of_4_gb.first, stream_of_4_gb.next = 50, (3 << 32) + 7
     for ahead in (-9, 0, 9, 1 << 30, -(1 << 30)):
         position = stream_of_4_gb.position((50 + (3 << 32) + 7 + ahead) & 0xffffffff)

@@ -4,7 +4,7 @@ import typing
 
 from ..recordings.kinds import MAGICS
 from ..recordings.frames import Source
-from ..recordings.streams import Spool, Stored
+from ..recordings.spool import Spool, Stored
 from ..recordings.unpacking import Damaged
 
 CHUNK = 1 << 16

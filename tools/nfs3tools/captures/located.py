@@ -17,7 +17,7 @@ from ..shared.places import SIDES, FilePlace, NoPlace, Place, Side
 from ..recordings.frames import NoRecording, Recording, Source, opened
 from ..recordings.records import LONGEST_BODY, READ_AT_ONCE, Extent, Window, body_of, extents, fragments, xids
 from ..recordings.selection import Options
-from ..recordings.streams import Spool, Stored
+from ..recordings.spool import Spool, Stored
 from ..recordings.taken import FrameRef, NotTaken, Taken, TakenStream, bytes_of, copied, take, whole
 from ..recordings.unpacking import Damaged
 

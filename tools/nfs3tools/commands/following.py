@@ -22,14 +22,16 @@ from .messages import advice_on, words_of
 from ..shared.outputs import held
 from ..shared.printed import escaped
 from ..shared.programs import CHECKED, Died, run_program
+from ..recordings.connections import Connection, Connections, is_of_stray
 from ..recordings.coverage import Allowed, Counts, Covered, called_in
 from ..recordings.frames import NANOSECONDS, Frame, NoRecording, Recording, Source, opened
 from ..recordings.records import Window, end_of_whole, xids
 from ..recordings.segments import Segment, Segments
 from ..recordings.selection import Kept, Options, Selected, count, select
-from ..recordings.streams import Connection, Connections, Spool, Stored, Stream, is_of_stray
-from ..recordings.taken import (NO_RPC, NotTaken, Taken, TakenStream, left_out_of, nothing_in, notes_of, ports_of, remarks_of, taken_connection,
-                                whole)
+from ..recordings.spool import Spool, Stored
+from ..recordings.streams import Stream
+from ..recordings.passed_over import notes_of, nothing_in, remarks_of
+from ..recordings.taken import NO_RPC, NotTaken, Taken, TakenStream, left_out_of, ports_of, taken_connection, whole
 from ..recordings.unpacking import Damaged
 
 FIRST_SIZE = 1 << 16  # bytes of a section that is judged for the first time, if it has not had its turn before

@@ -3,8 +3,9 @@ import dataclasses
 import typing
 
 from ..shared.places import SIDES, Side
+from .connections import Connection
 from .records import Search, Window, end_of_whole, xids
-from .streams import Connection, Gap, Stream
+from .streams import Gap, Stream
 
 SERVER_PORTS = {'2049', '20048', '111'}  # NFS, MOUNT as Linux has it, and the port mapper
 REPLY = 1  # mtype

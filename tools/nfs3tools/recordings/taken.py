@@ -24,19 +24,20 @@ from ..captures.container import CHUNK, MOST_BYTES, MOST_CONNECTIONS, BadCapture
 from .kinds import MAGICS
 from ..shared.outputs import CAPTURE, write_file
 from .parts import Part, files_of, in_order, pattern_beside
+from .passed_over import notes_of, nothing_in, remarks_of
 from ..shared.places import SIDES, FilePlace, NoPlace, Place, Side
 from ..shared.programs import chosen_frames
+from .connections import Connection, Connections
 from .coverage import NFS_PORTS, PORT_MAPPER, Covered, called_in, of_connection
 from .frames import NoRecording, Recording, Source, opened
 from .records import Extent, Window, body_of, extents, extent_of, fragments
 from .segments import Segments
-from .selection import Options, Selected, count, is_of_rpc, plural, select
-from .streams import Brought, Connection, Connections, Frames, Spool, Stored
+from .selection import Options, Selected, count, is_of_rpc, select
+from .spool import Brought, Frames, Spool, Stored
 from .unpacking import READ_AT_ONCE, Damaged, Readable
 
 FRAMES_A_STEP = 1_000
 NO_RPC = 'no RPC'  # is why a connection is left out
-TUNNEL = '*'  # ends the name of frames that may have segments of TCP in them
 NOTHING, NOTHING_MORE = Brought(0, 0, 0), Brought(sys.maxsize, 0, 0)
 __all__ = ['FrameRef', 'LeftOut', 'NotTaken', 'Options', 'Record', 'Taken', 'TakenConnection', 'TakenStream', 'take']
 
@@ -462,49 +463,6 @@ class Taking:
 def ports_of(options: Options) -> frozenset[int]:
     """The ports of NFS: those that were chosen, or else the usual ones."""
     return (options.ports or NFS_PORTS) - {PORT_MAPPER}
-
-
-def nothing_in(segments: Segments) -> str:
-    """What is said of a recording in which there is no connection: the kinds of its frames, if it has some."""
-    kinds = sorted(segments.others.items(), key=lambda one: (-one[1], one[0]))
-    told = ', '.join(f'{number:,} of {name.rstrip(TUNNEL)}' for name, number in kinds)
-    return f'no connection to judge: {count(sum(segments.others.values()), "frame")} without TCP: {told}' if kinds else 'no connection to judge'
-
-
-def remarks_of(segments: Segments) -> list[Covered]:
-    """What is not judged of the frames that are no segments of TCP."""
-    segments.finish()
-    return [*fragments_of(segments), *datagrams_of(segments)]
-
-
-def fragments_of(segments: Segments) -> list[Covered]:
-    """Datagrams of which fragments are missing."""
-    number = segments.given_up
-    return [Covered('in part', f'{count(number, "datagram")} of TCP {plural(number, "is", "are")} not taken, since not all fragments of '
-                               f'{plural(number, "it", "them")} came in time')] if number else []
-
-
-def datagrams_of(segments: Segments) -> list[Covered]:
-    """Datagrams of UDP, which may have calls and replies in them."""
-    return [Covered('left out', f'{count(number, "UDP datagram")} to or from port {port} {plural(number, "is", "are")} not taken')
-            for port, number in sorted(segments.datagrams.items())]
-
-
-def notes_of(segments: Segments) -> list[str]:
-    notes = list[str]()
-    if segments.cut:
-        notes.append(f'{count(segments.cut, "frame")} {plural(segments.cut, "was", "were")} recorded in part only (the snap '
-                     f'length, as of `tcpdump -s`); what they lack is missing')
-    if segments.lying:
-        notes.append(f'{count(segments.lying, "frame")} {plural(segments.lying, "has", "have")} headers that do not fit '
-                     f'{plural(segments.lying, "its", "their")} length, and {plural(segments.lying, "is", "are")} passed over')
-    for name, number in sorted(segments.others.items()):
-        if name.endswith(TUNNEL):
-            notes.append(f'{count(number, "frame")} of {name.rstrip(TUNNEL)} {plural(number, "is", "are")} passed over; '
-                         'what is in them is not known')
-    for link, number in segments.links.items():
-        notes.append(f'{count(number, "frame")} of the link type {link} {plural(number, "is", "are")} passed over')
-    return notes
 
 
 def add(taken: Taken, connection: Connection, selected: Selected, options: Options) -> None:

@@ -1,0 +1,209 @@
+"""The temporary file in which streams stand, and which frame brought which of their bytes."""
+import array
+import bisect
+import os
+import struct
+import tempfile
+import typing
+
+WRITTEN_AT_ONCE = 1 << 16
+UNWRITTEN_AT_MOST = 8 << 20  # bytes of all streams together that are not in the temporary file yet
+
+
+class Room:
+    """Which bytes of a file are free to be written again: ranges in order, none of which touch. All bytes from `end` on are free."""
+
+    def __init__(self) -> None:
+        self.begins: list[int] = []
+        self.sizes: list[int] = []
+        self.end = 0
+
+    def take(self, size: int) -> int:
+        """Takes the first free range that is large enough, and returns where it begins."""
+        for at, there in enumerate(self.sizes):
+            if there >= size:
+                begin = self.begins[at]
+                self.set(at, begin + size, there - size)
+                return begin
+        self.end += size
+        return self.end - size
+
+    def set(self, at: int, begin: int, size: int) -> None:
+        if size:
+            self.begins[at], self.sizes[at] = begin, size
+        else:
+            del self.begins[at], self.sizes[at]
+
+    def give(self, begin: int, size: int) -> None:
+        """Makes a range free, joined with those that it touches."""
+        at = bisect.bisect(self.begins, begin)
+        if at < len(self.begins) and begin + size == self.begins[at]:
+            size += self.sizes[at]
+            self.set(at, 0, 0)
+        if at and self.begins[at - 1] + self.sizes[at - 1] == begin:
+            at -= 1
+            begin, size = self.begins[at], self.sizes[at] + size
+            self.set(at, 0, 0)
+        if begin + size == self.end:
+            self.end = begin
+        else:
+            self.begins.insert(at, begin)
+            self.sizes.insert(at, size)
+
+
+class Spool:
+    """The temporary file in which streams stand. It is made when the first bytes are written."""
+
+    def __init__(self) -> None:
+        self.file: typing.IO[bytes] | None = None
+        self.room, self.unwritten = Room(), 0
+        self.stored: dict['Stored', None] = {}  # in the order in which they were begun
+
+    def append(self, piece: bytes | bytearray) -> int:
+        """Writes a piece, and gives where it stands."""
+        begin, done = self.room.take(len(piece)), 0
+        try:
+            if self.file is None:
+                self.file = tempfile.TemporaryFile(prefix='nfs3canon', buffering=0)
+            while done < len(piece):
+                done += os.pwrite(self.file.fileno(), piece[done:] if done else piece, begin + done)
+        except OSError as failed:
+            raise OSError(failed.errno, failed.strerror or str(failed), 'a temporary file') from failed
+        return begin
+
+    def read(self, begin: int, size: int) -> bytes:
+        return os.pread(self.file.fileno(), size, begin) if self.file else b''
+
+    def free(self, begin: int, size: int) -> None:
+        """Has the room of bytes used again. What is free at the end of the file is cut off."""
+        before = self.room.end
+        self.room.give(begin, size)
+        if self.file and self.room.end < before:
+            self.file.truncate(self.room.end)
+
+    def spare(self) -> None:
+        """Writes what all streams hold in memory, if it is much."""
+        if self.unwritten > UNWRITTEN_AT_MOST:
+            for stored in self.stored:
+                stored.write()
+
+    def close(self) -> None:
+        if self.file:
+            self.file.close()
+
+
+NONE_WRITTEN = array.array('Q')  # is never changed
+BROUGHT = struct.Struct('<QQq')
+BLOCK_OF_FRAMES = 128 * BROUGHT.size  # bytes
+
+
+class Stored:
+    """Bytes to which more are appended: short ones stay in memory, the others go to the spool."""
+    __slots__ = 'spool', 'size', 'written', 'begins', 'places', 'unwritten'
+
+    def __init__(self, spool: Spool) -> None:
+        self.spool, self.size = spool, 0
+        self.written = 0
+        self.begins, self.places = NONE_WRITTEN, NONE_WRITTEN  # of each part that was written
+        self.unwritten = bytearray()
+        spool.stored[self] = None
+
+    def append(self, piece: bytes) -> None:
+        self.unwritten += piece
+        self.size += len(piece)
+        self.spool.unwritten += len(piece)
+        if len(self.unwritten) >= WRITTEN_AT_ONCE:
+            self.write()
+        elif self.spool.unwritten > UNWRITTEN_AT_MOST:
+            self.spool.spare()
+
+    def write(self) -> None:
+        """Moves the bytes that are in memory to the spool."""
+        if self.unwritten:
+            if not self.begins:
+                self.begins, self.places = array.array('Q'), array.array('Q')
+            self.begins.append(self.written)
+            self.places.append(self.spool.append(self.unwritten))
+            self.written = self.size
+            self.spool.unwritten -= len(self.unwritten)
+            self.unwritten = bytearray()
+
+    def read(self, begin: int, size: int) -> bytes:
+        """Returns the bytes from `begin` on: `size` of them, or fewer at the end."""
+        end, pieces = min(begin + size, self.size), []
+        part = bisect.bisect_right(self.begins, begin) - 1
+        while begin < min(end, self.written):
+            part_end = self.begins[part + 1] if part + 1 < len(self.begins) else self.written
+            piece = self.spool.read(self.places[part] + begin - self.begins[part], min(end, part_end) - begin)
+            if not piece:
+                raise OSError('the temporary file is shorter than it was')
+            pieces.append(piece)
+            begin += len(piece)
+            part += begin == part_end
+        if begin < end:
+            pieces.append(bytes(self.unwritten[begin - self.written:end - self.written]))
+        return pieces[0] if len(pieces) == 1 else b''.join(pieces)
+
+    def drop(self, end: int) -> None:
+        """Forgets the bytes before a position, as far as whole parts go. They must not be read again."""
+        parts = len(self.begins) if end >= self.written else max(0, bisect.bisect_right(self.begins, end) - 1)
+        ends = [*self.begins[1:parts + 1], self.written][:parts]
+        for begin, part_end, place in zip(self.begins, ends, self.places):
+            self.spool.free(place, part_end - begin)
+        if parts:
+            del self.begins[:parts], self.places[:parts]
+        if end > self.written:
+            self.spool.unwritten -= end - self.written
+            del self.unwritten[:end - self.written]
+            self.written = end
+
+    def close(self) -> None:
+        """Forgets all bytes. Nothing is appended after this."""
+        self.drop(self.size)
+        self.spool.stored.pop(self, None)
+
+
+class Brought(typing.NamedTuple):
+    """A frame that brought stored bytes: where they begin, its number, and its time."""
+    begin: int
+    number: int
+    time: int
+
+
+class Frames:
+    """Which frame brought which of the stored bytes, in order. It is stored as the bytes are, so little memory follows the frames."""
+    __slots__ = 'stored', 'firsts', 'dropped'
+
+    def __init__(self, spool: Spool) -> None:
+        self.stored, self.firsts = Stored(spool), array.array('Q')  # where the bytes of every 128th frame begin
+        self.dropped = 0  # blocks of 128 frames
+
+    def append(self, begin: int, number: int, time: int) -> None:
+        if not self.stored.size % BLOCK_OF_FRAMES:
+            self.firsts.append(begin)
+        self.stored.append(BROUGHT.pack(begin, number, time))
+
+    def between(self, begin: int, end: int) -> typing.Iterator[Brought]:
+        """Iterates over the frames that brought the stored bytes from `begin` up to `end`, in order of the bytes."""
+        noted = self.noted_from(max(0, bisect.bisect_right(self.firsts, begin) - 1))
+        last = next(noted, None)
+        for brought in noted:
+            if last and brought.begin > begin:
+                yield last
+            if brought.begin >= end:
+                return
+            last = brought
+        if last:
+            yield last
+
+    def drop(self, begin: int) -> None:
+        """Forgets the frames that brought bytes before a position, in whole blocks."""
+        blocks = max(0, bisect.bisect_right(self.firsts, begin) - 1)
+        del self.firsts[:blocks]
+        self.dropped += blocks
+        self.stored.drop(self.dropped * BLOCK_OF_FRAMES)
+
+    def noted_from(self, block: int) -> typing.Iterator[Brought]:
+        """Iterates over the frames from a block on, the first of those that are kept being 0."""
+        for at in range((self.dropped + block) * BLOCK_OF_FRAMES, self.stored.size, BLOCK_OF_FRAMES):
+            yield from map(Brought._make, BROUGHT.iter_unpack(self.stored.read(at, BLOCK_OF_FRAMES)))
