@@ -94,8 +94,8 @@ def named_as_installed(place: Place) -> None:
 
 
 # What each completion offers: an option of its own, or for the programs a word that only the launcher knows.
-OFFERED = {'nfs3canon': '--version', 'nfs3mask': '--version', 'nfs3-from-pcap': '--midstream', 'nfs3-where': '--filter',
-           'nfs3-verdicts': '--junit', 'nfs3-procedures': '--beside', 'nfs3-compare': '--brief', 'nfs3-explain': '--midstream',
+OFFERED = {'nfs3canon': '--version', 'nfs3mask': '--version', 'nfs3-from-pcap': '--no-midstream', 'nfs3-where': '--filter',
+           'nfs3-verdicts': '--junit', 'nfs3-procedures': '--beside', 'nfs3-compare': '--brief', 'nfs3-explain': '--no-midstream',
            'nfs3-cut': '--origins'}
 # Each script prints what a shell offers after a name and two hyphens; the words are the name, and the folder or the file of completions.
 IN_BASH = """. "$2"; spec=$(complete -p "$1"); COMP_WORDS=("$1" --); COMP_CWORD=1
