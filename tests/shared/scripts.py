@@ -1,5 +1,6 @@
 """Runs of the scripts in tools/, and what their tests make recordings of."""
 import concurrent.futures
+import contextlib
 import io
 import os
 import pathlib
@@ -15,7 +16,10 @@ sys.path[:0] = [str(TOP / 'tools'), str(TOP / 'examples')]
 from messages import NFS, call, fragment, success, version_1  # noqa: E402
 from packets import Talk  # noqa: E402
 from nfs3tools.captures.container import capture_of  # noqa: E402
-from nfs3tools.commands.messages import lines_of  # noqa: E402
+from nfs3tools.commands import following  # noqa: E402
+from nfs3tools.commands.judging import Verdict  # noqa: E402
+from nfs3tools.commands.messages import add_options, lines_of, options_of, parser_of  # noqa: E402
+from nfs3tools.commands.verdicts import Judge  # noqa: E402
 from nfs3tools.recordings.frames import Source  # noqa: E402
 from nfs3tools.recordings.selection import Options  # noqa: E402
 from nfs3tools.recordings.taken import NotTaken, Progress, Taken, take_from  # noqa: E402
@@ -109,6 +113,19 @@ class Tools(Runs):
     def exists(self, name: str) -> bool:
         """Whether a file is in the folder."""
         return os.path.exists(self.path(name))
+
+
+def both_ways(tools: Tools, recording: bytes, words: list[str]) -> list[list[Verdict]]:
+    """The verdicts on a recording, plain and with --follow, as the tool has them with these words."""
+    parser = parser_of('', 'verdicts')
+    add_options(parser)
+    options, said = options_of(parser.parse_args(words)), list[Verdict]()
+    tools.write('a.pcap', recording)
+    path = tools.path('a.pcap')
+    one = following.Following(path, tools.program, options, said.append)
+    with contextlib.closing(one.connections.spool):
+        following.take_all(one, typing.cast(following.Growing, io.BytesIO(recording)))
+    return [Judge(tools.program, options, 1, False).verdicts(path), said]
 
 
 def tried(program: str, test: typing.Callable[[Tools], None]) -> list[str]:

@@ -5,12 +5,14 @@
 
 PROGRAM is crates/nfs3canon/out/nfs3canon if none is named. The last line is 'N passed, M failed', and the status is 1 if any failed.
 """
+import argparse
+import concurrent.futures
 import json
 import lzma
 import pathlib
 import re
-import subprocess
 import shutil
+import subprocess
 import sys
 import typing
 import xml.etree.ElementTree
@@ -18,9 +20,13 @@ import xml.etree.ElementTree
 sys.path.insert(0, str(pathlib.Path(__file__).resolve().parents[1] / 'shared'))
 from recordings import fragments, in_geneve, in_gre, in_labels, in_session, in_vxlan, pcapng, udp  # noqa: E402
 from running import try_tests  # noqa: E402
-from scripts import ALL, CALLS, REPLIES, Tools, exchange, stream, sums, taken_of, whole  # noqa: E402
+from scripts import ALL, CALLS, REPLIES, Tools, both_ways, exchange, stream, sums, taken_of, whole  # noqa: E402
 from messages import MOUNT, NFS, call, fh, success  # noqa: E402
 from packets import ACK, CLIENT, FIN, RST, SERVER, Talk, datagram, ethernet, pcap  # noqa: E402
+from nfs3tools.commands.judging import counts_after, is_row, status_of  # noqa: E402
+from nfs3tools.commands.messages import ports_of  # noqa: E402
+from nfs3tools.commands.verdicts import json_of, junit_of  # noqa: E402
+from nfs3tools.recordings.coverage import Allowed  # noqa: E402
 
 CALL, REPLY = len(stream(CALLS[:1])), len(stream(REPLIES[:1]))
 NFSACL, PORTMAP = 100_227, 100_000
@@ -146,81 +152,88 @@ def run_of(tools: Tools, *words: str, stdin: bytes | None = None) -> tuple[int, 
 def words_of_all_kinds(tools: Tools) -> None:
     """Each kind beside a good connection: the rows, the sum and the status, plain and with what is allowed, and with --follow."""
     for case in CASES:
+        line = sums(**{**case.counts, 'ok': 1 + case.counts.get('ok', 0)}, raw=case.raw)
+        for how, verdicts in zip(('plain', 'followed'), both_ways(tools, pcap(good() + case.frames), case.words)):
+            rows = sorted((verdict.state, verdict.message) for verdict in verdicts if is_row(verdict))
+            tools.want(f'{case.what}, {how}', (rows, counts_after(verdicts).words()),
+                       (sorted([('ok', 'ok'), *zip(case.states, case.messages)]), line))
+            statuses = tuple(status_of(verdicts, allowed) for allowed in (Allowed(), Allowed(losses=True), Allowed(not_checked=True)))
+            tools.want(f'{case.what}, {how}, the status', statuses, case.statuses)
+            tools.want(f'{case.what}, {how}, all allowed', status_of(verdicts, Allowed(True, True)), int('refused' in case.states))
+
+
+def words_on_the_command_line(tools: Tools) -> None:
+    """What the tool itself prints and returns, of one of each word."""
+    for case in [case for case in CASES if case.what in ('a lost frame', 'NFS version 4', 'datagrams of UDP', 'no RPC')]:
         recording = pcap(good() + case.frames)
         tools.write('a.pcap', recording)
         line = sums(**{**case.counts, 'ok': 1 + case.counts.get('ok', 0)}, raw=case.raw)
         for allowed, status in zip(([], ['--allow-losses'], ['--allow-not-checked']), case.statuses):
-            found = run_of(tools, *case.words, *allowed, 'a.pcap')
-            tools.want(f'{case.what} {allowed}', found[:3], (status, ['ok', *case.messages], line))
-            found = run_of(tools, '--follow', *case.words, *allowed, '-', stdin=recording)
-            tools.want(f'{case.what} {allowed}, followed', (found[0], sorted(found[1]), found[2]),
-                       (status, sorted(['ok', *case.messages]), line))
-        both = run_of(tools, *case.words, '--allow-losses', '--allow-not-checked', 'a.pcap')
-        tools.want(f'{case.what}, all allowed', both[0], int('refused' in case.states))
+            tools.want(f'{case.what} {allowed}', run_of(tools, *allowed, 'a.pcap')[:3], (status, ['ok', *case.messages], line))
+        found = run_of(tools, '--follow', '-', stdin=recording)
+        tools.want(f'{case.what}, followed', (found[0], sorted(found[1]), found[2]), (case.statuses[0], sorted(['ok', *case.messages]), line))
 
 
 def words_in_files(tools: Tools) -> None:
     """The same in JSON and JUnit."""
     for case in CASES:
-        tools.write('a.pcap', pcap(good() + case.frames))
-        run_of(tools, *case.words, '--json', 'x.json', '--junit', 'x.xml', 'a.pcap')
-        written = json.loads(tools.read('x.json') or b'{}')
+        verdicts = both_ways(tools, pcap(good() + case.frames), case.words)[0]
+        written = json.loads(json_of(verdicts))
         rows = [row for row in written['rows'] if row['shows_calls']][1:]
         tools.want(case.what + ', rows', ([row['state'] for row in rows], [row['message'] for row in rows]), (case.states, case.messages))
         numbers = {'ok': 0, 'refused': 0, 'in_part': 0, 'left_out': 0, 'bare': 0, 'not_checked': 0, 'errors': 0} | case.counts
         numbers['ok'] += 1
-        named = {'judged': numbers['ok'] + numbers['refused'], 'ok': numbers['ok'], 'refused': numbers['refused'], 'in part': numbers['in_part'],
-                 'left out': numbers['left_out'], 'without calls': numbers['bare'], 'not checked': numbers['not_checked'], 'errors': 0}
+        named = {'judged': numbers['ok'] + numbers['refused'], 'ok': numbers['ok'], 'refused': numbers['refused'],
+                 'in part': numbers['in_part'], 'left out': numbers['left_out'], 'without calls': numbers['bare'],
+                 'not checked': numbers['not_checked'], 'errors': 0}
         raw = {name: int(number) for number, name in (word.split(' ', 1) for word in case.raw.split(', ') if word)}
         tools.want(case.what + ', counts', (written['version'], written['counts']), (2, {**named, 'raw': raw}))
-        suite = xml.etree.ElementTree.fromstring((tools.read('x.xml') or b'').decode())[0]
+        suite = xml.etree.ElementTree.fromstring(junit_of(verdicts, Allowed()).decode())[0]
         properties = {item.get('name'): item.get('value') for item in suite.iter('property')}
         tools.want(case.what + ', properties', properties, {**{name: str(number) for name, number in named.items()}, 'raw': case.raw})
         failures = [(item.get('type'), item.get('message')) for item in suite.iter('failure')]
         wanted = [(None if state == 'refused' else state, message) for state, message in zip(case.states, case.messages) if state != 'ok']
         tools.want(case.what + ', failures', failures, wanted)
-        tools.want(case.what + ', skipped', (suite.get('skipped'), len(list(suite.iter('skipped')))), (str(numbers['bare']), numbers['bare']))
+        skipped = suite.get('skipped'), len(list(suite.iter('skipped')))
+        tools.want(case.what + ', skipped', skipped, (str(numbers['bare']), numbers['bare']))
 
 
 def recordings_that_end_inside_a_frame(tools: Tools) -> None:
     """A recording that is cut anywhere inside a frame is in part, and never refused; so is one that is compressed and cut."""
-    frames = good()
-    ends = [24]
-    for frame in frames:
+    content, ends = pcap(good()), [24]
+    for frame in good():
         ends.append(ends[-1] + 16 + len(frame))
-    content, status = pcap(frames), 1
     for number in range(3, 15):
         for size in {ends[number] + 1, ends[number] + 17, ends[number + 1] - 1}:
-            message = f'in part: the recording ends inside a frame (frame {number + 1})'
-            tools.write('a.pcap', content[:size])
-            for words in (['a.pcap'], ['--follow', '-']):
-                status, rows, line, _ = run_of(tools, *words, stdin=content[:size])
-                tools.want(f'{size} bytes {words}', (status, message in rows, ' 0 refused' in line), (1, True, True))
+            for how, verdicts in zip(('plain', 'followed'), both_ways(tools, content[:size], [])):
+                messages, counts = [verdict.message for verdict in verdicts], counts_after(verdicts)
+                tools.want(f'{size} bytes, {how}', (f'in part: the recording ends inside a frame (frame {number + 1})' in messages,
+                                                    counts.refused, status_of(verdicts, Allowed())), (True, 0, 1))
     tools.want('allowed', run_of(tools, '--allow-losses', 'a.pcap')[0], 0)
-    packers = {'xz': lzma.compress}
+    packers: dict[str, typing.Callable[[bytes], bytes]] = {'xz': lzma.compress}
     if shutil.which('zstd'):
         packers['zstd'] = lambda data: subprocess.run(['zstd', '-cq'], input=data, stdout=subprocess.PIPE, check=True).stdout
     long = pcap(good() + [frame for port in range(701, 760) for frame in whole(port=port)])
     for name, pack in packers.items():
-        tools.write('a.pcap', pack(long)[:-20])
-        status, rows, line, _ = run_of(tools, 'a.pcap')
-        tools.want(name, (status, 'in part: the recording ends inside a frame' in rows[-1], ' 0 refused' in line, '0 errors' in line),
-                   (1, True, True, True))
-    blocks = pcapng(frames)
-    tools.write('a.pcap', blocks[:-1])
-    tools.want('pcapng', run_of(tools, 'a.pcap')[:2], (1, ['ok', 'in part: the recording ends inside a frame (frame 15)']))
+        verdicts = both_ways(tools, pack(long)[:-20], [])[0]
+        counts, is_told = counts_after(verdicts), 'in part: the recording ends inside a frame' in verdicts[-1].message
+        tools.want(name, (is_told, counts.refused, counts.errors, status_of(verdicts, Allowed())), (True, 0, 0, 1))
+    verdicts = both_ways(tools, pcapng(good())[:-1], [])[0]
+    tools.want('pcapng', [verdict.message for verdict in verdicts], ['ok', 'in part: the recording ends inside a frame (frame 15)'])
 
 
 def ports_that_are_chosen(tools: Tools) -> None:
     """--port takes the connections that have one of the ports, and no datagrams of others."""
     frames = whole() + whole(port=701, service=900) + whole(port=702, service=20_048) + datagrams(4)
-    tools.write('a.pcap', pcap(frames))
     for ports, found, left in (('900', 1, 0), ('2049,20048', 2, 1), ('2049', 1, 1), ('701,702', 2, 0), ('5', 0, 0)):
-        for words in (['a.pcap'], ['--follow', '-']):
-            status, rows, line, _ = run_of(tools, '--port', ports, *words, stdin=pcap(frames))
-            tools.want(f'{ports} {words}', (status, rows.count('ok'), line), (int(left > 0 or not found), found, sums(found, left_out=left, errors=int(not found))))
+        for how, verdicts in zip(('plain', 'followed'), both_ways(tools, pcap(frames), ['--port', ports])):
+            tools.want(f'{ports}, {how}', (status_of(verdicts, Allowed()), counts_after(verdicts).words()),
+                       (int(left > 0 or not found), sums(found, left_out=left, errors=int(not found))))
     for ports in ('', '2049,', 'nfs', '0', '65536', '-1', '2049,2049'):
-        tools.want(f'no ports: {ports}', tools.tool('verdicts', f'--port={ports}', 'a.pcap')[0], 2)
+        try:
+            tools.want(f'no ports: {ports}', ports_of(ports), 'refused')
+        except argparse.ArgumentTypeError as refused:
+            tools.want(f'no ports: {ports}', str(refused), f'no ports: {ports}')
 
 
 def tunnels(tools: Tools) -> None:
@@ -258,8 +271,8 @@ def tunnels(tools: Tools) -> None:
     tools.want('the kind 0', taken_of(pcap([bytes(14) + frame[14:] for frame in whole()])).connections, [])
 
 
-TESTS = [words_of_all_kinds, words_in_files, recordings_that_end_inside_a_frame, ports_that_are_chosen, tunnels]
+TESTS = [words_of_all_kinds, words_on_the_command_line, words_in_files, recordings_that_end_inside_a_frame, ports_that_are_chosen, tunnels]
 
 
 if __name__ == '__main__':
-    try_tests(__doc__, Tools, TESTS)
+    try_tests(__doc__, Tools, TESTS, concurrent.futures.ProcessPoolExecutor)

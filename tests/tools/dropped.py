@@ -6,9 +6,9 @@
 PROGRAM is crates/nfs3canon/out/nfs3canon if none is named. Each recording is judged plain and with --follow. The last line is 'N passed,
 M failed', and the status is 1 if any failed.
 """
+import concurrent.futures
 import io
 import pathlib
-import re
 import struct
 import sys
 import time
@@ -18,11 +18,12 @@ from unittest.mock import patch
 sys.path.insert(0, str(pathlib.Path(__file__).resolve().parents[1] / 'shared'))
 from recordings import fragments, fragments_6  # noqa: E402
 from running import begin, pipe_of, try_tests  # noqa: E402
-from scripts import ALL, CALLS, REPLIES, TOP, Tools, stream, taken_of, whole  # noqa: E402
+from scripts import ALL, CALLS, REPLIES, TOP, Tools, both_ways, stream, taken_of, whole  # noqa: E402
 from messages import fragment  # noqa: E402
 from packets import ACK, FIN, RST, SYN, Talk, ethernet, pcap  # noqa: E402
 from nfs3tools.commands import following  # noqa: E402
-from nfs3tools.commands.judging import Verdict  # noqa: E402
+from nfs3tools.commands.judging import Verdict, is_row, status_of  # noqa: E402
+from nfs3tools.recordings.coverage import Allowed  # noqa: E402
 from nfs3tools.recordings import spool, streams  # noqa: E402
 from nfs3tools.recordings.selection import Options  # noqa: E402
 
@@ -55,13 +56,13 @@ def with_times(frames: list[bytes], seconds: dict[int, int]) -> bytes:
     return b''.join(blocks)
 
 
-def judged(tools: Tools, recording: bytes, *words: str) -> list[tuple[int, list[str], str]]:
-    """The status, the verdicts of all rows, and standard error of the plain tool, and of --follow."""
-    tools.write('a.pcap', recording)
+def judged(tools: Tools, recording: bytes) -> list[tuple[int, list[str], str]]:
+    """The status, the verdicts of all rows, and what is told besides, plain and with --follow."""
     found = []
-    for chosen in (['a.pcap'], ['--follow', '-']):
-        status, out, error = tools.tool('verdicts', '--program', tools.program, *words, *chosen, stdin=recording)
-        found.append((status, sorted(re.split('  +', line)[-1] for line in out.splitlines()[1:-1]), error))
+    for verdicts in both_ways(tools, recording, []):
+        notes = [note for verdict in verdicts for note in [*verdict.notes, *([] if is_row(verdict) else [verdict.message])]]
+        rows = sorted(verdict.message for verdict in verdicts if is_row(verdict))
+        found.append((status_of(verdicts, Allowed()), rows, '\n'.join(notes)))
     return found
 
 
@@ -306,4 +307,4 @@ TESTS = [much_is_missing_in_the_middle, much_is_missing_at_the_end, one_frame_th
 
 
 if __name__ == '__main__':
-    try_tests(__doc__, Tools, TESTS)
+    try_tests(__doc__, Tools, TESTS, concurrent.futures.ProcessPoolExecutor)

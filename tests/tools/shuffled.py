@@ -403,7 +403,7 @@ class Chosen(Words):
 def main() -> None:
     parser = argparse.ArgumentParser(add_help=False)
     parser.add_argument('--seed', type=int, default=0)
-    parser.add_argument('--count', type=int, default=1_000)
+    parser.add_argument('--count', type=int, default=5_000)
     own, sys.argv[1:] = parser.parse_known_args()
     words = Chosen(**vars(own), **vars(words_of(__doc__)))
     step = max(1, min(50, words.count))

@@ -15,7 +15,6 @@ import random
 import re
 import shutil
 import signal
-import struct
 import sys
 import time
 import xml.etree.ElementTree
@@ -23,8 +22,9 @@ import xml.etree.ElementTree
 sys.path.insert(0, str(pathlib.Path(__file__).resolve().parents[1] / 'shared'))
 from recordings import NANOSECONDS, fragments, interface, section, simple  # noqa: E402
 from running import begin, ended, pipe_of  # noqa: E402
-from scripts import ALL, CALLS, REPLIES, TOP, Tools, exchange, in_fragments, stream, sums, taken_of, try_tools, whole  # noqa: E402
-from messages import MOUNT, NFS, call, fh, hyper, opaque, success, word  # noqa: E402
+from scripts import (  # noqa: E402
+    ALL, CALLS, REPLIES, TOP, Tools, exchange, in_fragments, stream, sums, taken_of, try_tools, whole)
+from messages import NFS, call, fh, hyper, opaque, success, word  # noqa: E402
 from packets import ACK, Talk, ethernet, pcap  # noqa: E402
 from nfs3tools.shared.places import SIDES, Place  # noqa: E402
 

@@ -25,12 +25,12 @@ from ..shared.programs import CHECKED, Died, run_program
 from ..recordings.connections import Connection, Connections, is_of_stray
 from ..recordings.coverage import Allowed, Counts, Covered, called_in
 from ..recordings.frames import NANOSECONDS, Frame, NoRecording, Recording, Source, opened
+from ..recordings.passed_over import notes_of, nothing_in, remarks_of
 from ..recordings.records import Window, end_of_whole, xids
 from ..recordings.segments import Segment, Segments
 from ..recordings.selection import Kept, Options, Selected, count, select
 from ..recordings.spool import Spool, Stored
 from ..recordings.streams import Stream
-from ..recordings.passed_over import notes_of, nothing_in, remarks_of
 from ..recordings.taken import NO_RPC, NotTaken, Taken, TakenStream, left_out_of, ports_of, taken_connection, whole
 from ..recordings.unpacking import Damaged
 
@@ -143,8 +143,8 @@ class Open:
 
     @property
     def is_complete(self) -> bool:
-        """Whether it is closed by both sides or reset, and no byte is missing, nor SYN, which may come late. A segment that resets it need not show all that was
-        sent, but a record of which the end is missing does."""
+        """Whether it is closed by both sides or reset, and no byte is missing, nor SYN, which may come late. A segment that resets it need
+        not show all that was sent, but a record of which the end is missing does."""
         if self.lacks or not all(stream.is_begin for stream in self.connection.streams if stream.runs):
             return False
         if any(map(self.connection.is_reset_by, range(2))):

@@ -3,9 +3,9 @@
     tools/verdicts [--junit FILE] [--json FILE] [-j N] RECORDING|CAPTURE ..
     tcpdump -i any -U -w - port 2049 | tools/verdicts --follow -
 
-Each connection is a capture of its own, which `nfs3canon check` judges, so a fault in one hides nothing of another. A row is printed for each:
-the recording, the connection's number and ends, its calls and replies, and the verdict: `ok`, or the position and reason of its first fault
-with the frame that carries it. A recording that cannot be read has a row, too, and the others are judged still.
+Each connection is a capture of its own, which `nfs3canon check` judges, so a fault in one hides nothing of another. A row is printed
+for each: the recording, the connection's number and ends, its calls and replies, and the verdict: `ok`, or the position and reason of
+its first fault with the frame that carries it. A recording that cannot be read has a row, too, and the others are judged still.
 
 The last line counts all of them. Each comes under one word:
 
@@ -15,17 +15,17 @@ The last line counts all of them. Each comes under one word:
     not checked  calls are NFS or MOUNT of another version, or it is a connection to a port of NFS without one call of version 3
     errors       it could not be read
 
-What no connection stands for has a row as well: UDP at a port of NFS is left out, and a recording that ends inside a frame is in part. Calls of
-other programs are counted by name at the end of the line. What is missing is told on standard error, and so are connections that show no call:
-those without payload, and those without RPC at another port than those of NFS.
+What no connection stands for has a row as well: UDP at a port of NFS is left out, and a recording that ends inside a frame is in part.
+Calls of other programs are counted by name at the end of the line. What is missing is printed on standard error, and so are
+connections that show no call: those without payload, and those without RPC at another port than those of NFS.
 
-The status is 0 only if every call of NFS and MOUNT version 3 that is recorded was judged, and is valid. --allow-losses also allows what is in
-part and what is left out, --allow-not-checked what is not checked. A connection that shows no call changes no status.
+The status is 0 only if every call of NFS and MOUNT version 3 that is recorded was judged, and is valid. --allow-losses also allows what
+is in part and what is left out, --allow-not-checked what is not checked. A connection that shows no call changes no status.
 
-The recordings are taken as by `tools/from_pcap` (--port, --no-midstream, --whole-records, --filter, patterns in quotes for the parts of one
-recording); `-` is standard input. --junit writes the verdicts as JUnit XML, as Jenkins and GitLab take it, and --json as an object with the
-counts and an object for each row and for each note on a recording. N recordings are judged at once, as many as there are processors if it is
-not said.
+The recordings are taken as by `tools/from_pcap` (--port, --no-midstream, --whole-records, --filter, patterns in quotes for the parts of
+one recording); `-` is standard input. --junit writes the verdicts as JUnit XML, as Jenkins and GitLab take it, and --json as an object
+with the counts and an object for each row and for each note on a recording. N recordings are judged at once, as many as there are
+processors if it is not said.
 
 --follow judges one recording while it is made: `-`, a fifo or a file that grows. The line of a connection is printed once it is closed,
 or once a fault of it is seen; at the end, or at SIGINT or SIGTERM, the others are judged. The manual page says when a fault is seen.

@@ -12,8 +12,8 @@ class Connection:
     older: the connection of the same ends before this one, of which segments may come yet
     strays: frames of which nothing is taken, and why
     """
-    __slots__ = ('number', 'key', 'client', 'has_syn', 'first_payload', 'is_chosen', 'is_judged', 'is_closed_later', 'reset_at', 'streams', 'older',
-                 'begun_by', 'is_stray', 'strays', 'after', 'shown_after', 'is_told')
+    __slots__ = ('number', 'key', 'client', 'has_syn', 'first_payload', 'is_chosen', 'is_judged', 'is_closed_later', 'reset_at',
+                 'streams', 'older', 'begun_by', 'is_stray', 'strays', 'after', 'shown_after', 'is_told')
 
     def __init__(self, number: int, key: bytes, spool: Spool, budget: Budget, keeps_frames: bool, begun_by: int = 0) -> None:
         self.number, self.key, self.begun_by = number, key, begun_by  # the number as Wireshark counts tcp.stream, from 0

@@ -27,7 +27,8 @@ def nothing_in(segments: Segments) -> str:
     """What is said of a recording in which there is no connection: the kinds of its frames, if it has some."""
     kinds = sorted(segments.others.items(), key=lambda one: (-one[1], one[0]))
     told = ', '.join(f'{number:,} of {name.rstrip(TUNNEL)}' for name, number in kinds)
-    return f'no connection to judge: {count(sum(segments.others.values()), "frame")} without TCP: {told}' if kinds else 'no connection to judge'
+    frames = count(sum(segments.others.values()), 'frame')
+    return f'no connection to judge: {frames} without TCP: {told}' if kinds else 'no connection to judge'
 
 
 def remarks_of(segments: Segments) -> list[Covered]:

@@ -96,7 +96,8 @@ class Stream:
         """Bytes are missing before the first that was known."""
         if self.runs:
             gap = Gap(0, before, number)
-            self.runs = [Run(run.begin, run.gap and run.gap._replace(position=run.gap.position + before), run.position + before) for run in self.runs]
+            self.runs = [Run(run.begin, run.gap and run.gap._replace(position=run.gap.position + before), run.position + before)
+                         for run in self.runs]
             self.runs[0] = self.runs[0]._replace(gap=gap)
             self.next += before
             self.acked += before
