@@ -26,4 +26,4 @@ complete -o default -W '--port --no-midstream --whole-records --filter --version
 complete -o default -W '--follow --junit --json -j --allow-losses --allow-not-checked --port --no-midstream --whole-records --filter --program --version --help' verdicts nfs3-verdicts
 complete -o default -W '--beside --total --json --csv --allow-losses --allow-not-checked --port --no-midstream --whole-records --filter --program --version --help' procedures nfs3-procedures
 complete -o default -W '--origins --port --no-midstream --whole-records --filter --program --version --help' nfs3-cut
-complete -o default -W '--mask --order --extra --ignore --marks --all --brief --html --json --junit --allow-losses --port --no-midstream --whole-records --filter --program --version --help' nfs3-compare
+complete -o default -W '--mask --order --extra --ignore --marks --all --brief --html --json --junit --allow-losses --allow-not-checked --port --no-midstream --whole-records --filter --program --version --help' nfs3-compare

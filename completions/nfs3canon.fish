@@ -28,8 +28,6 @@ for tool in from_pcap verdicts procedures nfs3-from-pcap nfs3-where nfs3-verdict
 end
 for tool in verdicts nfs3-verdicts procedures nfs3-procedures nfs3-compare
     complete -c $tool -l allow-losses -d 'Take what is in part or left out as the status 0'
-end
-for tool in verdicts nfs3-verdicts procedures nfs3-procedures
     complete -c $tool -l allow-not-checked -d 'Take what is not checked as the status 0'
 end
 for tool in verdicts nfs3-verdicts

@@ -43,7 +43,7 @@ TESTS = {
     'faults': ('failures', 'memory', 'hostile', 'exchanged'),
     'sources': ('must_fail', 'agreement'),
     'tools': ('from_pcap', 'lossy', 'verdicts', 'covered', 'dropped', 'shuffled', 'following', 'followed', 'procedures', 'compare', 'orders',
-              'marks', 'findings', 'page', 'ci', 'reasons', 'explain', 'cut', 'installing', 'harm'),
+              'counts', 'marks', 'findings', 'page', 'ci', 'reasons', 'explain', 'cut', 'installing', 'harm'),
 }
 PROVED = re.compile(r'^rt: (\w+) (?:proved$|is kept: )')
 COUNTS = re.compile(r'^(?:rt: )?(\d+) passed, (\d+) failed')

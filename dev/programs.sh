@@ -42,7 +42,12 @@ shipped_word() {
 
 # Writes a program of dist/ to a file. Fails if it is not the one whose checksum is there.
 unpack() {
-  xz -dc "$top/dist/$1.xz" >"$2" && [ "$(sha256sum <"$2" | cut -d ' ' -f 1)" = "$(shipped_word "$1")" ]
+  xz -dc "$top/dist/$1.xz" >"$2" && is_whole "$2" "$1"
+}
+
+# Whether a file is a program of dist/, by its checksum.
+is_whole() {
+  [ -f "$1" ] && [ "$(sha256sum <"$1" | cut -d ' ' -f 1)" = "$(shipped_word "$2")" ]
 }
 
 # Prints the version: that of the newest section of the change log.

@@ -62,12 +62,14 @@ def tools_at_once(clone: Clone) -> None:
 
 
 def a_changed_source(clone: Clone) -> None:
-    """The program that comes with the repository does not stand for other sources: it is proved and built, which takes `rt`."""
+    """The program that comes with the repository does not stand for other sources: it is proved and built, which takes `rt`. Without that
+    one line says so, and the status is none that an answer has."""
     for name in ('crates/xdr3/src/lib.rt', 'crates/canon3/specs/Rank.antt', 'crates/line3/proofs/Lib.antt', 'crates.txt'):
         was = clone.read(name)
         clone.change(name)
         status, out, error = clone.command('./nfs3canon', 'check', 'examples/null.nfs3cap')
-        clone.want(name, (status, out, 'proving and building' in error, 'rt' in error), (1, '', True, True))
+        clone.want(name, (status, out, error), (
+            3, '', 'nfs3canon: a source was changed (git status shows which), and rt, which proves and builds the program, is not there\n'))
         clone.write(name, was or b'')
     clone.want('changed back', clone.command('./nfs3canon', 'check', 'examples/null.nfs3cap'), (0, NULL, ''))
 
@@ -82,7 +84,7 @@ def a_source_that_plays_no_part(clone: Clone) -> None:
 def asked_to_prove(clone: Clone) -> None:
     """`--prove` does not take what comes with the repository."""
     status, out, error = clone.command('./nfs3canon', '--prove', 'check', 'examples/null.nfs3cap')
-    clone.want('prove', (status, out, 'proving and building' in error), (1, '', True))
+    clone.want('prove', (status, out, error), (3, '', 'nfs3canon: rt, which proves and builds the program, is not there\n'))
 
 
 def a_damaged_program(clone: Clone) -> None:
@@ -91,8 +93,43 @@ def a_damaged_program(clone: Clone) -> None:
     for content in (b'', b'no program', other or b''):
         clone.write('dist/nfs3canon.xz', content)
         status, out, error = clone.command('./nfs3canon', 'check', 'examples/null.nfs3cap')
-        clone.want('damaged', (status, out, 'cannot be unpacked' in error), (1, '', True))
+        clone.want('damaged', (status, out, 'cannot be unpacked' in error, error.count('\n')), (3, '', True, 1))
         clone.want('what is left', os.listdir(clone.path('crates/nfs3canon/out')), [])
+
+
+NOBODY = 65_534
+AS_NOBODY = ['setpriv', f'--reuid={NOBODY}', f'--regid={NOBODY}', '--clear-groups', 'env', '-i']
+
+
+def a_clone_that_cannot_be_written(clone: Clone) -> None:
+    """The program is kept in the cache of the user, or in a temporary folder while it runs; without either one line says so. Each answer has
+    the status that the program has."""
+    if os.getuid() or not shutil.which('setpriv'):
+        print('left out: a clone that cannot be written, since only root may try that')
+        return
+    for place in pathlib.Path(clone.folder).parents[:2]:
+        os.chmod(place, 0o755)
+    home = pathlib.Path(clone.folder).parent / 'home'
+    for place in (home / 'tmp', home / 'no'):
+        place.mkdir(parents=True)
+        os.chown(place, NOBODY, NOBODY)
+    os.chmod(home / 'no', 0o500)
+    kept = home / 'tmp/cache/nfs3canon/programs' / checksums()['nfs3canon'] / 'nfs3canon'
+    path = f'PATH={os.environ["PATH"]}'
+    cache, no_cache, temporary, no_temporary = (f'XDG_CACHE_HOME={home}/tmp/cache', f'XDG_CACHE_HOME={home}/no/cache',
+                                                f'TMPDIR={home}/tmp', f'TMPDIR={home}/no')
+    for variables in ([cache, no_temporary], [cache, no_temporary], [no_cache, temporary]):
+        run = [*AS_NOBODY, path, *variables]
+        clone.want(f'check {variables}', clone.command(*run, './nfs3canon', 'check', 'examples/null.nfs3cap'), (0, NULL, ''))
+        same = clone.command(*run, './nfs3canon', 'same', 'examples/null.nfs3cap', 'examples/getattr.nfs3cap')
+        clone.want(f'same {variables}', (same[0], same[1].startswith('differ at '), same[2]), (1, True, ''))
+        clone.want(f'verdicts {variables}', clone.command(*run, 'tools/verdicts', 'examples/null.nfs3cap')[0], 0)
+    clone.want('kept', hashlib.sha256(kept.read_bytes()).hexdigest(), checksums()['nfs3canon'])
+    clone.want('what is left', [sorted(os.listdir(home / name)) for name in ('tmp', 'no')], [['cache'], []])
+    kept.write_bytes(b'another')
+    clone.want('a damaged one', clone.command(*AS_NOBODY, path, cache, './nfs3canon', 'check', 'examples/null.nfs3cap'), (0, NULL, ''))
+    status, out, error = clone.command(*AS_NOBODY, path, no_cache, no_temporary, './nfs3canon', 'check', 'examples/null.nfs3cap')
+    clone.want('nowhere', (status, out, error.startswith('nfs3canon: '), error.count('\n')), (3, '', True, 1))
 
 
 def checked(clone: Clone) -> Answer:
@@ -139,7 +176,8 @@ def a_release(clone: Clone) -> None:
 
 
 TESTS: tuple[Callable[[Clone], None], ...] = (
-    the_first_answer, tools_at_once, a_changed_source, a_source_that_plays_no_part, asked_to_prove, a_damaged_program, a_stale_folder,
+    the_first_answer, tools_at_once, a_changed_source, a_source_that_plays_no_part, asked_to_prove, a_damaged_program,
+    a_clone_that_cannot_be_written, a_stale_folder,
     another_kit, what_was_built_here, a_release)
 
 

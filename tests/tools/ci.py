@@ -19,8 +19,9 @@ from typing import Unpack
 
 sys.path.insert(0, str(pathlib.Path(__file__).resolve().parents[1] / 'shared'))
 from running import RunOptions, begin, ended, try_all, words_of  # noqa: E402
-from scripts import TOP, Tools, tried, whole  # noqa: E402
-from packets import pcap  # noqa: E402
+from scripts import TOP, Tools, exchange, tried, whole  # noqa: E402
+from messages import NFS, call, dirop, fattr, fh, ok, post_op_attr, success  # noqa: E402
+from packets import Talk, pcap  # noqa: E402
 
 PAGE = (TOP / 'docs/CI.md').read_text()
 CONTAINERFILE = (TOP / 'Containerfile').read_text()
@@ -257,11 +258,11 @@ def cases_of_runs(tools: Tools) -> None:
             (concurrent, 1, [['failure']], 'same in another order', 'same in another order: 100 calls; 3 connections in another turn'),
             (['--order', 'any', *concurrent], 0, [[]], None, None),
             (['part.pcap', 'part.pcap'], 1, [['failure']], 'same in part',
-             'same in part: 7 calls in 1 connection, 344 bytes missing from the first run, 344 bytes missing from the second run'),
+             'same in part: 30 calls in 1 connection, 344 bytes missing from the first run, 344 bytes missing from the second run'),
             (['--allow-losses', 'part.pcap', 'part.pcap'], 0, [[]], None, None),
             ([FIRST, str(EXAMPLES / 'bad_bool.pcap')], 2, [['error']], None,
              f'{EXAMPLES}/bad_bool.pcap: connection 1 server record 1 byte 28: BadBool (frame 5)'),
-            (['a.pcap', 'x.xml.old'], 2, [['error']], None, 'it is neither pcap nor pcapng')):
+            (['a.pcap', 'x.xml.old'], 2, [['error']], None, 'x.xml.old: it is neither pcap nor pcapng')):
         tools.write('x.xml.old', b'text')
         found, _, error = compare(tools, *words)
         root = xml.etree.ElementTree.fromstring((tools.read('x.xml') or b'').decode())
@@ -275,7 +276,34 @@ def cases_of_runs(tools: Tools) -> None:
     tools.want('an input', tools.tool('compare', '--junit', 'a.pcap', 'a.pcap', 'a.pcap'), refused)
 
 
-TESTS = [a_run_that_is_the_same, a_run_that_differs, what_the_image_gets, the_image, lines_of_findings, cases_of_runs]
+def run_from(port: int, more: int, *modes: int) -> bytes:
+    """A recording of a client from a port: more NULLs than else, then LOOKUP of a file and its GETATTR, once for each mode."""
+    attributes = [ok(fattr(1, 5, mode=mode)) for mode in modes]
+    asked = [*[(0, b'', b'')] * more, (3, dirop(b'top', b'x'), ok(fh(b'x'), post_op_attr(), post_op_attr())),
+             *((1, fh(b'x'), said) for said in attributes)]
+    calls = [call(xid, NFS, 3, number, arguments) for xid, (number, arguments, _) in enumerate(asked)]
+    talk = Talk(port)
+    return pcap([*talk.opened(), *exchange(talk, len(asked), calls, [success(xid, said) for xid, (_, _, said) in enumerate(asked)]),
+                 *talk.closed()])
+
+
+def names_that_last(tools: Tools) -> None:
+    """The names of the cases are the same if the same differs in another run, from another port and at other places; those of one name
+    are numbered."""
+    found = []
+    for port, more in ((700, 0), (944, 3)):
+        tools.write('a.pcap', run_from(port, more, 0o644, 0o644))
+        tools.write('b.pcap', run_from(port + 1, more, 0o600, 0o640, 0o640))
+        compare(tools, 'a.pcap', 'b.pcap', '--order', 'strict')
+        found.append([name for name, _ in cases(tools, 'x.xml')])
+    tools.want('names', found, [['the runs are the same', 'GETATTR reply ?/x obj.mode', 'GETATTR reply ?/x obj.mode (2)',
+                                 'only in the second run: GETATTR ?/x']] * 2)
+    root = xml.etree.ElementTree.fromstring((tools.read('x.xml') or b'').decode())
+    texts = [item.text or '' for item in root.iter('failure')][1:]
+    tools.want('positions', ['connection 1' in text for text in texts], [True] * 3)
+
+
+TESTS = [a_run_that_is_the_same, a_run_that_differs, what_the_image_gets, the_image, lines_of_findings, cases_of_runs, names_that_last]
 
 
 def main() -> None:

@@ -6,6 +6,8 @@
 PROGRAM is crates/nfs3canon/out/nfs3canon if none is named. The last line is 'N passed, M failed', and the status is 1 if any
 failed.
 """
+import hashlib
+import json
 import pathlib
 import random
 import re
@@ -21,11 +23,12 @@ from traffic import Names, Traffic  # noqa: E402
 TOP = pathlib.Path(__file__).resolve().parents[2]
 sys.path[:0] = [str(TOP / 'tools'), str(TOP / 'examples')]
 import messages  # noqa: E402
-from messages import NFS, NFSACL, auth_sys, call, dirop, fattr, fh, hyper, ok, post_op_attr, success, wcc, word  # noqa: E402
+from messages import MOUNT, NFS, NFSACL, auth_sys, call, dirop, fattr, fh, hyper, ok, post_op_attr, success, wcc, word  # noqa: E402
 from packets import Talk, pcap  # noqa: E402
 from nfs3tools.comparison.classes import CLASSES, Way, default_mask, mask_of, told  # noqa: E402
 from nfs3tools.comparison.matching import aligned, blocks_of, increasing  # noqa: E402
 
+COUNTS = re.compile(r'(both runs|first run|second run): [\d,]+ judged')
 Conversation = tuple[list[bytes], list[bytes]]
 # What finds the names of items in the lines that tell of differences, without whose they are.
 NAMES = r'^  [-+] (?:[^=]*\.)?(\w+)='
@@ -35,12 +38,13 @@ class Comparisons(Runs):
     """A folder, and runs of tools/compare there."""
 
     def compare(self, *words: str) -> tuple[int, list[str], str]:
+        """The status, the lines without those that count connections, and standard error."""
         kept, self.program = self.program, str(TOP / 'tools/compare')
         try:
             status, out, error = self.run('--program', kept, *words)
         finally:
             self.program = kept
-        return status, out.splitlines(), error
+        return status, [line for line in out.splitlines() if not COUNTS.match(line)], error
 
     def put(self, name: str, *connections: Conversation) -> None:
         self.write(name, messages.capture(*connections))
@@ -114,7 +118,8 @@ def words_of_masks(place: Comparisons) -> None:
     place.want('one more', mask_of('+owners')['owners'], Way.NUMBER)
     place.want('another way', mask_of('ids=zero'), {'ids': Way.ZERO})
     place.want('told', mask_of(told(default_mask())), default_mask())
-    for bad in ('nothing', 'times=half'):
+    place.want('raw', (mask_of('+raw')['raw'], 'raw' in default_mask()), (Way.ZERO, False))
+    for bad in ('nothing', 'times=half', '+raw=number'):
         status, out, error = place.compare('--mask', bad, 'a', 'b')
         place.want(bad, (status, out, 'error' in error), (2, [], True))
 
@@ -201,7 +206,7 @@ def changed_fields(place: Comparisons) -> None:
     place.want('size', fields, ['  - obj.size=10', '  + obj.size=11'] * 2 + ['  - entry "x".size=10', '  + entry "x".size=11'])
     place.want('summary', lines[-2], 'fields that differ, and how often: entry.size of NFSPROC3_READDIRPLUS 2, '
                'obj.size of NFSPROC3_LOOKUP 1, obj.size of NFSPROC3_ACCESS 1')
-    place.want('heading', lines[0], 'NFSPROC3_LOOKUP reply: connection 1 server record 2 | connection 1 server record 2')
+    place.want('heading', lines[0], 'NFSPROC3_LOOKUP reply ?/x: connection 1 server record 2 | connection 1 server record 2')
 
 
 def statuses_that_differ(place: Comparisons) -> None:
@@ -224,7 +229,7 @@ def one_call_more(place: Comparisons) -> None:
     script.insert(2, script[0])
     place.put('a', first.conversation())
     place.put('b', second.conversation(script))
-    place.wants('one more', 1, ['only in the second run: NFSPROC3_GETATTR: connection 1 client record 3',
+    place.wants('one more', 1, ['only in the second run: NFSPROC3_GETATTR: connection 1 client record 3', '  + fh=' + second.handles[0].hex(),
                                 '10 of 11 calls belong together; 1 more in the second run'], '--order', 'strict')
 
 
@@ -388,21 +393,36 @@ def random_traffic(place: Comparisons) -> None:
         place.put('b', *Traffic(seed, Names.drawn(chance)).connections)
         status, out, error = place.compare('a', 'b')
         number = sum(len(calls) for calls, _ in connections)
+        if number == 0:
+            place.want('seed %d' % seed, (status, out, error), (2, [], 'compare: nothing to compare: no call of a is taken\n'))
+            continue
         size = '%d call%s in %d connection%s' % (number, 's' * (number != 1), len(connections), 's' * (len(connections) != 1))
-        place.want('seed %d' % seed, (status, out[1], error), (0, 'same: ' + size, ''))
+        others = sum(any(map(is_unchecked, calls)) for calls, _ in connections)
+        part = [f'{others} connection{"s" * (others != 1)} of the {run} run not checked' for run in ('first', 'second')] if others else []
+        line = f'same{" in part" if others else ""}: ' + ', '.join([size, *part])
+        place.want('seed %d' % seed, (status, out[1], error.count('\n')), (int(others > 0), line, 2 * others))
+        place.want('seed %d, if that is allowed' % seed, place.compare('--allow-not-checked', 'a', 'b')[0], 0)
+
+
+def is_unchecked(body: bytes) -> bool:
+    """Whether a call is of NFS or MOUNT, and none of the procedures of version 3, by its numbers (RFC 5531, section 9)."""
+    program, version, procedure = (int.from_bytes(body[at:at + 4], 'big') for at in (12, 16, 20))
+    return program in (NFS, MOUNT) and (version != 3 or procedure > (21 if program == NFS else 5))
 
 
 # --- Cost ---
 
 MANY, FILES_OF_MANY = 100_000, 5_000
-# Runs a tool, and then prints the processor time and the memory that it took itself, without the programs that it ran.
+# Runs a tool, and then prints the processor time and the memory that it took itself, without the programs that it ran. (ru_maxrss has the
+# memory of the tests, too, which were this process before.)
 MEASURED = """import resource, runpy, sys
 sys.argv = sys.argv[1:]
 try:
     runpy.run_path(sys.argv[0], run_name='__main__')
 finally:
     taken = resource.getrusage(resource.RUSAGE_SELF)
-    print(taken.ru_utime + taken.ru_stime, taken.ru_maxrss * 1024, file=sys.stderr)
+    most = next(line.split()[1] for line in open('/proc/self/status') if line.startswith('VmHWM'))
+    print(taken.ru_utime + taken.ru_stime, int(most) * 1024, file=sys.stderr)
 """
 
 
@@ -433,13 +453,67 @@ def one_bit_of_many_calls(place: Comparisons) -> None:
     words = [sys.executable, '-c', MEASURED, str(TOP / 'tools/compare'), '--program', place.program, 'a', 'b']
     status, out, error = ended(words, place.folder, limit=None).text()
     where = 'connection 1 server record 70002'
-    place.want('finding', (status, out.splitlines()[2:]), (1, [
-        f'NFSPROC3_GETATTR reply ?/name1: {where} | {where}', '  - obj.mode=420 (0644)', '  + obj.mode=421 (0645)',
+    place.want('finding', (status, out.splitlines()[3:]), (1, [
+        f'NFSPROC3_GETATTR reply ?/name1: {where} | {where}', '  - obj.mode=0644 (420)', '  + obj.mode=0645 (421)',
         'fields that differ, and how often: obj.mode of NFSPROC3_GETATTR 1',
         '100,000 of 100,000 calls belong together; obj.mode in 1 reply']))
     seconds, memory = map(float, error.split())
     place.want(f'{seconds} seconds', seconds < 20, True)
     place.want(f'{memory} bytes', memory < 800e6, True)
+
+
+def measured(place: Comparisons, *words: str) -> tuple[int, list[str], float, float]:
+    """The status and the lines of a comparison, and the seconds and bytes that it took itself."""
+    command = [sys.executable, '-c', MEASURED, str(TOP / 'tools/compare'), '--program', place.program, *words]
+    status, out, error = ended(command, place.folder, limit=None).text()
+    seconds, memory = map(float, error.splitlines()[-1].split())
+    return status, out.splitlines(), seconds, memory
+
+
+MIB = 1 << 20
+
+
+def writes_of_other_data(seed: int, number: int) -> Conversation:
+    """WRITEs of 1 MiB of random data."""
+    chance = random.Random(seed)
+    return ([call(at, NFS, 3, 7, fh(b'a') + hyper(at * MIB) + word(MIB) + word(2) + messages.opaque(chance.randbytes(MIB)))
+             for at in range(number)], [success(at, ok(wcc(), word(MIB), word(2), b'verifier')) for at in range(number)])
+
+
+def data_that_differ(place: Comparisons) -> None:
+    """Memory does not grow with the data that differ: of 40 MiB in each run, with a page and JSON, it stays below what plain Python and
+    a few MiB take. The bytes round the first difference are told, and JSON has the digests."""
+    place.put('a', writes_of_other_data(1, 40))
+    place.put('b', writes_of_other_data(2, 40))
+    status, out, _, memory = measured(place, '--json', 'out.json', '--html', 'out.html', 'a', 'b')
+    place.want('verdict', (status, out[-1]), (1, '40 of 40 calls belong together; data in 40 calls'))
+    place.want(f'{memory} bytes', memory < 80e6, True)
+    first, second = (random.Random(seed).randbytes(MIB) for seed in (1, 2))
+    differing = sum(one != other for one, other in zip(first, second))
+    place.want('the first', out[4:6], [
+        f'  - data={first[:16].hex()}..',
+        f'  + data={second[:16].hex()}..    # {differing:,} of {MIB:,} bytes differ, the first at offset 0 of the file (byte 0 of the data)'])
+    found = json.loads(place.read('out.json') or b'')['findings'][0]['differences'][0]
+    place.want('digests', found['apart']['sha256'], [hashlib.sha256(one).hexdigest() for one in (first, second)])
+    place.want('sizes', (len(found['first']) < 200, len(place.read('out.html') or b'') < 1e6), (True, True))
+
+
+def folders_far_down(place: Comparisons) -> None:
+    """Folders each in the one before, all of whose replies differ: memory grows with their number, not with its square. Long paths are
+    cut in the middle."""
+    def chain(mode: int) -> Conversation:
+        return ([call(at, NFS, 3, 3, dirop(b'%08d' % at, b'%04d' % at + b'd' * 240)) for at in range(2_000)],
+                [success(at, ok(fh(b'%08d' % (at + 1)), post_op_attr(fattr(2, at, mode=mode)), post_op_attr())) for at in range(2_000)])
+    place.put('a', chain(0o755))
+    place.put('b', chain(0o700))
+    status, out, _, memory = measured(place, '--all', 'a', 'b')
+    headings = [line for line in out if line.startswith('NFSPROC3')]
+    place.want('findings', (status, len(headings)), (1, 2_000))
+    place.want(f'{memory} bytes', memory < 120e6, True)
+    name, last = '0000' + 'd' * 240, '1999' + 'd' * 240
+    place.want('the first', headings[0], f'NFSPROC3_LOOKUP reply ?/{name}: connection 1 server record 1 | connection 1 server record 1')
+    path = headings[-1].removeprefix('NFSPROC3_LOOKUP reply ').partition(':')[0]
+    place.want('the last', (path.startswith(f'?/{name}/ .. /'), path.endswith(f'/{last}'), len(path) <= 1_024), (True, True, True))
 
 
 # --- Recordings ---
@@ -498,7 +572,7 @@ def refused_runs(place: Comparisons) -> None:
     place.write('a', (EXAMPLES / 'bad_status.nfs3cap').read_bytes())
     place.write('b', (EXAMPLES / 'null.nfs3cap').read_bytes())
     for words in (('a', 'b'), ('b', 'a')):
-        place.want('refused', place.compare(*words), (2, [], 'a: connection 1 server record 1 byte 24: BadEnum\n'))
+        place.want('refused', place.compare(*words), (2, [], 'compare: a: connection 1 server record 1 byte 24: BadEnum\n'))
     status, out, error = place.compare('absent', 'b')
     place.want('absent', (status, out, 'absent' in error, 'Traceback' in error), (3, [], True, False))
     place.write('text', b'no recording')
@@ -510,7 +584,8 @@ TESTS: list[Callable[[Comparisons], None]] = [
     sequences_brought_together, sequences_in_blocks, retransmissions_are_linear, words_of_masks,
     ordinary_runs, changed_fields, statuses_that_differ, one_call_more, other_orders, bound_values, zero_cookies,
     equal_numbers_of_two_classes, users_and_groups, directories, entries_of_one_name, replies_of_one_call, files_by_their_paths,
-    raw_messages, connections_of_one_run, random_traffic, one_bit_of_many_calls, example_recordings, same_in_part, refused_runs]
+    raw_messages, connections_of_one_run, random_traffic, one_bit_of_many_calls, data_that_differ,
+    folders_far_down, example_recordings, same_in_part, refused_runs]
 
 
 if __name__ == '__main__':

@@ -12,7 +12,7 @@ import shutil
 import sys
 
 sys.path.insert(0, str(pathlib.Path(__file__).resolve().parents[1] / 'shared'))
-from running import try_all, words_of  # noqa: E402
+from running import ended, try_all, words_of  # noqa: E402
 from scripts import CALLS, REPLIES, TOP, Tools, in_fragments, packed, stream, tried, whole  # noqa: E402
 from messages import (  # noqa: E402
     MOUNT, NFS, array, call, capture, dirop, fattr, fh, fragment, in_turn, interleaved, ok, opaque, post_op_attr, success, word)
@@ -49,6 +49,18 @@ def exchanges(tools: Tools) -> None:
         told = [f'connection 1 {side} record 1: connection 2 {side} record 3' for side in ('client', 'server')]
         tools.want('version ' + name, cut(tools, name, 'connection 2 server record 3', 'out'), (0, [*told, ONE], ''))
         tools.want('OUT of version ' + name, tools.read('out'), packed((stream(CALLS[2:3]), stream(REPLIES[2:3]))))
+
+
+def on_standard_output(tools: Tools) -> None:
+    """`-` is standard output, which has the capture alone; the lines go to standard error. A folder that is not there is an error before the work."""
+    tools.write('1', capture((CALLS, REPLIES)))
+    place = 'connection 1 client record 3'
+    done = ended([str(TOP / 'tools/cut'), '--program', tools.program, '1', place, '-'], tools.folder)
+    tools.want('capture', (done.status, done.out), (0, packed((stream(CALLS[2:3]), stream(REPLIES[2:3])))))
+    tools.want('lines', done.error.decode().splitlines()[-1], ONE)
+    tools.want('no file', tools.names(), ['1'])
+    status, out, error = cut(tools, 'absent', place, 'folder/out')
+    tools.want('no folder', (status, out, error.startswith('cut: folder/out: ')), (3, [], True))
 
 
 def all_with_the_xid(tools: Tools) -> None:
@@ -141,7 +153,7 @@ def what_is_refused(tools: Tools) -> None:
                (2, '', 'cut: ./absent is missing\n'))
 
 
-TESTS = [exchanges, all_with_the_xid, faults, handles_and_where_they_are_from, accepted_and_the_same, what_is_refused]
+TESTS = [exchanges, on_standard_output, all_with_the_xid, faults, handles_and_where_they_are_from, accepted_and_the_same, what_is_refused]
 
 
 def main() -> None:

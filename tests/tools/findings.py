@@ -8,6 +8,7 @@ PROGRAM is crates/nfs3canon/out/nfs3canon if none is named. What is expected is 
 is 'N passed, M failed', and the status is 1 if any failed.
 """
 import json
+import os
 import pathlib
 import random
 import re
@@ -16,7 +17,7 @@ from collections.abc import Callable, Sequence
 from typing import Any
 
 sys.path.insert(0, str(pathlib.Path(__file__).resolve().parents[1] / 'shared'))
-from compare import CHANGED, FIRST, Comparisons  # noqa: E402
+from compare import CHANGED, COUNTS, FIRST, Comparisons  # noqa: E402
 from running import try_tests  # noqa: E402
 from traffic import Names, Traffic  # noqa: E402
 import messages  # noqa: E402
@@ -214,7 +215,7 @@ def differing_labels(place: Findings) -> None:
     place.put('a', moved(5, 6))
     place.put('b', moved(7, 8))
     place.wants('labels', 1, [
-        'NFSPROC3_RENAME reply: connection 1 server record 1 | connection 1 server record 1',
+        'NFSPROC3_RENAME reply ?/a: connection 1 server record 1 | connection 1 server record 1',
         '  - from-dir before.size=5', '  + from-dir before.size=7', '  - to-dir after.nlink=6', '  + to-dir after.nlink=8',
         '  - to-dir after.size=6', '  + to-dir after.size=8',
         'NFSPROC3_READDIRPLUS reply: connection 1 server record 2 | connection 1 server record 2',
@@ -383,7 +384,8 @@ def long_handles(place: Findings) -> None:
     def asked(first: bytes, second: bytes, acl: bytes, rest: bytes) -> tuple[list[bytes], list[bytes]]:
         return [call(1, NFS, 3, 1, fh(first)), call(2, NFS, 3, 1, fh(second)), call(3, NFSACL, 3, 1, fh(acl) + rest)], []
     found = lines_on(place, asked(one, two, one, bytes(100)), asked(other, other, other, bytes(99) + b'!'), 'fh')
-    place.want('handles', found, [f'  - fh={two.hex()}', f'  + fh={other.hex()}    # the second stood for {one.hex()} before'])
+    place.want('handles', found, [f'  - fh={two.hex()}', f'  + fh={other.hex()}    # elsewhere {other.hex()} of the second run is '
+                                  f'{one.hex()} of the first'])
     found = lines_on(place, asked(one, two, one, bytes(100)), asked(other, one, other, bytes(99) + b'!'), 'rest')
     place.want('raw bytes', found, [
         '  - rest=..0000000000000000 00', '  + rest=..0000000000000000 21    # 1 of 168 bytes differs, at byte 167; '
@@ -411,8 +413,8 @@ NUMBERS: list[tuple[int, int, bytes, bytes, bytes, bytes, str, str, str]] = [
     (MOUNT, 1, opaque(b'/a'), opaque(b'/a'), failed(13), failed(10_006), 'status', '13 (MNT3ERR_ACCES)', '10006 (MNT3ERR_SERVERFAULT)'),
     (MOUNT, 1, opaque(b'/a'), opaque(b'/a'), MOUNTED[0], MOUNTED[1], 'flavor', '1 (AUTH_SYS)', '6 (RPCSEC_GSS)'),
     (NFS, 1, fh(H), fh(H), ok(fattr(REG, 1)), ok(fattr(messages.SOCK, 1)), 'obj.type', '1 (NF3REG)', '6 (NF3SOCK)'),
-    (NFS, 1, fh(H), fh(H), ok(fattr(REG, 1, mode=0o4755)), ok(fattr(REG, 1, mode=0)), 'obj.mode', '2541 (4755)', '0 (0000)'),
-    (NFS, 9, ASKED + sattr(0o755), ASKED + sattr(0o700), b'', b'', 'set.mode', '493 (0755)', '448 (0700)'),
+    (NFS, 1, fh(H), fh(H), ok(fattr(REG, 1, mode=0o4755)), ok(fattr(REG, 1, mode=0)), 'obj.mode', '4755 (2541)', '0000 (0)'),
+    (NFS, 9, ASKED + sattr(0o755), ASKED + sattr(0o700), b'', b'', 'set.mode', '0755 (493)', '0700 (448)'),
     (NFS, 9, ASKED + sattr(), ASKED + sattr(atime=word(1)), b'', b'', 'set_atime', '0 (DONT_CHANGE)', '1 (SET_TO_SERVER_TIME)'),
     (NFS, 9, ASKED + sattr(), ASKED + sattr(uid=1), b'', b'', 'set_uid', '0 (FALSE)', '1 (TRUE)'),
     (NFS, 7, fh(H) + bytes(20), fh(H) + bytes(12) + word(2) + bytes(4), b'', b'', 'stable', '0 (UNSTABLE)', '2 (FILE_SYNC)'),
@@ -444,6 +446,18 @@ def names_of_numbers(place: Findings) -> None:
                ['  - accept_stat=0 (SUCCESS)', '  + accept_stat=5 (SYSTEM_ERR)'])
     place.want('not allowed', lines_on(place, (null, [replies[1][:-4] + word(1)]), (null, replies[1:]), 'auth_stat'),
                ['  - auth_stat=1 (AUTH_BADCRED)', '  + auth_stat=13 (RPCSEC_GSS_CREDPROBLEM)'])
+
+
+def raw_bytes_that_are_masked(place: Findings) -> None:
+    """Of raw bodies that are masked the lengths alone differ."""
+    def of_bodies(one: bytes, other: bytes) -> list[str]:
+        comparison, found = Comparison({'raw': Way.ZERO}), list[str]()
+        pair = [of_exchange(place, NFSACL, 1, body, [success(7, body)]) for body in (one, other)]
+        for first, second in zip(*pair):
+            found += [difference.label for difference in comparison.of_messages(first, second)]
+        return found
+    place.want('other bytes', of_bodies(b'abcd', b'efgh'), [])
+    place.want('more bytes', of_bodies(b'abcd', b'abcdefgh'), ['rest', 'rest'])
 
 
 # --- Findings that say the same ---
@@ -488,6 +502,48 @@ def equal_findings_of_one_run(place: Findings) -> None:
                               'only in the second run: 2 calls of NFSPROC3_GETATTR ?/f1, first: connection 1 client record 8'])
 
 
+ASKED_ALONE: list[tuple[int, bytes, str, Sequence[str]]] = [
+    (2, fh(b'dir') + sattr(0o640) + guard(), 'SETATTR', ['fh=646972', 'set.mode=0640 (416)']),
+    (2, fh(b'dir') + sattr(None, 5, None, 7, set_to_client_time(NOW), word(1)) + guard(NOW), 'SETATTR', ['fh=646972', 'set.uid=5', 'set.size=7', 'set_mtime=1 (SET_TO_SERVER_TIME)']),
+    (9, dirop(b'dir', b'new') + sattr(0o755), 'MKDIR ?/new', ['set.mode=0755 (493)']),
+    (8, dirop(b'dir', b'new') + how(EXCLUSIVE, VERIFIER), 'CREATE ?/new', ['how=2 (EXCLUSIVE)', f'createverf={VERIFIER.hex()}']),
+    (14, dirop(b'dir', b'new') + dirop(b'to', b'b'), 'RENAME ?/new', ['to.fh=746f', 'to.name="b"']),
+    (10, dirop(b'dir', b'new') + sattr() + opaque(b'far'), 'SYMLINK ?/new', ['path="far"']),
+    (7, fh(b'dir') + hyper(5) + word(2) + word(1) + opaque(b'hi'), 'WRITE',
+     ['fh=646972', 'offset=5', 'count=2', 'stable=1 (DATA_SYNC)', 'data=6869'])]
+
+
+def arguments_of_one_run(place: Findings) -> None:
+    """A call that one run alone has is printed with its arguments, by hand of RFC 1813: not those that say what follows or what is masked."""
+    null = [call(1, NFS, 3, 0)], [success(1)]
+    place.put('a', null)
+    for number, arguments, what, wanted in ASKED_ALONE:
+        place.put('b', (null[0] + [call(2, NFS, 3, number, arguments)], null[1]))
+        heading = f'only in the %s run: NFSPROC3_{what}: connection 1 client record 2'
+        place.wants(what, 1, [heading % 'second', *(f'  + {one}' for one in wanted)])
+        status, out, _ = place.compare('b', 'a')
+        place.want(f'{what} of the first', (status, out[2:]), (1, [heading % 'first', *(f'  - {one}' for one in wanted)]))
+        place.wants(f'{what} in a line', 1, [': '.join([heading % 'second', '; '.join(f'+{one}' for one in wanted)])], '--brief')
+    place.compare('--json', 'out.json', 'a', 'b')
+    found = json.loads(place.read('out.json') or b'')['findings'][0]['arguments']
+    place.want('json', [(one['label'], one['value'], one['name']) for one in found][1:4],
+               [('offset', '5', None), ('count', '2', None), ('stable', '1', 'DATA_SYNC')])
+
+
+def calls_of_one_run_with_other_arguments(place: Findings) -> None:
+    """Two SETATTRs of one file that set something else are two findings, and WRITEs to it at other places are one."""
+    first = call(1, NFS, 3, 3, dirop(H, b'x')), success(1, ok(fh(b'x'), post_op_attr(), post_op_attr()))
+    more = [(2, sattr(0o600) + guard()), (2, sattr(0o640) + guard()), (2, sattr(0o640) + guard()),
+            *((7, hyper(at) + word(1) + word(2) + opaque(b'a')) for at in range(3))]
+    place.put('a', ([first[0]], [first[1]]))
+    place.put('b', ([first[0], *(call(xid, NFS, 3, number, fh(b'x') + rest) for xid, (number, rest) in enumerate(more, 2))], [first[1]]))
+    found = [line for line in place.compare('a', 'b')[1][2:] if not line.startswith('  ')]
+    only = 'only in the second run: '
+    place.want('found', found, [f'{only}NFSPROC3_SETATTR ?/x: connection 1 client record 2',
+                                f'{only}2 calls of NFSPROC3_SETATTR ?/x, first: connection 1 client record 3',
+                                f'{only}3 calls of NFSPROC3_WRITE ?/x, first: connection 1 client record 5'])
+
+
 def equal_findings_of_renamed_values(place: Findings) -> None:
     """Handles that stand for several are folded by what is said of them, though each has values of its own."""
     def links(*handles: bytes) -> tuple[list[bytes], list[bytes]]:
@@ -496,8 +552,8 @@ def equal_findings_of_renamed_values(place: Findings) -> None:
     place.put('a', links(b'1111', b'2222', b'3333', b'4444'))
     place.put('b', links(b'5555', b'5555', b'5555', b'6666'))
     place.wants('two', 1, [
-        '2 calls of NFSPROC3_LINK, first: connection 1 client record 2 | connection 1 client record 2', '  - link.fh=32323232',
-        '  + link.fh=35353535    # the second stood for 31313131 before', 'fields that differ, and how often: link.fh of NFSPROC3_LINK 2'])
+        '2 calls of NFSPROC3_LINK ?/a, first: connection 1 client record 2 | connection 1 client record 2', '  - link.fh=32323232',
+        '  + link.fh=35353535    # elsewhere 35353535 of the second run is 31313131 of the first', 'fields that differ, and how often: link.fh of NFSPROC3_LINK 2'])
 
 
 def the_first_twenty(place: Findings) -> None:
@@ -526,8 +582,8 @@ def fields_left_out(place: Findings) -> None:
     place.put('b', run(2))
     of_file, of_folder = (f'{name} reply: connection 1 server record {record} | connection 1 server record {record}'
                             for name, record in (('NFSPROC3_GETATTR', 1), ('NFSPROC3_READDIRPLUS', 2)))
-    mode = ['  - obj.mode=417 (0641)', '  + obj.mode=418 (0642)']
-    entries = {name: [f'  - entry "{name}".mode=417 (0641)', f'  + entry "{name}".mode=418 (0642)', f'  - entry "{name}".nlink=1',
+    mode = ['  - obj.mode=0641 (417)', '  + obj.mode=0642 (418)']
+    entries = {name: [f'  - entry "{name}".mode=0641 (417)', f'  + entry "{name}".mode=0642 (418)', f'  - entry "{name}".nlink=1',
                       f'  + entry "{name}".nlink=2'] for name in ('a', 'b,c.')}
     differ, left = 'fields that differ, and how often: ', 'left out by --ignore, and how often: '
     place.wants('one of one procedure', 1, [
@@ -570,20 +626,23 @@ def as_json(place: Findings) -> None:
     def at(side: str, record: int) -> dict[str, object]:
         return {'position': f'connection 1 {side} record {record}', 'frames': []}
     def finding(kind: str, procedure: str, path: str | None, *, is_call: bool = True, **more: object) -> dict[str, object]:
-        return {'kind': kind, 'procedure': procedure, 'is_call': is_call, 'path': path, 'remark': '', 'differences': [], **more}
+        return {'kind': kind, 'procedure': procedure, 'is_call': is_call, 'path': path, 'remark': '', 'differences': [], 'arguments': [],
+                **more}
     status = {'field': 'status', 'label': 'status', 'first': '2', 'second': '13', 'remark': '', 'names': ['NFS3ERR_NOENT', 'NFS3ERR_ACCES'],
               'apart': None}
     data = {'field': 'data', 'label': 'data', 'first': '6f' * 40, 'second': '6f' * 38, 'remark': '', 'names': [None, None],
-            'apart': {'at': 38, 'offset': 1_038, 'differing': 0, 'sizes': [40, 38]}}
+            'apart': {'at': 38, 'offset': 1_038, 'differing': 0, 'sizes': [40, 38], 'shown': ['..' + '6f' * 8 + ' 6f6f', '..' + '6f' * 8],
+                      'sha256': [None, None]}}
+    counts = {'judged': 1, 'ok': 1, 'refused': 0, 'in part': 0, 'left out': 0, 'without calls': 0, 'not checked': 0, 'errors': 0, 'raw': {}}
+    whole = {'connections': 1, 'missing': 0, 'counts': counts, 'not_judged': [], 'left_out': {}}
     wanted: dict[str, Any] = {
         'verdict': 'differ', 'position': 'connection 1 client record 3', 'mask': {'times': 'zero', 'ids': 'number'},
         'same_under': None,
-        'runs': [{'name': 'a', 'calls': 4, 'connections': 1, 'missing': 0, 'only': 1, 'left_out': {}},
-                 {'name': 'b', 'calls': 3, 'connections': 1, 'missing': 0, 'only': 0, 'left_out': {}}],
+        'runs': [{'name': 'a', 'calls': 4, 'only': 1, **whole}, {'name': 'b', 'calls': 3, 'only': 0, **whole}],
         'order': {'together': 3, 'calls': 0, 'replies': 0, 'connections': 0, 'on_another_connection': 0},
         'fields': [{'procedure': 'NFSPROC3_LOOKUP', 'field': 'status', 'count': 1},
                    {'procedure': 'NFSPROC3_WRITE', 'field': 'data', 'count': 1}],
-        'ignored': [],
+        'ignored': [], 'left_out': [],
         'findings': [
             finding('changed', 'NFSPROC3_LOOKUP', '/m/x', is_call=False, first=at('server', 2), second=at('server', 2),
                     differences=[status]),
@@ -625,14 +684,61 @@ def json_is_an_output(place: Findings) -> None:
         place.want(name, (status, out, 'is not replaced' in error), (2, [], True))
     place.want('as it was', place.read('a'), before)
     place.want('an old file', (place.compare('--json', 'text', 'a', 'a')[0], (place.read('text') or b'')[:1]), (0, b'{'))
-    place.want('no folder', place.compare('--json', 'absent/out.json', 'a', 'a')[0], 3)
+    place.want('no folder', place.compare('--json', 'absent/out.json', 'a', 'a')[:2], (3, []))
+
+
+def outputs_are_tried_before_the_work(place: Findings) -> None:
+    """A folder that is not there or a file that may not be written ends a comparison before it reads a run, and so do two outputs that
+    are one file, however it is named."""
+    place.write('text', b'text')
+    os.symlink('text', place.path('link'))
+    os.mkdir(place.path('folder'))
+    for words in (['--html', 'absent/x'], ['--junit', 'absent/x'], ['--json', 'folder'], ['--json', 'text/x']):
+        status, out, error = place.compare(*words, 'no run', 'no run')
+        place.want(' '.join(words), (status, out, words[1] in error, 'no run' in error), (3, [], True, False))
+    for words in (['--html', 'x', '--json', 'x'], ['--html', 'x', '--json', './x'], ['--json', 'text', '--junit', 'link'],
+                  ['--html', '-', '--json', '-'], ['--junit', '-', '--json', '/dev/stdout']):
+        status, out, error = place.compare(*words, 'no run', 'no run')
+        place.want(' '.join(words), (status, out, 'are one file' in error), (2, [], True))
+    place.want('what is there', (place.names(), place.read('text')), (['folder', 'link', 'text'], b'text'))
+    os.chmod(place.path('text'), 0o444)
+    place.want('not to be written', (place.compare('--json', 'text', 'no run', 'no run')[0], place.read('text')), (3, b'text'))
+    place.put('a', asked_for((b'1', 3)))
+    place.want('devices', place.compare('--json', '/dev/null', '--html', '/dev/null', 'a', 'a')[0], 0)
+
+
+def json_on_standard_output(place: Findings) -> None:
+    """`-` is standard output, which has the output alone: what is printed otherwise goes to standard error."""
+    place.put('a', asked_for((b'1', 3)))
+    place.put('b', asked_for((b'1', 2)))
+    _, printed, _ = place.compare('a', 'b')
+    for option, begin in (('--json', '{'), ('--html', '<!DOCTYPE html>'), ('--junit', '<?xml')):
+        status, out, error = place.compare(option, '-', 'a', 'b')
+        told = [line for line in error.splitlines() if ' belong together' not in line and not COUNTS.match(line)]
+        place.want(option, (status, out[0].startswith(begin), told), (1, True, printed))
+    out = '\n'.join(place.compare('--json', '-', 'a', 'b')[1])
+    place.want('read again', json.loads(out)['verdict'], 'differ')
+    place.want('no file', '-' in place.names(), False)
+
+
+def each_error_names_its_run(place: Findings) -> None:
+    """Whichever of two runs cannot be read, its name is in the message."""
+    place.put('a', asked_for((b'1', 3)))
+    place.write('text', b'no recording')
+    place.write('empty', b'')
+    for name in ('text', 'empty', 'absent'):
+        for words in ((name, 'a'), ('a', name)):
+            status, out, error = place.compare(*words)
+            place.want(f'{words}', (status, out, error.startswith(f'compare: {name}: '), error.count('\n')),
+                       (3 if name == 'absent' else 2, [], True, 1))
 
 
 TESTS: list[Callable[[Findings], None]] = [
     labels_of_every_procedure, labels_of_fewer_parts, fields_are_those_of_labels, differing_labels, sizes_of_changes,
-    names_of_removed_files, names_of_hosts, data_of_files, values_that_part, long_names, long_handles, names_of_numbers, equal_findings,
-    equal_findings_of_one_run, equal_findings_of_renamed_values, the_first_twenty, fields_left_out, as_json, json_of_recordings,
-    json_is_an_output]
+    names_of_removed_files, names_of_hosts, data_of_files, values_that_part, raw_bytes_that_are_masked, long_names, long_handles,
+    names_of_numbers, equal_findings, equal_findings_of_one_run, arguments_of_one_run, calls_of_one_run_with_other_arguments,
+    equal_findings_of_renamed_values, the_first_twenty, fields_left_out, as_json, json_of_recordings,
+    json_is_an_output, outputs_are_tried_before_the_work, json_on_standard_output, each_error_names_its_run]
 
 
 if __name__ == '__main__':

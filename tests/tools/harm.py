@@ -8,12 +8,14 @@ PROGRAM is crates/nfs3canon/out/nfs3canon if none is named. Changing owners take
 """
 import errno
 import gzip
+import json
 import lzma
 import os
 import pathlib
 import re
 import signal
 import stat
+import struct
 import sys
 
 sys.path.insert(0, str(pathlib.Path(__file__).resolve().parents[1] / 'shared'))
@@ -197,6 +199,31 @@ def names_that_another_gets(tools: Tools) -> None:
             tools.want('what is there', (tools.read('out'), parts(tools)), (b'theirs', []))
 
 
+# As overlayfs does it: a file of its lower layer is copied once it is opened for writing, and so it is another file.
+COPIED = '''
+import shutil
+real = os.open
+def opening(path, flags, *words, **named):
+    if path == 'out' and flags & os.O_ACCMODE == os.O_WRONLY:
+        shutil.copy2('out', 'copy')
+        os.rename('copy', 'out')
+    return real(path, flags, *words, **named)
+os.open = opening
+'''
+
+
+def files_of_a_lower_layer(tools: Tools) -> None:
+    """A file with several links that gets another number as it is opened is replaced at once. Its other link stays."""
+    tools.write('a.pcap', RECORDING)
+    for links in (2, 1):
+        tools.write('out', AS_IT_WAS)
+        if links == 2:
+            os.link(tools.path('out'), tools.path('link'))
+        status, _, error = patched(tools, COPIED, 'from_pcap', 'a.pcap', 'out')
+        tools.want(f'{links} links', (status, tools.read('out') == CAPTURE), (0, True) if links == 2 else (3, False))
+    tools.want('the other link', (tools.read('link'), parts(tools)), (AS_IT_WAS, []))
+
+
 def removed_files(tools: Tools) -> None:
     """The link of an open file that was removed reads as the name of another, which is left alone. So is a link to nothing."""
     tools.write('del (deleted)', AS_IT_WAS)
@@ -251,6 +278,64 @@ def permissions(tools: Tools) -> None:
                    (0 if is_replaced else 3, *owner_after, '%o' % mode_after, CAPTURE if is_replaced else AS_IT_WAS))
         os.remove(tools.path('out'))
     tools.want('what is left', parts(tools), [])
+
+
+# An access control list as Linux keeps it (linux/posix_acl_xattr.h): tags, permissions and numbers.
+OWN, USER, GROUP, MASK, OTHER, NO_NUMBER = 0x01, 0x02, 0x04, 0x10, 0x20, 0xffffffff
+
+
+def access_list(group: int, mask: int, other: int = 0) -> bytes:
+    """Its owner and the user nobody may read and write, the latter as far as the mask allows it."""
+    rows = [(OWN, 6, NO_NUMBER), (USER, 6, NOBODY), (GROUP, group, NO_NUMBER), (MASK, mask, NO_NUMBER), (OTHER, other, NO_NUMBER)]
+    return struct.pack('<I', 2) + b''.join(struct.pack('<HHI', *row) for row in rows)
+
+
+def found_list(path: str) -> bytes | None:
+    try:
+        return os.getxattr(path, 'system.posix_acl_access')
+    except OSError:
+        return None
+
+
+def access_control_lists(tools: Tools) -> None:
+    """A file that is replaced keeps its list with its owner and group, or its owner alone has rights to the new one; a list that its folder
+    would give to new files is not put on a file that had none. A new file has what its folder gives."""
+    tools.write('a.pcap', RECORDING)
+    os.chmod(tools.folder, 0o777)
+    tools.write('out', AS_IT_WAS)
+    try:
+        os.setxattr(tools.path('out'), 'system.posix_acl_access', access_list(0, 6))
+    except OSError:
+        print('left out: access control lists, which the file system does not have')
+        return
+    me = (os.getuid(), os.getgid())
+    rows = [('', me, access_list(0, 6), access_list(0, 6), 0o660), ('', me, access_list(4, 4, 4), access_list(4, 4, 4), 0o644),
+            ('def refused(*_): raise OSError(1, "no")\nos.setxattr = refused', me, access_list(0, 6), None, 0o600),
+            ('def refused(*_): raise OSError(5, "no")\nos.getxattr = refused', me, access_list(0, 6), None, 0o600)]
+    if IS_ROOT:
+        rows += [(AS_NOBODY, (NOBODY, 0), access_list(0, 6), None, 0o600), (AS_NOBODY, (NOBODY, 0), access_list(6, 6, 4), None, 0o600),
+                 ('', (12, 13), access_list(0, 6), access_list(0, 6), 0o660)]
+    for patch, owner, before, after, mode in rows:
+        tools.write('out', AS_IT_WAS)
+        os.chown(tools.path('out'), *owner)
+        os.setxattr(tools.path('out'), 'system.posix_acl_access', before)
+        status, _, error = patched(tools, patch, 'from_pcap', 'a.pcap', 'out')
+        found = os.stat(tools.path('out'))
+        tools.want(f'{patch} {owner}', (status, tools.read('out') == CAPTURE, found_list(tools.path('out')), f'{found.st_mode & 0o7777:o}'),
+                   (0, True, after, f'{mode:o}'))
+        os.remove(tools.path('out'))
+    os.setxattr(tools.folder, 'system.posix_acl_default', access_list(4, 6, 4))
+    for mode in (0o640, 0o660, 0o600):
+        tools.write('out', AS_IT_WAS)
+        os.removexattr(tools.path('out'), 'system.posix_acl_access')
+        os.chmod(tools.path('out'), mode)
+        status, _, _ = patched(tools, '', 'from_pcap', 'a.pcap', 'out')
+        tools.want(f'in a folder with a list, {mode:o}', (status, found_list(tools.path('out')), os.stat(tools.path('out')).st_mode & 0o777),
+                   (0, None, mode))
+        os.remove(tools.path('out'))
+    tools.write('plain', b'')
+    status, out, plain = patched(tools, '', 'from_pcap', 'a.pcap', 'out')[0], tools.path('out'), tools.path('plain')
+    tools.want('a new file', (status, found_list(out), os.stat(out).st_mode), (0, found_list(plain), os.stat(plain).st_mode))
 
 
 # A signal comes after a call of the system, which are counted.
@@ -350,12 +435,12 @@ def filters_that_die(tools: Tools) -> None:
 def closed_outputs(tools: Tools) -> None:
     """A standard stream that is closed, or on a full device, is a failure: one line at most, and never the status of an answer."""
     program, place = ['--program', tools.program], 'connection 1 client record 1 byte 0'
-    lost = Talk(701)
-    tools.write('lost.pcap', pcap([*whole(), lost.sent(0, bytes(8))]))
+    bare = Talk(701)
+    tools.write('bare.pcap', pcap([*whole(), *bare.opened(), *bare.closed()]))
     rows: list[tuple[list[str], bool, bool]] = [  # whether something goes to standard output, and to standard error
         (['compare', *program, FIRST, CHANGED], True, False), (['compare', *program, FIRST, FIRST], True, False),
         (['compare', *program, str(EXAMPLES / 'bad_bool.pcap'), FIRST], False, True), (['verdicts', *program, FIRST], True, False),
-        (['verdicts', *program, 'lost.pcap'], True, True), (['procedures', *program, 'lost.pcap'], True, True),
+        (['verdicts', *program, 'bare.pcap'], True, True), (['procedures', *program, 'bare.pcap'], True, True),
         (['procedures', *program, '--beside', FIRST, CHANGED], True, False), (['cut', *program, FIRST, place, 'out'], True, False),
         (['where', FIRST, place], True, False),
         (['where', FIRST, 'connection 9 client record 1'], False, True), (['where', FIRST, 'nothing'], False, True),
@@ -370,10 +455,28 @@ def closed_outputs(tools: Tools) -> None:
                 status, _, error = through_bash(tools, f'exec "$@" {streams}', tool(words[0]), *words[1:])
                 last = error.splitlines()[-1:]
                 tools.want(f'{" ".join(words)} {streams}', (status, [line for line in last if not line.startswith(words[0] + ': ')]), (3, []))
-                tools.want('lines', len(error.splitlines()) - tells * (words[-1] == 'lost.pcap' and streams != '>&-'
+                tools.want('lines', len(error.splitlines()) - tells * (words[-1] == 'bare.pcap' and streams != '>&-'
                                                                        and not streams.startswith('2')) <= 1, True)
     answer = through_bash(tools, 'exec "$@" <&-', tool('from_pcap'), '-', 'out')
     one_line(tools, 'standard input that is closed', answer, 3, 'from_pcap: ')
+
+
+def outputs_before_the_work(tools: Tools) -> None:
+    """Each tool tries its outputs before it reads anything, takes none twice, and writes to standard output if one is called `-`; the table
+    goes to standard error then."""
+    program = ['--program', tools.program]
+    for name, *options in (['verdicts', '--json', '--junit'], ['procedures', '--json', '--csv'], ['compare', '--json', '--html']):
+        inputs = ['no recording'] * (2 if name == 'compare' else 1)
+        for words, status, told in (([options[0], 'absent/x'], 3, 'absent/x: '), ([options[0], 'x', options[1], './x'], 2, 'are one file')):
+            answer = tools.tool(name, *program, *words, *inputs)
+            tools.want(f'{name} {words}', (answer[0], answer[1], told in answer[2], 'no recording' in answer[2]), (status, '', True, False))
+        status, out, error = tools.tool(name, *program, options[0], '-', FIRST, *([FIRST] if name == 'compare' else []))
+        tools.want(f'{name} {options[0]} -', (status, isinstance(json.loads(out), (dict, list)), '103' in error or 'judged' in error), (0, True, True))
+    done = ended([tool('from_pcap'), FIRST, '-'], tools.folder)
+    tools.want('a capture on standard output', (done.status, done.out[:8]), (0, b'NFS3CAP1'))
+    answer = tools.tool('from_pcap', 'no recording', 'absent/x')
+    tools.want('from_pcap', (answer[0], 'absent/x: ' in answer[2]), (3, True))
+    tools.want('what is there', tools.names(), [])
 
 
 HOSTILE = 'a\x1b[31m\n\\ä\udcff'
@@ -404,10 +507,16 @@ def names(tools: Tools) -> None:
     ended([os.fsencode(word) for word in (tool('compare'), *program, '--html', 'page', recording, capture)], tools.folder)
     page = (tools.read('page') or b'').decode()
     tools.want('the page', (page.count(SHOWN), '\x1b' in page), (4, False))
+    ended([os.fsencode(word) for word in (tool('compare'), *program, '--json', 'json', recording, capture)], tools.folder)
+    content = (tools.read('json') or b'').decode()
+    tools.want('JSON', (re.findall(r'\\ud[89a-f]', content), [run['name'] for run in json.loads(content)['runs']]),
+               ([], [SHOWN + '.pcap', SHOWN + '.nfs3cap']))
 
 
-TESTS = [outputs_that_are_inputs, outputs_that_are_recordings, full_disks, looks_that_fail, names_that_another_gets, removed_files,
-         permissions, signals, programs_that_die, filters_that_die, closed_outputs, names]
+TESTS = [outputs_that_are_inputs, outputs_that_are_recordings, full_disks, looks_that_fail, names_that_another_gets,
+         files_of_a_lower_layer, removed_files,
+         permissions, access_control_lists, signals, programs_that_die, filters_that_die, closed_outputs, outputs_before_the_work,
+         names]
 
 
 def main() -> None:

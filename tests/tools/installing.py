@@ -57,8 +57,10 @@ def works(place: Place, prefix: pathlib.Path) -> None:
         page = prefix / 'share/man/man1' / ('nfs3-%s.1' % tool)
         place.want('page of ' + tool, page.is_file(), True)
     runs = [str(TOP / ('examples/ganesha_%s.pcap' % name)) for name in 'ab']
-    place.want('compare', place.command(str(prefix / 'bin/nfs3-compare'), *runs)[1].splitlines()[-1], 'same: 103 calls in 3 connections')
-    place.want('verdicts', place.command(str(prefix / 'bin/nfs3-verdicts'), runs[0])[1].splitlines()[-1], '3 ok, 0 in part, 0 refused, 0 errors')
+    sums = '3 judged (3 ok, 0 refused), 0 in part, 0 left out, 0 not checked, 0 errors'
+    place.want('compare', place.command(str(prefix / 'bin/nfs3-compare'), *runs)[1].splitlines()[1:],
+               ['same: 103 calls in 3 connections', f'both runs: {sums}'])
+    place.want('verdicts', place.command(str(prefix / 'bin/nfs3-verdicts'), runs[0])[1].splitlines()[-1], sums)
     for name in PROGRAMS:
         for path in ('bash-completion/completions/' + name, 'zsh/site-functions/_' + name, 'fish/vendor_completions.d/%s.fish' % name,
                      'man/man1/%s.1' % name):
@@ -92,8 +94,8 @@ def named_as_installed(place: Place) -> None:
 
 
 # What each completion offers: an option of its own, or for the programs a word that only the launcher knows.
-OFFERED = {'nfs3canon': '--version', 'nfs3mask': '--version', 'nfs3-from-pcap': '--midstream', 'nfs3-where': '--filter',
-           'nfs3-verdicts': '--junit', 'nfs3-procedures': '--beside', 'nfs3-compare': '--brief', 'nfs3-explain': '--midstream',
+OFFERED = {'nfs3canon': '--version', 'nfs3mask': '--version', 'nfs3-from-pcap': '--no-midstream', 'nfs3-where': '--filter',
+           'nfs3-verdicts': '--junit', 'nfs3-procedures': '--beside', 'nfs3-compare': '--brief', 'nfs3-explain': '--no-midstream',
            'nfs3-cut': '--origins'}
 # Each script prints what a shell offers after a name and two hyphens; the words are the name, and the folder or the file of completions.
 IN_BASH = """. "$2"; spec=$(complete -p "$1"); COMP_WORDS=("$1" --); COMP_CWORD=1
@@ -243,6 +245,46 @@ def as_a_release(place: Place) -> None:
     works(place, pathlib.Path(place.folder, name))
 
 
+UMASKS = (0o000, 0o002, 0o022, 0o027, 0o077)
+
+
+def modes_under(folder: pathlib.Path) -> set[tuple[bool, int]]:
+    """The permissions of the folders and files under a folder, and which are of folders. A link has none of its own."""
+    return {(path.is_dir(), path.stat().st_mode & 0o7777) for path in folder.rglob('*') if not path.is_symlink()}
+
+
+def under_every_umask(place: Place) -> None:
+    """A release has the same bytes, and what is installed the same permissions: folders and programs are for all, and nobody else writes."""
+    contents = set()
+    for umask in UMASKS:
+        run = ['bash', '-c', 'umask %03o; exec "$@"' % umask, 'bash']
+        for name in ('release', 'install'):
+            folder = '%s%03o' % (name, umask)
+            os.mkdir(place.path(folder))
+            status = place.command(*run, str(TOP / 'tools' / name), '--program', place.program, folder + ('/new' if name == 'install' else ''))
+            place.want(folder, (status[0], status[2]), (0, ''))
+        archive = next(pathlib.Path(place.path('release%03o' % umask)).glob('*.xz'))
+        contents.add(hashlib.sha256(archive.read_bytes()).hexdigest())
+        place.want('%03o: installed' % umask, modes_under(pathlib.Path(place.path('install%03o' % umask))),
+                   {(True, 0o755), (False, 0o755), (False, 0o644)})
+        with tarfile.open(archive) as tar:
+            members = tar.getmembers()
+        place.want('%03o: in the release' % umask, (
+            {member.mode for member in members if member.isdir()}, {member.mode for member in members if member.isfile()},
+            {member.mode for member in members if member.issym()}), ({0o755}, {0o755, 0o644}, {0o777}))
+        place.want('%03o: programs' % umask, {member.mode for member in members if '/libexec/' in member.name and member.isfile()}, {0o755})
+    place.want('bytes of a release', len(contents), 1)
+
+
+def under_a_name_that_is_no_text(place: Place) -> None:
+    """The programs refuse to run under a name that is not UTF-8, so nothing is installed there."""
+    for name in (b'\xff', b'a/\xfe/b'):
+        command = [os.fsencode(word) for word in (str(TOP / 'tools/install'), '--program', place.program)]
+        done = ended([*command, name], place.folder)
+        place.want(repr(name), (done.status, done.error.startswith(b'install: '), done.error.count(b'\n')), (2, True, 1))
+    place.want('what is there', os.listdir(place.folder), [])
+
+
 def version_of_the_launcher(place: Place) -> None:
     for name in PROGRAMS:
         place.want('version', place.command(str(TOP / name), '--version'), (0, '%s %s\n' % (name, version()), ''))
@@ -250,6 +292,7 @@ def version_of_the_launcher(place: Place) -> None:
 
 TESTS: list[Callable[[Place], None]] = [under_a_prefix, named_as_installed, completions_load, where_nothing_can_be_written,
                                         without_a_program, on_a_full_disk, removed_again, removed_from_elsewhere, as_a_release,
+                                        under_every_umask, under_a_name_that_is_no_text,
                                         version_of_the_launcher]
 
 

@@ -13,16 +13,17 @@ import random
 import sys
 import xml.etree.ElementTree
 from collections.abc import Callable, Sequence
+from itertools import chain
 
 sys.path.insert(0, str(pathlib.Path(__file__).resolve().parents[1] / 'shared'))
-from compare import MEASURED, TOP, Comparisons, Conversation  # noqa: E402
+from compare import COUNTS, MEASURED, TOP, Comparisons, Conversation, is_unchecked  # noqa: E402
 from running import ended, program_named, try_tests  # noqa: E402
 from traffic import Names, Traffic  # noqa: E402
 
 sys.path[:0] = [str(TOP / 'tools'), str(TOP / 'examples')]
 import messages  # noqa: E402
 from messages import (  # noqa: E402
-    NFS, call, dirop, failed, fattr, fh, fragment, guard, how, made, ok, post_op_attr, sattr, success, wcc)
+    NFS, call, dirop, failed, fattr, fh, fragment, guard, how, made, ok, post_op_attr, sattr, success, wcc, word)
 from packets import Talk, pcap  # noqa: E402
 from nfs3tools.comparison.marks import Piece, pieces_of  # noqa: E402
 from nfs3tools.shared.programs import Died  # noqa: E402
@@ -181,7 +182,8 @@ def parts_listed_at_once(place: Comparisons) -> None:
         for words in (['--all'], ['--order', 'strict', '--mask', 'cookies,ids,owners']):
             status, out, error = place.compare('--marks', PATTERN, *words, 'a', 'b')
             by_itself = ended([sys.executable, '-c', *alone, *words, 'a', 'b'], place.folder).text()
-            place.want(f'draws {draws}', (status, out, error), (by_itself[0], by_itself[1].splitlines(), by_itself[2]))
+            lines = [line for line in by_itself[1].splitlines() if not COUNTS.match(line)]
+            place.want(f'draws {draws}', (status, out, error), (by_itself[0], lines, by_itself[2]))
             place.want(f'draws {draws}: differ', ' differ' in out[-1], True)
 
 
@@ -193,10 +195,10 @@ def one_part_that_differs(place: Comparisons) -> None:
     parts = ['before the first mark: same: 1 call in 1 connection', '"test 1": same: 2 calls in 1 connection',
              '"test 2": differ', '"test 3": same: 2 calls in 1 connection']
     where = 'connection 1 server record 5 (frame 13)'  # after three frames of the handshake and ten of messages
-    found = ['"test 2"', f'NFSPROC3_GETATTR reply ?/x: {where} | {where}', '  - obj.mode=420 (0644)', '  + obj.mode=384 (0600)',
+    found = ['"test 2"', f'NFSPROC3_GETATTR reply ?/x: {where} | {where}', '  - obj.mode=0644 (420)', '  + obj.mode=0600 (384)',
              'fields that differ, and how often: obj.mode of NFSPROC3_GETATTR 1', '2 of 2 calls belong together; obj.mode in 1 reply']
     wants(place, 'one', 1, [*parts, *found, '4 parts: 3 same, 1 differs'])
-    line = f'NFSPROC3_GETATTR reply ?/x: {where} | {where}: obj.mode=420 (0644) -> 384 (0600)'
+    line = f'NFSPROC3_GETATTR reply ?/x: {where} | {where}: obj.mode=0644 (420) -> 0600 (384)'
     wants(place, 'brief', 1, [*parts, '"test 2"', line, *found[4:], '4 parts: 3 same, 1 differs'], '--brief')
     wants(place, 'ignored', 1, [*parts, '"test 2"', 'left out by --ignore, and how often: obj.mode of NFSPROC3_GETATTR 1',
                                 '2 of 2 calls belong together', '4 parts: 3 same, 1 differs'], '--ignore', '*.obj.mode')
@@ -204,7 +206,7 @@ def one_part_that_differs(place: Comparisons) -> None:
     where = 'connection 1 client record 8 (frame 18)'
     wants(place, 'one call more', 1, [
         *parts[:2], '"test 2": same: 2 calls in 1 connection', '"test 3": differ', '"test 3"',
-        f'only in the second run: NFSPROC3_SETATTR ?/x: {where}', '2 of 3 calls belong together; 1 more in the second run',
+        f'only in the second run: NFSPROC3_SETATTR ?/x: {where}', '  + set.mode=0600 (384)', '2 of 3 calls belong together; 1 more in the second run',
         '4 parts: 3 same, 1 differs'])
 
 
@@ -307,6 +309,31 @@ def a_call_that_moved_in_secret(place: Comparisons) -> None:
         '"test 1": differ', '"test 2": differ', '"test 3": same: 3 calls in 3 connections'], '3 parts: 1 same, 2 differ'))
 
 
+def what_is_left_out_of_parts(place: Comparisons) -> None:
+    """Calls that one run alone has in a part are listed under the part, at their positions and paths in the whole run."""
+    def run(seed: int, more: int) -> Run:
+        run = Run(seed).reach('x').mark('test 1').get('x').mark('test 2').set('x', 0o600)
+        for _ in range(more):
+            run.get('x')
+        return run.mark('test 3').get('x')
+    put(place, run(1, 0), run(2, 2))
+    status, out, _ = place.compare('--marks', PATTERN, '--order', 'any', 'a', 'b')
+    line = 'left out of the second run: 2 NFSPROC3_GETATTR ?/x, first: connection 1 client record 6 (frame 14)'
+    place.want('listed', (status, out[5:7], out[-1]), (0, ['"test 2"', line], '4 parts: 3 same, 1 same in another order'))
+
+
+def marks_that_fit_no_call(place: Comparisons) -> None:
+    """A pattern that fits no name of both runs compares nothing by parts: it is an error, also in JUnit XML. One run with a mark is enough."""
+    put(place, Run(1).mark('test 1').get('x'), Run(2).mark('test 1').get('x'))
+    message = "no call of LOOKUP, CREATE or MKDIR has a name that fits 'nomatch*'"
+    for words in ((), ('--order', 'any'), ('--junit', 'x.xml')):
+        answer = place.compare('--marks', 'nomatch*', *words, 'a', 'b')
+        place.want(' '.join(words), (answer[0], answer[1][1:], answer[2]), (2, [], f'compare: {message}\n'))
+    place.want('junit', f'message="{message}"'.encode() in (place.read('x.xml') or b''), True)
+    place.write('b', Run(2).get('x').recording())
+    place.want('in one run', place.compare('--marks', 'test*', 'a', 'b')[0], 1)
+
+
 def captures_connection_by_connection(place: Comparisons) -> None:
     """Without frames a mark is of its own connection, and of those after it up to the next mark."""
     def run(seed: int) -> Run:
@@ -378,10 +405,19 @@ def random_runs(place: Comparisons) -> None:
         first, second = (Traffic(seed, some).connections for some in (names, names.turned()))
         place.put('a', *first)
         place.put('b', *second)
-        status, out, error = place.compare('--mask', 'none', '--marks', '*', 'a', 'b')
-        calls = [int(line.rpartition(': ')[2].split()[0]) for line in out[1:-1]]
-        place.want(f'seed {seed}', (status, error, sum(calls)), (0, '', sum(len(bodies) for bodies, _ in first)))
-        place.want(f'sum of seed {seed}', out[-1].split(': ')[1], f'{len(calls)} same' if calls else 'nothing to compare')
+        status, out, error = place.compare('--mask', 'none', '--allow-not-checked', '--marks', '*', 'a', 'b')
+        if not any(map(is_mark, chain.from_iterable(bodies for bodies, _ in first))):
+            place.want(f'seed {seed}: no mark', (status, out[1:]), (2, []))
+            continue
+        calls = [int(line.rpartition(': ')[2].split()[0]) for line in out[1:-1] if not line.startswith('compared in part: ')]
+        others = sum(any(map(is_unchecked, bodies)) for bodies, _ in first)
+        place.want(f'seed {seed}', (status, error.count('\n'), sum(calls)), (0, 2 * others, sum(len(bodies) for bodies, _ in first)))
+        place.want(f'sum of seed {seed}', out[-1].split(': ')[1], f'{len(calls)} same')
+
+
+def is_mark(body: bytes) -> bool:
+    """Whether a call is LOOKUP, CREATE or MKDIR of NFS version 3, by its numbers (RFC 5531, section 9)."""
+    return body[12:24] in [word(NFS) + word(3) + word(number) for number in (LOOKUP, CREATE, MKDIR)]
 
 
 # --- Words and files ---
@@ -394,7 +430,7 @@ def patterns_of_names(place: Comparisons) -> None:
     place.want('digits', names('test [0-9]*'), ['"test 10"'])
     place.want('letters', names('[tT]est ?'), ['before the first mark', '"Test 2"'])
     place.want('text', names('ü*"1"'), ['before the first mark', '"\\xc3\\xbcbung \\x221\\x22"'])
-    place.want('none', names('test'), ['before the first mark'])
+    place.want('a part of a name', place.compare('--marks', 'test', 'a', 'b')[0], 2)
     status, out, error = place.compare('--marks', '*', '--html', 'page', 'a', 'b')
     place.want('a page', (status, out, '--html is not for parts' in error, 'page' in place.names()), (2, [], True, False))
 
@@ -406,7 +442,7 @@ def files_for_others(place: Comparisons) -> None:
     put(place, run(1, 0o644), run(2, 0o600).mark('test 3'))
     status, out, _ = place.compare('--marks', PATTERN, '--json', 'json', '--junit', 'junit', 'a', 'b')
     content = json.loads(place.read('json') or b'')
-    place.want('json', (status, content['marks'], content['missing']), (1, PATTERN, [0, 0]))
+    place.want('json', (status, content['marks'], [run['missing'] for run in content['runs']]), (1, PATTERN, [0, 0]))
     place.want('parts', [(part['name'], part['number'], part['verdict'], part['only']) for part in content['parts']], [
         ('test 1', 1, 'differ', None), ('test 2', 1, 'same', None), ('test 3', 1, 'only in the second run', 'second')])
     first, second, third = (part['comparison'] for part in content['parts'])
@@ -421,7 +457,7 @@ def files_for_others(place: Comparisons) -> None:
         ('"test 1"', [('differ', '"test 1": differ')]), ('"test 2"', []),
         ('"test 3"', [('only in the second run', '"test 3": only in the second run: 1 call in 1 connection')])])
     place.want('text', [(item.text or '').split('\n')[1:] for item in root.iter('failure')][0], [
-        '  - obj.mode=420 (0644)', '  + obj.mode=384 (0600)'])
+        '  - obj.mode=0644 (420)', '  + obj.mode=0600 (384)'])
 
 
 def bytes_that_are_missing(place: Comparisons) -> None:
@@ -470,7 +506,9 @@ def many_parts(place: Comparisons) -> None:
 TESTS: list[Callable[[Comparisons], None]] = [
     few_runs_of_the_programs, few_runs_for_parts_that_differ, parts_listed_at_once,
     parts_that_are_the_same, one_part_that_differs, a_part_more, names_that_come_again, orders_within_a_part,
-    several_connections, a_call_that_moved_in_secret, captures_connection_by_connection, nothing_is_lost, calls_that_were_sent_again,
+    several_connections, a_call_that_moved_in_secret, captures_connection_by_connection, marks_that_fit_no_call,
+    what_is_left_out_of_parts, nothing_is_lost,
+    calls_that_were_sent_again,
     frames_in_another_order, random_runs, patterns_of_names, files_for_others, bytes_that_are_missing, many_parts]
 
 

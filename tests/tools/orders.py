@@ -6,13 +6,16 @@
 PROGRAM is crates/nfs3canon/out/nfs3canon if none is named. The last line is 'N passed, M failed', and the status is 1 if any
 failed.
 """
+import json
 import pathlib
 import random
+import re
 import sys
 from array import array
 from collections import Counter
 from collections.abc import Callable, Iterator, Sequence
 from dataclasses import dataclass, field
+from typing import NamedTuple
 
 sys.path.insert(0, str(pathlib.Path(__file__).resolve().parents[1] / 'shared'))
 from compare import MEASURED, TOP, Comparisons, Conversation  # noqa: E402
@@ -282,13 +285,175 @@ def calls_that_only_ask(place: Comparisons) -> None:
     place.put('b', *mixed(random.Random(2), [Client('c2'), Client('c1')], 2))
     status, out, _ = place.compare('--order', 'any', 'a', 'b')
     place.want('left out', (status, '; left out: 3 GETATTR of the first run' in out[1]), (0, True))
-    place.want('in words', out[2].endswith('; 3 GETATTR more in the first run'), True)
+    where = out[2].partition(': ')
+    place.want('listed', (where[0], re.fullmatch(r'3 NFSPROC3_GETATTR /c2/f1, first: connection \d client record \d+', where[2]) is not None),
+               ('left out of the first run', True))
+    place.want('in words', out[3].endswith('; 3 GETATTR more in the first run'), True)
+    every = [line for line in place.compare('--order', 'any', '--all', 'a', 'b')[1] if line.startswith('left out of the first run: 1 ')]
+    place.want('all', (len(every), len(set(every))), (3, 3))
     place.want('by default', place.compare('a', 'b')[0], 1)
     status, out, _ = place.compare('b', 'a')
     place.want('of the second', '; left out: 3 GETATTR of the second run' in out[1], True)
     status, out, _ = place.compare('--order', 'any', '--extra', 'none', 'a', 'b')
     found = [line for line in out if line.startswith('only in the first run: 3 calls of NFSPROC3_GETATTR /c2/f1, first: ')]
     place.want('none', (status, len(found), out[-1].partition('; ')[2].endswith('3 more in the first run')), (1, 1, True))
+
+
+def looked_up(*names: bytes) -> Conversation:
+    """LOOKUPs in one folder, of names that are not there."""
+    return ([call(xid, NFS, 3, LOOKUP, dirop(b'top', name)) for xid, name in enumerate(names)],
+            [success(xid, messages.failed(2, post_op_attr())) for xid, _ in enumerate(names)])
+
+
+def runs_without_a_common_call(place: Comparisons) -> None:
+    """Runs of which all is left out are not the same in any order: nothing was compared. With as many questions in one place each is a
+    changed call."""
+    place.put('a', looked_up(b'a0', b'a1', b'a2'))
+    for names in ((b'b0', b'b1'), (b'b0',), ()):
+        place.put('b', looked_up(*names))
+        message = f'compare: nothing to compare: {"no call of one run is in the other" if names else "no call of b is taken"}\n'
+        for words in (['a', 'b'], ['b', 'a']):
+            answer = place.compare('--order', 'any', '--junit', 'x.xml', *words)
+            place.want(f'{names} {words}', (answer[0], answer[1][1:], answer[2]), (2, [], message))
+            place.want('junit', b'<error message="nothing to compare' in (place.read('x.xml') or b''), True)
+    place.put('b', looked_up(b'b0', b'b1', b'b2'))
+    status, out, _ = place.compare('--order', 'any', '--all', 'a', 'b')
+    place.want('as many', (status, out[1], [line for line in out if line.startswith('  ')]), (1, 'differ in any order', [
+        line for number in range(3) for line in (f'  - name="a{number}"', f'  + name="b{number}"')]))
+
+
+def questions_that_are_changed(place: Comparisons) -> None:
+    """A client that asks for a wrong name among others has changed a call. One that asks for another name elsewhere has not."""
+    names = [b'f%d' % number for number in range(6)]
+    def others(wrong: bytes, at: int = 3) -> list[bytes]:
+        return [*names[:at], wrong, *names[at + 1:]]
+    place.put('a', looked_up(*names))
+    place.put('b', looked_up(*others(b'wrong')))
+    status, out, _ = place.compare('--order', 'any', 'a', 'b')
+    place.want('another name', (status, out[1:5]), (1, [
+        'differ in any order', 'NFSPROC3_LOOKUP ?/f3: connection 1 client record 4 | connection 1 client record 4', '  - name="f3"',
+        '  + name="wrong"']))
+    place.put('b', looked_up(*names[:3], *names[4:], b'wrong'))
+    status, out, _ = place.compare('--order', 'any', 'a', 'b')
+    place.want('in another place', (status, out[1].partition('; ')[2]),
+               (0, 'left out: 1 LOOKUP of the first run, 1 LOOKUP of the second run'))
+
+
+def a_client_without_commit(place: Comparisons) -> None:
+    """COMMIT asks the server to keep what was written: it is not left out."""
+    def run(*procedures: int) -> Conversation:
+        said = {GETATTR: (fh(b'a'), ok(fattr(1, 1))), 21: (fh(b'a') + hyper(0) + word(0), ok(wcc(), b'verifier')),
+                WRITE: (fh(b'a') + hyper(0) + word(1) + word(0) + opaque(b'x'), ok(wcc(), word(1), word(0), b'verifier'))}
+        return ([call(xid, NFS, 3, number, said[number][0]) for xid, number in enumerate(procedures)],
+                [success(xid, said[number][1]) for xid, number in enumerate(procedures)])
+    place.put('a', run(GETATTR, WRITE, 21))
+    place.put('b', run(GETATTR, WRITE))
+    for order in ('any', 'strict'):
+        status, out, _ = place.compare('--order', order, 'a', 'b')
+        place.want(order, (status, out[2].partition(': connection')[0]), (1, 'only in the first run: NFSPROC3_COMMIT'))
+
+
+Half = tuple[int, int, bytes]  # a message: the shell, its side, 0 for a call, and its body
+MKDIR_OK = ok(messages.made(None, None, wcc()))
+
+
+def shared_folder(*steps: Half) -> bytes:
+    """A recording of two shells that work in one folder, each over a connection of its own, message by message."""
+    talks = [Talk(700 + number) for number in range(2)]
+    frames = [frame for talk in talks for frame in talk.opened()]
+    frames += [talks[shell].sent(side, messages.fragment(body)) for shell, side, body in steps]
+    return pcap([*frames, *(frame for talk in talks for frame in talk.closed())])
+
+
+class Asked(NamedTuple):
+    """What a shell, 0 or 1, asks and is answered."""
+    shell: int
+    xid: int
+    procedure: int
+    arguments: bytes
+    results: bytes
+
+    def call(self) -> Half:
+        return self.shell, 0, call(self.xid, NFS, 3, self.procedure, self.arguments)
+
+    def reply(self) -> Half:
+        return self.shell, 1, success(self.xid, self.results)
+
+
+def made_in_folder(xid: int, name: bytes, shell: int = 1) -> Asked:
+    return Asked(shell, xid, MKDIR, dirop(b'folder', name) + sattr(), MKDIR_OK)
+
+
+def listed_names(xid: int, *names: bytes) -> Asked:
+    """READDIR of the folder, with these names."""
+    entries = messages.entries(fattr(2, 1), bytes(8), [messages.entry(1, name, 0) for name in names], is_end=True)
+    return Asked(0, xid, 16, fh(b'folder') + bytes(16) + word(512), ok(entries))
+
+
+def in_folder(xid: int, name: bytes, found: int | None) -> Asked:
+    """LOOKUP of a name, which is there if it has a mode."""
+    answer = messages.failed(2, post_op_attr())
+    if found is not None:
+        answer = ok(fh(b'at ' + name), post_op_attr(fattr(1, 9, mode=found)), post_op_attr())
+    return Asked(0, xid, LOOKUP, dirop(b'folder', name), answer)
+
+
+def one_by_one(*steps: Asked) -> bytes:
+    return shared_folder(*(half for step in steps for half in (step.call(), step.reply())))
+
+
+def in_which_others_worked(place: Comparisons) -> None:
+    """What a folder shows depends on whether another shell's call came first. Such a question is left out, and listed with its folder; if the
+    other's calls came as before, or changed nothing, it still differs. So does it with --extra none, in the order of the runs, and in
+    captures, which have no frames."""
+    top = Asked(0, 1, LOOKUP, dirop(b'top', b'w'), ok(fh(b'folder'), post_op_attr(), post_op_attr()))
+    new, last = made_in_folder(5, b'new'), Asked(0, 9, GETATTR, fh(b'top'), ok(fattr(2, 3)))
+    without, with_new, wrong = listed_names(7, b'x'), listed_names(7, b'x', b'new'), listed_names(7, b'x', b'another')
+    failing, elsewhere = new._replace(results=messages.failed(17, wcc())), new._replace(arguments=dirop(b'other', b'new') + sattr())
+    during = [top.call(), top.reply(), new.call(), without.call(), without.reply(), new.reply(), last.call(), last.reply()]
+    rows: list[tuple[str, bytes, bytes, int]] = [
+        ('before and after', one_by_one(top, without, new, last), one_by_one(top, new, with_new, last), 0),
+        ('during', one_by_one(top, new, with_new, last), shared_folder(*during), 0),
+        ('as before', one_by_one(top, new, with_new, last), one_by_one(top, new, wrong, last), 1),
+        ('after both', one_by_one(top, without, new, last), one_by_one(top, wrong, new, last), 1),
+        ('a change that fails', one_by_one(top, without, failing, last), one_by_one(top, failing, wrong, last), 1),
+        ('a name that comes', one_by_one(top, in_folder(7, b'new', None), new, last),
+         one_by_one(top, new, in_folder(7, b'new', 0o755), last), 0),
+        ('another name', one_by_one(top, in_folder(7, b'x', 0o644), new, last), one_by_one(top, new, in_folder(7, b'x', 0o600), last), 1),
+        ('another folder', one_by_one(top, without, elsewhere, last), one_by_one(top, elsewhere, with_new, last), 1)]
+    for what, first, second, wanted in rows:
+        place.write('a', first)
+        place.write('b', second)
+        for words in (['a', 'b'], ['b', 'a']):
+            status, out, error = place.compare('--order', 'any', *words)
+            place.want(f'{what} {words}', (status, error), (wanted, ''))
+            listed = [line for line in out if line.startswith('left out: 1 ')]
+            place.want(f'{what} {words}: listed', len(listed), 1 - wanted)
+        for more in (['--extra', 'none', '--order', 'any'], ['--order', 'strict']):
+            place.want(f'{what} {more}', place.compare(*more, 'a', 'b')[0], 1)
+
+
+def what_is_left_out_is_listed(place: Comparisons) -> None:
+    """A question that others overtook is in the verdict and in a line of its own, with both positions, in each form of output. Captures do not
+    say what came first."""
+    top = Asked(0, 1, LOOKUP, dirop(b'top', b'w'), ok(fh(b'folder'), post_op_attr(), post_op_attr()))
+    new, last = made_in_folder(5, b'new'), Asked(0, 9, GETATTR, fh(b'top'), ok(fattr(2, 3)))
+    place.write('a', one_by_one(top, listed_names(7, b'x'), new, last))
+    place.write('b', one_by_one(top, new, listed_names(7, b'x', b'new'), last))
+    status, out, _ = place.compare('--order', 'any', '--json', 'out.json', '--html', 'out.html', '--junit', 'out.xml', 'a', 'b')
+    line = ('left out: 1 NFSPROC3_READDIR ?/w, in which others worked: connection 1 client record 2 (frame 9) | '
+            'connection 1 client record 2 (frame 11)')
+    place.want('the verdict', out[1], 'same in another order: 3 calls; left out: 1 READDIR of ?/w, in which others worked')
+    place.want('the list', out[2], line)
+    found = json.loads(place.read('out.json') or b'')['left_out']
+    first, second = ({'position': 'connection 1 client record 2', 'frames': [frame]} for frame in (9, 11))
+    place.want('JSON', found, [{'procedure': 'NFSPROC3_READDIR', 'path': '?/w', 'first': first, 'second': second}])
+    for name in ('out.html', 'out.xml'):
+        place.want(name, line.encode() in (place.read(name) or b''), True)
+    for name in 'ab':
+        captured = ended([str(TOP / 'tools/from_pcap'), name, f'{name}.nfs3cap'], place.folder).status
+        place.want('captured', captured, 0)
+    place.want('captures', place.compare('--order', 'any', 'a.nfs3cap', 'b.nfs3cap')[0], 1)
 
 
 def ids_and_orders(place: Comparisons) -> None:
@@ -324,7 +489,7 @@ def seen_in_the_middle(place: Comparisons) -> None:
              'obj after.size in 2 replies')
     place.wants('sizes', 0, [words], '--order', 'any')
     place.want('told', place.compare('a', 'b')[1][1],
-               'same in another order: 4 calls; 1 in another turn; 1 reply in another turn; masked besides: ids=zero,wcc=zero')
+               'same in another order: 4 calls; 1 in another turn; 1 reply in another turn; masked besides: wcc=zero')
     status, out, _ = place.compare('--mask=-wcc', '--order', 'any', 'a', 'b')
     place.want('compared', (status, out[1], '  - obj after.size=8' in out), (1, 'differ in any order', True))
 
@@ -341,19 +506,94 @@ def folders_that_others_change(place: Comparisons) -> None:
     place.put('b', run(9, 2, 3, 5))
     status, out, _ = place.compare('--order', 'any', 'a', 'b')
     place.want('another count', (status, out[1].partition('; masked besides: ')[2], out[2].endswith('; obj.nlink in 1 reply')),
-               (0, 'ids=zero,wcc=zero', True))
+               (0, 'wcc=zero', True))
 
 
 def masks_of_any_order(place: Comparisons) -> None:
     """Classes that are named stay as they are, and so does a whole mask."""
-    last = {name: way for name, way in default_mask().items() if name != 'ids'}
+    relaxed = ('ids', 'createverfs', 'cookies', 'wcc')
     masks = in_any_order(None)
-    place.want('default', (masks[0], masks[1]), (default_mask(), {**default_mask(), 'ids': Way.ZERO}))
-    place.want('more', {name: masks[-1][name] for name in last}, last)
+    place.want('default', masks, [{**default_mask(), **dict.fromkeys(relaxed[:number], Way.ZERO)} for number in range(5)])
+    place.want('with raw bodies', in_any_order(None, True), [*masks, {**masks[-1], 'raw': Way.ZERO}])
+    place.want('raw bodies that are named', in_any_order('-raw', True)[-1].get('raw'), None)
     for word_of_mask in ('times', 'none', 'ids=number,times'):
         place.want(word_of_mask, in_any_order(word_of_mask), [mask_of(word_of_mask)])
     place.want('named', all(mask['ids'] is Way.NUMBER for mask in in_any_order('+ids=number')), True)
     place.want('without', any('ids' in mask for mask in in_any_order('-ids')), False)
+
+
+def verifiers_that_repeat(place: Comparisons) -> None:
+    """Two exclusive creates have one verifier by chance in one run alone: no renaming of verifiers is one to one, and nothing else differs.
+    So it is with cookies. Only the class that repeats is masked besides, and a repeated value is no difference of two equal ones."""
+    def run(order: Sequence[int], verifiers: Sequence[bytes], cookies: Sequence[int]) -> Conversation:
+        calls, replies = list[bytes](), list[bytes]()
+        for xid in order:
+            calls.append(call(xid, NFS, 3, CREATE, dirop(b'top', b'f%d' % xid) + messages.how(2, verifiers[xid])))
+            replies.append(success(xid, ok(messages.made(None, None, wcc()))))
+        for xid in order:
+            calls.append(call(xid + 9, NFS, 3, 17, fh(b'folder %d' % xid) + bytes(16) + word(512) + word(4096)))
+            entries = messages.entries(fattr(2, 1), bytes(8), [messages.entryplus(1, b'x', cookies[xid])], is_end=True)
+            replies.append(success(xid + 9, ok(entries)))
+        return calls, replies
+    one, other = (b'verify%02d', b'other-%02d')
+    plain = [one % number for number in range(3)], [other % number for number in range(3)]
+    for name, second, cookies, more in (
+            ('createverfs', [other % 0, other % 1, other % 0], [7, 8, 9], 'createverfs=zero'),
+            ('cookies', plain[1], [7, 8, 7], 'cookies=zero'), ('both', [other % 0] * 3, [7, 7, 7], 'cookies=zero,createverfs=zero')):
+        place.put('a', run((0, 1, 2), plain[0], [4, 5, 6]))
+        place.put('b', run((1, 0, 2), second, cookies))
+        status, out, error = place.compare('--order', 'any', 'a', 'b')
+        place.want(name, (status, out[1].partition('; masked besides: ')[2], error), (0, more, ''))
+        status, out, _ = place.compare(f'--mask=+createverfs=number,+cookies=number', '--order', 'any', 'a', 'b')
+        place.want(f'{name}: compared if they are named', (status, out[1]), (1, 'differ in any order'))
+
+
+def raw_bodies_in_any_order(place: Comparisons) -> None:
+    """Bodies of other programs, with handles and times of their own in each run, are zero in any order if nothing else is enough, and that is
+    said; their lengths count. nfs3mask may be older, and not have the class: then it is not tried, and refused if it is asked for."""
+    def run(order: Sequence[int], body: bytes) -> Conversation:
+        return ([call(xid, messages.NFSACL, 3, 1, b'acl %d' % xid + body) if xid else call(xid, NFS, 3, 0) for xid in order],
+                [success(xid, b'answer %d' % xid + body if xid else b'') for xid in order])
+    place.put('a', run((0, 1, 2), b'1234'))
+    place.put('b', run((0, 2, 1), b'5678'))
+    if 'raw=' not in place.run('nfs3mask', '--help')[2]:
+        place.want('not tried', place.compare('--order', 'any', 'a', 'b')[0], 1)
+        place.want('asked for', place.compare('--mask', '+raw', 'a', 'b')[0::2],
+                   (2, 'compare: this nfs3mask does not have the class raw: it is older than the tools\n'))
+        return
+    status, out, error = place.compare('--order', 'any', 'a', 'b')
+    place.want('masked', (status, out[1].partition('; masked besides: ')[2], error), (0, 'raw=zero', ''))
+    place.want('asked for', place.compare('--mask', '+raw', '--order', 'any', 'a', 'b')[0], 0)
+    place.want('kept', place.compare('--mask=-raw', '--order', 'any', 'a', 'b')[0], 1)
+    place.put('b', run((0, 2, 1), b'12345678'))
+    status, out, _ = place.compare('--mask', '+raw', '--order', 'any', 'a', 'b')
+    place.want('lengths', (status, any('only the lengths count' in line for line in out)), (1, True))
+
+
+def values_that_stand_for_others(place: Comparisons) -> None:
+    """A value that is equal in both runs and stands for another elsewhere is one line that says so; several such findings are one line."""
+    def run(*verifiers: bytes) -> Conversation:
+        return ([call(xid, NFS, 3, CREATE, dirop(b'top', b'f%d' % xid) + messages.how(2, verifier)) for xid, verifier in enumerate(verifiers)],
+                [success(xid, ok(messages.made(None, None, wcc()))) for xid, _ in enumerate(verifiers)])
+    a, b, c = (letter * 8 for letter in (b'a', b'b', b'c'))
+    place.put('a', run(a, b, b))
+    place.put('b', run(a, c, b))
+    where = 'connection 1 client record %d'
+    status, out, _ = place.compare('a', 'b')
+    place.want('one', (status, out[2:4]), (1, [
+        f'NFSPROC3_CREATE ?/f2: {where % 3} | {where % 3}',
+        f'  = createverf={b.hex()}    # elsewhere {b.hex()} of the first run is {c.hex()} of the second']))
+    place.put('a', run(a, b, b, b))
+    place.put('b', run(a, c, b, b))
+    status, out, _ = place.compare('a', 'b')
+    line = ('2 messages have values that are equal in both runs, and that stand for others elsewhere, first: '
+            f'{where % 3} | {where % 3}: createverf of NFSPROC3_CREATE 2')
+    place.want('several', (status, out[2], len(out)), (1, line, 5))
+    status, out, _ = place.compare('--all', 'a', 'b')
+    place.want('all', (status, sum(line.startswith('  = ') for line in out)), (1, 2))
+    for words in (['a', 'b'], ['--all', 'a', 'b'], ['--brief', 'a', 'b']):
+        values = [line.partition('=')[2] for line in place.compare(*words)[1] if line.startswith(('  - ', '  + '))]
+        place.want('no two equal values', len(values), len(set(values)))
 
 
 def orders_of_replies(place: Comparisons) -> None:
@@ -398,7 +638,7 @@ def calls_between_neighbours(place: Comparisons) -> None:
                 [success(xid, results) for xid, (_, _, results) in enumerate(asked)])
     place.put('a', run(b'x'))
     place.put('b', run(b'y'))
-    line = 'NFSPROC3_CREATE: connection 1 client record 2 | connection 1 client record 2'
+    line = 'NFSPROC3_CREATE ?/x: connection 1 client record 2 | connection 1 client record 2'
     for order in ('strict', 'any'):
         status, out, _ = place.compare('--order', order, 'a', 'b')
         place.want(order, (status, out[2:5]), (1, [line, '  - name="x"', '  + name="y"']))
@@ -427,11 +667,12 @@ def one_call_more_among_alike_ones(place: Comparisons) -> None:
     made = 'only in the second run: NFSPROC3_MKDIR ?/folder/new: connection 1 client record 10'
     status, out, _ = place.compare('--order', 'any', 'a', 'b')
     place.want('any', (status, out[2:]), (1, [
-        made, '18 of 20 calls belong together; 1 LOOKUP more in the second run; 1 more in the second run']))
+        made, 'left out of the second run: 1 NFSPROC3_LOOKUP ?/folder: connection 1 client record 11',
+        '18 of 20 calls belong together; 1 LOOKUP more in the second run; 1 more in the second run']))
     status, out, _ = place.compare('--order', 'strict', 'a', 'b')
     place.want('strict', (status, [line for line in out[2:-2] if line[:2] != '  ']), (1, [
-        made, '4 replies of NFSPROC3_LOOKUP, first: connection 1 server record 11 | connection 1 server record 13',
-        'only in the second run: NFSPROC3_LOOKUP: connection 1 client record 11']))
+        made, '4 replies of NFSPROC3_LOOKUP ?/folder, first: connection 1 server record 11 | connection 1 server record 13',
+        'only in the second run: NFSPROC3_LOOKUP ?/folder: connection 1 client record 11']))
     place.want('in words', out[-1], '18 of 20 calls belong together; 2 more in the second run; obj.nlink in 4 replies')
 
 
@@ -497,8 +738,11 @@ def many_in_another_order(place: Comparisons) -> None:
 
 TESTS: list[Callable[[Comparisons], None]] = [
     runs_are_written_anew, records_of_several_fragments, orders_that_are_none, wrong_writers_are_caught, clients_at_once,
-    what_differs_is_found, calls_that_only_ask, ids_and_orders, seen_in_the_middle, folders_that_others_change,
-    masks_of_any_order, orders_of_replies, connections_by_what_they_ask,
+    what_differs_is_found, calls_that_only_ask, runs_without_a_common_call, questions_that_are_changed,
+    in_which_others_worked, what_is_left_out_is_listed,
+    a_client_without_commit, ids_and_orders, seen_in_the_middle, folders_that_others_change,
+    masks_of_any_order, verifiers_that_repeat, raw_bodies_in_any_order, values_that_stand_for_others, orders_of_replies,
+    connections_by_what_they_ask,
     calls_between_neighbours, one_call_more_among_alike_ones, files_that_were_made_again, one_name_for_many_files,
     many_in_another_order]
 

@@ -202,7 +202,7 @@ def the_top(place: Pages) -> None:
     place.want('first', runs['first frame'], [f'{some[0][1]}, frame {some[0][0]}' for some in ends])
     place.want('last', runs['last frame'], [f'{some[-1][1]}, frame {some[-1][0]}' for some in ends])
     place.want('how much', (runs['calls'], runs['connections']), (['103'] * 2, ['3'] * 2))
-    place.want('no losses', [name for name in runs if name in ('missing', 'left out', 'only in this run')], [])
+    place.want('no losses', [name for name in runs if name in ('missing', 'calls left out', 'only in this run')], [])
     place.want('masked', 'times=zero, stamps=zero' in page.all('dl')[0].text(), True)
     place.put('a', gets([1]))
     runs = runs_of(place.page('a', FIRST))
@@ -219,12 +219,13 @@ def what_does_not_count(place: Pages) -> None:
     place.put('b', gets(with_modes(9)))
     page = place.page('--ignore=*.mode')
     runs = runs_of(page)
-    place.want('left out', (runs['left out'], 'only in this run' in runs), (['1 GETATTR', 'nothing'], False))
+    place.want('left out', (runs['calls left out'], 'only in this run' in runs), (['1 GETATTR', 'nothing'], False))
     place.want('ignored', '*.mode: obj.mode of NFSPROC3_GETATTR 2.' in page.all('dl')[0].text(), True)
     place.want('all is ignored', 'All fields that differ are ignored.' in page.text(), True)
     place.want('marks', [one for one in rows_and_gaps(page) if one[0] == '≠'], ['≠ 4 4', '≠ 5 5'])
     page = place.page(*CONCURRENT[::2])
-    place.want('masked in any order', 'masked besidesids=zero, wcc=zero, since any order was tried.' in page.all('dl')[0].text(), True)
+    masked = 'masked besidesids=zero, cookies=zero, createverfs=zero, wcc=zero, since any order was tried.'
+    place.want('masked in any order', masked in page.all('dl')[0].text(), True)
     place.want('strictly', 'masked besides' in place.page('--order', 'strict', *CONCURRENT[::2]).text(), False)
     talk = Talk()
     bodies = [body for at in range(4) for body in (null(at), success(at))]
@@ -245,7 +246,7 @@ def turned(*order: int) -> Conversation:
 
 
 def other_verdicts(place: Pages) -> None:
-    """Pages of runs that are the same, in another order, and of ones without calls."""
+    """Pages of runs that are the same, in another order, and of empty connections. Of a run without calls there is none."""
     def wants(what: str, page: Node, heading: str, remark: str, calls: str) -> None:
         place.want(what, ([one.text() for one in page.all('h1')], remark in page.text(), page.all('section')[-1].text()),
                    ([heading], True, 'Calls' + calls))
@@ -253,11 +254,12 @@ def other_verdicts(place: Pages) -> None:
           '103 equal calls in 3 connections')
     wants('another order', place.page(*CONCURRENT[:2]), 'The runs are the same in another order', 'Nothing differs but the order.',
           '100 equal calls in 12 connections')
-    place.put('a', ([], []))
-    wants('no calls', place.page('a', 'a'), 'The runs are the same', 'Nothing differs', 'The runs have no calls.')
-    place.put('b', ([], []), ([], []))
+    place.put('a', ([null(1)], [success(1)]))
+    place.put('b', ([null(1)], [success(1)]), ([], []))
     wants('empty connections', place.page(), 'The runs differ', 'Only which messages share a value, or empty connections, can.',
-          'The runs have no calls.')
+          '1 equal call in 1 connection')
+    place.put('b', ([], []))
+    place.want('no calls', (place.compare('--html', 'none', 'a', 'b')[0], 'none' in place.names()), (2, False))
     place.put('a', turned(1, 2, 3))
     place.put('b', turned(2, 1, 3))
     page = place.page()
@@ -279,7 +281,7 @@ def counts_lead_to_findings(place: Pages) -> None:
     articles = {one.attributes['id']: one.text() for one in page.all('article')}
     links = [one.attributes['href'][1:] for one in table.all('a')]
     place.want('links', links, ['f1', 'f3', 'f4'])
-    place.want('where they lead', [said in articles[name] for name, said in zip(links, ('obj.mode=416 (0640)', 'NFSPROC3_MKDIR', 'path='))],
+    place.want('where they lead', [said in articles[name] for name, said in zip(links, ('obj.mode=0640 (416)', 'NFSPROC3_MKDIR', 'path='))],
                [True] * 3)
     place.want('broken links', broken_links(page), [])
 
@@ -340,7 +342,7 @@ def long_messages(place: Pages) -> None:
     page = place.page()
     values = [one.text() for one in page.all('div', 'change')[0].all('div')]
     place.want('finding', (len(values), values[0], values[-2:]), (
-        401, '- entry "000".mode=416 (0640)', ['+ entry "199".mode=384 (0600)', '.. and 100 more fields']))
+        401, '- entry "000".mode=0640 (416)', ['+ entry "199".mode=0600 (384)', '.. and 100 more fields']))
     lines, every = fields_of(page)[1], 8 + 300 * 24 + 2
     more = int(re.sub('[^0-9]', '', lines[-1]))
     place.want('row', (5_000 < sum(map(len, lines)) < 6_100, lines[-1][:7], more + len(lines) - 1), (True, '.. and ', every))
@@ -353,7 +355,7 @@ def places_of_many_findings(place: Pages) -> None:
         message = Message(1, 'server', number + 1, 1, 'NFSPROC3_GETATTR', ())
         difference = Difference('mode', str(number % 100), '1000', label='obj.mode', field='obj.mode')
         findings.append(Finding('changed', message, message, None, (difference,)))
-    report = Report('differ', {}, ('a', 'b'), (Size(22_000, 1),) * 2, (0, 0))
+    report = Report('differ', {}, ('a', 'b'), (Size(22_000, 1),) * 2)
     runs, recorded = [Run(name, lambda: (), lambda message: ()) for name in 'ab'], [Recorded(None, None, ())] * 2
     content = Content('differ', report, Compared(findings), [], Counter(), runs, recorded)
     articles = tree_of(''.join(pages.page(content))).all('article')
@@ -475,7 +477,7 @@ def fields_on_a_click(place: Pages) -> None:
     asking, reply = fields_of(rows[2])
     place.want('call', (asking[0], asking[-1]), ('mtype=0 (CALL)', 'fh=66696c65'))
     place.want('reply', [line for line in reply if line.startswith(('obj.mode', 'obj.size'))],
-               ['obj.mode=416 (0640) | 384 (0600)', 'obj.size=2'])
+               ['obj.mode=0640 (416) | 0600 (384)', 'obj.size=2'])
     place.want('link', [one.attributes['href'] for one in rows[2].all('a')], ['#f1'])
     place.put('a', link(b'x' * 1_200))
     place.put('b', link(b'x' * 1_100 + b'y' + b'x' * 99))
@@ -624,7 +626,7 @@ def searching(place: Pages) -> None:
         findings = [one.attributes['id'] for one in page.all('article')]
         rows = {row.attributes['id']: row.text().lower() for row in page.all('details', 'row')}
         place.want('all', (browser.value(VISIBLE % 'article'), browser.value(VISIBLE % '.row')), (findings, [*rows]))
-        for text in ('/m/f12', 'SERVER record 27', '385 (0601)', 'nothing has this'):
+        for text in ('/m/f12', 'SERVER record 27', '0601 (385)', 'nothing has this'):
             browser.click('#find')
             browser.value('find.select()')
             browser.type(text)

@@ -1,7 +1,7 @@
 """The listing of a capture, as `nfs3canon show` prints it, read again: messages, and the exchanges that they make up."""
 import re
 from collections import defaultdict, deque
-from collections.abc import Iterable, Iterator
+from collections.abc import Callable, Iterable, Iterator
 from dataclasses import dataclass, field
 from typing import NamedTuple
 
@@ -50,19 +50,19 @@ class Exchange:
         return self.call.procedure
 
 
-def message_of(line: str) -> Message:
-    """Returns the message of a line of a listing."""
+def message_of(line: str, kept: Callable[[str], str] = str) -> Message:
+    """Returns the message of a line of a listing. What `kept` returns of a value stands for it."""
     read = LINE.fullmatch(line)
     if not read:
         raise ValueError(f'no line of a listing: {line[:200]}')
     connection, side, record, xid, procedure, rest = read.groups()
-    items = tuple(Item(*pair) for pair in ITEM.findall(rest))
+    items = tuple(Item(name, kept(value)) for name, value in ITEM.findall(rest))
     return Message(int(connection), side, int(record), int(xid), procedure, items)
 
 
-def messages_of(lines: Iterable[str]) -> Iterator[Message]:
+def messages_of(lines: Iterable[str], kept: Callable[[str], str] = str) -> Iterator[Message]:
     """Returns the messages of a listing, line by line."""
-    return (message_of(line.rstrip('\n')) for line in lines)
+    return (message_of(line.rstrip('\n'), kept) for line in lines)
 
 
 def exchanges_of(messages: Iterable[Message]) -> dict[int, list[Exchange]]:

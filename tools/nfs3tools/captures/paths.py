@@ -8,6 +8,23 @@ from .listings import Exchange, Item
 
 MAKING = {'NFSPROC3_LOOKUP', 'NFSPROC3_CREATE', 'NFSPROC3_MKDIR', 'NFSPROC3_SYMLINK', 'NFSPROC3_MKNOD'}
 DOTS = ('.', '..')  # the folder itself, and the one above it
+UNKNOWN = '?'  # a folder whose path is not known
+# Paths are cut in their middle, so that many deep ones take no more memory than their names do.
+LONGEST, HEAD, GAP = 1_024, 256, '/ .. /'
+
+
+def below(folder: str, name: str) -> str:
+    """Returns the path of a name in a folder. If it is long, names are left out of its middle."""
+    path = f'{folder.rstrip("/")}/{name}'
+    if len(path) <= LONGEST:
+        return path
+    head, gap, tail = path.partition(GAP)
+    if not gap:
+        head = path[:HEAD].rpartition('/')[0]
+        tail = path[len(head) + 1:]
+    while len(head) + len(GAP) + len(tail) > LONGEST and '/' in tail:
+        tail = tail.partition('/')[2]
+    return head + GAP + tail
 
 
 class Origin(NamedTuple):
@@ -22,24 +39,34 @@ class Paths:
 
     def __init__(self) -> None:
         self.origins: dict[str, Origin] = {}
+        self.known: dict[str, str] = {}  # paths so far
 
     def of(self, handle: str) -> str | None:
         """Returns the path of a handle, in hexadecimal, if one is known. A folder that is not known is `?`."""
-        names, at = list[str](), self.origins.get(handle)
-        passed = {handle}
-        while at is not None and at.folder is not None and at.folder not in passed:
-            names.append(at.name)
-            passed.add(at.folder)
-            at = self.origins.get(at.folder)
         if handle not in self.origins:
             return None
-        top = '?' if at is None or at.folder is not None else at.name.rstrip('/')
-        return '/'.join([top, *reversed(names)]) or '/'
+        # (by steps, since a folder may be thousands of folders below the first; in a circle, as no file system has it, nothing is first)
+        way, at = dict[str, Origin](), handle
+        while at not in self.known and at not in way and (origin := self.origins.get(at)) and origin.folder is not None:
+            way[at] = origin
+            at = origin.folder
+        path = self.top(at)
+        for one, origin in reversed(way.items()):
+            path = self.known[one] = below(path, origin.name)
+        return path
+
+    def top(self, handle: str) -> str:
+        """Returns the path with which a way begins."""
+        origin = self.origins.get(handle)
+        if handle in self.known or origin is None or origin.folder is not None:
+            return self.known.get(handle, UNKNOWN)
+        return origin.name.rstrip('/') or '/'
 
     def learn(self, handle: str | None, origin: Origin) -> None:
         known = self.origins.get(handle or '')
         if handle and origin.name not in DOTS and (known is None or origin.is_made and not known.is_made):
             self.origins[handle] = origin
+            self.known.clear()
 
     def take(self, exchange: Exchange) -> None:
         """Learns from what an exchange says of handles. A reply that failed has none."""

@@ -6,14 +6,16 @@
 A and B are recordings (pcap, pcapng; a pattern in quotes names the parts of one) or captures. Values that each run has its own
 of are masked first: of the classes below, those marked with a star by default. What is masked is always printed. Then
 `nfs3canon same` compares the masked captures, up to a renaming of xids, file handles and write verifiers: `same` is its word, and
-how many calls were compared follows it. If bytes are missing from a recording, equal runs are `same in part`, and what is missing
-is told.
+how many calls were compared follows it. Then come the four counts of both runs: how many connections are judged, in part, left out and not
+checked. If something of a run is not compared, equal runs are `same in part`. A connection that is refused is not compared, and the others
+are. A run without a call that can be compared is an error.
 
 If the runs differ, calls are brought together over all connections and in any order. If nothing else than the order differs, they are
-`same in another order`: that is the word of `nfs3canon same` on both runs in the order of the first. File ids are zero then (and the
-class wcc, if that is not enough), and calls that only ask (GETATTR, LOOKUP ..) and that one run alone has are left out; all that is
-told. Otherwise each difference is printed as `diff` would: which call, which field and whose (`dir after.size`), both values, and the
-frames. Of values of over 60 characters it is the bytes round the first that differs. Messages of one procedure that differ in the same
+`same in another order`: that is the word of `nfs3canon same` on both runs in the order of the first. File ids are zero then, and the classes
+createverfs, cookies, wcc and raw, of these only those that are needed. Calls that only ask (GETATTR, LOOKUP ..) and that one run alone has
+are left out, and so are questions about a folder that the calls of others overtook. All that is printed and listed. Otherwise each difference
+is printed as `diff` would: which call, which field and whose (`dir after.size`), both values, and the frames. Of values of over 60 characters
+it is the bytes round the first that differs; a call of one run alone has its arguments. Messages of one procedure that differ in the same
 way are printed once, with their number. --brief prints a line for each.
 
 --order strict tries no other order. With --order any the status of `same in another order` is 0. --extra none leaves out no calls.
@@ -24,60 +26,57 @@ their labels, or by the name of items, as `nlink`, whose ever they are; the verd
 
 --marks compares the parts of a test run one by one, each as a run of its own. A part begins with a call of LOOKUP, CREATE or MKDIR whose
 name fits PATTERN (of the shell, as 'test_*'), and has that name. It has the calls that were sent up to the next mark, over all connections,
-and their replies. What is before the first mark is a part, too. A line for each part has its verdict. Then come the findings of those that
-differ, and last how many parts have which verdict. The status is 1 if a part differs, or is in one run alone.
+and their replies. What is before the first mark is a part, too. It is an error if no call of both runs is a mark. A line for each part has
+its verdict. Then come the findings of those that differ, and last how many parts have which verdict. The status is 1 if a part differs, or
+is in one run alone.
 
 --junit writes a test case for the verdict, which fails if the status is 1, and then one that fails for each difference. Runs that cannot
 be compared are a case with an error.
 
-FILE is written beside its name, and gets it once it is whole. It is refused if it is an input, or begins as a recording or a
-capture. The status is 0 if the runs are the same under the mask (with --allow-losses also in part), 1 if they differ or are the
-same in part or in another order, 2 if a recording, a capture, FILE or the command line is refused, 3 if a file, a program or memory
-failed.
+FILE is written beside its name, and gets it once it is whole. It is refused if it is an input or another output, or begins as a recording
+or a capture; whether it can be written is tried before the work. If FILE is `-` it is standard output, and all else is printed on standard
+error. The status is 0 if the runs are the same under the mask, 1 if they differ, are the same in another order, or in part (which the options
+--allow-losses and --allow-not-checked change), 2 if a recording, a connection, a capture, FILE or the command line is refused, or if there is
+nothing to compare, 3 if a file, a program or memory failed.
 """
 import argparse
 import os
-import re
 import sys
 import tempfile
 from collections import Counter
+from collections.abc import Iterator, Sequence
 from contextlib import ExitStack
+from dataclasses import replace
 from pathlib import Path
 from typing import NamedTuple
 
 from ..reporting import pages, summing, telling
-from ..comparison.classes import CLASSES, in_any_order, mask_word, told
+from ..comparison.classes import CLASSES, default_mask, in_any_order, mask_of, mask_word, told
 from ..comparison.comparing import Compared, Framing, Run
+from ..comparison.covering import Cover, Size, cover_of, lines_of_counts
 from ..comparison.deciding import judged, run_of
 from ..comparison.ignoring import ignored_of, without
-from .messages import REFUSED, add_losses, add_options, add_program, advice_on, options_of, parser_of
-from ..comparison.orders import Choices
-from ..shared.outputs import check_output, held, write_file
+from .messages import REFUSED, add_losses, add_options, add_program, add_unchecked, advice_on, allowed_of, ended, options_of, parser_of
+from ..comparison.marks import NoMark
+from ..comparison.masking import check_known, known_classes
+from ..comparison.orders import Choices, NothingToCompare
+from ..shared.outputs import held, printed_beside, try_outputs, write_file
 from ..reporting.pages import Content, Recorded
 from ..comparison.pairing import ASKING
 from ..comparison.part_by_part import PartByPart
 from ..recordings.parts import files_of
-from ..shared.places import Place, parse_fault
 from ..shared.printed import escaped
-from ..shared.programs import CHECKED, program_path, run_program
-from ..reporting.reports import Report, Size, json_of, json_of_parts, junit_of, junit_of_error, junit_of_parts
-from ..recordings.selection import count
+from ..shared.programs import program_path
+from ..reporting.reports import Report, json_of, json_of_parts, junit_of, junit_of_error, junit_of_parts
+from ..recordings.coverage import Allowed
+from ..recordings.selection import Options
 from ..comparison.shown import Around
 from ..recordings.taken import NotTaken, Taken, take
 from ..comparison.trial import Trial
 
 SAME, DIFFERENT = range(2)
-COUNTS = re.compile(r'ok connections=(\d+) calls=(\d+) ')
-FINDINGS_AT_MOST = 20
+FINDINGS_AT_MOST, SILENT_AT_MOST = 20, 12
 AROUND = Around(3, pages.SHOWN_AT_MOST)  # on a page
-
-
-class Ended(Exception):
-    """The comparison cannot go on; its text is the message for the user."""
-
-    def __init__(self, status: int, text: str) -> None:
-        super().__init__(text)
-        self.status = status
 
 
 def classes_told() -> str:
@@ -104,7 +103,8 @@ def words_of(words: list[str]) -> argparse.Namespace:
     parser.add_argument('--json', metavar='FILE', help='writes the verdict and all findings as JSON')
     parser.add_argument('--junit', metavar='FILE', help='writes the verdict and the findings as JUnit XML')
     add_options(parser)
-    add_losses(parser, 'same in part')
+    add_losses(parser)
+    add_unchecked(parser)
     add_program(parser)
     parser.add_argument('first', metavar='A')
     parser.add_argument('second', metavar='B')
@@ -117,21 +117,9 @@ def words_of(words: list[str]) -> argparse.Namespace:
 def tell(name: str, taken: Taken) -> None:
     """Prints what is missing from a recording, and what is left out of it."""
     lines = [*taken.notes, *(f'connection {connection.number} {note}' for connection in taken.connections for note in connection.notes),
-             *(f'left out: {line}' for line in taken.left_out)]
+             *(f'left out: {line}' for line in taken.left_out), *(f'{remark.word}: {remark.reason}' for remark in taken.remarks)]
     for line in lines:
         print(f'{escaped(name)}: {line}', file=sys.stderr)
-
-
-def checked(program: str, taken: Taken, capture: str, name: str) -> Size:
-    """Returns how much there is. Ends with the fault, and its frame, if the capture is refused."""
-    answer = run_program(program, ['check', capture], CHECKED)
-    counts = COUNTS.match(answer.out)
-    if answer.status == 0 and counts:
-        return Size(int(counts[2]), int(counts[1]))
-    line = answer.error.strip()
-    fault = parse_fault(line)
-    frames = taken.frames(fault.place)[:1] if fault and isinstance(fault.place, Place) else []
-    raise Ended(REFUSED, f'{escaped(name)}: {line}' + ''.join(f' (frame {frame.number})' for frame in frames))
 
 
 def recorded_of(taken: Taken, name: str) -> Recorded:
@@ -144,53 +132,93 @@ def write_page(path: str, inputs: list[str], content: Content) -> None:
     write_file(path, (piece.encode(errors='backslashreplace') for piece in pages.page(content)), inputs)
 
 
-def losses_of(first: Taken, second: Taken) -> str:
-    """What is missing from both runs, or nothing."""
-    lost = (('first', first.missing), ('second', second.missing))
-    return ', '.join(f'{count(missing, "byte")} missing from the {name} run' for name, missing in lost if missing)
+def losses_of(covers: Sequence[Cover]) -> str:
+    """What of both runs is not compared, or nothing."""
+    return ', '.join(words for name, cover in zip(summing.RUNS, covers) for words in cover.lacking(name))
 
 
 class Whole(NamedTuple):
     """Both runs as they were taken, checked and written as captures."""
     names: list[str]
     inputs: list[str]  # their files
-    taken: list[Taken]
+    covers: list[Cover]
     trial: Trial
-    sizes: list[Size]
     runs: list[Run]
 
     def framings(self) -> list[Framing]:
         return [run.frames for run in self.runs]
+
+    @property
+    def taken(self) -> list[Taken]:
+        return [cover.taken for cover in self.covers]
+
+    @property
+    def sizes(self) -> list[Size]:
+        return [cover.size for cover in self.covers]
+
+    def is_good(self, allowed: Allowed) -> bool:
+        return all(cover.is_good(allowed) for cover in self.covers)
+
+    def lines_of_counts(self) -> Iterator[str]:
+        return lines_of_counts(self.covers, summing.RUNS)
+
+
+def outputs_of(words: argparse.Namespace) -> list[str | None]:
+    return [words.html, words.json, words.junit]
+
+
+def taken_of(name: str, options: Options) -> Taken:
+    """Takes a run. Raises `NotTaken` with its name."""
+    try:
+        return take(name, options)
+    except NotTaken as refused:
+        raise NotTaken(f'{escaped(name)}: {refused}', refused.packed_by) from refused
 
 
 def compared_runs(words: argparse.Namespace, stack: ExitStack) -> int:
     program = program_path(words.program)
     names = [words.first, words.second]
     inputs = [file for name in names for file in files_of(name)]
-    for path in [path for path in (words.html, words.json, words.junit) if path]:
-        check_output(path, inputs)
+    try_outputs(outputs_of(words), inputs)
+    check_known(program, default_mask() if words.mask is None else mask_of(words.mask))
     with held():
         folder = Path(stack.enter_context(tempfile.TemporaryDirectory(prefix='nfs3canon')))
-    runs = [stack.enter_context(take(name, options_of(words))) for name in names]
-    trial = Trial(program, folder, runs)
+    runs = [stack.enter_context(taken_of(name, options_of(words))) for name in names]
     for taken, name in zip(runs, names):
         tell(name, taken)
-    sizes = [checked(program, *one) for one in zip(runs, trial.captures, names)]
-    whole = Whole(names, inputs, runs, trial, sizes, [run_of(trial, *one) for one in zip(runs, trial.captures, names)])
-    masks = in_any_order(words.mask)
+    whole = whole_of(program, folder, names, inputs, runs)
+    masks = in_any_order(words.mask, 'raw' in known_classes(program) and any(cover.has_raw for cover in whole.covers))
     print(f'masked: {told(masks[0])}', flush=True)
     choices = Choices(words.order, masks, frozenset() if words.extra == 'none' else ASKING, AROUND if words.html else None)
-    is_same = (compared_whole if words.marks is None else compared_by_parts)(words, whole, choices, losses_of(*runs))
+    is_same = (compared_whole if words.marks is None else compared_by_parts)(words, whole, choices, losses_of(whole.covers))
+    if any(cover.is_refused for cover in whole.covers):
+        return REFUSED
     return SAME if is_same else DIFFERENT
+
+
+def whole_of(program: str, folder: Path, names: list[str], inputs: list[str], runs: Sequence[Taken]) -> Whole:
+    """Checks both runs, and prints what is refused. Raises `NothingToCompare` if a run has no call that can be compared."""
+    trial = Trial(program, folder, runs)
+    covers = [cover_of(program, *one) for one in zip(runs, trial.captures)]
+    for cover, name in zip(covers, names):
+        if not cover.size.calls:
+            faults = '; '.join(f'{escaped(name)}: {fault}' for fault in cover.faults())
+            raise NothingToCompare(faults or f'nothing to compare: no call of {escaped(name)} is taken')
+    for cover, name in zip(covers, names):
+        for line in cover.notes():
+            print(f'{escaped(name)}: {line}', file=sys.stderr)
+    if any(cover.refused for cover in covers):
+        trial = Trial(program, folder, [cover.taken for cover in covers])
+    return Whole(names, inputs, covers, trial, [run_of(trial, *one) for one in zip(trial.runs, trial.captures, names)])
 
 
 def compared_whole(words: argparse.Namespace, whole: Whole, choices: Choices, losses: str) -> bool:
     """Compares the runs as wholes. Returns whether they are the same."""
     said = judged(whole.trial, whole.runs, whole.sizes, choices)
     line = said.line(choices, whole.sizes[0], losses)
-    print(line, flush=True)
-    is_good = said.is_same and (words.allow_losses or not losses)
-    report = said.report(choices, whole.names, whole.sizes, (whole.taken[0].missing, whole.taken[1].missing))
+    print(line, *whole.lines_of_counts(), sep='\n', flush=True)
+    is_good = said.is_same and whole.is_good(allowed_of(words))
+    report = said.report(choices, whole.names, whole.sizes, whole.covers)
     explain(words, whole, line, report, said.found.compared, is_good)
     return is_good
 
@@ -199,8 +227,8 @@ def explain(words: argparse.Namespace, whole: Whole, line: str, report: Report, 
     """Writes and prints what differs between two runs."""
     compared, left_out = without(found, words.ignore)
     if words.junit:
-        findings = compared.findings if is_told(words, report) else []
-        write_file(words.junit, [junit_of(line, report, findings, whole.framings(), is_good)], whole.inputs)
+        told_of = compared if is_told(words, report) else replace(compared, findings=[])
+        write_file(words.junit, [junit_of(line, report, told_of, whole.framings(), is_good)], whole.inputs)
     if words.html:
         recorded = [recorded_of(*one) for one in zip(whole.taken, whole.names)]
         write_page(words.html, whole.inputs, Content(line, report, compared, words.ignore, left_out, whole.runs, recorded))
@@ -221,6 +249,8 @@ def print_found(words: argparse.Namespace, whole: Whole, report: Report, compare
         first, second = whole.framings()
         for text in telling.of_compared(compared, first, second, None if words.all else FINDINGS_AT_MOST, left_out, words.brief):
             print(text)
+    for text in telling.of_silent(compared, *whole.framings(), None if words.all else SILENT_AT_MOST):
+        print(text)
     print(summing.of_compared(compared))
 
 
@@ -229,20 +259,20 @@ def compared_by_parts(words: argparse.Namespace, whole: Whole, choices: Choices,
     parts = PartByPart(whole.trial, whole.names, whole.runs, words.marks, choices).reports(words.ignore)
     for part in parts:
         print(part.line)
-    counts = '' if words.allow_losses else losses
+    is_good = whole.is_good(allowed_of(words))
     if words.junit:
-        write_file(words.junit, [junit_of_parts(whole.names, counts, parts, whole.framings())], whole.inputs)
+        counting = '' if is_good else losses
+        write_file(words.junit, [junit_of_parts(whole.names, whole.covers, counting, parts, whole.framings())], whole.inputs)
     if words.json:
-        missing = [taken.missing for taken in whole.taken]
-        write_file(words.json, json_of_parts(words.marks, missing, parts, whole.framings()), whole.inputs)
+        write_file(words.json, json_of_parts(words.marks, whole.covers, parts, whole.framings()), whole.inputs)
     for part in parts:
-        if part.report and part.report.verdict != 'same' and is_told(words, part.report):
+        if part.report and part.report.verdict != 'same' and (part.compared.silent or is_told(words, part.report)):
             print(part.label)
             print_found(words, whole, part.report, part.compared, part.left_out)
     if losses:
         print(f'compared in part: {losses}')
-    print(summing.of_parts([part.word() for part in parts]))
-    return not counts and all(part.is_good for part in parts)
+    print(*whole.lines_of_counts(), summing.of_parts([part.word() for part in parts]), sep='\n')
+    return is_good and all(part.is_good for part in parts)
 
 
 def write_error(words: argparse.Namespace, message: str) -> None:
@@ -255,11 +285,11 @@ def write_error(words: argparse.Namespace, message: str) -> None:
 def main(words: list[str]) -> int:
     chosen, stack = words_of(words), ExitStack()
     try:
+        stack.enter_context(printed_beside(outputs_of(chosen)))
         return compared_runs(chosen, stack)
-    except Ended as end:
-        write_error(chosen, str(end))
-        print(end, file=sys.stderr)
-        return end.status
+    except (NoMark, NothingToCompare) as nothing:
+        write_error(chosen, str(nothing))
+        return ended('compare', str(nothing), REFUSED)
     except NotTaken as refused:
         write_error(chosen, advice_on(refused, 'compare'))
         raise

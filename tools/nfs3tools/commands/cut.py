@@ -14,8 +14,8 @@ or the reason for which the message was refused before.
 
 A recording is taken as by tools/from_pcap (--midstream, --whole-records, --filter, a pattern in quotes for the parts of one recording).
 OUT is written beside its name, and gets it once it is whole. It is refused if it is an input or begins as a recording; an older capture is
-replaced. The status is 0 if OUT was written, 1 if there is no such position, 2 if POSITION, RECORDING, FILTER or OUT is refused or a
-program is missing, 3 if a file, a program or memory failed.
+replaced. If OUT is `-` it is standard output, and the lines are printed on standard error. The status is 0 if OUT was written, 1 if there is
+no such position, 2 if POSITION, RECORDING, FILTER or OUT is refused or a program is missing, 3 if a file, a program or memory failed.
 """
 import os
 import tempfile
@@ -26,7 +26,7 @@ from typing import NamedTuple
 from ..captures.container import capture_of
 from .messages import ABSENT, add_options, add_program, ended, options_of, parser_of
 from ..comparison.outlines import Outlines
-from ..shared.outputs import CAPTURE, check_output, held, write_file
+from ..shared.outputs import CAPTURE, held, printed_beside, try_outputs, write_file
 from ..recordings.parts import files_of
 from ..shared.places import SIDES, FilePlace, NoPlace, Place, Side, parse_place
 from ..shared.printed import escaped
@@ -122,7 +122,7 @@ def main(words: list[str]) -> int:
     place, inputs = parse_place(chosen.place), files_of(chosen.recording)
     if isinstance(place, FilePlace):
         raise NoPlace(f'no record: {place}')
-    check_output(chosen.out, inputs, (CAPTURE,))
+    try_outputs([chosen.out], inputs, (CAPTURE,))
     program = program_path(chosen.program)
     with take(chosen.recording, options_of(chosen)) as taken:
         try:
@@ -135,7 +135,8 @@ def main(words: list[str]) -> int:
         pairs = [cut.streams() for cut in cuts]
         answer = run_program(program, ['check', '/dev/stdin'], CHECKED, capture_of(pairs))
         write_file(chosen.out, capture_of(pairs), inputs, (CAPTURE,))
-        for line in lines_of(taken, cuts):
-            print(line)
-        print((answer.out or answer.error).strip())
+        with printed_beside([chosen.out]):
+            for line in lines_of(taken, cuts):
+                print(line)
+            print((answer.out or answer.error).strip())
     return 0

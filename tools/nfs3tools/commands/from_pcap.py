@@ -36,7 +36,7 @@ taken, 2 if RECORDING, OUT or FILTER is refused or tshark is missing, 3 if a fil
 import argparse
 
 from .messages import add_options, ended, options_of, parser_of, tell
-from ..shared.outputs import CAPTURE, check_output
+from ..shared.outputs import CAPTURE, try_outputs
 from ..recordings.parts import files_of
 from ..shared.printed import escaped
 from ..recordings.taken import NotTaken, take
@@ -51,7 +51,7 @@ def main(words: list[str]) -> int:
     add_options(parser)
     parser.add_argument('--program', help=argparse.SUPPRESS)  # which packed the streams once; scripts may name it still
     chosen = parser.parse_args(words)
-    check_output(chosen.out, files_of(chosen.recording), (CAPTURE,))
+    try_outputs([chosen.out], files_of(chosen.recording), (CAPTURE,))
     with take(chosen.recording, options_of(chosen), frames=False) as taken:
         if not taken.is_recording:
             raise NotTaken(f'{escaped(chosen.recording)} is a capture already')

@@ -12,9 +12,10 @@ from collections.abc import Iterator
 from pathlib import Path
 from types import TracebackType
 
-from ..shared.outputs import OWNER_ALONE, Refused, free_name, held, made_beside, write_whole
+from ..shared.outputs import OWNER_ALONE, PERMISSIONS, Refused, free_name, held, made_beside, write_whole
 from ..shared.printed import escaped
 
+OF_A_FOLDER = 0o755
 LINE = re.compile(r'(file|link|folder) (\S+)(?: (\S+))?')
 ABOVE = re.compile(r'\.\.(/\.\.)*')
 
@@ -137,6 +138,8 @@ class Made:
         with held():
             folder.mkdir()
             self.folders.append(folder)
+        # (the umask plays no part, and a bit that a folder hands on to those in it stays)
+        folder.chmod(folder.stat().st_mode & ~PERMISSIONS | OF_A_FOLDER)
 
     def list_in(self, installed: Installed) -> None:
         """Makes the list, in which what was installed before stays."""

@@ -12,7 +12,7 @@ Under the prefix there are
     share/bash-completion/completions/, share/zsh/site-functions/, share/fish/vendor_completions.d/
                                                  completions; bash and fish look for them under the name of each tool
 
-The manual pages have the names under which the tools are installed.
+The manual pages have the names under which the tools are installed. Files and folders have the same permissions under every umask.
 """
 import argparse
 import hashlib
@@ -24,7 +24,7 @@ from pathlib import Path
 
 from .installed import Installed, Made
 from .messages import installed_name, parser_of
-from ..shared.outputs import COMPRESSED, write_file
+from ..shared.outputs import COMPRESSED, Refused, write_file
 from ..shared.printed import escaped
 from ..shared.programs import Missing, made_programs, program_beside
 from ..shared.version import TOP, version
@@ -49,6 +49,7 @@ exec "${{own%/*}}/../{home}/${{own##*/}}" "$@"
 '''
 LIST = f'{HOME}/installed'
 EXECUTABLE = 0o100
+FOR_ALL_TO_RUN, FOR_ALL_TO_READ, OF_A_LINK = 0o755, 0o644, 0o777  # permissions
 # The names of tools in manual pages: after these macros, and in examples at the beginning of a command.
 ONE_OF_TOOLS = f'(?P<tool>{"|".join(TOOLS)})'
 IN_TEXT = rf'(?P<before>^(?:\.TH |\.BR? |(?:\.I )?tools/)?)(?i:{ONE_OF_TOOLS})(?= 1 | \(1\)| \\-|\n)'
@@ -104,15 +105,18 @@ def install(prefix: Path, program: Path, is_listed: bool = True) -> None:
     """Copies all files under a prefix. Each is made beside its name, and they get their names once all are whole; so nothing has
     changed if that fails, and a program that runs goes on.
 
-    Raises `Missing` if a program is not there, and `OSError`.
+    Raises `Missing` if a program is not there, `Refused` for a prefix that no program takes, and `OSError`.
     """
+    if not is_utf8(prefix):
+        raise Refused(f'{escaped(str(prefix))} is not UTF-8, and no program runs under such a name')
     if not program.is_file() or not program.stat().st_mode & EXECUTABLE:
         raise Missing(f'{escaped(str(program))} is missing, or cannot be run')
     with Made(prefix) as made:
         for source, place in files(program):
-            made.write(place, content_of(source, place), 0o755 if source.stat().st_mode & EXECUTABLE else 0o644)
+            is_run = source.stat().st_mode & EXECUTABLE
+            made.write(place, content_of(source, place), FOR_ALL_TO_RUN if is_run else FOR_ALL_TO_READ)
         for name in PROGRAMS:
-            made.write(f'bin/{name}', LAUNCHER.format(version=version(), home=PROGRAMS_HOME).encode(), 0o755)
+            made.write(f'bin/{name}', LAUNCHER.format(version=version(), home=PROGRAMS_HOME).encode(), FOR_ALL_TO_RUN)
         for place, target in links():
             made.link(place, target)
         if is_listed:
@@ -120,11 +124,21 @@ def install(prefix: Path, program: Path, is_listed: bool = True) -> None:
         made.give_names()
 
 
+def is_utf8(path: Path) -> bool:
+    """Whether the programs can be run below a path: they refuse a command line with another word, also if that is their own name."""
+    try:
+        str(path.absolute()).encode()
+    except UnicodeEncodeError:
+        return False
+    return True
+
+
 def entry(info: tarfile.TarInfo) -> tarfile.TarInfo:
-    """The owner and the time play no part in a release."""
+    """The owner, the time and the umask play no part in a release: what unpacks it gives its folders to those that are there."""
     info.uid = info.gid = 0
     info.uname = info.gname = ''
     info.mtime = RELEASED
+    info.mode = OF_A_LINK if info.issym() else FOR_ALL_TO_RUN if info.isdir() or info.mode & EXECUTABLE else FOR_ALL_TO_READ
     return info
 
 

@@ -33,7 +33,7 @@ from collections.abc import Iterator, Sequence
 
 from .judging import Verdict, counts_after, is_row, named, status_of, sums_of, tell_notes
 from .messages import add_losses, add_options, add_program, add_unchecked, allowed_of, options_of, parser_of
-from ..shared.outputs import check_output, write_file
+from ..shared.outputs import printed_beside, try_outputs, write_file
 from ..recordings.parts import files_of
 from ..shared.printed import columns, escaped, printable
 from ..shared.programs import program_path
@@ -237,16 +237,16 @@ def words_of(words: list[str]) -> argparse.Namespace:
 def main(words: list[str]) -> int:
     chosen = words_of(words)
     inputs = [file for recording in chosen.recordings for file in files_of(recording)]
-    for path in [path for path in (chosen.json, chosen.csv) if path]:
-        check_output(path, inputs)
+    try_outputs([chosen.json, chosen.csv], inputs)
     judge = Judge(program_path(chosen.program), options_of(chosen), CONNECTIONS_AT_ONCE, True)
     found = [counted(judge, recording) for recording in chosen.recordings]
     verdicts = [verdict for one in found for verdict in one.verdicts]
     tell_notes(verdicts)
-    if chosen.beside:
-        print_beside(*found)
-    else:
-        print_tables(found, chosen.total)
+    with printed_beside([chosen.json, chosen.csv]):
+        if chosen.beside:
+            print_beside(*found)
+        else:
+            print_tables(found, chosen.total)
     if chosen.json:
         write_file(chosen.json, [json_of(found)], inputs)
     if chosen.csv:

@@ -49,7 +49,7 @@ from .following import follow
 from .judging import (HEADS, Verdict, counts_after, error_of, is_row, of_covered, row_of, status_of, sums_of, tell_notes, told,
                       verdict_of)
 from .messages import add_losses, add_options, add_program, add_unchecked, advice_on, allowed_of, options_of, parser_of, words_of
-from ..shared.outputs import check_output, write_file
+from ..shared.outputs import printed_beside, try_outputs, write_file
 from ..recordings.parts import files_of
 from ..shared.places import Place, parse_fault
 from ..shared.printed import columns, escaped, printable
@@ -142,14 +142,14 @@ def main(words: list[str]) -> int:
     recordings_at_once = chosen.j or os.cpu_count() or 1
     at_once = max(1, min(CONNECTIONS_AT_ONCE, recordings_at_once // len(chosen.recordings)))
     inputs = [file for recording in chosen.recordings for file in files_of(recording)]
-    for path in [path for path in (chosen.junit, chosen.json) if path]:
-        check_output(path, inputs)
+    try_outputs([chosen.junit, chosen.json], inputs)
     judge = Judge(program_path(chosen.program), options_of(chosen), at_once, len(chosen.recordings) == 1)
     try:
         verdicts = list(judged(judge, chosen.recordings, recordings_at_once))
     except concurrent.futures.BrokenExecutor as broken:
         raise OSError('a process that judged a recording was killed, as when memory runs out') from broken
-    print_table(verdicts)
+    with printed_beside([chosen.junit, chosen.json]):
+        print_table(verdicts)
     if chosen.junit:
         write_file(chosen.junit, [junit_of(verdicts, allowed_of(chosen))], inputs)
     if chosen.json:
@@ -235,7 +235,8 @@ def tag_of(verdict: Verdict, allowed: Allowed) -> str | None:
 def name_of(verdict: Verdict) -> str:
     if verdict.connection is None:
         return printable(verdict.message) if verdict.state in ('left out', 'in part') else 'as a whole'
-    ends = f' {verdict.client} to {verdict.server}' if verdict.client else ''
+    # (a client has another port in each run)
+    ends = f' {verdict.client.rpartition(":")[0]} to {verdict.server}' if verdict.client else ''
     return f'connection {verdict.connection}{ends}'
 
 

@@ -2,8 +2,11 @@
 import re
 from typing import NamedTuple
 
+from ..captures.stored import Stored
+
 LONG = 60  # characters of a value, as the listing spells it
 SHOWN = 16  # bytes of each value, round the first that differs
+AT_ONCE = 1 << 16  # bytes that are compared
 ESCAPED = re.compile(r'\\x([0-9a-f]{2})')
 
 
@@ -23,12 +26,24 @@ class Apart(NamedTuple):
     shown: tuple[str, str]
 
 
+class Content:
+    """The bytes of a value of a listing: of a string in quotes, or of hexadecimal digits."""
+
+    def __init__(self, value: str) -> None:
+        self.stored = value if isinstance(value, Stored) else None
+        self.bytes = b'' if self.stored is not None else bytes_of(value)
+        self.size = len(self.bytes) if self.stored is None else self.stored.size
+
+    def read(self, begin: int, end: int) -> bytes:
+        return self.bytes[begin:end] if self.stored is None else bytes.fromhex(self.stored.digits(begin, end))
+
+
 def is_long(value: str) -> bool:
     return len(value) > LONG
 
 
 def bytes_of(value: str) -> bytes:
-    """Returns the bytes of a value of a listing: of a string in quotes, or of hexadecimal digits."""
+    """Returns the bytes of a value that is not stored."""
     if value.startswith('"'):
         return ESCAPED.sub(lambda found: chr(int(found[1], 16)), value[1:-1]).encode('latin-1')
     return bytes.fromhex(value)
@@ -36,19 +51,30 @@ def bytes_of(value: str) -> bytes:
 
 def apart(first: str, second: str, offset: int | None = None) -> Apart:
     """Returns where two values of a listing part that differ. The offset is that of the first byte in its file."""
-    one, other = bytes_of(first), bytes_of(second)
-    size = min(len(one), len(other))
-    bits = (int.from_bytes(one[:size], 'big') ^ int.from_bytes(other[:size], 'big')).to_bytes(size, 'big')
-    at = size - len(bits.lstrip(b'\0'))
+    one, other = Content(first), Content(second)
+    size = min(one.size, other.size)
+    at, differing = size, 0
+    for begin in range(0, size, AT_ONCE):
+        first_of_piece, number = parting(one.read(begin, min(size, begin + AT_ONCE)), other.read(begin, min(size, begin + AT_ONCE)))
+        at = min(at, begin + first_of_piece) if number else at
+        differing += number
     is_text = first.startswith('"')
-    return Apart(at, None if offset is None else offset + at, size - bits.count(0), (len(one), len(other)),
+    return Apart(at, None if offset is None else offset + at, differing, (one.size, other.size),
                  (shown(one, at, is_text), shown(other, at, is_text)))
 
 
-def shown(content: bytes, at: int, is_text: bool) -> str:
+def parting(one: bytes, other: bytes) -> tuple[int, int]:
+    """Returns the first byte in which two pieces of one size differ, and how many bytes do."""
+    if one == other:
+        return len(one), 0
+    bits = (int.from_bytes(one, 'big') ^ int.from_bytes(other, 'big')).to_bytes(len(one), 'big')
+    return len(one) - len(bits.lstrip(b'\0')), len(one) - bits.count(0)
+
+
+def shown(content: Content, at: int, is_text: bool) -> str:
     """Returns the bytes round a place: of a name as the listing spells it, of others in hexadecimal, with a space before the place."""
     begin = max(0, at - SHOWN // 2)
-    piece, before, after = content[begin:begin + SHOWN], '..' * (begin > 0), '..' * (begin + SHOWN < len(content))
+    piece, before, after = content.read(begin, begin + SHOWN), '..' * (begin > 0), '..' * (begin + SHOWN < content.size)
     if is_text:
         return f'{before}"{spelled(piece)}"{after}'
     gap = ' ' if begin < at < begin + len(piece) else ''

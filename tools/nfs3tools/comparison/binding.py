@@ -19,8 +19,8 @@ class Bindings:
         if bound == second:
             return None
         if bound is None:
-            return f'the second stood for {owner} before'
-        return f'the first was {bound} in the other run before'
+            return f'elsewhere {second} of the second run is {owner} of the first'
+        return f'elsewhere {first} of the first run is {bound} of the second'
 
     def in_place_of(self, handle: str) -> str | None:
         """Returns the second run's handle in place of one of the first."""

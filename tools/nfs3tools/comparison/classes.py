@@ -29,6 +29,8 @@ class ValueClass:
     form: re.Pattern[str] | None = None
     # Whether its values are names, which have no numbers: they become empty, or have 0 for each digit.
     has_names: bool = False
+    # Whether its values are bytes of any number, which stays: each becomes 0, and none has a number.
+    is_raw: bool = False
 
     def has(self, name: str, is_call: bool) -> bool:
         """Returns whether an item of this name in a call, or in a reply, may be one of the class."""
@@ -63,6 +65,8 @@ CLASSES = (
     ValueClass('sillynames', names('name'), Way.ZERO, True,
                'names that Linux clients give to removed files that are open: .nfs and 24 digits',
                form=re.compile(r'"\.nfs[0-9a-f]{24}"'), has_names=True),
+    ValueClass('raw', names('rest'), Way.ZERO, False,
+               'bodies of messages of other programs and versions, whose lengths stay', is_raw=True),
 )
 BY_NAME = {one.name: one for one in CLASSES}
 
@@ -84,6 +88,8 @@ def changed(mask: Mask, word: str) -> Mask:
     if word.startswith('-'):
         return {kept: how for kept, how in mask.items() if kept != name}
     one = BY_NAME[name]
+    if way == 'number' and one.is_raw:
+        raise argparse.ArgumentTypeError(f'{name} is masked as zero, not as number')
     return {**mask, name: Way(way) if way and not one.has_names else one.way}
 
 
@@ -102,16 +108,34 @@ def mask_word(text: str) -> str:
     return text
 
 
-def in_any_order(text: str | None) -> list[Mask]:
-    """Returns the masks under which runs are compared in another order, each with more than the one before: that of `--mask`, then ids as
-    zero, since they are given out in the order of creation, and then what is seen in the middle of others' changes as zero. A class
-    that `--mask` names stays as it is, and so does a mask that is given as a whole."""
+# Classes that are zero in any order if that is needed, in this order. File ids are given out in the order of creation, and again after a
+# removal; verifiers of exclusive creates and cookies may repeat by chance, and then stand for two; others' changes are seen half done.
+# Bodies of other programs have such values anywhere.
+RELAXED = ('ids', 'createverfs', 'cookies', 'wcc', 'raw')
+
+
+def in_any_order(text: str | None, has_raw: bool = False) -> list[Mask]:
+    """Returns the masks under which runs are compared in another order, each with more than the one before: that of `--mask`, and then one
+    relaxed class after another as zero. A class that `--mask` names stays as it is, and so does a mask that is given as a whole. Raw
+    bodies are masked only if there are some."""
     words = [] if text is None else [word for word in text.split(',') if word]
     masks, named = [default_mask() if text is None else mask_of(text)], {word.lstrip('+-').partition('=')[0] for word in words}
-    for name in ('ids', 'wcc'):
-        if name in BY_NAME and name not in named and all(word[0] in '+-' for word in words):
+    for name in RELAXED if has_raw else RELAXED[:-1]:
+        if name not in named and all(word[0] in '+-' for word in words):
             masks.append({**masks[-1], name: Way.ZERO})
     return masks
+
+
+def besides(mask: Mask, before: Mask) -> Mask:
+    """Returns the classes that one mask masks in another way than the one before."""
+    return {name: way for name, way in mask.items() if before.get(name) is not way}
+
+
+def with_class_of(mask: Mask, other: Mask, name: str) -> Mask:
+    """Returns a mask in which a class is masked as in another, or not at all."""
+    if name in other:
+        return {**mask, name: other[name]}
+    return {kept: way for kept, way in mask.items() if kept != name}
 
 
 def told(mask: Mask) -> str:

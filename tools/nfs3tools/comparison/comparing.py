@@ -5,13 +5,15 @@ from collections import Counter
 from collections.abc import Callable, Iterable, Iterator, Sequence
 from dataclasses import dataclass, field
 
+from .arguments import Argument, arguments_of
 from .classes import Mask
 from .differing import Comparison, Difference
 from ..captures.listings import Exchange, Message, exchanges_of, messages_of
 from .matching import Pair
 from .outlines import Outlines
 from .pairing import NOBODY, Listing, Pairing
-from ..captures.paths import Paths
+from ..captures.paths import Paths, below
+from ..captures.stored import Storage
 from .shown import Around, Beside, Row, Shown
 
 Framing = Callable[[Message], Sequence[int]]
@@ -28,13 +30,29 @@ class Run:
 
 @dataclass(frozen=True)
 class Finding:
-    """What is told of one place: the messages of both runs (None if it has none there), and how they differ."""
+    """What is told of one place: the messages of both runs (None if it has none there), and how they differ. A call of one run alone has
+    its arguments."""
     kind: str  # 'changed', 'only', 'moved', 'replies', 'order' or 'connection'
     first: Message | None
     second: Message | None
     path: str | None = None
     differences: tuple[Difference, ...] = ()
     remark: str = ''
+    arguments: tuple[Argument, ...] = ()
+
+
+@dataclass(frozen=True)
+class Silent:
+    """A call that is left out: that of the run that alone has it, or those of both if others overtook the question; and its path."""
+    first: Message | None
+    second: Message | None
+    path: str | None = None
+
+    @property
+    def call(self) -> Message:
+        call = self.first or self.second
+        assert call
+        return call
 
 
 @dataclass
@@ -47,7 +65,8 @@ class Compared:
     late: how many replies come in another order
     late_connections: how many connections do
     lonely: how many calls the first and the second run have alone, which are told
-    left_out: how often a procedure was left out of the first and of the second run
+    left_out: how often a procedure was left out of the first and of the second run, that one run alone has
+    silent: all calls that are left out
     beside: what differs with some pairs before and after it, for those who show both runs side by side
     mask: that under which they were compared
     """
@@ -60,6 +79,7 @@ class Compared:
     late_connections: int = 0
     lonely: tuple[int, int] = (0, 0)
     left_out: tuple[Counter[str], Counter[str]] = field(default_factory=lambda: (Counter[str](), Counter[str]()))
+    silent: list[Silent] = field(default_factory=list)
     beside: Beside = field(default_factory=Beside)
     mask: Mask = field(default_factory=dict)
 
@@ -70,21 +90,21 @@ class Compared:
 
 
 class Apart:
-    """Exchanges of a run that are taken apart, with the paths of their files."""
+    """Exchanges of a run that are taken apart, with the paths of their files. Long values are in a temporary file."""
 
     def __init__(self, run: Run, outlines: Outlines, wanted: Iterable[int]) -> None:
         kept = sorted(outlines.with_origins(wanted))
-        found = exchanges_of(messages_of(chosen(run.listing() if kept else (), outlines, kept)))
+        found = exchanges_of(messages_of(chosen(run.listing() if kept else (), outlines, kept), Storage().kept))
         self.exchanges = dict(zip(kept, itertools.chain.from_iterable(some for _, some in sorted(found.items()))))
         self.paths = Paths()
         for exchange in self.exchanges.values():
             self.paths.take(exchange)
 
     def path(self, at: int) -> str | None:
-        """Returns the path of what a call is about."""
+        """Returns the path of what a call is about. A folder whose path is not known is `?`."""
         call = self.exchanges[at].call
         path, name = self.paths.of(call.value_of('fh') or ''), call.value_of('name')
-        return path if name is None or path is None else f'{path.rstrip("/")}/{name.strip(chr(34))}'
+        return path if name is None else below(path or '?', name.strip('"'))
 
 
 def chosen(lines: Iterable[str], outlines: Outlines, some: Iterable[int]) -> Iterator[str]:
@@ -100,8 +120,9 @@ def chosen(lines: Iterable[str], outlines: Outlines, some: Iterable[int]) -> Ite
 @dataclass
 class Lonely:
     """The exchanges of a run that have no partner: those that are told, the connections of which there are no others (the first
-    exchange of each, and how many it has), and how often a procedure is left out."""
+    exchange of each, and how many it has), those that are left out, and how often a procedure is."""
     told: list[int] = field(default_factory=list)
+    silent: list[int] = field(default_factory=list)
     connections: dict[int, int] = field(default_factory=dict)
     left_out: Counter[str] = field(default_factory=Counter)
 
@@ -115,7 +136,8 @@ class Lonely:
                 out.connections[some[0]] = len(some)
             else:
                 out.told += told
-                out.left_out.update(outlines.procedure_of(at) for at in some if outlines.procedure_of(at) in leaves_out)
+                out.silent += [at for at in some if outlines.procedure_of(at) in leaves_out]
+        out.left_out.update(map(outlines.procedure_of, out.silent))
         return out
 
     def number(self) -> int:
@@ -127,11 +149,13 @@ class Explaining:
     """Tells what differs between two runs whose exchanges are brought together. What is in one run alone is told, unless its procedure
     is one of those that are left out."""
 
-    def __init__(self, first: Run, second: Run, pairing: Pairing, leaves_out: frozenset[str]) -> None:
-        self.first, self.second, self.pairing = first, second, pairing
+    def __init__(self, first: Run, second: Run, pairing: Pairing, leaves_out: frozenset[str], overtaken: Sequence[Pair] = ()) -> None:
+        """`overtaken` are pairs that were taken apart again, and are left out."""
+        self.first, self.second, self.pairing, self.overtaken = first, second, pairing, overtaken
         self.firsts, self.seconds = pairing.order_of_first(), pairing.order_of_second()
-        self.lonely = Lonely.of(pairing.here, pairing.only_first(), leaves_out)
-        self.others = Lonely.of(pairing.there, pairing.only_second(), leaves_out)
+        here, there = ({pair[side] for pair in overtaken} for side in (0, 1))
+        self.lonely = Lonely.of(pairing.here, (at for at in pairing.only_first() if at not in here), leaves_out)
+        self.others = Lonely.of(pairing.there, (to for to in pairing.only_second() if to not in there), leaves_out)
 
     def explained(self, unequal: set[int], named: set[int], mask: Mask, tells_order: bool, around: Around | None) -> Compared:
         """Returns what differs in the pairs of the unequal turns, and besides.
@@ -141,19 +165,19 @@ class Explaining:
         """
         pairing, moved = self.pairing, [*self.pairing.moved, *self.pairing.elsewhere] if tells_order else []
         changed = list(self.of_turns(unequal, self.take_apart(unequal | named, moved), Comparison(mask)))
-        findings = [*(finding for _, finding in changed), *self.of_the_lonely()]
+        findings = [*(finding for _, finding in changed), *self.of_the_lonely(mask)]
         if tells_order:
             findings += [*self.of_moved(), *self.of_late()]
         return Compared(sorted(findings, key=lambda finding: self.place_of(finding.first, finding.second)),
                         len(self.firsts), (len(pairing.here), len(pairing.there)), len(pairing.moved), len(pairing.elsewhere),
                         sum(number for _, number, _ in pairing.late_replies), pairing.late_connections,
                         (self.lonely.number(), self.others.number()), (self.lonely.left_out, self.others.left_out),
-                        self.beside([*(pair for pair, _ in changed), *moved], around) if around else Beside(), mask)
+                        list(self.of_the_silent()), self.beside([*(pair for pair, _ in changed), *moved], around) if around else Beside(), mask)
 
     def has_another_order(self) -> bool:
         """Returns whether it makes a difference that the order does not count."""
         pairing = self.pairing
-        return bool(self.lonely.left_out or self.others.left_out or pairing.moved or pairing.elsewhere or pairing.late_replies
+        return bool(self.overtaken or self.lonely.silent or self.others.silent or pairing.moved or pairing.elsewhere or pairing.late_replies
                     or pairing.late_connections)
 
     def tells_lonely(self) -> bool:
@@ -166,9 +190,10 @@ class Explaining:
         pairs = [*((self.firsts[turn], self.seconds[turn]) for turn in turns), *moved]
         here = self.pairing.here.with_origins({*(at for at, _ in pairs), *self.lonely.told, *self.lonely.connections})
         there = self.pairing.there.with_origins({*(to for _, to in pairs), *self.others.told, *self.others.connections})
+        silent = {*self.lonely.silent, *(at for at, _ in self.overtaken)}, {*self.others.silent, *(to for _, to in self.overtaken)}
         turns = {turn for turn, (at, to) in enumerate(zip(self.firsts, self.seconds)) if at in here or to in there}
-        self.here = Apart(self.first, self.pairing.here, here.union(self.firsts[turn] for turn in turns))
-        self.there = Apart(self.second, self.pairing.there, there.union(self.seconds[turn] for turn in turns))
+        self.here = Apart(self.first, self.pairing.here, here.union(silent[0], (self.firsts[turn] for turn in turns)))
+        self.there = Apart(self.second, self.pairing.there, there.union(silent[1], (self.seconds[turn] for turn in turns)))
         return turns
 
     def of_turns(self, unequal: set[int], turns: set[int], comparison: Comparison) -> Iterator[tuple[Pair, Finding]]:
@@ -190,16 +215,26 @@ class Explaining:
             yield Finding('order', Message(connection, 'server', 1, 0, '', ()), None,
                           remark=f'{number} of {among} replies of the connection come in another order')
 
-    def of_the_lonely(self) -> Iterator[Finding]:
+    def of_the_lonely(self, mask: Mask) -> Iterator[Finding]:
         for at in self.lonely.told:
-            yield Finding('only', self.here.exchanges[at].call, None, self.here.path(at))
+            call = self.here.exchanges[at].call
+            yield Finding('only', call, None, self.here.path(at), arguments=tuple(arguments_of(call, mask)))
         for to in self.others.told:
-            yield Finding('only', None, self.there.exchanges[to].call, self.there.path(to))
+            call = self.there.exchanges[to].call
+            yield Finding('only', None, call, self.there.path(to), arguments=tuple(arguments_of(call, mask)))
         remark = 'a connection of %d calls that the other run does not have'
         for at, number in self.lonely.connections.items():
             yield Finding('connection', self.here.exchanges[at].call, None, remark=remark % number)
         for to, number in self.others.connections.items():
             yield Finding('connection', None, self.there.exchanges[to].call, remark=remark % number)
+
+    def of_the_silent(self) -> Iterator[Silent]:
+        for at, to in self.overtaken:
+            yield Silent(self.here.exchanges[at].call, self.there.exchanges[to].call, self.here.path(at))
+        for at in self.lonely.silent:
+            yield Silent(self.here.exchanges[at].call, None, self.here.path(at))
+        for to in self.others.silent:
+            yield Silent(None, self.there.exchanges[to].call, self.there.path(to))
 
     def place_of(self, first: Message | None, second: Message | None) -> tuple[int, int, bool]:
         """Where a finding stands: in the order of the first run; what the second run alone has comes at its own place."""

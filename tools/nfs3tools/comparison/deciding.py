@@ -5,11 +5,12 @@ from typing import NamedTuple
 
 from ..reporting import summing
 from .comparing import Compared, Run
+from .covering import Cover, Size
 from ..captures.listings import Message
 from .orders import Choices, Found, Order, Orders
 from ..shared.places import Place
 from ..shared.printed import escaped
-from ..reporting.reports import Report, Size
+from ..reporting.reports import Report
 from ..recordings.taken import Taken
 from .trial import Trial
 
@@ -30,8 +31,9 @@ class Judged(NamedTuple):
         """Whether the runs are the same, if the order counts as was asked for."""
         return self.verdict == 'same' or self.is_turned and self.order == 'any'
 
-    def report(self, choices: Choices, names: Sequence[str], sizes: Sequence[Size], missing: tuple[int, int] = (0, 0)) -> Report:
-        return Report(self.verdict, choices.masks[0], (names[0], names[1]), (sizes[0], sizes[1]), missing, self.found.same_under)
+    def report(self, choices: Choices, names: Sequence[str], sizes: Sequence[Size], covers: Sequence[Cover] = ()) -> Report:
+        both = (covers[0], covers[1]) if covers else None
+        return Report(self.verdict, choices.masks[0], (names[0], names[1]), (sizes[0], sizes[1]), self.found.same_under, both)
 
     def line(self, choices: Choices, size: Size, losses: str = '') -> str:
         """What is printed of the verdict: how much was compared, and in which part."""
@@ -62,7 +64,7 @@ def same_of(sizes: Sequence[Size], order: Order) -> Judged:
 
 def judged(trial: Trial, runs: Sequence[Run], sizes: Sequence[Size], choices: Choices) -> Judged:
     """Compares both runs of a trial. They are brought together only if they differ, or are to be shown side by side."""
-    verdict = trial.same(trial.captures, choices.masks[0])
+    verdict = trial.placed(trial.same(trial.captures, choices.masks[0]))
     if verdict == 'same' and choices.around is None:
         return same_of(sizes, choices.order)
     order: Order = 'strict' if verdict == 'same' else choices.order

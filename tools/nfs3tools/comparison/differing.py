@@ -3,10 +3,11 @@ from collections import Counter
 from collections.abc import Iterable, Iterator, Sequence
 from dataclasses import dataclass
 
-from .apart import Apart, apart, is_long
+from .apart import Apart, Content, apart, is_long
 from .binding import HANDLES, VERIFIERS, Bindings
 from .classes import CLASSES, Mask, ValueClass, Way
 from ..captures.listings import Item, Message
+from ..captures.stored import text_of
 from ..captures.whose import Labels
 
 # After one of these the rest of a reply has another layout.
@@ -34,6 +35,11 @@ class Difference:
     meanings: tuple[str, str] = ('', '')
     apart: Apart | None = None
     alike: str = ''
+
+    @property
+    def is_equal(self) -> bool:
+        """Whether both runs have one value here, which stands for others elsewhere: the remark says for which."""
+        return self.first == self.second and self.apart is None
 
 
 class Side:
@@ -80,8 +86,10 @@ class Comparison:
         owner = self.class_of(name, here.is_call)
         if owner is not None and not (is_of(owner, here, at) and is_of(owner, there, to)):
             owner = None
-        if first == second == '' or owner is not None and self.mask[owner.name] is Way.ZERO:
+        if first == second == '':
             return None
+        if owner is not None and self.mask[owner.name] is Way.ZERO:
+            return self.of_lengths(here, at, there, to) if owner.is_raw else None
         renaming = owner.name if owner is not None else RENAMED.get(name)
         if renaming is not None:
             return self.of_renamed(renaming, owner, here, at, there, to)
@@ -89,9 +97,14 @@ class Comparison:
             return self.of_raw(here, at, there, to)
         return None if first == second or self.is_length_of_a_machine(here.items[at]) else difference_of(here, at, there, to)
 
+    def of_lengths(self, here: Side, at: int, there: Side, to: int) -> Difference | None:
+        """Raw bytes that are masked differ only in their number."""
+        sizes = [Content(side.items[place].value).size for side, place in ((here, at), (there, to))]
+        return None if sizes[0] == sizes[1] else difference_of(here, at, there, to, remark='only the lengths count')
+
     def of_raw(self, here: Side, at: int, there: Side, to: int) -> Difference | None:
         """Handles in raw bytes are those of the other run where they are known."""
-        first, second = here.items[at].value, there.items[to].value
+        first, second = text_of(here.items[at].value), text_of(there.items[to].value)
         renamed = self.bindings.renamed(first)
         if renamed == second:
             return None

@@ -17,18 +17,22 @@ from operator import itemgetter
 from typing import NamedTuple
 
 from .apart import bytes_of
+from .covering import Size
 from ..captures.listings import Message, message_of
 from .outlines import Outlines, Waiting
 from .pairing import Listing
 from ..shared.places import SIDES, Side
 from ..shared.programs import Died
 from ..recordings.records import Window, extents
-from ..reporting.reports import Size
 from ..recordings.taken import Taken, TakenConnection, TakenStream
 from .trial import when_of
 
 MARKING = frozenset(('NFSPROC3_LOOKUP', 'NFSPROC3_CREATE', 'NFSPROC3_MKDIR'))
 Moment = tuple[int, int, int]  # when a call was sent: its frame or 0, its connection, and its record
+
+
+class NoMark(Exception):
+    """No call of either run is a mark; its text is the message for the user."""
 
 
 class Name(NamedTuple):
@@ -60,7 +64,7 @@ class Piece(NamedTuple):
 
 @dataclass
 class Part:
-    """A part of a run: of each of its connections, by their index, the pieces of both sides."""
+    """A part of a run: of each of its connections, by their numbers, the pieces of both sides."""
     name: Name
     pieces: dict[int, dict[Side, list[Piece]]] = field(default_factory=dict)
 
@@ -71,25 +75,25 @@ class Part:
         """Returns how many bytes of streams there are."""
         return sum(piece.end - piece.begin for sides in self.pieces.values() for some in sides.values() for piece in some)
 
-    def sides_of(self, index: int) -> dict[Side, list[Piece]]:
-        return self.pieces.setdefault(index, {'client': [], 'server': []})
+    def sides_of(self, connection: int) -> dict[Side, list[Piece]]:
+        return self.pieces.setdefault(connection, {'client': [], 'server': []})
 
     def has_messages_of(self, other: 'Part') -> bool:
         """Whether both parts have the same messages, by their connections and numbers."""
         return self.numbers() == other.numbers()
 
     def numbers(self) -> list[tuple[int, list[tuple[int, int]]]]:
-        """Returns of each connection, by its index, the number of the first record of each piece, and of how many there are."""
-        return [(index, [piece[:2] for some in sides.values() for piece in some]) for index, sides in self.pieces.items()]
+        """Returns of each connection, by its number, the number of the first record of each piece, and of how many there are."""
+        return [(number, [piece[:2] for some in sides.values() for piece in some]) for number, sides in self.pieces.items()]
 
     def in_the_whole(self, message: Message) -> Message:
         """Returns a message of this part with the place that it has in the run."""
-        index, left = list(self.pieces)[message.connection - 1], message.record
-        for piece in self.pieces[index]['client' if message.is_call else 'server']:
+        connection, left = list(self.pieces)[message.connection - 1], message.record
+        for piece in self.pieces[connection]['client' if message.is_call else 'server']:
             if left <= piece.number:
                 break
             left -= piece.number
-        return replace(message, connection=index + 1, record=piece.first + left - 1)
+        return replace(message, connection=connection, record=piece.first + left - 1)
 
 
 Both = tuple[Part, Part]  # a part in both runs
@@ -114,14 +118,19 @@ class MarkedRun:
 
     def __init__(self, taken: Taken, listing: Listing, pattern: str) -> None:
         self.taken, self.listing = taken, listing
+        self.connections = {connection.number: connection for connection in taken.connections}
         # (of frames that came out of order, those count that let a call be read)
-        self.sent = [array('Q', accumulate(connection.client.first_frames(), max)) for connection in taken.connections if taken.has_frames]
+        self.sent = {connection.number: array('Q', accumulate(connection.client.first_frames(), max))
+                     for connection in taken.connections if taken.has_frames}
         self.answered = defaultdict[int, Answered](Answered)
         marks = begun_by(sorted(self.marks(re.compile(fnmatch.translate(pattern)))))
         self.parts = named(marks)
         for connection in taken.connections:
             self.cut(connection, [mark.moment for mark in marks])
         self.parts = [part for part in self.parts if part.pieces]
+
+    def has_marks(self) -> bool:
+        return any(part.name.name is not None for part in self.parts)
 
     def has_silly_names(self) -> bool:
         """Whether a part may have a name that a mask changes."""
@@ -141,27 +150,26 @@ class MarkedRun:
             connection.add_call(int(xid[4:]))
             name = message_of(line.rstrip('\n')).value_of('name') if procedure in MARKING else None
             if name is not None and pattern.match(os.fsdecode(bytes_of(name))):
-                frame = self.sent[int(number) - 1][connection.calls - 1] if self.sent else 0
+                frame = self.sent[int(number)][connection.calls - 1] if self.sent else 0
                 yield Mark((frame, int(number), connection.calls), name)
 
     def cut(self, connection: TakenConnection, begins: Sequence[Moment]) -> None:
         """Gives the parts, which begin at these moments, their pieces of a connection. One without calls is of the first part."""
-        index = connection.number - 1
         answered = self.answered[connection.number]
-        sent = self.sent[index] if self.sent else repeat(0, answered.calls)
+        sent = self.sent[connection.number] if self.sent else repeat(0, answered.calls)
         calls = array('I', (bisect_right(begins, (frame, connection.number, record)) for record, frame in enumerate(sent, 1)))
         for side, parts in zip(SIDES, (calls, map(calls.__getitem__, answered.owners))):
             for part, piece in pieces_of(connection.stream(side), parts):
-                self.parts[part].sides_of(index)[side].append(piece)
+                self.parts[part].sides_of(connection.number)[side].append(piece)
         if not calls:
-            self.parts[0].sides_of(index)
+            self.parts[0].sides_of(connection.number)
 
     def taken_of(self, parts: Iterable[Part]) -> Taken:
         """Returns what is taken of some parts, one after the other. It ends with what is taken of the run."""
         out = Taken(self.taken.spool, self.taken.is_recording, self.taken.has_frames)
         pieces = chain.from_iterable(part.pieces.items() for part in parts)
-        for number, (index, sides) in enumerate(pieces, 1):
-            connection = self.taken.connections[index]
+        for number, (own, sides) in enumerate(pieces, 1):
+            connection = self.connections[own]
             client, server = (connection.stream(side).part(piece[2:] for piece in some) for side, some in sides.items())
             out.connections.append(connection._replace(number=number, client=client, server=server, notes=[], missing=0))
         return out

@@ -17,6 +17,11 @@ HANDLE = re.compile(r' fh=([0-9a-f]{1,8})(?=\s)')
 NAME = re.compile(r' (?:name|dirpath)="([^"]*)"')
 NAME_OR_HANDLE = re.compile(r' name="([^"]*)"| fh=([0-9a-f]{1,8})(?=\s)')
 ALIKE = re.compile(r' (?:prog|vers|proc|name|dirpath|offset)=("[^"]*"|\S+)')
+# Calls that change what others are answered.
+CHANGING = frozenset(f'NFSPROC3_{name}' for name in (
+    'SETATTR', 'WRITE', 'CREATE', 'MKDIR', 'SYMLINK', 'MKNOD', 'REMOVE', 'RMDIR', 'RENAME', 'LINK'))
+# Calls whose first handle is that of a folder.
+OF_FOLDERS = MAKING | {f'NFSPROC3_{name}' for name in ('REMOVE', 'RMDIR', 'RENAME', 'READDIR', 'READDIRPLUS')}
 MOUNT, LISTING = 'MOUNTPROC3_MNT', 'NFSPROC3_READDIRPLUS'
 DOTS = hash('.'), hash('..')  # the folder itself, and the one above it
 UNKNOWN, SEEN, MADE = range(3)  # how well it is known where an object is
@@ -90,6 +95,10 @@ class Objects:
         """Returns the exchange that says where an object is."""
         return self.origins[handle] if handle < len(self.known) and self.known[handle] else None
 
+    def folder_of(self, handle: int) -> int:
+        """Returns the folder in which an object is, or 0 if that is not known."""
+        return self.folders[handle] if handle < len(self.known) and self.known[handle] else 0
+
     def settle(self, when: Callable[[int], int]) -> None:
         """Of several places of an object the one counts that was told first."""
         for handle, rivals in self.rivals.items():
@@ -133,6 +142,7 @@ class Outlines:
         self.kinds, self.procedures = array('B'), dict[str, int]()  # the procedure of a call, by its number among those that there are
         self.replies = array('I')  # the record of the first reply, or 0
         self.further: dict[int, list[int]] = {}  # the records of further replies
+        self.unmade = set[int]()  # calls that would have changed something, and failed
         self.objects = Objects()
         self.take(lines, renamed_values(mask))
         self.names = list(self.procedures)
@@ -159,6 +169,8 @@ class Outlines:
             else:
                 call = waiting.answered(int(xid[4:]))
                 self.add_reply(call, int(record), said)
+                if procedure in CHANGING and ' status=0' not in rest:
+                    self.unmade.add(call)
                 self.learn(call, procedure, rest, named[call - start])
 
     def add_call(self, at: int, procedure: str, said: int, handles: list[str]) -> None:
@@ -207,6 +219,15 @@ class Outlines:
 
     def procedure_of(self, at: int) -> str:
         return self.names[self.kinds[at]]
+
+    def folders_asked(self) -> set[int]:
+        """Returns the handles that are folders: those in which something has a name, and those that are listed."""
+        kinds = {number for name, number in self.procedures.items() if name in OF_FOLDERS}
+        return {folder for kind, folder in zip(self.kinds, self.folders) if kind in kinds}
+
+    def about(self, at: int) -> tuple[str, int]:
+        """Returns the procedure of a call, and the object that it is about: the folder of a name."""
+        return self.procedure_of(at), self.identities[self.folders[at]]
 
     def connection_of(self, at: int) -> int:
         """Returns the place of an exchange's connection among all."""

@@ -14,10 +14,9 @@ from .reordered import Exchange
 
 Listing = Callable[[], Iterable[str]]
 
-# Calls that change nothing. A client's caches and timers decide when they are sent.
+# Calls that change nothing. A client's caches and timers decide when they are sent. COMMIT is none: what it makes safe is no matter of caches.
 ASKING = frozenset('NFSPROC3_' + name for name in (
-    'NULL', 'GETATTR', 'LOOKUP', 'ACCESS', 'READLINK', 'READDIR', 'READDIRPLUS', 'FSSTAT', 'FSINFO', 'PATHCONF', 'COMMIT')) | {
-        'MOUNTPROC3_NULL'}
+    'NULL', 'GETATTR', 'LOOKUP', 'ACCESS', 'READLINK', 'READDIR', 'READDIRPLUS', 'FSSTAT', 'FSINFO', 'PATHCONF')) | {'MOUNTPROC3_NULL'}
 FIRST_CALLS = 50  # by which connections are brought together
 ASKED_BY_MANY = 16  # connections: a call that so many begin with tells nothing of one
 NARROW = 8  # calls that a gap may have in the second run above those of the first, for what may be elsewhere, too
@@ -46,6 +45,13 @@ class Pairing:
 
     def pairs(self) -> Iterator[Pair]:
         return ((at, to) for at, to in enumerate(self.partners) if to != NOBODY)
+
+    def without(self, some: Iterable[Pair]) -> 'Pairing':
+        """Returns the same without some pairs, whose exchanges have no partner then."""
+        partners = self.partners[:]
+        for at, _ in some:
+            partners[at] = NOBODY
+        return Pairing(self.here, self.there, partners, self.homes)
 
     @cached_property
     def is_in_place(self) -> bool:
@@ -226,10 +232,26 @@ class Pairs:
             for at, to in aligned([here(at) for at in own], [there(to) for to in its]):
                 self.bind(own[at], its[to])
 
+    def as_often(self, here: Callable[[int], Hashable], there: Callable[[int], Hashable]) -> None:
+        """Binds exchanges that have a key in common, if between two neighbours that are bound both runs have as many of them."""
+        for own, its in self.gaps(NARROW):
+            waiting = grouped(its, there)
+            for key, some in grouped(own, here).items():
+                if len(some) == len(waiting.get(key, ())):
+                    for at, to in zip(some, waiting[key]):
+                        self.bind(at, to)
+
     def by_key(self, here: Callable[[int], Hashable], there: Callable[[int], Hashable]) -> None:
         """Binds exchanges that have a key in common: those between near neighbours first, for one run may have one more before them."""
         self.in_gaps(here, there, NARROW)
         self.by_turn(here, there)
+
+
+def grouped(some: Iterable[int], key: Callable[[int], Hashable]) -> dict[Hashable, list[int]]:
+    out = defaultdict[Hashable, list[int]](list)
+    for at in some:
+        out[key(at)].append(at)
+    return out
 
 
 class Relaxed(NamedTuple):
@@ -250,7 +272,8 @@ def paired(here: Outlines, there: Outlines, listings: tuple[Listing, Listing], l
            relaxed: Callable[[], Relaxed] | None = None) -> Pairing:
     """Brings the exchanges of two runs together: those that are equal first, also under a relaxed mask if there is one; then those whose
     calls ask the same, then alike calls, then calls of one procedure between the same neighbours. Calls of the lonely procedures are
-    brought together only if they ask the same.
+    brought together only if they ask the same, or if both runs have as many of one procedure, on one object, between the same neighbours:
+    caches of clients leave no such traces, but a client that asks for another name does.
     """
     pairs = Pairs(here, there)
     pairs.in_order()
@@ -267,4 +290,5 @@ def paired(here: Outlines, there: Outlines, listings: tuple[Listing, Listing], l
         pairs.by_key(lambda at: alike.get(at, ('first', at)), lambda to: like.get(to, ('second', to)))
         pairs.in_gaps(lambda at: here.procedure_of(at) if at in left else ('first', at),
                       lambda to: there.procedure_of(to) if to in others else ('second', to), len(there))
+    pairs.as_often(here.about, there.about)
     return Pairing(here, there, pairs.partners, pairs.homes)

@@ -10,17 +10,19 @@ from collections.abc import Iterator, Sequence
 from contextlib import contextmanager
 from dataclasses import replace
 from functools import cache
+from itertools import chain
 from pathlib import Path
 
-from .comparing import Apart, Compared, Finding, Run
+from .comparing import Apart, Compared, Finding, Run, Silent
 from .ignoring import Ignored, without
 from .deciding import Judged, judged, run_of, same_of
 from .listed_parts import ListedParts, PartTrial, listed_at_once
 from ..captures.listings import Message
-from .marks import Both, MarkedRun, Name, Part, is_cut_by_records
-from .orders import Choices
+from .marks import Both, MarkedRun, Name, NoMark, Part, is_cut_by_records
+from .orders import Choices, NothingToCompare
 from .outlines import Outlines
 from ..recordings.taken import Taken
+from ..shared.printed import escaped
 from ..reporting.reports import PartReport
 from .trial import Trial
 
@@ -46,7 +48,8 @@ class Places:
 
 
 class PartByPart:
-    """Two runs that are cut at marks, and their parts."""
+    """Two runs that are cut at marks, and their parts. Raises `NoMark` if neither has one: then nothing would be compared by parts, though
+    the user asked for that."""
 
     def __init__(self, whole: Trial, names: Sequence[str], runs: Sequence[Run], pattern: str, choices: Choices) -> None:
         self.whole, self.names, self.runs, self.choices = whole, names, runs, choices
@@ -55,6 +58,8 @@ class PartByPart:
         first = MarkedRun(whole.runs[0], listings[0], pattern)
         is_cut_alike = self.are_wholes_same and not first.has_silly_names() and all(map(is_cut_by_records, whole.runs))
         self.marked = first, first if is_cut_alike else MarkedRun(whole.runs[1], listings[1], pattern)
+        if not any(marked.has_marks() for marked in self.marked):
+            raise NoMark(f'no call of LOOKUP, CREATE or MKDIR has a name that fits {escaped(pattern)!r}')
 
     def reports(self, ignored: Sequence[Ignored]) -> list[PartReport]:
         """Judges all parts. Returns what is said of each: in the order of the first run, and then those that only the second run has."""
@@ -125,11 +130,17 @@ class PartByPart:
     def alone(self, trial: Trial, one: Part, other: Part) -> Judged:
         """Judges a part. The places of what is found are those in the whole runs."""
         runs = [run_of(trial, *each) for each in zip(trial.runs, trial.captures, self.names)]
-        said = judged(trial, runs, [one.size(), other.size()], self.choices)
+        sizes = [one.size(), other.size()]
+        try:
+            said = judged(trial, runs, sizes, self.choices)
+        except NothingToCompare:  # (then what one run alone has is all that there is)
+            said = judged(trial, runs, sizes, replace(self.choices, leaves_out=frozenset()))
         compared = said.found.compared
         findings = [replace(finding, first=finding.first and one.in_the_whole(finding.first),
                             second=finding.second and other.in_the_whole(finding.second)) for finding in compared.findings]
-        found = replace(said.found, compared=replace(compared, findings=findings))
+        silent = [replace(call, first=call.first and one.in_the_whole(call.first), second=call.second and other.in_the_whole(call.second))
+                  for call in compared.silent]
+        found = replace(said.found, compared=replace(compared, findings=findings, silent=silent))
         return said._replace(verdict=said.verdict.partition(' at ')[0], found=found)
 
     @contextmanager
@@ -143,20 +154,24 @@ class PartByPart:
         return [marked.taken_of(parts) for marked, parts in zip(self.marked, zip(*pairs))]
 
     def with_paths(self, compared: Sequence[Compared]) -> list[Compared]:
-        """Returns what was found in the parts with the paths that are known from the whole runs."""
+        """Returns what was found in the parts, and what is left out, with the paths that are known from the whole runs."""
         messages: tuple[list[Message], list[Message]] = ([], [])
-        for message, is_second in map(named_by, (finding for one in compared for finding in one.findings)):
+        for message, is_second in map(named_by, chain.from_iterable((*one.findings, *one.silent) for one in compared)):
             messages[is_second].append(message)
         places = [Places(run, marked, some) for run, marked, some in zip(self.runs, self.marked, messages)]
 
-        def with_path(finding: Finding) -> Finding:
+        def path_of(finding: Finding | Silent) -> str | None:
             message, is_second = named_by(finding)
-            return finding if finding.kind in ('order', 'connection') else replace(finding, path=places[is_second].path(message))
-        return [replace(one, findings=list(map(with_path, one.findings))) for one in compared]
+            return places[is_second].path(message)
+
+        def with_path(finding: Finding) -> Finding:
+            return finding if finding.kind in ('order', 'connection') else replace(finding, path=path_of(finding))
+        return [replace(one, findings=list(map(with_path, one.findings)), silent=[replace(call, path=path_of(call)) for call in one.silent])
+                for one in compared]
 
 
-def named_by(finding: Finding) -> tuple[Message, bool]:
-    """Returns the message by which a finding is named, and whether it is of the second run."""
+def named_by(finding: Finding | Silent) -> tuple[Message, bool]:
+    """Returns the message by which a finding or a call that is left out is named, and whether it is of the second run."""
     message = finding.first or finding.second
     assert message
     return message, finding.first is None

@@ -1,4 +1,5 @@
 """Both runs as captures in a folder, and what the programs say of them."""
+import re
 from collections.abc import Callable, Sequence
 from pathlib import Path
 
@@ -10,6 +11,10 @@ from ..shared.places import Place
 from ..shared.programs import CHECKED, COMPARED, lines_of_program, run_program
 from .reordered import write_in_order
 from ..recordings.taken import Taken
+
+
+RUNS = 'ab'  # begin the names of captures
+CONNECTION = re.compile(r'(?<=differ at )connection (\d+)')
 
 
 def when_of(taken: Taken) -> When | None:
@@ -35,7 +40,7 @@ class Trial:
     def named(self) -> list[str]:
         """Returns two new names."""
         self.number += 1
-        return [str(self.folder / f'{letter}{self.number}') for letter in 'ab']
+        return [str(self.folder / f'{letter}{self.number}') for letter in RUNS]
 
     def made_of(self, captures: Sequence[str], how: str, make: Callable[[str, str], object]) -> list[str]:
         """Returns the names of what is made of two captures in one way."""
@@ -58,7 +63,24 @@ class Trial:
         return run_program(self.program, ['same', *self.masked(captures, mask)], COMPARED).out.strip()
 
     def listing(self, capture: str) -> Listing:
-        return lambda: lines_of_program(self.program, ['show', capture])
+        """Returns the lines of a capture. Connections have the numbers that they have in the run, of which some may be left out."""
+        numbers = self.numbers_of(self.runs[RUNS.index(Path(capture).name[0])])
+        if numbers is None:
+            return lambda: lines_of_program(self.program, ['show', capture])
+        return lambda: (f'{numbers[int(number) - 1]} {rest}' for number, _, rest in (
+            line.partition(' ') for line in lines_of_program(self.program, ['show', capture])))
+
+    def numbers_of(self, taken: Taken) -> list[int] | None:
+        """Returns the numbers of the connections of a run, or None if none is left out."""
+        numbers = [connection.number for connection in taken.connections]
+        return None if numbers == list(range(1, len(numbers) + 1)) else numbers
+
+    def placed(self, verdict: str) -> str:
+        """Returns what `same` says of both captures with the number that the connection has in the first run, or else in the second."""
+        found = CONNECTION.search(verdict)
+        some = [numbers for taken in self.runs if (numbers := [one.number for one in taken.connections]) and found
+                and int(found[1]) <= len(numbers)]
+        return CONNECTION.sub(f'connection {some[0][int(found[1]) - 1]}', verdict, 1) if found and some else verdict
 
     def canonical(self, captures: Sequence[str], mask: Mask | None = None) -> tuple[Listing, Listing]:
         """Returns the listings of two captures in canonical form, under a mask if there is one."""

@@ -286,9 +286,10 @@ class Taken:
 
     def record_at(self, place: Place) -> tuple[TakenStream, Extent]:
         """Returns the stream of a record, and where the record is in it. Raises `NoPlace` if there is no such record."""
-        if not 0 < place.connection <= len(self.connections):
+        at = bisect.bisect_left(self.connections, place.connection, key=lambda one: one.number)  # (some may be left out)
+        if at == len(self.connections) or self.connections[at].number != place.connection:
             raise NoPlace(f'there is no connection {place.connection}')
-        stream = self.connections[place.connection - 1].stream(place.side)
+        stream = self.connections[at].stream(place.side)
         extent = stream.extent(place.record)
         if extent is None:
             raise NoPlace(f'there is no {place._replace(byte=None)}')

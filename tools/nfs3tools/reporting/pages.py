@@ -13,10 +13,12 @@ from typing import NamedTuple
 
 from . import summing, telling
 from ..comparison import apart
-from ..comparison.classes import told
+from ..comparison.classes import besides, told
 from ..comparison.comparing import Compared, Finding, Run
+from ..comparison.covering import Cover, Row as NotJudged
 from ..comparison.ignoring import Ignored
 from ..captures.listings import Message
+from ..recordings.coverage import named
 from ..recordings.parts import Part
 from .reports import Report
 from ..recordings.selection import count, plural
@@ -29,6 +31,7 @@ from ..commands.where import filters_of, time_of
 SHOWN_AT_MOST = 2_000  # findings
 OTHERS_AT_MOST, OTHERS_OF_ALL = 300, 20_000  # places of findings that say the same as one: of one, and about so many of all
 DIFFERENCES_AT_MOST = 200  # of a finding
+NOT_JUDGED_AT_MOST = 20  # connections of a run that are named
 FIELDS_AT_MOST = 6_000  # characters of a message's fields
 MANY = 2_000  # messages whose calls are shown
 BOTH = (0, 1)
@@ -87,6 +90,7 @@ def page(content: Content) -> Iterator[str]:
         yield from body.bar()
     yield from body.fields()
     yield from body.findings()
+    yield from body.silent()
     yield from body.calls()
     yield f'<script>{SCRIPT}</script></html>\n'
 
@@ -94,7 +98,8 @@ def page(content: Content) -> Iterator[str]:
 def head(content: Content, word: str) -> Iterator[str]:
     """The verdict in words, and as it is printed."""
     is_same = word.startswith('same')
-    yield f'<h1 class={"same" if is_same else "differ"}>The runs {"are the " if is_same else ""}{escape(word)}</h1>'
+    look = 'differ' if not is_same else 'part' if content.report.is_in_part else 'same'
+    yield f'<h1 class={look}>The runs {"are the " if is_same else ""}{escape(word)}</h1>'
     yield ''.join(f'<p>{code(line)}</p>' for line in content.line.splitlines())
     yield f'<p>{escape(summing.of_compared(content.compared))}.</p>'
 
@@ -120,13 +125,36 @@ def rows_of_runs(content: Content) -> Iterator[tuple[str, Sequence[str]]]:
             yield what, [f'{time_of(one.ends[at])}, frame {one.ends[at].number}' if one.ends else 'no frames' for one in content.recorded]
     yield 'calls', [f'{size.calls:,}' for size in report.sizes]
     yield 'connections', [f'{size.connections:,}' for size in report.sizes]
-    if any(report.missing):
-        yield 'missing', [count(missing, 'byte') for missing in report.missing]
+    if report.covers:
+        yield from rows_of_counts(report.covers)
     if any(compared.lonely):
         yield 'only in this run', [count(number, 'call') for number in compared.lonely]
     if any(compared.left_out):
-        yield 'left out', [', '.join(f'{number:,} {summing.short(name)}' for name, number in sorted(some.items())) or 'nothing'
+        yield 'calls left out', [', '.join(f'{number:,} {summing.short(name)}' for name, number in sorted(some.items())) or 'nothing'
                            for some in compared.left_out]
+
+
+def rows_of_counts(covers: Sequence[Cover]) -> Iterator[tuple[str, Sequence[str]]]:
+    """How much of both runs is compared: the four counts, the calls of other programs, and what is not judged as a whole."""
+    if any(cover.missing for cover in covers):
+        yield 'missing', [count(cover.missing, 'byte') for cover in covers]
+    for name in covers[0].counts().numbers():
+        yield name, [f'{cover.counts().numbers()[name]:,}' for cover in covers]
+    if any(cover.counts().raw for cover in covers):
+        yield 'raw', [named(cover.counts().raw) or 'nothing' for cover in covers]
+    rows = [[said_of(row) for row in cover.rows()] for cover in covers]
+    if any(rows):
+        yield 'not judged as a whole', [more_of(some) for some in rows]
+
+
+def said_of(row: NotJudged) -> str:
+    number = f'connection {row.connection}: ' if row.connection is not None else ''
+    return f'{number}{row.ends}{": " if row.ends else ""}{row.word}: {row.reason}'
+
+
+def more_of(some: Sequence[str]) -> str:
+    more = f'; .. and {len(some) - NOT_JUDGED_AT_MOST:,} more' if len(some) > NOT_JUDGED_AT_MOST else ''
+    return '; '.join(some[:NOT_JUDGED_AT_MOST]) + more if some else 'nothing'
 
 
 def words_of_masks(content: Content) -> Iterator[tuple[str, str]]:
@@ -134,12 +162,12 @@ def words_of_masks(content: Content) -> Iterator[tuple[str, str]]:
     report = content.report
     yield 'masked', f'{code(told(report.mask).replace(",", ", "))}. Xids, file handles and write verifiers are renamed one to one.'
     is_turned = report.same_under is not None
-    besides = summing.besides(report.same_under or content.compared.mask, report.mask)
-    if besides:
-        yield 'masked besides', (f'{code(told(besides).replace(",", ", "))}, ' + (
+    more = besides(report.same_under or content.compared.mask, report.mask)
+    if more:
+        yield 'masked besides', (f'{code(told(more).replace(",", ", "))}, ' + (
             'in another order.' if is_turned else 'since any order was tried. What differs in these alone is not told.'))
-    if any(content.compared.left_out):
-        yield 'left out', 'Calls that only ask, which one run alone has.'
+    if content.compared.silent:
+        yield 'left out', 'Calls that only ask, which one run alone has, or which the calls of others overtook.'
     if content.ignored:
         often = f': {telling.told(content.left_out.most_common())}' if content.left_out else ''
         yield 'ignored', f'{", ".join(code(str(one)) for one in content.ignored)}{escape(often)}.'
@@ -165,13 +193,18 @@ def kind_of(finding: Finding) -> tuple[str, str]:
 
 
 def change_of(finding: Finding) -> Iterator[str]:
-    """The values of both runs, each with its sign."""
+    """The values of both runs, each with its sign, or the arguments of a call that one run alone has."""
     lines = [line.strip() for difference in finding.differences[:DIFFERENCES_AT_MOST] for line in telling.of_difference(difference)]
+    lines += telling.of_arguments(finding)
     yield '<div class=change>'
-    yield from (f'<div class={SIDES[SIGNS.index(line[0])]}>{line[0]}{GLUE}{escape(line[2:])}</div>' for line in lines)
+    yield from (f'<div{class_of(line[0])}>{line[0]}{GLUE}{escape(line[2:])}</div>' for line in lines)
     if len(finding.differences) > DIFFERENCES_AT_MOST:
         yield f'<div>.. and {len(finding.differences) - DIFFERENCES_AT_MOST:,} more fields</div>'
     yield '</div>'
+
+
+def class_of(sign: str) -> str:
+    return f' class={SIDES[SIGNS.index(sign)]}' if sign in SIGNS else ''
 
 
 class Body:
@@ -274,7 +307,7 @@ class Body:
                 yield f'<div class=place><span class="sign {SIDES[at]}">{SIGNS[at]}</span>{self.place(message, at)}</div>'
         if finding.remark:
             yield f'<p>{escape(finding.remark)}</p>'
-        if finding.differences:
+        if finding.differences or finding.arguments:
             yield from change_of(finding)
         anchor = self.anchors.get(places_of(finding.first, finding.second))
         if anchor:
@@ -288,6 +321,8 @@ class Body:
         finding, paths = group[0], {finding.path for finding in group} - {None}
         message = finding.first or finding.second
         assert message
+        if telling.is_summed(group):
+            return f'{len(group):,} messages have values that are equal in both runs, and that stand for others elsewhere'
         only = f'only in the {run_of(finding)} run: ' if finding.first is None or finding.second is None else ''
         if is_told_of_connections(finding):
             return f'{only if finding.kind == "connection" else ""}connection {message.connection}'
@@ -317,14 +352,22 @@ class Body:
         left = len(group) - 1 - self.others_at_most
         yield f'</ol>{f"<p>.. and {left:,} more</p>" if left > 0 else ""}</details>'
 
+    # --- What is left out ---
+
+    def silent(self) -> Iterator[str]:
+        """The calls that are left out, by procedures and paths."""
+        lines = list(telling.of_silent(self.compared, *(run.frames for run in self.runs), OTHERS_AT_MOST))
+        if lines:
+            yield '<section><h2>Left out</h2>'
+            yield from (f'<p>{escape(line)}</p>' for line in lines)
+            yield '</section>'
+
     # --- Calls ---
 
     def calls(self) -> Iterator[str]:
         """The calls that differ, those around them, and how many are between, by connections."""
         # (a browser lays out many rows only as they come into sight)
         yield f'<section id=calls{" class=many" if len(self.anchors) > MANY else ""}><h2>Calls</h2>'
-        if not any(self.compared.calls):
-            yield '<p>The runs have no calls.</p>'
         if self.beside.connections:
             yield '<p class=quiet>In the order of the first run. A click opens the fields of a call and its replies.</p>'
         number = 0
@@ -400,7 +443,7 @@ def values_of(message: Message) -> Iterator[tuple[str, str]]:
     labels = Labels(message)
     for at, item in enumerate(message.items):
         meaning = labels.meaning(at)
-        yield labels.label(at), telling.shortened(item.value) + (f' ({meaning})' if meaning else '')
+        yield labels.label(at), telling.named(item.name, item.value, meaning)
 
 
 def lines_of(first: Message | None, second: Message | None) -> Iterator[str]:

@@ -18,7 +18,7 @@ body { font: 15px/1.5 system-ui, sans-serif; margin: 0 auto; max-width: 1240px; 
 a { color: var(--link) }
 h1 { font-size: 26px; line-height: 1.2; margin: 24px 0 8px }
 h1.same { color: var(--plus) }
-h1.differ { color: var(--minus) }
+h1.differ, h1.part { color: var(--minus) }
 h2 { font-size: 19px; margin: 32px 0 8px }
 h3 { font-size: 15px; margin: 0 }
 p { margin: 6px 0 }

@@ -1,8 +1,8 @@
 """What is said of a comparison as a whole."""
-from collections import Counter
+from collections import Counter, defaultdict
 from collections.abc import Iterator, Sequence
 
-from ..comparison.classes import Mask, told
+from ..comparison.classes import Mask, besides, told
 from ..comparison.comparing import Compared
 from ..comparison.orders import Found
 from ..recordings.selection import count, plural
@@ -37,17 +37,23 @@ def left_out(compared: Compared) -> Iterator[tuple[str, str]]:
             yield f'{number:,} {short(procedure)}', name
 
 
-def besides(mask: Mask, before: Mask) -> Mask:
-    """Returns the classes that one mask masks in another way than the one before."""
-    return {name: way for name, way in mask.items() if before.get(name) is not way}
+def overtaken(compared: Compared) -> Iterator[str]:
+    """The questions that others overtook, by procedures, with their folder if it is one."""
+    paths = defaultdict[str, list[str]](list)
+    for call in compared.silent:
+        if call.first and call.second:
+            paths[call.call.procedure].append(call.path or '?')
+    for procedure, some in sorted(paths.items()):
+        where = some[0] if len(set(some)) == 1 else f'{len(set(some)):,} paths'
+        yield f'{len(some):,} {short(procedure)} of {where}, in which others worked'
 
 
 def of_same(found: Found, mask: Mask) -> str:
     """What stands after `same in another order`: how the order differs, and all that does not count besides."""
     words = [f'{count(found.compared.exchanges, "call")}', *turns(found.compared)]
-    some = ', '.join(f'{what} of the {name} run' for what, name in left_out(found.compared))
+    some = [*(f'{what} of the {name} run' for what, name in left_out(found.compared)), *overtaken(found.compared)]
     if some:
-        words.append('left out: ' + some)
+        words.append('left out: ' + ', '.join(some))
     if found.same_under is not None and besides(found.same_under, mask):
         words.append('masked besides: ' + told(besides(found.same_under, mask)))
     return '; '.join(words)
@@ -69,6 +75,7 @@ def of_compared(compared: Compared) -> str:
     """The verdict in words: what belongs together, and what does not."""
     words = [f'{compared.exchanges:,} of {count(max(compared.calls), "call")} belong together', *turns(compared)]
     words += [f'{what} more in the {name} run' for what, name in left_out(compared)]
+    words += [f'left out: {what}' for what in overtaken(compared)]
     words += [f'{number:,} more in the {name} run' for name, number in zip(RUNS, compared.lonely) if number]
     return '; '.join([*words, *fields_of(compared)])
 

@@ -1,21 +1,31 @@
 """What is printed of a comparison."""
-from collections import Counter
+from collections import Counter, defaultdict
 from collections.abc import Iterable, Iterator, Sequence
 
 from ..comparison import apart
-from ..comparison.comparing import Compared, Finding, Framing
+from ..comparison.comparing import Compared, Finding, Framing, Silent
 from ..comparison.differing import Difference
 from ..captures.listings import Message
+from ..captures.stored import Stored
 
 LONGEST_VALUE, LONGEST_NAME = 128, 1024  # characters, as the listing spells them
 LONGEST_LIST = 4  # frames
 FIELDS_AT_MOST = 12
+# Arguments by which calls on one file differ that are one finding: where in it they read or write, and what.
+PLACES = frozenset(('fh', 'offset', 'count', 'data', 'cookie', 'cookieverf', 'dircount', 'maxcount', 'createverf'))
 
 
 def shortened(value: str) -> str:
     """Returns a value as it is printed alone. Handles and names are whole."""
+    if isinstance(value, Stored):
+        return f'{value.shown(LONGEST_VALUE)}.. ({2 * value.size} characters)'
     most = LONGEST_NAME if value.startswith('"') else LONGEST_VALUE
     return value if len(value) <= most else f'{value[:most]}.. ({len(value)} characters)'
+
+
+def procedure_of(finding: Finding) -> str:
+    message = finding.first or finding.second
+    return message.procedure if message else ''
 
 
 def frames_of(message: Message | None, framing: Framing) -> str:
@@ -28,8 +38,11 @@ def frames_of(message: Message | None, framing: Framing) -> str:
 
 
 def of_difference(difference: Difference) -> Iterator[str]:
-    """Two lines, as `diff` has them, and a remark after the second."""
+    """Two lines, as `diff` has them, and a remark after the second. A value that is equal in both runs is one line."""
     remark = f'    # {remark_on(difference)}' if remark_on(difference) else ''
+    if difference.is_equal:
+        yield f'  = {difference.label}={value_of(difference, 0)}{remark}'
+        return
     if difference.first is not None:
         yield f'  - {difference.label}={value_of(difference, 0)}' + (remark if difference.second is None else '')
     if difference.second is not None:
@@ -45,8 +58,22 @@ def value_of(difference: Difference, number: int) -> str:
     """Returns a value as it is printed, with its name if it has one: that of the first run, of number 0, or of the second."""
     if difference.apart:
         return difference.apart.shown[number]
-    value, meaning = (difference.first, difference.second)[number], difference.meanings[number]
-    return shortened(value or '') + (f' ({meaning})' if meaning else '')
+    return named(difference.name, (difference.first, difference.second)[number] or '', difference.meanings[number])
+
+
+def named(name: str, value: str, meaning: str) -> str:
+    """Returns the value of an item with what it is called, if it has a name. A mode is known by its octal digits, which come first."""
+    if name == 'mode' and meaning:
+        return f'{meaning} ({value})'
+    return shortened(value) + (f' ({meaning})' if meaning else '')
+
+
+def of_arguments(finding: Finding) -> Iterator[str]:
+    """Returns the arguments of a call that one run alone has, but for those that its path names."""
+    sign = '+' if finding.first is None else '-'
+    for argument in finding.arguments:
+        if not argument.is_of_path or finding.path is None:
+            yield f'{sign} {argument.label}={named(argument.name, argument.value, argument.meaning)}'
 
 
 def folded(findings: Iterable[Finding]) -> list[list[Finding]]:
@@ -57,15 +84,28 @@ def folded(findings: Iterable[Finding]) -> list[list[Finding]]:
     return list(groups.values())
 
 
+def is_of_equal_values(finding: Finding) -> bool:
+    """Whether all that a finding says is that values stand for others elsewhere."""
+    return bool(finding.differences) and not finding.remark and all(difference.is_equal for difference in finding.differences)
+
+
 def said_by(finding: Finding) -> object:
     """Returns what a finding says: of renamed values, of which each finding has others, only what they have in common. Calls of one run
-    alone say which file they ask for. Returns None for what is said of a connection."""
+    alone say which file they ask for, and what of it. Returns None for what is said of a connection."""
     message = finding.first or finding.second
     if message is None or finding.kind in ('order', 'connection'):
         return None
+    if is_of_equal_values(finding):
+        return 'equal values'
     said = tuple((one.label, one.alike) if one.alike else (one.label, one.first, one.second, one.remark) for one in finding.differences)
     path = finding.path if finding.kind == 'only' else None
-    return finding.kind, finding.first is None, message.procedure, message.is_call, path, finding.remark, said
+    asked = tuple((one.label, one.value) for one in finding.arguments if one.name not in PLACES)
+    return finding.kind, finding.first is None, message.procedure, message.is_call, path, finding.remark, said, asked
+
+
+def is_summed(findings: Sequence[Finding]) -> bool:
+    """Whether findings are one line: several that print no other values than equal ones."""
+    return len(findings) > 1 and is_of_equal_values(findings[0])
 
 
 def what_of(findings: Sequence[Finding]) -> str:
@@ -74,6 +114,8 @@ def what_of(findings: Sequence[Finding]) -> str:
     message = finding.first or finding.second
     assert message
     path = f' {finding.path}' if finding.path else ''
+    if is_summed(findings):
+        return f'{len(findings):,} messages have values that are equal in both runs, and that stand for others elsewhere, first'
     if len(findings) == 1:
         return f'{message.procedure}{"" if message.is_call else " reply"}{path}'
     what = f'{len(findings):,} {"calls" if message.is_call else "replies"} of {message.procedure}'
@@ -90,24 +132,32 @@ def heading_of(findings: Sequence[Finding], first: Framing, second: Framing) -> 
     if finding.kind == 'order':
         return f'connection {message.connection}'
     if one and other:
-        return f'{what_of(findings)}: {one.place}{frames_of(one, first)} | {other.place}{frames_of(other, second)}'
+        return f'{what_of(findings)}: {places_of(one, other, first, second)}'
     if finding.kind == 'connection':
         return f'only in the {run} run: connection {message.connection}'
     return f'only in the {run} run: {what_of(findings)}: {message.place}{frames_of(message, first if one else second)}'
 
 
 def of_group(findings: Sequence[Finding], first: Framing, second: Framing) -> Iterator[str]:
+    if is_summed(findings):
+        yield brief_of(findings, first, second)
+        return
     yield heading_of(findings, first, second)
     if findings[0].remark:
         yield f'  {findings[0].remark}'
     for difference in findings[0].differences:
         yield from of_difference(difference)
+    yield from (f'  {line}' for line in of_arguments(findings[0]))
 
 
 def brief_of(findings: Sequence[Finding], first: Framing, second: Framing) -> str:
     """One line for findings that say the same."""
     finding = findings[0]
-    said = [*([finding.remark] if finding.remark else []), *map(brief_difference, finding.differences)]
+    if is_summed(findings):
+        fields = Counter((procedure_of(one), difference.field) for one in findings for difference in one.differences)
+        return f'{heading_of(findings, first, second)}: {told(fields.most_common(FIELDS_AT_MOST))}'
+    said = [*([finding.remark] if finding.remark else []), *map(brief_difference, finding.differences),
+            *(line.replace(' ', '', 1) for line in of_arguments(finding))]
     return ': '.join([heading_of(findings, first, second), *(['; '.join(said)] if said else [])])
 
 
@@ -118,7 +168,38 @@ def brief_difference(difference: Difference) -> str:
     if difference.first is None:
         return f'+{difference.label}={value_of(difference, 1)}'
     remark = f' ({remark_on(difference)})' if remark_on(difference) else ''
+    if difference.is_equal:
+        return f'{difference.label}={value_of(difference, 0)} in both runs{remark}'
     return f'{difference.label}={value_of(difference, 0)} -> {value_of(difference, 1)}{remark}'
+
+
+def of_silent(compared: Compared, first: Framing, second: Framing, most: int | None) -> Iterator[str]:
+    """The calls that are left out, those together of one procedure and path, up to `most` of such groups, or each by itself."""
+    groups = defaultdict[object, list[Silent]](list)
+    for number, call in enumerate(compared.silent):
+        key = call.first is None, call.second is None, call.call.procedure, call.path
+        groups[number if most is None else key].append(call)
+    for some in list(groups.values())[:most]:
+        yield f'left out{of_whom(some[0])}: {silent_of(some)}: {places_of(some[0].first, some[0].second, first, second)}'
+    if most is not None and len(groups) > most:
+        yield f'.. and {len(groups) - most:,} more left out (--all prints them)'
+
+
+def of_whom(call: Silent) -> str:
+    """Returns which run has a call that is left out."""
+    return '' if call.first and call.second else f' of the {"first" if call.first else "second"} run'
+
+
+def silent_of(some: Sequence[Silent]) -> str:
+    """Returns which calls are left out, of one procedure and path."""
+    call, path = some[0], f' {some[0].path}' if some[0].path else ''
+    others = ', in which others worked' if call.first and call.second else ''
+    return f'{len(some):,} {call.call.procedure}{path}{others}{", first" if len(some) > 1 else ""}'
+
+
+def places_of(one: Message | None, other: Message | None, first: Framing, second: Framing) -> str:
+    """Returns the places of messages in both runs, with their frames."""
+    return ' | '.join(f'{message.place}{frames_of(message, framing)}' for message, framing in ((one, first), (other, second)) if message)
 
 
 def of_compared(compared: Compared, first: Framing, second: Framing, most: int | None, left_out: Counter[tuple[str, str]],
