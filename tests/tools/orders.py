@@ -550,17 +550,12 @@ def verifiers_that_repeat(place: Comparisons) -> None:
 
 def raw_bodies_in_any_order(place: Comparisons) -> None:
     """Bodies of other programs, with handles and times of their own in each run, are zero in any order if nothing else is enough, and that is
-    said; their lengths count. nfs3mask may be older, and not have the class: then it is not tried, and refused if it is asked for."""
+    said; their lengths count."""
     def run(order: Sequence[int], body: bytes) -> Conversation:
         return ([call(xid, messages.NFSACL, 3, 1, b'acl %d' % xid + body) if xid else call(xid, NFS, 3, 0) for xid in order],
                 [success(xid, b'answer %d' % xid + body if xid else b'') for xid in order])
     place.put('a', run((0, 1, 2), b'1234'))
     place.put('b', run((0, 2, 1), b'5678'))
-    if 'raw=' not in place.run('nfs3mask', '--help')[2]:
-        place.want('not tried', place.compare('--order', 'any', 'a', 'b')[0], 1)
-        place.want('asked for', place.compare('--mask', '+raw', 'a', 'b')[0::2],
-                   (2, 'compare: this nfs3mask does not have the class raw: it is older than the tools\n'))
-        return
     status, out, error = place.compare('--order', 'any', 'a', 'b')
     place.want('masked', (status, out[1].partition('; masked besides: ')[2], error), (0, 'raw=zero', ''))
     place.want('asked for', place.compare('--mask', '+raw', '--order', 'any', 'a', 'b')[0], 0)

@@ -51,14 +51,13 @@ from pathlib import Path
 from typing import NamedTuple
 
 from ..reporting import pages, summing, telling
-from ..comparison.classes import CLASSES, default_mask, in_any_order, mask_of, mask_word, told
+from ..comparison.classes import CLASSES, in_any_order, mask_word, told
 from ..comparison.comparing import Compared, Framing, Run
 from ..comparison.covering import Cover, Size, cover_of, lines_of_counts
 from ..comparison.deciding import judged, run_of
 from ..comparison.ignoring import ignored_of, without
 from .messages import REFUSED, add_losses, add_options, add_program, add_unchecked, advice_on, allowed_of, ended, options_of, parser_of
 from ..comparison.marks import NoMark
-from ..comparison.masking import check_known, known_classes
 from ..comparison.orders import Choices, NothingToCompare
 from ..shared.outputs import held, printed_beside, try_outputs, write_file
 from ..reporting.pages import Content, Recorded
@@ -180,14 +179,13 @@ def compared_runs(words: argparse.Namespace, stack: ExitStack) -> int:
     names = [words.first, words.second]
     inputs = [file for name in names for file in files_of(name)]
     try_outputs(outputs_of(words), inputs)
-    check_known(program, default_mask() if words.mask is None else mask_of(words.mask))
     with held():
         folder = Path(stack.enter_context(tempfile.TemporaryDirectory(prefix='nfs3canon')))
     runs = [stack.enter_context(taken_of(name, options_of(words))) for name in names]
     for taken, name in zip(runs, names):
         tell(name, taken)
     whole = whole_of(program, folder, names, inputs, runs)
-    masks = in_any_order(words.mask, 'raw' in known_classes(program) and any(cover.has_raw for cover in whole.covers))
+    masks = in_any_order(words.mask, any(cover.has_raw for cover in whole.covers))
     print(f'masked: {told(masks[0])}', flush=True)
     choices = Choices(words.order, masks, frozenset() if words.extra == 'none' else ASKING, AROUND if words.html else None)
     is_same = (compared_whole if words.marks is None else compared_by_parts)(words, whole, choices, losses_of(whole.covers))
