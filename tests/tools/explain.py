@@ -186,17 +186,20 @@ def recordings_of_all_kinds(tools: Tools) -> None:
 
 def options_of_recordings(tools: Tools) -> None:
     """The options decide on the numbers of records, as those of `tools/from_pcap` do; they change nothing of a capture."""
-    frames, size = whole(), len(stream(CALLS[:1]))
+    frames, size, piece = whole(), len(stream(CALLS[:1])), -(-len(ALL[0]) // 5)
     tools.write('a.pcap', pcap(frames[:4] + frames[5:]))
-    first = 2 * -(-len(ALL[0]) // 5) // size + 1  # the first whole call behind the second piece, which is missing
-    tools.want('without', tools.tool('explain', 'a.pcap', f'connection 1 client record {first}')[0], 1)
-    lines = explained(tools, 'a.pcap', 'connection 1 client record 8', '--midstream')
+    first = 2 * piece // size + 1  # the first whole call behind the second piece, which is missing
+    tools.want('without', tools.tool('explain', '--no-midstream', 'a.pcap', f'connection 1 client record {first}')[0], 1)
+    lines = explained(tools, 'a.pcap', 'connection 1 client record 8')
     tools.want('with', 'byte 0: xid = %d' % (first + 1) in lines, True)
     tools.write('a.pcap', pcap(frames[:4]))
-    tools.want('a cut record', len(explained(tools, 'a.pcap', 'connection 1 client record 8')) > 3, True)
+    tools.want('a record that the recorder cut', tools.tool('explain', 'a.pcap', 'connection 1 client record 8')[0], 1)
+    talk = Talk()
+    tools.write('a.pcap', pcap([*talk.opened(), talk.sent(0, ALL[0][:piece]), *talk.closed()]))
+    tools.want('a record that its sender cut', len(explained(tools, 'a.pcap', 'connection 1 client record 8')) > 3, True)
     tools.want('whole records', tools.tool('explain', '--whole-records', 'a.pcap', 'connection 1 client record 8')[0], 1)
     tools.write('a', packed(ALL))
-    tools.want('a capture', explained(tools, 'a', 'connection 1 client record 8', '--midstream', '--whole-records'),
+    tools.want('a capture', explained(tools, 'a', 'connection 1 client record 8', '--no-midstream', '--whole-records'),
                explained(tools, 'a', 'connection 1 client record 8'))
 
 
