@@ -9,7 +9,7 @@ Three things go on side by side:
 - the tests of those crates by `rt try --test`, which builds them with checks and proves nothing;
 - the edits of each crate (dev/edits.py), once the libraries below it are proved.
 
-Once the programs are proved they are compared with those in dist/, and the tests of tests/ run on them.
+Once the programs are proved they are compared with those in dist/, and the tests run on them, side by side.
 
 --anew takes nothing from earlier runs. --alone has `rt ci` try the tree as it is: it proves the crates that only test as
 well, and tries each edit in a check of its own. That takes about twice as long. The last line is 'N passed, M failed'.
@@ -27,9 +27,8 @@ from collections.abc import Callable, Iterator
 from concurrent.futures import Future, ThreadPoolExecutor
 from pathlib import Path
 
-sys.path.insert(0, str(Path(__file__).resolve().parent))
-import edits  # noqa: E402
-import kit  # noqa: E402
+import edits
+import kit
 
 TOP = Path(__file__).resolve().parent.parent
 # Crates of tests, whose proofs say only that a test is safe and ends. memory_tests is proved, since
@@ -37,14 +36,13 @@ TOP = Path(__file__).resolve().parent.parent
 TRIED = ('message_tests', 'capture_tests', 'command_tests', 'mask_tests', 'program_tests')
 # What the tests of tests/ run, by crates.
 BUILT = {'nfs3canon': 'nfs3canon', 'nfs3mask': 'nfs3mask', 'memory_tests': 'memory_tests_tests'}
-# The scripts of tests/ by their rooms, in the order in which they are run.
+# The scripts of tests/ by their rooms, in the order in which they begin.
 TESTS = {
     'program': ('shipped', 'run', 'captures', 'fuzz', 'large', 'instructions'),
     'faults': ('failures', 'memory', 'hostile', 'exchanged'),
     'sources': ('must_fail', 'agreement'),
-    'tools': ('from_pcap', 'lossy', 'verdicts', 'covered', 'dropped', 'shuffled', 'following', 'followed', 'procedures', 'compare', 'orders',
-              'counts', 'marks', 'findings', 'page', 'ci', 'reasons', 'explain', 'cut', 'installing', 'harm'),
 }
+TESTS_OF_THE_TOOLS = ('-m', 'tools.tests')
 PROVED = re.compile(r'^rt: (\w+) (?:proved$|is kept: )')
 COUNTS = re.compile(r'^(?:rt: )?(\d+) passed, (\d+) failed')
 TRIED_COUNTS = re.compile(r'^test result: .*?(\d+) passed; (\d+) failed', re.MULTILINE)
@@ -202,9 +200,22 @@ def taken_back(top: Path) -> None:
         beside.replace(out / name)
 
 
+def tests_of(words: tuple[str, ...], count: Count) -> bool:
+    """Runs tests, and prints what they print once they have ended. Returns whether all passed."""
+    said = list(lines_of([sys.executable, *words], TOP, dict(os.environ)))
+    told = next(filter(None, map(COUNTS.match, reversed(said))), None)
+    passed, failed = (int(told[1]), int(told[2])) if told else (0, 1)
+    print(f'{" ".join(words)}:', ''.join(said), sep='\n', end='', flush=True)
+    count.add(passed, failed)
+    return failed == 0
+
+
 def tested(count: Count) -> bool:
-    """Runs all tests of the built programs."""
-    return all([counted([sys.executable, f'tests/{room}/{name}.py'], TOP, count) for room, names in TESTS.items() for name in names])
+    """Runs the tests of the built programs side by side, and then those of the tools, which do so themselves."""
+    scripts = [(f'tests/{room}/{name}.py',) for room, names in TESTS.items() for name in names]
+    with ThreadPoolExecutor(kit.processors()) as pool:
+        are_well = list(pool.map(lambda words: tests_of(words, count), scripts))
+    return all([*are_well, tests_of(TESTS_OF_THE_TOOLS, count)])
 
 
 def together(is_anew: bool, count: Count) -> bool:

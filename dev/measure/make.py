@@ -19,8 +19,8 @@ import sys
 from collections.abc import Callable, Iterable, Iterator, Sequence
 from typing import BinaryIO, NamedTuple, TypeVar
 
-sys.path.insert(0, str(pathlib.Path(__file__).resolve().parents[2] / 'examples'))
-from messages import (  # noqa: E402
+sys.path.insert(0, str(pathlib.Path(__file__).resolve().parents[2]))
+from examples.messages import (
     CLIENT, DIR, NFS, NFSACL, NFS_PROCEDURES, REG, SERVER, UNSTABLE, auth_sys, call, dirop, entries, entry, entryplus, fattr, fh,
     hyper, ok, opaque, post_op_attr, record, success, version_1, version_2, wcc, word)
 

@@ -19,9 +19,10 @@ from collections.abc import Iterable
 from typing import BinaryIO, NamedTuple
 
 HERE = pathlib.Path(__file__).resolve().parent
-sys.path.insert(0, str(HERE.parents[1] / 'examples'))
-from messages import NFS, call, fh, fragment, hyper, ok, opaque, post_op_attr, success, word  # noqa: E402
-from packets import Talk  # noqa: E402
+sys.path.insert(0, str(HERE.parents[1]))
+from examples.messages import (
+    NFS, call, fh, fragment, hyper, ok, opaque, post_op_attr, success, word)
+from examples.packets import Talk
 
 MEGA = 1_000_000
 

@@ -14,8 +14,8 @@ import tempfile
 import time
 from typing import NamedTuple
 
-sys.path.insert(0, str(pathlib.Path(__file__).resolve().parents[2] / 'tests/shared'))
-from running import ended  # noqa: E402
+sys.path.insert(0, str(pathlib.Path(__file__).resolve().parents[2]))
+from tests.shared.running import ended
 
 MEGA = 1_000_000
 GNU_TIME = '/usr/bin/time'

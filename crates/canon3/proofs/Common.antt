@@ -54,14 +54,13 @@ pub use Rattle.xdr3.specs.declared.plain.PlainField.{PlainField}
 pub use Rattle.canon3.specs.Bytes.{bytes_of, chunk_bytes, entry_bytes, message_bytes, record_bytes}
 pub use Rattle.canon3.specs.Canonical.{canonical, numbered, numbered_item, numbered_message}
 pub use Rattle.canon3.specs.CanonicalStream.{entries_after, items_after, message_after}
-pub use Rattle.canon3.specs.EntryCounts.{counted_steps}
 pub use Rattle.capture3.specs.Numbering.{IsLentAfter}
 pub use Rattle.canon3.specs.Examples.{p, q}
 pub use Rattle.canon3.specs.HandleTable.{Gathers, HoldsHandles, same_handle}
 pub use Rattle.canon3.specs.Laws.{AreFirst}
 pub use Rattle.canon3.specs.OneToOne.{IsHandle, IsVerifier, IsXid, Member, Pairs, here, there}
 pub use Rattle.canon3.specs.Parting.{IsMessageOf, IsPlaceOf, Parting, PartsAt, connections, first_ends, first_message, next_record, second_ends, second_message}
-pub use Rattle.canon3.specs.Progress.{HasPassed, steps_of}
+pub use Rattle.capture3.specs.Progress.{HasPassed}
 pub use Rattle.capture3.specs.Rank.{HoldsDistinct, distinct, number_limit, rank, with_key}
 pub use Rattle.canon3.specs.Renaming.{IsPlain, Pairwise, Renames, RenamesItem, RenamesMessage, Same, begins, calls, closes, ended, ends, handle, message, more, none, plain, replies, turns, verifier}
 pub use Rattle.canon3.specs.SinkWrites.{AppendsFront}
@@ -70,16 +69,14 @@ pub use Rattle.capture3.specs.OpenXids.{xid_of}
 pub use Rattle.canon3.specs.Values.{call_xids, handle_in, handles, handles_in, verifier_in, verifiers, verifiers_in}
 pub use Rattle.canon3.specs.Vectors.{exchange_entries}
 pub use Rattle.canon3.specs.declared.canonical_form.message_writer.MessageWriter.{MessageWriter}
-pub use Rattle.canon3.specs.declared.canonical_form.message_writer.Stage.TheVariants.{Begins}
 pub use Rattle.canon3.specs.declared.comparison.verdict.SameError.{SameError}
-pub use Rattle.canon3.specs.declared.entries.entry_counts.EntryCounts.{EntryCounts}
-pub use Rattle.canon3.specs.declared.entries.progress.Progress.{Progress}
+pub use Rattle.capture3.specs.declared.reader.progress.Progress.{Progress}
 pub use Rattle.canon3.specs.declared.summary.Summary.{Summary}
 pub use Rattle.canon3.specs.machinery.ComparisonSteps.{Agree, HasGivenOn, PartWith}
-pub use Rattle.canon3.specs.machinery.FormSteps.{are_some, magic_unless}
-pub use Rattle.canon3.specs.machinery.MessageWriter.{AreFew, Before, HoldsBefore, IsGoing, IsNotedAs, IsWithinMessage, Notes, WriterStands, told_after, values_of}
+pub use Rattle.canon3.specs.machinery.FormSteps.{are_some, magic_unless, values_before}
+pub use Rattle.canon3.specs.machinery.MessageWriter.{AreFew, Before, HoldsBefore, IsGoing, IsNotedAs, IsWithinMessage, Notes, WriterRests, WriterStands, told_after, values_of}
 pub use Rattle.capture3.specs.OpenXids.{open_xids}
 pub use Rattle.canon3.specs.machinery.PartialWrites.{TookUpTo}
 pub use Rattle.canon3.specs.machinery.ProgressSteps.{place_from, side_in}
 pub use Rattle.canon3.specs.machinery.Spelling.{HasSpelled, bytes_after, spelling_of}
-pub use Rattle.canon3.specs.machinery.Sums.{all_items}
+pub use Rattle.canon3.specs.HandleTable.{all_items}

@@ -7,16 +7,17 @@ use Rattle.xdr3.specs.Item.{Item}
 use Rattle.capture3.specs.declared.fault.Error.{Error}
 use Rattle.capture3.specs.declared.fault.Error.TheVariants as errors
 use Rattle.capture3.specs.Entries.{IsMetBy}
-use Rattle.capture3.specs.Entry.{Entry, items_of}
+use Rattle.capture3.specs.Entry.{Entry}
 use Rattle.capture3.specs.FirstFault.{FirstFault}
 use Rattle.capture3.specs.Reached.{Reached}
 use Rattle.capture3.specs.Typed.{Typed}
-use Rattle.canon3.specs.declared.entries.entry_counts.EntryCounts.{EntryCounts}
+use Rattle.capture3.specs.declared.reader.progress.Progress.{Progress}
 use Rattle.canon3.specs.declared.summary.Summary.{Summary}
 use Rattle.capture3.specs.declared.reader.entry.LentEntry.{LentEntry}
 use Rattle.canon3.specs.Laws.{AreFirst}
-use Rattle.canon3.specs.EntryCounts.{AreCounted}
+use Rattle.capture3.specs.Progress.{HasPassed}
 use Rattle.canon3.specs.Summary.{IsSummary}
+use Rattle.capture3.specs.MessageVisit.{HasHeard}
 use Rattle.capture3.specs.Numbering.{IsLentAfter}
 use Rattle.canon3.specs.SinkWrites.{AppendsFront}
 
@@ -83,21 +84,25 @@ KeepsPrefixes form = (entries more : List Entry) → AreFirst (entries ++ more)
 
 -- a writer of a form, the items that stand for the entries that it wrote, and whether it can go on
 module _ {T : Type 0} (form : List Entry → List ℕ) (before : List Entry → List Item)
-    (stands : T → List Item → Type 0) (going : T → Type 0) where
+    (rests : T → List Item → Type 0) (going : T → Type 0) where
   -- the writer stands for these entries, and their form was written; or a front of it was
   abbrev pub HasWrittenOrCut : {X : Type 0} → T → (old new : Option (List ℕ)) → List Entry
       → Result X Error → Type 0
-  HasWrittenOrCut writer old new entries (Ok x) = going writer × stands writer (before entries)
+  HasWrittenOrCut writer old new entries (Ok x) = going writer × rests writer (before entries)
       × Appends old new (form entries)
   HasWrittenOrCut writer old new entries (Err error) = AppendsFront old new (form entries)
 
-  -- One lent entry more of a well-formed capture is written, or cut, whose items the writer was
-  -- told after those of the entries before. The sink had some bytes, and has others now.
-  abbrev pub WritesOne : (was now : T) → EntryCounts → LentEntry → (between new : Option (List ℕ))
+-- the same, and what it represents while a message is open
+module _ {T : Type 0} (form : List Entry → List ℕ) (before : List Entry → List Item)
+    (rests stands : T → List Item → Type 0) (going : T → Type 0) where
+  -- One lent entry more of a well-formed capture is written, or cut, which the writer was told
+  -- after
+  -- the entries before. The sink had some bytes, and has others now.
+  abbrev pub WritesOne : (was now : T) → Progress → LentEntry → (between new : Option (List ℕ))
       → {X : Type 0} → Result X Error → Type 0
-  WritesOne was now counts lent between new result =
+  WritesOne was now progress lent between new result =
       (old : Option (List ℕ)) (entries : List Entry) (one : Entry)
       → IsLentAfter entries lent one → AreFirst (entries ++ one ∷ [])
-      → length (entries ++ one ∷ []) < 2 ^ 32 → AreCounted counts entries
-      → stands was (before entries ++ items_of one) → Appends old between (form entries)
-      → HasWrittenOrCut now old new (entries ++ one ∷ []) result
+      → length (entries ++ one ∷ []) < 2 ^ 32 → HasPassed progress entries
+      → HasHeard rests stands was (before entries) one → Appends old between (form entries)
+      → HasWrittenOrCut form before rests going now old new (entries ++ one ∷ []) result

@@ -1,8 +1,10 @@
 -- Which handles a table holds.
-use Rattle.std.specs.Prelude.{◌≡◌, ℕ, Bool, List, map, bytes_eq}
+use Rattle.std.specs.Prelude.{◌≡◌, ℕ, Bool, List, [], map, bytes_eq}
+use Rattle.std.specs.List.{flat_map}
 use Rattle.xdr3.specs.Item.{Item}
 use Rattle.nfs3_types.specs.declared.values.handle.Handle.{Handle}
 use Rattle.nfs3_types.specs.Handle.{handle_bytes}
+use Rattle.capture3.specs.Entry.{Entry, items_of}
 use Rattle.capture3.specs.Rank.{HoldsDistinct}
 use Rattle.canon3.specs.Values.{handles_in}
 
@@ -18,3 +20,14 @@ HoldsHandles table hs = (given : List Handle) × HoldsDistinct same_handle table
 -- the same of the handles of items that are not empty
 abbrev pub Gathers : List Handle → List Item → Type 0
 Gathers table items = HoldsHandles table (handles_in items)
+
+-- the items of all messages, in order
+abbrev pub all_items : List Entry → List Item
+all_items entries = flat_map items_of entries
+
+-- the form of a writer of nothing, which cannot fail
+abbrev pub nothing : List Entry → List ℕ
+nothing entries = []
+
+abbrev pub always_going : List Handle → Type 0
+always_going table = Unit {0}

@@ -18,7 +18,5 @@ pub mod MemSink
 pub mod WriteErrors
 pub mod EntryWriter
 pub mod CanonicalForm
-pub mod Progress
-pub mod EntryCounts
 pub mod Comparison
 pub mod machinery

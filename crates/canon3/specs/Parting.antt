@@ -1,6 +1,8 @@
 -- The first place at which two captures part.
-use Rattle.std.specs.Prelude.{ℕ, ◌+◌, ◌<◌, List, [], ◌∷◌, Option, Some, take, slice_get}
-use Rattle.capture3.specs.Entry.{Entry, Begin, Call, Turn, Reply, Close, End}
+use Rattle.std.specs.Prelude.{ℕ, ◌+◌, ◌<◌, List, Option, Some, take, slice_get}
+use Rattle.capture3.specs.Entry.{Entry, Begin, Call, Reply, End}
+use Rattle.capture3.specs.Laws.{begins}
+pub use Rattle.capture3.specs.Progress.{records_after}
 use Rattle.capture3.specs.declared.fault.Side.{Side}
 use Rattle.capture3.specs.declared.fault.Side.TheVariants.{Client, Server}
 use Rattle.capture3.specs.declared.fault.Place.{Place}
@@ -9,19 +11,7 @@ use Rattle.canon3.specs.Renaming.{Same}
 
 -- the connections that have begun
 abbrev pub connections : List Entry → ℕ
-connections [] = 0
-connections (Begin ∷ es) = 1 + connections es
-connections (_ ∷ es) = connections es
-
--- the records of the open stream, after n of them
-abbrev pub records_after : ℕ → List Entry → ℕ
-records_after n [] = n
-records_after n (Begin ∷ es) = records_after 0 es
-records_after n (Call items ∷ es) = records_after (n + 1) es
-records_after n (Turn ∷ es) = records_after 0 es
-records_after n (Reply id items ∷ es) = records_after (n + 1) es
-records_after n (Close ∷ es) = records_after n es
-records_after n (End ∷ es) = records_after n es
+connections entries = begins entries
 
 -- the entry is a message of that side: a call of the client, a reply of the server
 abbrev pub IsMessageOf : Side → Option Entry → Type 0

@@ -4,9 +4,6 @@ pub mod ComparisonSteps
 pub mod Reading
 pub mod WritingSteps
 pub mod MessageWriter
-pub mod CountedKinds
 pub mod ProgressSteps
 pub mod PartialWrites
 pub mod Spelling
-pub mod Sums
-pub mod Tally

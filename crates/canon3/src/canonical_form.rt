@@ -1,6 +1,5 @@
 //! The canonical form of a capture, from a source to a sink.
 
-pub(crate) mod container_writer;
 pub(crate) mod message_writer;
 pub(crate) mod spelling;
 
@@ -8,24 +7,23 @@ ghost use Rattle.std.specs.Prelude.{◌≡◌, ◌<◌, ◌^◌, ◌++◌, ◌�
 ghost use Rattle.capture3.specs.Entries.{CountsReading};
 ghost use Rattle.capture3.specs.Entry as spec;
 ghost use Rattle.canon3.specs.Laws.{AreFirst};
-ghost use Rattle.canon3.specs.machinery.MessageWriter.{WriterStands, told_after, values_of};
+ghost use Rattle.canon3.specs.machinery.MessageWriter.{WriterRests, WriterStands};
 ghost use Rattle.capture3.specs.Told.{GavePrefix};
 ghost use Rattle.canon3.specs.CanonicalForm.{canonical_bytes, RewritesGiven, WritesNoMore};
 ghost use Rattle.canon3.specs.EntryWriter.{WritesAll};
+ghost use Rattle.canon3.specs.machinery.FormSteps.{Follows, values_before};
+ghost use Rattle.capture3.specs.MessageVisit.{HasHeard};
 ghost use Rattle.capture3.specs.Numbering.{IsLentAfter};
-ghost use Rattle.canon3.specs.machinery.FormSteps.{Follows};
-ghost use Rattle.capture3.specs.Entry.{items_of};
 ghost use Rattle.canon3.specs.WriteErrors.{CountsWriting, IsOfWriting};
 ghost use Rattle.canon3.specs.SinkWrites.{IsFlushed};
 
-use crate::canonical_form::container_writer::{write_magic, write_spelling};
 use crate::canonical_form::message_writer::MessageWriter;
-use crate::canonical_form::spelling::spelling_of_entry;
-use crate::entries::entry_counts::EntryCounts;
+use crate::canonical_form::spelling::{spelling_of_entry, write_spelling};
 use crate::entries::entry_writer::{CountingWriter, EntryWriter, write_entries};
 use crate::sink::Sink;
+use crate::sink::container::write_magic;
 use crate::summary::Summary;
-use capture3::{Error, Hashers, LentEntry, Source};
+use capture3::{Error, Hashers, LentEntry, Progress, Source};
 use std::alloc::Global;
 use std::hash::BuildHasher;
 
@@ -68,7 +66,7 @@ pub fn canon<R: Source, W: Sink, S: BuildHasher + Drop>(
     write_entries(alloc, hashers.calls, source, sink, &mut message_writer)
 }
 
-/// Writes the entry after the magic, and begins the next message.
+/// Writes the entry after the magic, and lets its message go.
 fn write_after_magic<S: BuildHasher + Drop, W: Sink>(
     message_writer: &mut MessageWriter<S>,
     sink: &mut W,
@@ -77,7 +75,7 @@ fn write_after_magic<S: BuildHasher + Drop, W: Sink>(
     ensures follows { (entries : List spec.Entry) (one : spec.Entry)
         → IsLentAfter entries entry.entry one
         → AreFirst (entries ++ one ∷ [])
-        → WriterStands message_writer.old (told_after (values_of entries) (items_of one))
+        → HasHeard WriterRests WriterStands message_writer.old (values_before entries) one
         → Follows message_writer.new (W.written sink.old) (W.written sink.new) entries one
         result }
     ensures count { CountsWriting (W.failures sink.old) (W.failures sink.new) result }
@@ -88,7 +86,7 @@ fn write_after_magic<S: BuildHasher + Drop, W: Sink>(
         Err(_) => return Err(Error::Memory),
     };
     write_spelling(sink, form, message_writer)?;
-    message_writer.begin_message();
+    message_writer.end_message();
     Ok(())
 }
 
@@ -105,11 +103,11 @@ impl<S: BuildHasher + Drop> EntryWriter for MessageWriter<S> {
 
     fn write<W: Sink>(
         &mut self,
-        counts: &EntryCounts,
+        progress: Progress,
         sink: &mut W,
         entry: LentEntry<'_>,
     ) -> Result<(), Error> {
-        write_magic(counts, sink)?;
+        write_magic(progress, sink)?;
         write_after_magic(self, sink, entry)
     }
 }

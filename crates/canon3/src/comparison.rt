@@ -7,21 +7,23 @@ ghost use Rattle.capture3.specs.Told.{GavePrefix, Told};
 ghost use Rattle.capture3.specs.Entries.{failure_of, source_of};
 ghost use Rattle.capture3.specs.machinery.EntriesHistory.{entries_left};
 ghost use Rattle.capture3.specs.Entry as spec;
-ghost use Rattle.capture3.specs.Laws.{most_entries};
 ghost use Rattle.canon3.specs.Comparison.{CountsReadingOf, DecidesGiven, DecidesSame};
-ghost use Rattle.canon3.specs.machinery.ComparisonSteps.{Compares, FindsOut, HasGiven, HasGivenOn, IsFound, IsReadAfter, IsReadOut, IsTold, IsComparing, Meets, met_second, ReadsOn, refusal_in, StepsOn};
+ghost use Rattle.canon3.specs.machinery.ComparisonSteps.{Compares, FindsOut, HasGiven, HasGivenOn, IsFound, IsReadAfter, IsReadOut, IsTold, IsComparing, Meets, met_second, refusal_in, StepsOn};
 ghost use Rattle.canon3.specs.machinery.Reading.{ReadsBoth, ReadsOne, ReadsSecond};
 ghost use Rattle.canon3.specs.Laws.{AreFirst};
-ghost use Rattle.canon3.specs.Progress.{steps_of};
 ghost use Rattle.capture3.specs.Numbering.{IsLentAfter};
-ghost use Rattle.capture3.specs.Entry.{items_of};
+ghost use Rattle.capture3.specs.Progress.{HasPassed};
+ghost use Rattle.canon3.specs.machinery.ProgressSteps.{place_from, side_of_kind};
 
 use crate::canonical_form::message_writer::MessageWriter;
 use crate::canonical_form::spelling::{are_alike, spelling_of_entry};
 use crate::comparison::verdict::{SameError, Verdict, Which, out_of_memory_in};
-use crate::entries::entry_kind::kind_of;
-use crate::entries::progress::Progress;
-use capture3::{Entries, Error, Fault, Hashers, LentEntry, Place, Silent, Source, new_block};
+use crate::entries::entry_writer::write_rest;
+use crate::sink::nowhere::Nowhere;
+use capture3::{
+    Entries, Error, Fault, Hashers, Kind, LentEntry, Place, Progress, Side, Silent, Source,
+    new_block,
+};
 use std::alloc::Global;
 use std::hash::BuildHasher;
 
@@ -69,64 +71,14 @@ pub fn same<A: Source, B: Source, S: BuildHasher + Drop>(
     };
     let mut entries = Entries::through(alloc, first_hashers.calls, first, block);
     let mut others = Entries::through(alloc, second_hashers.calls, second, other_block);
-    let comparison = Comparison {
+    let mut comparison = Comparison {
         first: MessageWriter::new(alloc, first_hashers.handles, first_hashers.verfs),
         second: MessageWriter::new(alloc, second_hashers.handles, second_hashers.verfs),
-        progress: Progress::new(),
     };
-    let result = compared(comparison, &mut entries, &mut others);
+    let result = comparison.judge(&mut entries, &mut others);
     entries.into_source();
     others.into_source();
     result
-}
-
-/// Compares what two new readers return.
-fn compared<A: Source, B: Source, S: BuildHasher + Drop>(
-    comparison: Comparison<S>,
-    first: &mut Entries<'_, A, S>,
-    second: &mut Entries<'_, B, S>,
-) -> Result<Verdict, SameError>
-    requires begins { IsComparing A.told B.told (A.told (source_of first.old))
-        (B.told (source_of second.old)) first.old second.old comparison }
-    requires room { steps_of comparison.progress + entries_left first.old ≤ most_entries }
-    requires going_first { failure_of first.old ≡ None }
-    requires going_second { failure_of second.old ≡ None }
-
-    // The verdict.
-    ensures gave { DecidesGiven (A.told (source_of first.old)) (A.told (source_of first.new))
-        (B.told (source_of second.old)) (B.told (source_of second.new)) result }
-
-    // The devices.
-    ensures reads { ReadsBoth A.failures B.failures first.old first.new
-        second.old second.new result }
-{
-    let finding = found(comparison, first, second)?;
-    conclude(finding, first, second)
-}
-
-/// Takes entries alternately, until what ends the comparison, and lets the comparison go.
-fn found<A: Source, B: Source, S: BuildHasher + Drop>(
-    mut comparison: Comparison<S>,
-    first: &mut Entries<'_, A, S>,
-    second: &mut Entries<'_, B, S>,
-) -> Result<Finding, SameError>
-    requires going_first { failure_of first.old ≡ None }
-    requires going_second { failure_of second.old ≡ None }
-    requires room { steps_of comparison.progress + entries_left first.old ≤ most_entries }
-
-    // What is found.
-    ensures found { (start other_start : Told)
-        → IsComparing A.told B.told start other_start first.old second.old comparison
-        → FindsOut A.told B.told start other_start first.new second.new result }
-    ensures going_first { OnOk result (failure_of first.new ≡ None) }
-    ensures going_second { IfOk result
-        (λ finding. failure_of second.new ≡ refusal_in (Some finding)) }
-
-    // The devices.
-    ensures reads { ReadsBoth A.failures B.failures first.old first.new
-        second.old second.new result }
-{
-    comparison.find(first, second)
 }
 
 /// What ends a comparison, if the rest of both captures is well formed.
@@ -199,24 +151,7 @@ fn drain<R: Source, S: BuildHasher + Drop>(entries: &mut Entries<'_, R, S>) -> R
         → IsReadOut start (R.told (source_of entries.new)) handed result }
     ensures reads { ReadsOne R.failures entries.old entries.new result }
 {
-    while read_next(entries)? {}
-    Ok(())
-}
-
-/// Reads the next entry. Returns `false` at the end.
-fn read_next<R: Source, S: BuildHasher + Drop>(
-    entries: &mut Entries<'_, R, S>,
-) -> Result<bool, Error>
-    requires going { failure_of entries.old ≡ None }
-    ensures on { (start : Told) (handed : List spec.Entry)
-        → HasGivenOn R.told start entries.old handed
-        → ReadsOn R.told start entries.new handed result }
-    ensures fewer { IfOk result (λ more. IsTrue more
-        → entries_left entries.new < entries_left entries.old) }
-    ensures going { OnOk result (failure_of entries.new ≡ None) }
-    ensures reads { ReadsOne R.failures entries.old entries.new result }
-{
-    Ok(entries.visit(&mut Silent)?.is_some())
+    write_rest(entries, &mut Nowhere, &mut Silent)
 }
 
 /// Two captures that are read side by side, each with numbers of its own.
@@ -224,10 +159,32 @@ fn read_next<R: Source, S: BuildHasher + Drop>(
 struct Comparison<S: BuildHasher + Drop> {
     first: MessageWriter<S>,
     second: MessageWriter<S>,
-    progress: Progress,
 }
 
 impl<S: BuildHasher + Drop> Comparison<S> {
+    /// Compares what two new readers return, and reads both to their ends.
+    fn judge<A: Source, B: Source>(
+        &mut self,
+        first: &mut Entries<'_, A, S>,
+        second: &mut Entries<'_, B, S>,
+    ) -> Result<Verdict, SameError>
+        requires begins { IsComparing A.told B.told (A.told (source_of first.old))
+            (B.told (source_of second.old)) first.old second.old self.old }
+        requires going_first { failure_of first.old ≡ None }
+        requires going_second { failure_of second.old ≡ None }
+
+        // The verdict.
+        ensures gave { DecidesGiven (A.told (source_of first.old)) (A.told (source_of first.new))
+            (B.told (source_of second.old)) (B.told (source_of second.new)) result }
+
+        // The devices.
+        ensures reads { ReadsBoth A.failures B.failures first.old first.new
+            second.old second.new result }
+    {
+        let finding = self.find(first, second)?;
+        conclude(finding, first, second)
+    }
+
     /// Takes one entry of each alternately, until they end, they part, or the second is refused.
     fn find<A: Source, B: Source>(
         &mut self,
@@ -236,7 +193,6 @@ impl<S: BuildHasher + Drop> Comparison<S> {
     ) -> Result<Finding, SameError>
         requires going_first { failure_of first.old ≡ None }
         requires going_second { failure_of second.old ≡ None }
-        requires room { steps_of self.old.progress + entries_left first.old ≤ most_entries }
 
         // What is found.
         ensures found { (start other_start : Told)
@@ -268,7 +224,6 @@ impl<S: BuildHasher + Drop> Comparison<S> {
     ) -> Result<Option<Finding>, SameError>
         requires going_first { failure_of first.old ≡ None }
         requires going_second { failure_of second.old ≡ None }
-        requires room { steps_of self.old.progress + entries_left first.old ≤ most_entries }
 
         // What came of the two entries.
         ensures steps { (start other_start : Told)
@@ -280,16 +235,14 @@ impl<S: BuildHasher + Drop> Comparison<S> {
             → entries_left first.new < entries_left first.old) }
         ensures going_first { OnOk result (failure_of first.new ≡ None) }
         ensures going_second { IfOk result (λ next. failure_of second.new ≡ refusal_in next) }
-        ensures room { IfOk result
-            (λ next. next ≡ None → steps_of self.new.progress + entries_left first.new ≤
-            most_entries) }
 
         // The devices.
         ensures reads { ReadsBoth A.failures B.failures first.old first.new
             second.old second.new result }
     {
+        let before = first.progress();
         match first.visit(&mut self.first) {
-            Ok(Some(entry)) => self.compare_second_entry(entry, second),
+            Ok(Some(entry)) => self.compare_second_entry(before, entry, second),
             Ok(None) => Ok(Some(Finding::Ended)),
             Err(error) => Err(SameError {
                 which: Which::First,
@@ -298,30 +251,31 @@ impl<S: BuildHasher + Drop> Comparison<S> {
         }
     }
 
-    /// Takes the second's entry beside the first's, whose items were visited.
+    /// Takes the second's entry beside the first's, whose items were visited, and before which the
+    /// entries had come so far.
     fn compare_second_entry<B: Source>(
         &mut self,
+        before: Progress,
         entry: LentEntry<'_>,
         second: &mut Entries<'_, B, S>,
     ) -> Result<Option<Finding>, SameError>
         requires going { failure_of second.old ≡ None }
-        requires room { steps_of self.old.progress + 1 < 2 ^ 32 }
 
         // What came of the two entries.
         ensures meets { (first now start : Told) (a b : List spec.Entry) (e : spec.Entry)
             → IsLentAfter a entry.entry e → AreFirst (a ++ e ∷ [])
-            → IsTold self.old a b (items_of e) [] → HasGiven B.told start second.old b
+            → HasPassed before a → length a + 1 < 2 ^ 32
+            → IsTold self.old a b (Some e) None → HasGiven B.told start second.old b
             → Meets B.told first now start second.new self.new a b e result }
 
         // What stays.
         ensures going { IfOk result (λ next. failure_of second.new ≡ refusal_in next) }
-        ensures few { steps_of self.new.progress ≤ steps_of self.old.progress + 1 }
 
         // The device.
         ensures reads { ReadsSecond B.failures second.old second.new result }
     {
         match second.visit(&mut self.second) {
-            Ok(Some(other)) => Ok(self.compare(entry, other)?.map(Finding::Parted)),
+            Ok(Some(other)) => Ok(self.compare(before, entry, other)?.map(Finding::Parted)),
             Ok(None) => Ok(Some(Finding::Ended)),
             Err(error) => refused(error),
         }
@@ -331,16 +285,16 @@ impl<S: BuildHasher + Drop> Comparison<S> {
     /// are alike.
     fn compare(
         &mut self,
+        before: Progress,
         entry: LentEntry<'_>,
         other: LentEntry<'_>,
     ) -> Result<Option<Place>, SameError>
-        requires room { steps_of self.old.progress + 1 < 2 ^ 32 }
         ensures compares { (a b : List spec.Entry) (e f : spec.Entry)
             → IsLentAfter a entry.entry e → IsLentAfter b other.entry f
             → AreFirst (a ++ e ∷ []) → AreFirst (b ++ f ∷ [])
-            → IsTold self.old a b (items_of e) (items_of f)
+            → HasPassed before a → length a + 1 < 2 ^ 32
+            → IsTold self.old a b (Some e) (Some f)
             → IfOk result (Compares self.new a b e f) }
-        ensures few { steps_of self.new.progress ≤ steps_of self.old.progress + 1 }
         ensures memory { IfErr result (λ error. error.error ≡ Error.Memory) }
     {
         let form = match spelling_of_entry(&mut self.first, entry) {
@@ -352,12 +306,44 @@ impl<S: BuildHasher + Drop> Comparison<S> {
             Err(_) => return Err(out_of_memory_in(Which::Second)),
         };
         if are_alike(form, &mut self.first, other_form, &mut self.second)? {
-            self.first.begin_message();
-            self.second.begin_message();
-            self.progress.pass(kind_of(entry));
+            self.first.end_message();
+            self.second.end_message();
             return Ok(None);
         }
-        Ok(Some(self.progress.place(kind_of(entry), kind_of(other))))
+        Ok(Some(place_after(before, entry.kind(), other.kind())))
+    }
+}
+
+/// Whose message an entry is.
+fn side_of(kind: Kind) -> Option<Side>
+    ensures { result ≡ side_of_kind kind }
+{
+    match kind {
+        Kind::Call(_) => Some(Side::Client),
+        Kind::Reply(_) => Some(Side::Server),
+        Kind::Begin | Kind::Turn | Kind::Close | Kind::End => None,
+    }
+}
+
+/// Returns where two entries differ, before which the entries had come so far: at the next record if
+/// one of them is a message, and otherwise before the records of the next connection.
+fn place_after(before: Progress, kind: Kind, other: Kind) -> Place
+    ensures { before.connections + 1 < 2 ^ 32 → before.records + 1 < 2 ^ 32
+        → result ≡ place_from before (side_of_kind kind) (side_of_kind other) }
+{
+    match side_of(kind).or(side_of(other)) {
+        Some(side) => Place::Record {
+            conn: before.connections,
+            side,
+            rec_no: before.records.saturating_add(1),
+            byte: 0,
+        },
+        None => Place::Record {
+            conn: before.connections.saturating_add(1),
+            side: Side::Client,
+            rec_no: 0,
+            byte: 0,
+        },
     }
 }
 

@@ -11,14 +11,12 @@ mod sink;
 mod summary;
 
 pub use canonical_form::canon;
-pub use canonical_form::container_writer::{write_magic, write_message, write_word};
 pub use comparison::same;
 pub use comparison::verdict::{SameError, Verdict, Which};
-pub use entries::entry_counts::EntryCounts;
-pub use entries::entry_kind::kind_of;
 pub use entries::entry_writer::{CountingWriter, EntryWriter, write_entries, write_form};
 pub use numbers::Numbers;
 pub use numbers::handles::HandleTable;
+pub use sink::container::{write_magic, write_message, write_word};
 pub use sink::mem_sink::MemSink;
 pub use sink::traced::Traced;
 pub use sink::whole_writes::{write_all, write_both};

@@ -1,6 +1,8 @@
 //! Sinks of bytes whose calls may fail.
 
+pub(crate) mod container;
 pub(crate) mod mem_sink;
+pub(crate) mod nowhere;
 pub(crate) mod traced;
 pub(crate) mod whole_writes;
 

@@ -66,9 +66,9 @@ pub use Rattle.capture3.specs.Told.{Gave, IsSpent, Told}
 pub use Rattle.capture3.specs.Typed.{Converses, HaveEntries, IsWellFormed, Typed, connection_entries, reply_entry, AnswerCalls, AreEach, HaveOneProcedure, IsIn}
 pub use Rattle.capture3.specs.declared.container.Container.{Container}
 pub use Rattle.capture3.specs.declared.container.Cursor.{Cursor}
-pub use Rattle.capture3.specs.declared.container.position.Event.{Event}
-pub use Rattle.capture3.specs.declared.container.position.Event.TheVariants.{Begin, Close, Record, Turn}
-pub use Rattle.capture3.specs.declared.container.position.Spot.{Spot}
+pub use Rattle.capture3.specs.declared.container.position.spot.Event.{Event}
+pub use Rattle.capture3.specs.declared.container.position.spot.Event.TheVariants.{Begin, Close, Record, Turn}
+pub use Rattle.capture3.specs.declared.container.position.spot.Spot.{Spot}
 pub use Rattle.capture3.specs.declared.container.position.TheConstants.{MAGIC}
 pub use Rattle.capture3.specs.declared.container.position.Transition.{Transition}
 pub use Rattle.capture3.specs.declared.fault.Error.{Error}

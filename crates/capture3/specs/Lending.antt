@@ -6,7 +6,6 @@ use Rattle.std.specs.Io.BufRead.{Rests}
 use mir.Syntax.{named}
 use Rattle.capture3.specs.Told.{Told}
 use Rattle.xdr3.specs.Item.{Item}
-use Rattle.xdr3.specs.Visit.{Adds}
 use Rattle.std.specs.declared.hash.BuildHasher as BuildHasher
 use Rattle.std.specs.declared.hash.Hasher as Hasher
 use Rattle.capture3.specs.declared.reader.entries.Entries.{Entries}
@@ -14,25 +13,26 @@ use Rattle.capture3.specs.contracts.reader.entries.Entries.{the_row}
 use Rattle.capture3.specs.declared.reader.entry.LentEntry.{LentEntry}
 use Rattle.capture3.specs.declared.reader.entry.LentEntry.TheVariants.{End}
 use Rattle.capture3.specs.declared.fault.Error.{Error}
-use Rattle.capture3.specs.Entry.{Entry, items_of}
+use Rattle.capture3.specs.Entry.{Entry}
 use Rattle.capture3.specs.Numbering.{IsLentAfter}
 use Rattle.capture3.specs.Entries.{IsOver, KeepsErrors, UsesSource}
 use Rattle.capture3.specs.Handing.{HandsOutGiven}
+use Rattle.capture3.specs.MessageVisit.{Hears}
 use Rattle.capture3.specs.machinery.EntriesHistory.{entries_left, StandsFor}
 
--- the entry is lent with its number, and its items were added to the visitor's
-abbrev pub IsNextLent : {V : Type 0} → (V → List Item → Type 0) → (was now : V)
+-- the entry is lent with its number, and the visitor was told it
+abbrev pub IsNextLent : {V : Type 0} → (rests stands : V → List Item → Type 0) → (was now : V)
     → (handed : List Entry) → LentEntry → Entry → Type 0
-IsNextLent stands was now handed lent entry =
-    IsLentAfter handed lent entry × Adds stands was now (items_of entry)
+IsNextLent rests stands was now handed lent entry =
+    IsLentAfter handed lent entry × Hears rests stands was now entry
 
 -- what a call leaves of a reader, for each history for which it stood, and what it lent of it
 pub record LendsNext {R S H V : Type 0} {builds : BuildHasher.Ghosts S H}
-    {hashes : Hasher.Ghosts H} (told : R → Told) (stands : V → List Item → Type 0)
+    {hashes : Hasher.Ghosts H} (told : R → Told) (rests stands : V → List Item → Type 0)
     (failures : R → ℕ) (old : Entries R S H builds hashes) (was now : V)
     (result : Result (Option LentEntry) Error) (new : Entries R S H builds hashes) : Type 0 where
   pub answers : (given : List ℕ) (handed : List Entry) → StandsFor told old given handed
-      → HandsOutGiven told (IsNextLent stands was now) old new given handed result
+      → HandsOutGiven told (IsNextLent rests stands was now) old new given handed result
   pub end : result ≡ Ok (Some End) → IsOver new
   pub over : IsOver old → (result ≡ Ok None) × (new ≡ old)
   pub fewer : IfOk result (λ next. IsSome next → entries_left new < entries_left old)
@@ -42,9 +42,9 @@ pub record LendsNext {R S H V : Type 0} {builds : BuildHasher.Ghosts S H}
 -- the reader ends as this, once what it lent is no longer used
 module _ (R S H : RattleType) {V : Type 0} (builds : BuildHasher.Ghosts S.Denot H.Denot)
     (hashes : Hasher.Ghosts H.Denot) where
-  abbrev pub EndsAs : (told : R.Denot → Told) (stands : V → List Item → Type 0)
+  abbrev pub EndsAs : (told : R.Denot → Told) (rests stands : V → List Item → Type 0)
       (failures : R.Denot → ℕ) → MutBor (Entries R.Denot S.Denot H.Denot builds hashes)
       → (was now : V) → Result (Option LentEntry) Error → Fml
-  EndsAs told stands failures reader was now result =
+  EndsAs told rests stands failures reader was now result =
       Rests (the_row (record { mir = named 0; lft = [] }) R S H builds hashes) reader
-      (λ new. LendsNext told stands failures reader.now was now result new)
+      (λ new. LendsNext told rests stands failures reader.now was now result new)

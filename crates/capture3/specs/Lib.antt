@@ -24,11 +24,13 @@ pub mod Kept
 pub mod Entries
 pub mod MessageScan
 pub mod MessageValues
+pub mod MessageVisit
 pub mod Handing
 pub mod Lending
 pub mod ReadAs
 pub mod ReadEntries
 pub mod Rank
 pub mod OpenXids
+pub mod Progress
 pub mod Numbering
 pub mod machinery

@@ -5,6 +5,7 @@ pub mod Container
 pub mod Counting
 pub mod EntriesHistory
 pub mod Pairing
+pub mod Placing
 pub mod ScannedMessages
 pub mod Messages
 pub mod PositionState

@@ -14,7 +14,8 @@ ghost use Rattle.record_mark.specs.RecordMark.{max_body};
 ghost use Rattle.record_mark.specs.Taking.{IsRunning, IsWhole, body_of, joining_of, released, unbegun};
 
 use crate::container::kept_streams::Streams;
-use crate::container::position::{Event, Position, Spot, Transition, WordOf, file_fault};
+use crate::container::position::spot::{Event, Spot, WordOf};
+use crate::container::position::{Position, Transition, file_fault};
 use crate::fault::{Error, Noted, Place, Side};
 use record_mark::{JoinError, Joiner, Step};
 use std::alloc::Global;

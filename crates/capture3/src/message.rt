@@ -7,6 +7,7 @@ pub(crate) mod reading;
 pub(crate) mod scan;
 pub(crate) mod silent;
 pub(crate) mod values;
+pub(crate) mod visiting;
 
 ghost use Rattle.std.specs.Prelude.{◌≡◌};
 

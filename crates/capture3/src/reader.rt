@@ -5,4 +5,5 @@ pub(crate) mod entry;
 pub(crate) mod entry_ref;
 pub(crate) mod hashers;
 pub(crate) mod pairing;
+pub(crate) mod progress;
 pub(crate) mod whole;

@@ -116,83 +116,43 @@ fn faults_of_record_marks(rt: HostRuntime) {
     assert_refused(&rt, rt.alloc(), &long, wanted);
 }
 
+/// A call of SETATTR whose first optional setting has the word 2 in place of a bool.
+const BAD_SETATTR: [u32; 19] = [
+    1, 0, 2, 100_003, 3, 2, 0, 0, 0, 0, 1, 0xaa000000, 2, 0, 0, 0, 0, 0, 0,
+];
+
+/// A call whose AUTH_SYS credential has a word behind its fields.
+const LONG_CREDENTIAL: [u32; 18] = [
+    1, 0, 2, 100_003, 3, 0, 1, 0x20, 1, 6, 0x636c6965, 0x6e740000, 0, 0, 0, 0, 0, 0,
+];
+
 /// The words of a record of the client's stream, and the byte and the reason of its fault.
+const OF_A_CALL: [(&[u32], u32, Reason); 9] = [
+    (&[], 0, Reason::Short),
+    (
+        &[5, 0, 2, 100_003, 3, 0, 0, 0, 0, 0, 0],
+        40,
+        Reason::Trailing,
+    ),
+    (&BAD_SETATTR, 48, Reason::BadBool),
+    (&[5, 2, 2, 100_003, 3, 0, 0, 0, 0, 0], 4, Reason::BadEnum),
+    (
+        &[1, 0, 2, 100_003, 3, 0, 1, 0x191, 1, 6],
+        28,
+        Reason::TooLong,
+    ),
+    (&[1, 0, 3, 100_003, 3, 0, 0, 0, 0, 0], 8, Reason::RpcVersion),
+    (&[1, 0, 2, 100_003, 3, 0, 6, 0, 0, 0], 24, Reason::Flavor),
+    (&LONG_CREDENTIAL, 60, Reason::AuthLength),
+    (&NULL_REPLY, 4, Reason::WrongSide),
+];
+
 #[test]
 fn faults_of_a_call(rt: HostRuntime) {
-    let rows: [(&[u32], u32, Reason); 9] = [
-        (&[], 0, Reason::Short),
-        (
-            &[5, 0, 2, 100_003, 3, 0, 0, 0, 0, 0, 0],
-            40,
-            Reason::Trailing,
-        ),
-        (
-            &[
-                1,
-                0,
-                2,
-                100_003,
-                3,
-                2,
-                0,
-                0,
-                0,
-                0,
-                1,
-                0xaa00_0000,
-                2,
-                0,
-                0,
-                0,
-                0,
-                0,
-                0,
-            ],
-            48,
-            Reason::BadBool,
-        ),
-        (&[5, 2, 2, 100_003, 3, 0, 0, 0, 0, 0], 4, Reason::BadEnum),
-        (
-            &[1, 0, 2, 100_003, 3, 0, 1, 0x191, 1, 6],
-            28,
-            Reason::TooLong,
-        ),
-        (&[1, 0, 3, 100_003, 3, 0, 0, 0, 0, 0], 8, Reason::RpcVersion),
-        (&[1, 0, 2, 100_003, 3, 0, 6, 0, 0, 0], 24, Reason::Flavor),
-        (
-            &[
-                1,
-                0,
-                2,
-                100_003,
-                3,
-                0,
-                1,
-                0x20,
-                1,
-                6,
-                0x636c_6965,
-                0x6e74_0000,
-                0,
-                0,
-                0,
-                0,
-                0,
-                0,
-            ],
-            60,
-            Reason::AuthLength,
-        ),
-        (&NULL_REPLY, 4, Reason::WrongSide),
-    ];
-    for (words, byte, reason) in rows {
+    for (words, byte, reason) in OF_A_CALL {
         let bytes = ok(&rt, capture(rt.alloc(), &[words], &[]));
-        assert_refused(
-            &rt,
-            rt.alloc(),
-            &bytes,
-            in_record(Side::Client, 1, byte, reason),
-        );
+        let wanted = in_record(Side::Client, 1, byte, reason);
+        assert_refused(&rt, rt.alloc(), &bytes, wanted);
     }
 }
 

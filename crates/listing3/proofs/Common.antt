@@ -5,7 +5,7 @@ pub use Rattle.canon3.proofs.Lemmas.Writing.SinkWritesLemmas.{front_of_first, fr
 pub use Rattle.canon3.specs.Parting.{connections, records_after}
 pub use Rattle.canon3.specs.SinkWrites.{AppendsFront}
 pub use Rattle.canon3.specs.machinery.PartialWrites.{TookUpTo}
-pub use Rattle.canon3.specs.machinery.Sums.{all_items}
+pub use Rattle.canon3.specs.HandleTable.{all_items}
 pub use Rattle.capture3.specs.Bodies.{ReplyItems, xid_in}
 pub use Rattle.capture3.specs.Entry.{Begin, Call, Close, End, Entry, Reply, Turn, items_of}
 pub use Rattle.hex.specs.Hex.{decode_of, encode_lower, lower_digits}
@@ -37,4 +37,4 @@ pub use Rattle.listing3.specs.declared.items_text.ItemsText.{ItemsText}
 pub use Rattle.listing3.specs.machinery.Fields.{HasShortName, field_name}
 pub use Rattle.listing3.specs.machinery.Halves.{AreHalves, halves_in_order}
 pub use Rattle.listing3.specs.machinery.ItemsText.{IsTextOfBody, IsWithin, TextStands, filled}
-pub use Rattle.listing3.specs.machinery.LineWriter.{HasLineUnderWay, IsTextOf, LineStands, SkipsOthers, after_front, always, items_before}
+pub use Rattle.listing3.specs.machinery.LineWriter.{HasLineUnderWay, HasNoLine, LineRests, LineStands, SkipsOthers, after_front, always, items_before}

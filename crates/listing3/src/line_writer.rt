@@ -3,31 +3,29 @@
 ghost use Rattle.std.specs.Prelude.{◌≡◌, ◌≤◌, ◌<◌, ◌+◌, ◌*◌, ◌^◌, ◌++◌, ◌∷◌, ℕ, List, [], codes, decimal, drop, length, take, None, IfErr, OnErr, OnOk};
 ghost use Rattle.std.specs.Io.KnownBytes.{Appends};
 ghost use Rattle.xdr3.specs.Item.{Handle as HandleKind, Item, Opaque, Spells, Word};
-ghost use Rattle.xdr3.specs.Plain.{run_items, run_size};
-ghost use Rattle.xdr3.specs.Visit.{Adds, AddsSome, Keeps};
+ghost use Rattle.xdr3.specs.Visit.{Adds, Keeps};
 ghost use Rattle.rpc_head.specs.Names.{head_names};
 ghost use Rattle.capture3.specs.Entry as spec;
 ghost use Rattle.capture3.specs.Entry.{items_of};
 ghost use Rattle.capture3.specs.Kept.{IsLent};
+ghost use Rattle.capture3.specs.MessageVisit.{HasHeard};
 ghost use Rattle.capture3.specs.machinery.Stepping.{IsOfKind};
 ghost use Rattle.canon3.specs.Laws.{AreFirst};
-ghost use Rattle.canon3.specs.EntryCounts.{connections_in, counted_steps, records_in};
-ghost use Rattle.canon3.specs.machinery.Sums.{all_items};
+ghost use Rattle.capture3.specs.Progress.{HasPassed};
 ghost use Rattle.canon3.specs.WriteErrors.{CountsWriting, IsOfWriting};
 ghost use Rattle.canon3.specs.SinkWrites.{AppendsFront};
 ghost use Rattle.listing3.specs.machinery.ItemsText.{filled};
-ghost use Rattle.listing3.specs.machinery.LineWriter.{after_front, LineStands};
+ghost use Rattle.listing3.specs.machinery.LineWriter.{after_front, items_before, LineRests, LineStands};
 ghost use Rattle.listing3.specs.Listing.{entry_line, line, opening, prefix, procedure_name};
 
 use crate::filling::write_filled;
 use crate::gathering::Gathering;
 use crate::items_text::{ItemsText, encoded_size};
 use crate::line_text::LineText;
-use byteorder::{BigEndian, ByteOrder};
-use canon3::{CountingWriter, EntryCounts, EntryWriter, HandleTable, Sink, kind_of, write_both};
-use capture3::{Error, Kind, LentEntry};
+use canon3::{CountingWriter, EntryWriter, HandleTable, Sink, write_both};
+use capture3::{Error, Kind, LentEntry, MessageVisit, Progress};
 use procs3::proc_name;
-use rpc_head::ProcId;
+use rpc_head::{ProcId, Start};
 use std::alloc::{AllocError, Global};
 use std::hash::BuildHasher;
 use xdr3::{PlainField, Visit};
@@ -37,8 +35,8 @@ use xdr3::{PlainField, Visit};
 #[derive(Drop)]
 pub(crate) struct LineWriter<H: Gathering + Drop> {
     handles: H,
-    // The xid, once it was told, and the text of the items after it.
-    xid: Option<u32>,
+    // The xid of the message, and the text of the items after it.
+    xid: u32,
     items: ItemsText,
     // The text before the items.
     head: LineText,
@@ -77,22 +75,21 @@ impl<H: Gathering + Drop> LineWriter<H> {
     /// Returns a writer before a capture.
     pub(crate) fn new(alloc: Global, handles: H) -> LineWriter<H>
         requires { H.stands handles [] }
-        ensures { LineStands H.stands result (after_front [] []) }
+        ensures { LineRests H.stands result (after_front [] []) }
     {
         LineWriter {
             handles,
-            xid: None,
+            xid: 0,
             items: ItemsText::new(alloc),
             head: LineText::new(alloc),
         }
     }
 
-    /// Begins a message in place of the one before.
-    fn begin_message(&mut self)
+    /// Lets the message go.
+    fn end_message(&mut self)
         ensures { (items : List Item) → H.stands self.old.handles items
-            → LineStands H.stands self.new (after_front items []) }
+            → LineRests H.stands self.new (after_front items []) }
     {
-        self.xid = None;
         self.items.forget();
     }
 
@@ -112,50 +109,30 @@ impl<H: Gathering + Drop> LineWriter<H> {
         Ok(())
     }
 
-    /// Takes the first field, which is the xid, and then the others at once.
-    #[inline(never)]
-    fn take_first(&mut self, fields: &[PlainField], bytes: &[u8]) -> Result<(), AllocError>
-        requires size { length bytes.now ≡ run_size fields.now }
-        requires begins { self.old.xid ≡ None }
-        ensures ok { OnOk result
-            (Adds (LineStands H.stands) self.old self.new (run_items fields.now bytes.now)) }
-        ensures err { OnErr result
-            (AddsSome (LineStands H.stands) self.old self.new (run_items fields.now bytes.now)) }
-    {
-        let Some((first, more)) = fields.split_first() else {
-            return Ok(());
-        };
-        match *first {
-            PlainField::Word(_) => {
-                self.xid = Some(BigEndian::read_u32(bytes));
-                self.items.plain(more, &bytes[4..])
-            }
-            PlainField::Hyper(_) => self.items.plain(fields, bytes),
-        }
-    }
-
     /// Composes the line of the message whose items were visited.
     #[inline(always)]
     fn compose(
         &mut self,
-        counts: &EntryCounts,
+        progress: Progress,
         side: &'static str,
-        xid: u32,
         id: ProcId,
     ) -> Result<(), AllocError>
-        requires { counted_steps counts.now + 1 < 2 ^ 32 }
         ensures handles { self.new.handles ≡ self.old.handles }
-        ensures head { OnOk result
+        ensures head { progress.records + 1 < 2 ^ 32 → OnOk result
             (self.new.head ≡
-            prefix (connections_in counts.now) side.now (records_in counts.now + 1)
-            ++ ((opening (codes "xid") ++ decimal xid) ++ (32 ∷ procedure_name id))) }
+            prefix progress.connections side.now (progress.records + 1)
+            ++ ((opening (codes "xid") ++ decimal self.old.xid) ++ (32 ∷ procedure_name id))) }
         ensures items { OnOk result (self.new.items.text ≡ self.old.items.text ++ 10 ∷ []) }
         ensures gap { self.new.items.gap ≡ self.old.items.gap }
     {
         self.head.forget();
+        self.head.append_prefix(
+            progress.connections,
+            side,
+            progress.records.saturating_add(1),
+        )?;
         self.head
-            .append_prefix(counts.connections(), side, counts.records() + 1)?;
-        self.head.append_xid_and_name(xid, name_of_procedure(id))?;
+            .append_xid_and_name(self.xid, name_of_procedure(id))?;
         self.items.text.end_line()
     }
 
@@ -182,40 +159,35 @@ impl<H: Gathering + Drop> LineWriter<H> {
         }
     }
 
-    /// Writes the line of the message with this body, whose items were visited. Each message has an
-    /// xid.
+    /// Writes the line of the message with this body, whose items were visited.
     #[inline(always)]
     fn write_line<W: Sink>(
         &mut self,
-        counts: &EntryCounts,
+        progress: Progress,
         sink: &mut W,
         side: &'static str,
         id: ProcId,
         body: &[u8],
     ) -> Result<(), Error>
-        requires { counted_steps counts.now + 1 < 2 ^ 32 }
         ensures handles { self.new.handles ≡ self.old.handles }
-        ensures ok { (front rest : List Item) (n : ℕ)
+        ensures ok { (front rest : List Item) (n : ℕ) → progress.records + 1 < 2 ^ 32
             → Spells (Word head_names.xid n ∷ rest) body.now
             → LineStands H.stands self.old (after_front front (Word head_names.xid n ∷ rest))
             → OnOk result
             (Appends (W.written sink.old) (W.written sink.new)
-            (line (connections_in counts.now) side.now (records_in counts.now + 1) id
+            (line progress.connections side.now (progress.records + 1) id
             (Word head_names.xid n ∷ rest))) }
-        ensures err { (front rest : List Item) (n : ℕ)
+        ensures err { (front rest : List Item) (n : ℕ) → progress.records + 1 < 2 ^ 32
             → Spells (Word head_names.xid n ∷ rest) body.now
             → LineStands H.stands self.old (after_front front (Word head_names.xid n ∷ rest))
             → OnErr result
             (AppendsFront (W.written sink.old) (W.written sink.new)
-            (line (connections_in counts.now) side.now (records_in counts.now + 1) id
+            (line progress.connections side.now (progress.records + 1) id
             (Word head_names.xid n ∷ rest))) }
         ensures count { CountsWriting (W.failures sink.old) (W.failures sink.new) result }
         ensures error { IfErr result IsOfWriting }
     {
-        let Some(xid) = self.xid else {
-            return Ok(());
-        };
-        match self.compose(counts, side, xid, id) {
+        match self.compose(progress, side, id) {
             Ok(()) => self.hand_over(sink, body),
             Err(_) => Err(Error::Memory),
         }
@@ -224,31 +196,34 @@ impl<H: Gathering + Drop> LineWriter<H> {
     /// Writes the line of an entry that is a message with this body, and whose items were visited.
     fn write_entry<W: Sink>(
         &mut self,
-        counts: &EntryCounts,
+        progress: Progress,
         sink: &mut W,
         kind: Kind,
         body: &[u8],
     ) -> Result<(), Error>
-        requires { counted_steps counts.now + 1 < 2 ^ 32 }
         ensures handles { self.new.handles ≡ self.old.handles }
         ensures ok { (entries : List spec.Entry) (one : spec.Entry) → IsOfKind kind one
             → Spells (items_of one) body.now → AreFirst (entries ++ one ∷ [])
-            → LineStands H.stands self.old (after_front (all_items entries) (items_of one))
+            → HasPassed progress entries → length (entries ++ one ∷ []) < 2 ^ 32
+            → HasHeard (LineRests H.stands) (LineStands H.stands) self.old
+            (items_before entries) one
             → OnOk result
             (Appends (W.written sink.old) (W.written sink.new)
-            (entry_line (connections_in counts.now) (records_in counts.now) one)) }
+            (entry_line progress.connections progress.records one)) }
         ensures err { (entries : List spec.Entry) (one : spec.Entry) → IsOfKind kind one
             → Spells (items_of one) body.now → AreFirst (entries ++ one ∷ [])
-            → LineStands H.stands self.old (after_front (all_items entries) (items_of one))
+            → HasPassed progress entries → length (entries ++ one ∷ []) < 2 ^ 32
+            → HasHeard (LineRests H.stands) (LineStands H.stands) self.old
+            (items_before entries) one
             → OnErr result
             (AppendsFront (W.written sink.old) (W.written sink.new)
-            (entry_line (connections_in counts.now) (records_in counts.now) one)) }
+            (entry_line progress.connections progress.records one)) }
         ensures count { CountsWriting (W.failures sink.old) (W.failures sink.new) result }
         ensures error { IfErr result IsOfWriting }
     {
         match kind {
-            Kind::Call(id) => self.write_line(counts, sink, "client", id, body),
-            Kind::Reply(id) => self.write_line(counts, sink, "server", id, body),
+            Kind::Call(id) => self.write_line(progress, sink, "client", id, body),
+            Kind::Reply(id) => self.write_line(progress, sink, "server", id, body),
             Kind::Begin | Kind::Turn | Kind::Close | Kind::End => Ok(()),
         }
     }
@@ -261,13 +236,7 @@ impl<H: Gathering + Drop> Visit for LineWriter<H> {
     ghost stands = { LineStands H.stands };
 
     fn word(&mut self, name: &'static str, n: u32) -> Result<(), AllocError> {
-        match self.xid {
-            Some(_) => self.items.word(name, n),
-            None => {
-                self.xid = Some(n);
-                Ok(())
-            }
-        }
+        self.items.word(name, n)
     }
 
     fn hyper(&mut self, name: &'static str, n: u64) -> Result<(), AllocError> {
@@ -301,10 +270,18 @@ impl<H: Gathering + Drop> Visit for LineWriter<H> {
 
     #[inline(always)]
     fn plain(&mut self, fields: &[PlainField], bytes: &[u8]) -> Result<(), AllocError> {
-        match self.xid {
-            Some(_) => self.items.plain(fields, bytes),
-            None => self.take_first(fields, bytes),
-        }
+        self.items.plain(fields, bytes)
+    }
+}
+
+impl<H: Gathering + Drop> MessageVisit for LineWriter<H> {
+    ghost use Rattle.listing3.specs.machinery.LineWriter.{LineRests};
+
+    ghost rests = { LineRests H.stands };
+
+    fn begin(&mut self, start: Start) -> Result<(), AllocError> {
+        self.xid = start.xid;
+        self.items.word("mtype", start.is_reply as u32)
     }
 }
 
@@ -320,12 +297,12 @@ impl<H: Gathering + Drop> EntryWriter for LineWriter<H> {
 
     fn write<W: Sink>(
         &mut self,
-        counts: &EntryCounts,
+        progress: Progress,
         sink: &mut W,
         entry: LentEntry<'_>,
     ) -> Result<(), Error> {
-        let written = self.write_entry(counts, sink, kind_of(entry), body_of(entry));
-        self.begin_message();
+        let written = self.write_entry(progress, sink, entry.kind(), body_of(entry));
+        self.end_message();
         written
     }
 }

@@ -64,6 +64,6 @@ pub use Rattle.masking3.specs.declared.ways.Way.{Way}
 pub use Rattle.masking3.specs.declared.ways.Way.TheVariants.{Keep, Number, Zero}
 pub use Rattle.masking3.specs.declared.ways.Ways.{Ways}
 pub use Rattle.masking3.specs.machinery.ClassTables.{HoldsAt, HoldsValues, no_values, tables_in, with_one}
-pub use Rattle.masking3.specs.machinery.MaskingWriter.{HasMaskedUnderWay, HasMemory, MaskStands, after_messages, told_entry, told_item, told_items, told_value, values_so_far, written_as}
-pub use Rattle.masking3.specs.machinery.MessageSpot.{BeginsOn, class_found, first_spot, found_after, found_next, mtype_of}
+pub use Rattle.masking3.specs.machinery.MaskingWriter.{HasMaskedUnderWay, HasMemory, HasNoneUnderWay, HoldsMasked, MaskRests, MaskStands, after_messages, told_entry, told_item, told_items, told_value, values_so_far, written_as}
+pub use Rattle.masking3.specs.machinery.MessageSpot.{BeginsOn, first_spot, mtype_of, side_by, spot_after}
 pub use Rattle.masking3.specs.machinery.UnnamedBody.{body_by, has_name, head_less_by, name_room, unnamed_body}

@@ -1,7 +1,7 @@
 //! The attributes of a file (RFC 1813, section 2.5), masked at once. Their fields are told by all their names, which
 //! are constants where attributes are read, so no name is compared when the program runs.
 
-ghost use Rattle.std.specs.Prelude.{◌≡◌, ◌≤◌, ◌+◌, ◌∷◌, List, [], IsTrue, Some, OnOk, drop, length, map, take};
+ghost use Rattle.std.specs.Prelude.{◌≡◌, ◌≤◌, ◌+◌, ◌∷◌, List, [], IsTrue, OnOk, drop, length, map, take};
 ghost use Rattle.byteorder.specs.Endian.{big_number};
 ghost use Rattle.xdr3.specs.Item.{Hyper, Word};
 ghost use Rattle.xdr3.specs.Visit.{Adds};
@@ -89,13 +89,13 @@ pub(crate) fn are_attributes(fields: &[PlainField]) -> bool
 impl<P: Plan, S: BuildHasher + Drop> MaskingWriter<P, S> {
     /// Writes attributes after the type.
     #[tactic(auto, using(crate::proofs::Lemmas::Classes::KnownFieldLemmas::known), unfolding(nfs3_types::specs::Names::names, rpc_head::specs::Names::head_names))]
-    pub(crate) fn write_attributes(&mut self, spot: Spot, bytes: &[u8]) -> Result<(), AllocError>
-        requires size { length bytes.now ≡ 80 }
-        requires spot { self.old.spot ≡ Some spot }
+    pub(crate) fn write_attributes(&mut self, bytes: &[u8]) -> Result<(), AllocError>
+        requires { length bytes.now ≡ 80 }
         ensures { OnOk result
             (Adds (MaskStands P.ways) self.old self.new (attributes_in bytes.now)) }
     {
         let mut run = [0u8; SIZE];
+        let spot = self.spot;
         let (wcc, times) = (class_in_wcc(spot), Some(Class::Times));
         self.put_word(&mut run, 0, spot, "mode", None, bytes)?;
         self.put_word(&mut run, 4, spot, "nlink", wcc, bytes)?;
@@ -129,7 +129,7 @@ impl<P: Plan, S: BuildHasher + Drop> MaskingWriter<P, S> {
     ) -> Result<(), AllocError>
         requires size { length bytes.now ≡ 80 }
         requires within { at + 4 ≤ 80 }
-        requires spot { self.old.spot ≡ Some spot }
+        requires spot { self.old.spot ≡ spot }
         requires known { IsKnown spot class name.now }
         ensures ok { OnOk result (Adds (MaskStands P.ways) (with_run self.old (take at run.old))
             (with_run self.new (take (at + 4) run.new))
@@ -155,7 +155,7 @@ impl<P: Plan, S: BuildHasher + Drop> MaskingWriter<P, S> {
     ) -> Result<(), AllocError>
         requires size { length bytes.now ≡ 80 }
         requires within { at + 8 ≤ 80 }
-        requires spot { self.old.spot ≡ Some spot }
+        requires spot { self.old.spot ≡ spot }
         requires known { class_of_hyper spot name.now ≡ class }
         ensures ok { OnOk result (Adds (MaskStands P.ways) (with_run self.old (take at run.old))
             (with_run self.new (take (at + 8) run.new))

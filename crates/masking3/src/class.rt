@@ -1,9 +1,7 @@
 //! The classes of values that two runs of one script never share, and the items that belong to them.
 
-ghost use Rattle.std.specs.Prelude.{◌≡◌, ℕ, List};
+ghost use Rattle.std.specs.Prelude.{◌≡◌};
 ghost use Rattle.masking3.specs.Classes.{class_in_wcc, class_of_fixed, class_of_group, class_of_hyper, class_of_word, position, zero_stays};
-ghost use Rattle.masking3.specs.machinery.MessageSpot.{class_found};
-ghost use Rattle.xdr3.specs.Item.{Fixed, Hyper};
 
 use crate::spot::Spot;
 
@@ -100,7 +98,7 @@ pub(crate) fn class_of_word(spot: Spot, name: &str) -> Option<Class>
 
 /// Returns the class of a number of eight bytes of this name.
 #[tactic(auto, unfolding(nfs3_types::specs::Names::names))]
-fn class_of_hyper(spot: Spot, name: &str) -> Option<Class>
+pub(crate) fn class_of_hyper(spot: Spot, name: &str) -> Option<Class>
     ensures { result ≡ class_of_hyper spot name.now }
 {
     match name {
@@ -115,34 +113,14 @@ fn class_of_hyper(spot: Spot, name: &str) -> Option<Class>
     }
 }
 
-/// Returns the class of a number of eight bytes of this name, if its spot is known.
-pub(crate) fn hyper_class(spot: Option<Spot>, name: &str) -> Option<Class>
-    ensures { (n : ℕ) → result ≡ class_found spot (Hyper name.now n) }
-{
-    match spot {
-        Some(spot) => class_of_hyper(spot, name),
-        None => None,
-    }
-}
-
 /// Returns the class of eight bytes of this name.
 #[tactic(auto, unfolding(nfs3_types::specs::Names::names))]
-fn class_of_fixed(name: &str) -> Option<Class>
+pub(crate) fn class_of_fixed(name: &str) -> Option<Class>
     ensures { result ≡ class_of_fixed name.now }
 {
     match name {
         "cookieverf" => Some(Class::CookieVerifiers),
         "createverf" => Some(Class::CreateVerifiers),
         _ => None,
-    }
-}
-
-/// Returns the class of eight bytes of this name, if their spot is known.
-pub(crate) fn fixed_class(spot: Option<Spot>, name: &str) -> Option<Class>
-    ensures { (bytes : List ℕ) → result ≡ class_found spot (Fixed name.now bytes) }
-{
-    match spot {
-        Some(_) => class_of_fixed(name),
-        None => None,
     }
 }

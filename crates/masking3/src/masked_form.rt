@@ -11,10 +11,8 @@ ghost use Rattle.masking3.specs.Masked.{masked_bytes};
 use crate::hashers::MaskHashers;
 use crate::masking_writer::{MaskingWriter, Plan};
 use crate::ways::Ways;
-use canon3::{
-    CountingWriter, EntryCounts, EntryWriter, Sink, Summary, kind_of, write_entries, write_magic,
-};
-use capture3::{Error, LentEntry, Source};
+use canon3::{CountingWriter, EntryWriter, Sink, Summary, write_entries, write_magic};
+use capture3::{Error, LentEntry, Progress, Source};
 use std::alloc::Global;
 use std::hash::BuildHasher;
 use std::marker::Brand;
@@ -91,16 +89,16 @@ impl<P: Plan, S: BuildHasher + Drop> EntryWriter for MaskingWriter<P, S> {
 
     fn write<W: Sink>(
         &mut self,
-        counts: &EntryCounts,
+        progress: Progress,
         sink: &mut W,
         entry: LentEntry<'_>,
     ) -> Result<(), Error> {
         if self.failed {
             return Err(Error::Memory);
         }
-        write_magic(counts, sink)?;
-        self.write_entry(sink, kind_of(entry))?;
-        self.begin_message();
+        write_magic(progress, sink)?;
+        self.write_entry(sink, entry.kind())?;
+        self.end_message();
         Ok(())
     }
 }

@@ -1,6 +1,6 @@
 //! The writer of the masked form, one message at a time.
 
-ghost use Rattle.std.specs.Prelude.{◌≡◌, ◌≤◌, ◌++◌, ◌∷◌, List, [], None, Some, length, true, IfErr, OnErr, OnOk};
+ghost use Rattle.std.specs.Prelude.{◌≡◌, ◌≤◌, ◌++◌, ◌∷◌, List, [], length, true, IfErr, OnErr, OnOk};
 ghost use Rattle.std.specs.Io.KnownBytes.{Appends};
 ghost use Rattle.byteorder.specs.Endian.{big_bytes};
 ghost use Rattle.xdr3.specs.Item.{Fixed, Handle as HandleKind, Hyper, Item, Opaque, Rest, Word};
@@ -11,23 +11,24 @@ ghost use Rattle.canon3.specs.SinkWrites.{AppendsFront};
 ghost use Rattle.canon3.specs.WriteErrors.{CountsWriting, IsOfWriting};
 ghost use Rattle.masking3.specs.Ways.{usual};
 ghost use Rattle.capture3.specs.declared.fault.Side.{Side};
-ghost use Rattle.masking3.specs.machinery.MaskingWriter.{HasMemory, MaskStands, after_messages, told_items, written_as};
-ghost use Rattle.masking3.specs.machinery.MessageSpot.{BeginsOn, first_spot};
+ghost use Rattle.masking3.specs.machinery.MaskingWriter.{HasMemory, HoldsMasked, MaskRests, MaskStands, after_messages, told_items, written_as};
+ghost use Rattle.masking3.specs.machinery.MessageSpot.{first_spot};
 ghost use Rattle.masking3.specs.machinery.UnnamedBody.{body_by};
 
 use crate::attributes::are_attributes;
-use crate::class::{class_of_word, fixed_class, hyper_class};
+use crate::class::{class_of_fixed, class_of_hyper, class_of_word};
 use crate::class_tables::ClassTables;
 use crate::hashers::ClassHashers;
 use crate::kept::{are_kept, is_free_name};
-use crate::spot::{Spot, first_found, spot_after};
+use crate::spot::{Spot, first_spot, spot_after};
 use crate::texts::masked_text;
 use crate::unnamed_body::write_unnamed;
 use crate::ways::{Way, Ways};
 use crate::zeros::write_zeros;
 use byteorder::{BigEndian, ByteOrder};
 use canon3::{HandleTable, Sink, write_message, write_word};
-use capture3::{Error, Kind};
+use capture3::{Error, Kind, MessageVisit};
+use rpc_head::Start;
 use std::alloc::{AllocError, Global};
 use std::hash::BuildHasher;
 use std::marker::{Brand, PhantomData};
@@ -51,8 +52,8 @@ pub(crate) struct MaskingWriter<P: Plan, S: BuildHasher + Drop> {
     pub(crate) handles: HandleTable<S>,
     pub(crate) classes: ClassTables<S>,
     pub(crate) writer: Writer,
-    /// Where the next item stands, once the side of its message is known.
-    pub(crate) spot: Option<Spot>,
+    /// Where the next item of the open message stands.
+    pub(crate) spot: Spot,
     /// Memory ran out, and the tables may have more than was written.
     pub(crate) failed: bool,
     plan: PhantomData<P>,
@@ -67,53 +68,36 @@ impl<P: Plan, S: BuildHasher + Drop> MaskingWriter<P, S> {
         classes: ClassHashers<S>,
     ) -> MaskingWriter<P, S>
         requires { ways ≡ P.ways }
-        ensures stands { MaskStands P.ways result (after_messages [] []) }
+        ensures rests { MaskRests P.ways result (after_messages [] []) }
         ensures going { HasMemory result }
     {
         MaskingWriter {
             handles: HandleTable::new(alloc, handles),
             classes: ClassTables::new(alloc, ways, classes),
             writer: Writer::new(alloc),
-            spot: None,
+            spot: Spot::InCall,
             failed: false,
             plan: PhantomData,
         }
     }
 
-    /// Begins a message in place of the one before.
-    pub(crate) fn begin_message(&mut self)
-        ensures stands { (front items : List Item) (side : Side) → BeginsOn side items
-            → MaskStands P.ways self.old (after_messages front items)
-            → MaskStands P.ways self.new
+    /// Lets the message go, and keeps its values.
+    pub(crate) fn end_message(&mut self)
+        ensures rests { (front items : List Item) (side : Side)
+            → HoldsMasked P.ways self.old front side items
+            → MaskRests P.ways self.new
             (after_messages (front ++ told_items (first_spot side) items) []) }
         ensures going { HasMemory self.old → HasMemory self.new }
     {
         self.writer.clear();
-        self.spot = None;
     }
 
-    /// Writes a word up to the mtype, none of which has a class.
-    fn write_first(&mut self, name: &'static str, n: u32) -> Result<(), AllocError>
-        requires { self.old.spot ≡ None }
+    fn write_masked_word(&mut self, name: &'static str, n: u32) -> Result<(), AllocError>
         ensures ok { OnOk result
             (Adds (MaskStands P.ways) self.old self.new (Word name.now n ∷ [])) }
     {
-        self.spot = first_found(name, n);
-        self.writer.word(name, n)
-    }
-
-    fn write_masked_word(
-        &mut self,
-        spot: Spot,
-        name: &'static str,
-        n: u32,
-    ) -> Result<(), AllocError>
-        requires { self.old.spot ≡ Some spot }
-        ensures ok { OnOk result
-            (Adds (MaskStands P.ways) self.old self.new (Word name.now n ∷ [])) }
-    {
-        let class = class_of_word(spot, name);
-        self.spot = Some(spot_after(spot, class, name, n));
+        let class = class_of_word(self.spot, name);
+        self.spot = spot_after(self.spot, class, name, n);
         let put = self.classes.replaced_word(class, n)?;
         self.writer.word(name, put)
     }
@@ -122,7 +106,7 @@ impl<P: Plan, S: BuildHasher + Drop> MaskingWriter<P, S> {
         ensures ok { OnOk result
             (Adds (MaskStands P.ways) self.old self.new (Hyper name.now n ∷ [])) }
     {
-        let class = hyper_class(self.spot, name);
+        let class = class_of_hyper(self.spot, name);
         let put = self.classes.replaced_hyper(class, n)?;
         self.writer.hyper(name, put)
     }
@@ -131,7 +115,7 @@ impl<P: Plan, S: BuildHasher + Drop> MaskingWriter<P, S> {
         ensures ok { OnOk result
             (Adds (MaskStands P.ways) self.old self.new (Fixed name.now bytes.now ∷ [])) }
     {
-        let class = fixed_class(self.spot, name);
+        let class = class_of_fixed(name);
         let value = BigEndian::read_u64(bytes);
         match self.classes.substitute(class, value)? {
             Some(substitute) => self
@@ -148,10 +132,7 @@ impl<P: Plan, S: BuildHasher + Drop> MaskingWriter<P, S> {
             (Adds (MaskStands P.ways) self.old self.new (Word name.now n ∷ [])) }
         ensures err { OnErr result (self.new.failed ≡ true) }
     {
-        let written = match self.spot {
-            Some(spot) => self.write_masked_word(spot, name, n),
-            None => self.write_first(name, n),
-        };
+        let written = self.write_masked_word(name, n);
         self.fail_for_good(written)
     }
 
@@ -165,10 +146,10 @@ impl<P: Plan, S: BuildHasher + Drop> MaskingWriter<P, S> {
         if are_kept(fields, self.classes.ways.owners) {
             return self.writer.plain(fields, bytes);
         }
-        match self.spot {
-            Some(spot) if are_attributes(fields) => self.write_attributes(spot, bytes),
-            _ => self.write_each(fields, bytes),
+        if are_attributes(fields) {
+            return self.write_attributes(bytes);
         }
+        self.write_each(fields, bytes)
     }
 
     /// Writes words and hypers, each by itself.
@@ -326,5 +307,16 @@ impl<P: Plan, S: BuildHasher + Drop> Visit for MaskingWriter<P, S> {
     fn plain(&mut self, fields: &[PlainField], bytes: &[u8]) -> Result<(), AllocError> {
         let written = self.write_run(fields, bytes);
         self.fail_for_good(written)
+    }
+}
+
+impl<P: Plan, S: BuildHasher + Drop> MessageVisit for MaskingWriter<P, S> {
+    ghost use Rattle.masking3.specs.machinery.MaskingWriter.{MaskRests};
+
+    ghost rests = { MaskRests P.ways };
+
+    fn begin(&mut self, start: Start) -> Result<(), AllocError> {
+        self.spot = first_spot(start.is_reply);
+        self.writer.begin(start)
     }
 }

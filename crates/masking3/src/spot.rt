@@ -1,10 +1,10 @@
 //! Where an item stands in its message, as far as its class depends on that.
 
-ghost use Rattle.std.specs.Prelude.{◌≡◌, None};
+ghost use Rattle.std.specs.Prelude.{◌≡◌};
 ghost use Rattle.xdr3.specs.Item.{Word};
 ghost use Rattle.masking3.specs.Classes.{class_of_word};
 ghost use Rattle.masking3.specs.Spots.{after_word, next_spot};
-ghost use Rattle.masking3.specs.machinery.MessageSpot.{found_next};
+ghost use Rattle.masking3.specs.machinery.MessageSpot.{first_spot, side_by};
 
 use crate::class::Class;
 
@@ -59,14 +59,13 @@ pub(crate) fn spot_after(spot: Spot, class: Option<Class>, name: &str, n: u32) -
     }
 }
 
-/// Returns the spot after a word up to the mtype. There is none before that, which is 0 in a call (RFC 5531, section 9).
-#[tactic(auto, unfolding(rpc_head::specs::Names::head_names))]
-pub(crate) fn first_found(name: &str, n: u32) -> Option<Spot>
-    ensures { result ≡ found_next None (Word name.now n) }
+/// Returns the spot of the first item of a message.
+pub(crate) fn first_spot(is_reply: bool) -> Spot
+    ensures { result ≡ first_spot (side_by is_reply) }
 {
-    match name {
-        "mtype" if n == 0 => Some(Spot::InCall),
-        "mtype" => Some(Spot::InReply),
-        _ => None,
+    if is_reply {
+        Spot::InReply
+    } else {
+        Spot::InCall
     }
 }

@@ -1,5 +1,5 @@
 -- What comes of a command line, from its words on.
-use Rattle.std.specs.Prelude.{◌≡◌, ◌⊎◌, ℕ, List, [], map, Option, Some, Err, string_bytes}
+use Rattle.std.specs.Prelude.{◌≡◌, ◌⊎◌, ℕ, Bool, false, List, [], map, Option, Some, Err, string_bytes}
 use Rattle.capture3.specs.declared.fault.Error.TheVariants as errors
 use Rattle.canon3.specs.CanonicalForm.{canonical_bytes}
 use Rattle.canon3.specs.Summary.{IsSummary}
@@ -14,42 +14,65 @@ use Rattle.program3.specs.declared.outcome.Outcome.{Outcome}
 use Rattle.program3.specs.declared.outcome.Outcome.TheVariants as outcomes
 use Rattle.nfs3canon.specs.Files.{ComparesFiles, CountsFile, ListsFile, PacksFile}
 
--- without random bytes a command that hashes reads nothing, and answers as after a failed read
-abbrev pub ReadsNone : (HasNoKeys : Type 0) → List FileReading → (told outcome : Outcome) → Type 0
-ReadsNone HasNoKeys readings told outcome = HasNoKeys × (readings ≡ []) × (outcome ≡ told)
+-- what a run of the program was given, and what came of it
+pub record ProgramRun (W : Type 0) : Type 0 where
+  -- whether the system gave random bytes
+  pub has_keys : Bool
+  -- the bytes that files have by their names, where they are known
+  pub holds : List ℕ → Option (List ℕ)
+  -- what was read of files
+  pub readings : List FileReading
+  -- the files that were finished, before and after
+  pub finished_before : List WrittenFile
+  pub finished_after : List WrittenFile
+  -- what a writer to standard output holds
+  pub contents : W → Option (List ℕ)
+  -- standard output before, and what came back of it
+  pub stdout_before : W
+  pub stdout_after : Option W
 
--- Whether the system gave no random bytes; the bytes that files have by their names, where they are
--- known; what was read; which files were finished before and after, and what a writer holds;
--- standard output, and what came back of it.
-module _ (HasNoKeys : Type 0) (holds : List ℕ → Option (List ℕ)) (readings : List FileReading)
-    (old new : List WrittenFile) {W : Type 0} (contents : W → Option (List ℕ)) (stdout : W)
-    (back : Option W) where
+-- the outcome of a command that hashes is that of a failed read
+abbrev pub AnswersUnread : Job → Outcome → Type 0
+AnswersUnread (jobs.Check file) outcome = outcome ≡ outcomes.Counted (Err errors.Read)
+AnswersUnread (jobs.Show file) outcome = outcome ≡ outcomes.Listed (Err errors.Read)
+AnswersUnread (jobs.Canon input output) outcome = outcome ≡ outcomes.Counted (Err errors.Read)
+AnswersUnread (jobs.Same first second) outcome =
+    outcome ≡ outcomes.Compared (Err (record { which = First; error = errors.Read }))
+AnswersUnread (jobs.Pack output streams) outcome = ⊥
+
+module _ {W : Type 0} (run : ProgramRun W) where
   -- nothing is finished, and nothing written to standard output
   abbrev pub KeepsQuiet : Type 0
-  KeepsQuiet = (new ≡ old) × (back ≡ Some stdout)
+  KeepsQuiet = (run.finished_after ≡ run.finished_before)
+      × (run.stdout_after ≡ Some run.stdout_before)
 
-  -- the outcome of a job is that of what was read of the files of its names
+  -- the outcome is that of what was read of the files of the job's names
+  abbrev pub DoesJob : Job → Outcome → Type 0
+  DoesJob (jobs.Check file) outcome =
+      KeepsQuiet × CountsFile run.holds run.readings file.now outcome
+  DoesJob (jobs.Show file) outcome = (run.finished_after ≡ run.finished_before)
+      × ListsFile run.holds run.readings run.contents file.now run.stdout_before outcome
+      run.stdout_after
+  DoesJob (jobs.Canon input output) outcome = (run.stdout_after ≡ Some run.stdout_before)
+      × RewritesFile IsSummary canonical_bytes run.holds input.now output.now run.readings
+      run.finished_before run.finished_after outcome
+  DoesJob (jobs.Same first second) outcome =
+      KeepsQuiet × ComparesFiles run.holds run.readings first.now second.now outcome
+  DoesJob (jobs.Pack output streams) outcome = (run.stdout_after ≡ Some run.stdout_before)
+      × PacksFile run.holds output.now (map string_bytes streams.now) run.readings
+      run.finished_before run.finished_after outcome
+
+  -- Without random bytes a command that hashes reads nothing, and answers as after a failed read.
+  abbrev pub LacksKeys : Job → Outcome → Type 0
+  LacksKeys job outcome = (run.has_keys ≡ false) × AnswersUnread job outcome × (run.readings ≡ [])
+      × KeepsQuiet
+
   abbrev pub AnswersJob : Job → Outcome → Type 0
-  AnswersJob (jobs.Check file) outcome = KeepsQuiet
-      × (CountsFile holds readings file.now outcome
-      ⊎ ReadsNone HasNoKeys readings (outcomes.Counted (Err errors.Read)) outcome)
-  AnswersJob (jobs.Show file) outcome = (new ≡ old)
-      × (ListsFile holds readings contents file.now stdout outcome back
-      ⊎ (ReadsNone HasNoKeys readings (outcomes.Listed (Err errors.Read)) outcome
-      × (back ≡ Some stdout)))
-  AnswersJob (jobs.Canon input output) outcome = (back ≡ Some stdout)
-      × (RewritesFile IsSummary canonical_bytes holds input.now output.now readings old new outcome
-      ⊎ (ReadsNone HasNoKeys readings (outcomes.Counted (Err errors.Read)) outcome × (new ≡ old)))
-  AnswersJob (jobs.Same first second) outcome = KeepsQuiet
-      × (ComparesFiles holds readings first.now second.now outcome
-      ⊎ ReadsNone HasNoKeys readings
-      (outcomes.Compared (Err (record { which = First; error = errors.Read }))) outcome)
-  AnswersJob (jobs.Pack output streams) outcome = (back ≡ Some stdout)
-      × PacksFile holds output.now (map string_bytes streams.now) readings old new outcome
+  AnswersJob job outcome = DoesJob job outcome ⊎ LacksKeys job outcome
 
   -- The words ask for a job, and this is its outcome; or they are refused, and nothing is read or
   -- written.
   abbrev pub AnswersLine : (words : List (List ℕ)) → Outcome → Type 0
   AnswersLine words outcome = ((job : Job) × Asks words job × AnswersJob job outcome)
       ⊎ ((fault : LineFault) × (outcome ≡ outcomes.Line fault) × AreRefused words fault
-      × (readings ≡ []) × KeepsQuiet)
+      × (run.readings ≡ []) × KeepsQuiet)

@@ -9,7 +9,7 @@ mod packing;
 #[cfg(test)]
 mod tests;
 
-ghost use Rattle.std.specs.Prelude.{◌≡◌, [], Bool, None, Some, map, string_bytes, true};
+ghost use Rattle.std.specs.Prelude.{◌≡◌, [], Bool, None, Some, map, string_bytes};
 ghost use Rattle.std.specs.declared.io.Stdout.{Stdout};
 ghost use Rattle.canon3.specs.Traced.{TracedWriter};
 ghost use Rattle.program3.specs.Readings.{readings_in};
@@ -37,11 +37,17 @@ fn job_hashers(rt: &HostRuntime) -> io::Result<JobHashers<SecretHasher>> {
 
 /// Does what the words ask for, with the files of the system and its standard output.
 fn run<'a>(rt: &'a HostRuntime, words: Vec<String>) -> (Answer<Traced<Stdout>>, System<'a>)
-    ensures answers { (has_no_keys : Bool) × (stdout : TracedWriter Stdout) × (stdout.taken ≡ [])
-        × AnswersLine (has_no_keys ≡ true) (λ _. None) (readings_in result.0.readings) []
-        (finished_of result.1)
-        (λ writer. Some writer.taken) stdout result.0.stdout
-        (map string_bytes words.items) result.0.ended.outcome }
+    ensures answers { (has_keys : Bool) × (stdout : TracedWriter Stdout) × (stdout.taken ≡ [])
+        × AnswersLine (record {
+          has_keys = has_keys;
+          holds = λ _. None;
+          readings = readings_in result.0.readings;
+          finished_before = [];
+          finished_after = finished_of result.1;
+          contents = λ writer. Some writer.taken;
+          stdout_before = stdout;
+          stdout_after = result.0.stdout;
+        }) (map string_bytes words.items) result.0.ended.outcome }
 {
     let mut files = System::new(rt);
     let stdout = Traced::new(rt.stdout());

@@ -7,8 +7,9 @@ ghost use Rattle.nfs3_types.specs.Handle.{handle_bytes};
 ghost use Rattle.uses.specs.Comparing.{HandlesPart, HasHandles, IsFirstOther, RefusesOneOf};
 
 use canon3::{SameError, Which};
-use capture3::{Entries, Error, Source};
+use capture3::{Entries, Error, MessageVisit, Source};
 use nfs3_types::Handle;
+use rpc_head::Start;
 use std::alloc::{AllocError, Global};
 use std::hash::BuildHasher;
 use std::marker::Model;
@@ -84,6 +85,17 @@ impl Visit for Handles {
     }
 
     fn rest(&mut self, _name: &'static str, _bytes: &[u8]) -> Result<(), AllocError> {
+        Ok(())
+    }
+}
+
+impl MessageVisit for Handles {
+    ghost use Rattle.std.specs.Prelude.{◌≡◌};
+    ghost use Rattle.uses.specs.Comparing.{handles_of_items};
+
+    ghost rests = { λ handles items. handles ≡ handles_of_items items };
+
+    fn begin(&mut self, _start: Start) -> Result<(), AllocError> {
         Ok(())
     }
 }

@@ -8,8 +8,8 @@ ghost use Rattle.capture3.specs.Kept.{IsLent};
 ghost use Rattle.uses.specs.Counting.{is_call_of};
 ghost use Rattle.uses.specs.Summing.{HasSummed, IsSum, SumsWrites, writing};
 
-use capture3::{Entries, Error, LentEntry, Source};
-use rpc_head::ProcId;
+use capture3::{Entries, Error, LentEntry, MessageVisit, Source};
+use rpc_head::{ProcId, Start};
 use std::alloc::{AllocError, Global};
 use std::hash::BuildHasher;
 use xdr3::Visit;
@@ -74,6 +74,16 @@ impl Visit for DataBytes {
     }
 
     fn rest(&mut self, _name: &'static str, _bytes: &[u8]) -> Result<(), AllocError> {
+        Ok(())
+    }
+}
+
+impl MessageVisit for DataBytes {
+    ghost use Rattle.uses.specs.Summing.{HasSummed};
+
+    ghost rests = { HasSummed };
+
+    fn begin(&mut self, _start: Start) -> Result<(), AllocError> {
         Ok(())
     }
 }

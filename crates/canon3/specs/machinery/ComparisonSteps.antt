@@ -1,9 +1,8 @@
 -- Two captures that are compared entry by entry: how far it has come, and what each step finds.
-use Rattle.std.specs.Prelude.{◌≡◌, ◌≢◌, ℕ, Bool, true, false, length, Option, None, Some, List, [], ◌∷◌, ◌++◌, Result, Ok, Err}
+use Rattle.std.specs.Prelude.{◌≡◌, ◌≢◌, ℕ, length, Option, None, Some, List, [], ◌∷◌, ◌++◌, Result, Ok, Err}
 use Rattle.capture3.specs.Told.{Gave, Told}
 use Rattle.std.specs.declared.hash.BuildHasher as BuildHasher
 use Rattle.std.specs.declared.hash.Hasher as Hasher
-use Rattle.xdr3.specs.Item.{Item}
 use Rattle.capture3.specs.declared.reader.entries.Entries.{Entries}
 use Rattle.capture3.specs.declared.fault.Error.{Error}
 use Rattle.capture3.specs.declared.fault.Error.TheVariants as errors
@@ -11,6 +10,7 @@ use Rattle.capture3.specs.declared.fault.Place.{Place}
 use Rattle.capture3.specs.Entries.{source_of}
 use Rattle.capture3.specs.machinery.EntriesHistory.{StandsFor}
 use Rattle.capture3.specs.Entry.{Entry}
+use Rattle.capture3.specs.MessageVisit.{HasHeard}
 use Rattle.capture3.specs.Typed.{Typed}
 use Rattle.canon3.specs.declared.comparison.Comparison.{Comparison}
 use Rattle.canon3.specs.declared.comparison.Finding.{Finding}
@@ -21,9 +21,10 @@ use Rattle.canon3.specs.declared.comparison.verdict.Which.{Which}
 use Rattle.canon3.specs.declared.comparison.verdict.Which.TheVariants.{Second}
 use Rattle.canon3.specs.Bytes.{bytes_of}
 use Rattle.canon3.specs.Canonical.{canonical}
-use Rattle.canon3.specs.machinery.MessageWriter.{told_after, WriterStands, values_of}
+use Rattle.canon3.specs.declared.canonical_form.message_writer.MessageWriter.{MessageWriter}
+use Rattle.canon3.specs.machinery.FormSteps.{values_before}
+use Rattle.canon3.specs.machinery.MessageWriter.{WriterRests, WriterStands}
 use Rattle.canon3.specs.Parting.{IsPlaceOf}
-use Rattle.canon3.specs.Progress.{HasPassed}
 use Rattle.canon3.specs.Comparison.{CountsReadingOf, GaveAll, GaveFault, StopsGiven}
 
 -- as many first entries of each, whose canonical forms have equal bytes
@@ -37,18 +38,21 @@ pub record PartWith (a b : List Entry) (e f : Entry) (place : Place) : Type 0 wh
   pub differ : bytes_of (canonical (a ++ e ∷ [])) ≢ bytes_of (canonical (b ++ f ∷ []))
   pub place_is : IsPlaceOf a (Some e) (Some f) place
 
--- these were compared, and the numberings stand for their values, and for these items of the next
--- two messages
+-- the writer holds the values of these entries, and was told the one after them, if there is one
+abbrev pub HasTold : {S H : Type 0} → MessageWriter S H → List Entry → Option Entry → Type 0
+HasTold n entries None = WriterRests n (values_before entries)
+HasTold n entries (Some one) = HasHeard WriterRests WriterStands n (values_before entries) one
+
+-- these were compared, and the numberings stand for their values, and were told the next two
 pub record IsTold {S H : Type 0} (comparison : Comparison S H) (a b : List Entry)
-    (items others : List Item) : Type 0 where
+    (next other : Option Entry) : Type 0 where
   pub agree : Agree a b
-  pub first : WriterStands comparison.first (told_after (values_of a) items)
-  pub second : WriterStands comparison.second (told_after (values_of b) others)
-  pub progress : HasPassed comparison.progress a
+  pub first : HasTold comparison.first a next
+  pub second : HasTold comparison.second b other
 
 -- these were compared
 abbrev pub IsCompared : {S H : Type 0} → Comparison S H → (a b : List Entry) → Type 0
-IsCompared comparison a b = IsTold comparison a b [] []
+IsCompared comparison a b = IsTold comparison a b None None
 
 abbrev pub Compares : {S H : Type 0} → Comparison S H → (a b : List Entry) (e f : Entry)
     → Option Place → Type 0
@@ -105,12 +109,6 @@ module _ {R S H : Type 0} {builds : BuildHasher.Ghosts S H} {hashes : Hasher.Gho
   pub record HasGivenOn (handed : List Entry) : Type 0 where
     pub more : List Entry
     pub all : HasGiven (handed ++ more)
-
-  abbrev pub ReadsOn : List Entry → Result Bool Error → Type 0
-  ReadsOn handed (Ok true) = HasGivenOn handed
-  ReadsOn handed (Ok false) = (more : List Entry)
-      × GaveAll start (telling (source_of reader)) (handed ++ more)
-  ReadsOn handed (Err error) = SaysOfGiven start (telling (source_of reader)) error
 
 -- the first source told this at the start and now, and the second this at its start
 module _ {R S H : Type 0} {builds : BuildHasher.Ghosts S H} {hashes : Hasher.Ghosts H}

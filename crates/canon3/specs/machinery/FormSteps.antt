@@ -6,7 +6,7 @@ use Rattle.capture3.specs.declared.fault.Error.{Error}
 use Rattle.capture3.specs.Capture.{One, magic}
 use Rattle.capture3.specs.Entry.{Entry}
 use Rattle.canon3.specs.declared.canonical_form.message_writer.MessageWriter.{MessageWriter}
-use Rattle.canon3.specs.machinery.MessageWriter.{told_after, IsGoing, WriterStands, values_of}
+use Rattle.canon3.specs.machinery.MessageWriter.{told_after, IsGoing, WriterRests, values_of}
 use Rattle.canon3.specs.machinery.Spelling.{bytes_after}
 use Rattle.canon3.specs.SinkWrites.{AppendsFront}
 
@@ -27,6 +27,6 @@ magic_unless false = magic One
 abbrev pub Follows : {S H : Type 0} → MessageWriter S H → (old new : Option (List ℕ)) → List Entry
     → Entry → {X : Type 0} → Result X Error → Type 0
 Follows n old new entries one (Ok x) = IsGoing n
-    × WriterStands n (values_before (entries ++ one ∷ []))
+    × WriterRests n (values_before (entries ++ one ∷ []))
     × Appends old new (bytes_after entries (one ∷ []))
 Follows n old new entries one (Err error) = AppendsFront old new (bytes_after entries (one ∷ []))

@@ -1,12 +1,10 @@
 -- A writer of messages with numbers in place of file handles and write verifiers, which are noted
 -- as replacements in a message's body after its xid.
-use Rattle.std.specs.Prelude.{◌≡◌, ◌≢◌, ℕ, ◌<◌, ◌^◌, List, [], ◌∷◌, ◌++◌, length, drop, bytes_eq}
+use Rattle.std.specs.Prelude.{◌≡◌, ℕ, false, ◌<◌, ◌^◌, List, [], ◌∷◌, ◌++◌, length, drop, bytes_eq}
 use Rattle.xdr3.specs.Item.{Item, Word, Rest, Spells, word_bytes, zero_spelling}
 use Rattle.patches.specs.Patches.{Makes, Noted, patched}
 use Rattle.capture3.specs.Entry.{Entry}
 use Rattle.canon3.specs.declared.canonical_form.message_writer.MessageWriter.{MessageWriter}
-use Rattle.canon3.specs.declared.canonical_form.message_writer.Stage.{Stage}
-use Rattle.canon3.specs.declared.canonical_form.message_writer.Stage.TheVariants.{Begins, Goes, Failed}
 use Rattle.canon3.specs.CanonicalStream.{items_after}
 use Rattle.canon3.specs.HandleTable.{HoldsHandles}
 use Rattle.capture3.specs.Rank.{HoldsDistinct}
@@ -50,19 +48,16 @@ IsNotedMessage noted before items =
     AreFew (before.handles ++ handles_in items) (before.verifiers ++ verifiers_in items)
     → IsNotedAs noted items (items_after before.handles before.verifiers items)
 
--- the message up to here, which begins with its xid; nothing is said where it begins with another
--- item
-abbrev pub IsSpelled : Stage → Noted → Before → List Item → Type 0
-IsSpelled stage noted before [] = (stage ≡ Begins) × IsNotedAs noted [] []
-IsSpelled stage noted before (Word name x ∷ items) = (stage ≡ Goes)
-    × IsNotedMessage noted before items
-IsSpelled stage noted before _ = Unit {0}
-
+-- a message that is open: its xid, and the items after it
 pub record IsWithinMessage {S H : Type 0} (n : MessageWriter S H) (before : Before)
     (items : List Item) : Type 0 where
-  pub handles : HoldsHandles n.handles (before.handles ++ handles_in items)
-  pub verifiers : HoldsDistinct bytes_eq n.verfs (before.verifiers ++ verifiers_in items)
-  pub spelled : IsSpelled n.stage n.patches before items
+  pub name : List ℕ
+  pub xid : ℕ
+  pub rest : List Item
+  pub begins : items ≡ Word name xid ∷ rest
+  pub handles : HoldsHandles n.handles (before.handles ++ handles_in rest)
+  pub verifiers : HoldsDistinct bytes_eq n.verfs (before.verifiers ++ verifiers_in rest)
+  pub noted : IsNotedMessage n.patches before rest
 
 -- A visitor stands for lists of items alone. So items in front of the message's own tell what was
 -- there before it.
@@ -81,14 +76,24 @@ pub record HasMessageUnderWay {S H : Type 0} (n : MessageWriter S H)
   pub are : all ≡ told_after before items
   pub under_way : IsWithinMessage n before items
 
+-- no message is open
+pub record HasNoMessage {S H : Type 0} (n : MessageWriter S H) (all : List Item) : Type 0 where
+  pub before : Before
+  pub are : all ≡ told_after before []
+  pub holds : HoldsBefore n before
+  pub fresh : Makes n.patches [] []
+
 -- the message with this body: the number of its xid, and what is made of the other bytes
 abbrev pub message_of : {S H : Type 0} → MessageWriter S H → (body : List ℕ) → List ℕ
 message_of n body = word_bytes n.xid ++ patched n.patches (drop 4 body)
 
 -- it has not failed
 abbrev pub IsGoing : {S H : Type 0} → MessageWriter S H → Type 0
-IsGoing n = n.stage ≢ Failed
+IsGoing n = n.failed ≡ false
 
 -- nothing is said of one that has failed
 abbrev pub WriterStands : {S H : Type 0} → MessageWriter S H → List Item → Type 0
 WriterStands n all = IsGoing n → HasMessageUnderWay n all
+
+abbrev pub WriterRests : {S H : Type 0} → MessageWriter S H → List Item → Type 0
+WriterRests n all = IsGoing n → HasNoMessage n all

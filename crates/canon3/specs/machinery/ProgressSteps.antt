@@ -1,24 +1,13 @@
--- How an entry leads the progress on, and the place that comes next.
+-- The place that comes next.
 use Rattle.std.specs.Prelude.{◌+◌, Option, None, Some}
 use Rattle.capture3.specs.declared.fault.Side.{Side}
 use Rattle.capture3.specs.declared.fault.Side.TheVariants.{Client, Server}
 use Rattle.capture3.specs.declared.fault.Place.{Place}
 use Rattle.capture3.specs.declared.fault.Place.TheVariants as places
 use Rattle.capture3.specs.Entry.{Entry, Call, Reply}
-use Rattle.canon3.specs.declared.entries.progress.Progress.{Progress}
+use Rattle.capture3.specs.declared.reader.progress.Progress.{Progress}
 use Rattle.capture3.specs.declared.reader.entry.Kind.{Kind}
 use Rattle.capture3.specs.declared.reader.entry.Kind.TheVariants as kinds
-
--- one entry more
-abbrev pub progress_after : Progress → Kind → Progress
-progress_after progress kinds.Begin = record { connections = progress.connections + 1; records = 0 }
-progress_after progress (kinds.Call id) =
-    record { connections = progress.connections; records = progress.records + 1 }
-progress_after progress kinds.Turn = record { connections = progress.connections; records = 0 }
-progress_after progress (kinds.Reply id) =
-    record { connections = progress.connections; records = progress.records + 1 }
-progress_after progress kinds.Close = progress
-progress_after progress kinds.End = progress
 
 -- whose message it is
 abbrev pub side_of_kind : Kind → Option Side

@@ -1,22 +1,22 @@
 //! The writer of the canonical form, one message at a time.
 
-ghost use Rattle.std.specs.Prelude.{◌≡◌, ◌≢◌, ◌≤◌, ◌++◌, ◌∷◌, ℕ, List, [], bytes_eq, drop, length, min, take, vec_len, IfOk, OnErr, OnOk};
+ghost use Rattle.std.specs.Prelude.{◌≡◌, ◌≢◌, ◌≤◌, ◌++◌, ◌∷◌, ℕ, List, [], bytes_eq, drop, length, min, take, true, vec_len, IfOk, IsTrue, OnErr, OnOk};
 ghost use Rattle.xdr3.specs.Item.{Handle as HandleKind, Item, Kind, Opaque, Word, WriteVerf, residue, word_bytes};
-ghost use Rattle.xdr3.specs.Plain.{run_items, run_size};
 ghost use Rattle.xdr3.specs.Visit.{Adds, body_limit};
 ghost use Rattle.canon3.specs.Bytes.{chunk_bytes, record_bytes};
 ghost use Rattle.canon3.specs.HandleTable.{HoldsHandles};
-ghost use Rattle.canon3.specs.machinery.MessageWriter.{Before, HoldsBefore, IsGoing, WriterStands, message_of, told_after, values_of};
+ghost use Rattle.canon3.specs.machinery.MessageWriter.{Before, HoldsBefore, IsGoing, WriterRests, WriterStands, message_of, told_after, values_of};
 ghost use Rattle.capture3.specs.Rank.{number_limit, rank};
 ghost use Rattle.canon3.specs.Renaming.{IsPlain};
 
 use crate::numbers::Numbers;
 use crate::sink::whole_writes::{HEAD, chunk_head};
 use byteorder::{BigEndian, ByteOrder};
-use capture3::pack_chunk;
+use capture3::{MessageVisit, pack_chunk};
 use nfs3_types::Handle;
 use patches::Patches;
 use record_mark::BODY_LIMIT;
+use rpc_head::Start;
 use std::alloc::{AllocError, Global};
 use std::hash::BuildHasher;
 use xdr3::room::{make_room, put_bytes};
@@ -24,17 +24,6 @@ use xdr3::{PlainField, Visit};
 
 /// So many bytes take longer to copy than to write by themselves.
 const MANY: usize = 16_384;
-
-/// How far the message is.
-#[derive(Clone, Copy)]
-pub(crate) enum Stage {
-    /// The message has been opened; its xid is the next item.
-    Begins,
-    /// Its xid was passed.
-    Goes,
-    /// An allocation failed, and the tables may have more than was noted.
-    Failed,
-}
 
 /// The numbers of a capture's values so far, and what they replace in the body of the message whose
 /// items are visited. The reader has the number of the message's xid.
@@ -48,7 +37,8 @@ pub(crate) struct MessageWriter<S: BuildHasher + Drop> {
     pub(crate) patches: Patches,
     /// A buffer for a message with its numbers. What it contains means nothing.
     pub(crate) room: Vec<u8>,
-    pub(crate) stage: Stage,
+    /// An allocation failed, and the tables may have more than was noted.
+    pub(crate) failed: bool,
 }
 
 /// Returns the handle's number. The handle has at most 64 bytes.
@@ -100,7 +90,7 @@ fn set_head(room: &mut [u8], head: [u8; HEAD])
 impl<S: BuildHasher + Drop> MessageWriter<S> {
     /// Returns a writer before a capture.
     pub(crate) fn new(alloc: Global, handles: S, verfs: S) -> MessageWriter<S>
-        ensures stands { WriterStands result (told_after (values_of []) []) }
+        ensures rests { WriterRests result (told_after (values_of []) []) }
         ensures going { IsGoing result }
     {
         MessageWriter {
@@ -109,28 +99,57 @@ impl<S: BuildHasher + Drop> MessageWriter<S> {
             xid: 0,
             patches: Patches::new(alloc),
             room: Vec::new(alloc),
-            stage: Stage::Begins,
+            failed: false,
         }
     }
 
-    /// Begins a message in place of the one before.
-    pub(crate) fn begin_message(&mut self)
-        ensures stands { (before : Before) → HoldsBefore self.old before
-            → WriterStands self.new (told_after before []) }
+    /// Lets the message go, and keeps its values.
+    pub(crate) fn end_message(&mut self)
+        ensures rests { (before : Before) → HoldsBefore self.old before
+            → WriterRests self.new (told_after before []) }
         ensures going { IsGoing self.new }
     {
         self.patches.clear();
-        self.stage = Stage::Begins;
+        self.failed = false;
+    }
+
+    /// Takes the number of the message's xid.
+    #[inline(always)]
+    pub(crate) fn set_number(&mut self, number: u32)
+        ensures { self.new ≡ record self.old { xid = number } }
+    {
+        self.xid = number;
     }
 
     /// Returns an error if an earlier allocation failed; the writer can then not be used further.
     pub(crate) fn unless_failed(&self) -> Result<(), AllocError>
         ensures { OnOk result (IsGoing self.now) }
     {
-        match self.stage {
-            Stage::Failed => Err(AllocError),
-            Stage::Begins | Stage::Goes => Ok(()),
+        if self.failed {
+            return Err(AllocError);
         }
+        Ok(())
+    }
+
+    /// Returns whether two messages with these bodies have the same number, and the same
+    /// replacements and bytes between them, one by one.
+    pub(crate) fn is_alike(&self, body: &[u8], other: &MessageWriter<S>, other_body: &[u8]) -> bool
+        ensures { IsTrue result
+            → message_of self.now body.now ≡ message_of other.now other_body.now }
+    {
+        self.xid == other.xid
+            && self
+                .patches
+                .are_alike(after_xid(body), &other.patches, after_xid(other_body))
+    }
+
+    /// Returns the first bytes of what was put into `room`.
+    #[inline(always)]
+    pub(crate) fn composed(&self, len: usize) -> &[u8]
+        requires { len ≤ vec_len self.now.room }
+        ensures { result.now ≡ take len self.now.room.items }
+    {
+        &self.room[..len]
     }
 
     /// Puts the message with this body into `room`, with numbers, and returns its length. The items
@@ -233,31 +252,14 @@ impl<S: BuildHasher + Drop> MessageWriter<S> {
         }
     }
 
-    /// Passes the first field, which may be the xid, and then the others at once.
-    #[inline(never)]
-    fn note_first(&mut self, fields: &[PlainField], bytes: &[u8])
-        requires size { length bytes.now ≡ run_size fields.now }
-        requires begins { self.old.stage ≡ Stage.Begins }
-        ensures { Adds WriterStands self.old self.new (run_items fields.now bytes.now) }
-    {
-        let Some((first, _)) = fields.split_first() else {
-            return;
-        };
-        self.stage = Stage::Goes;
-        match *first {
-            PlainField::Word(_) => self.patches.keep(bytes.len() - 4),
-            PlainField::Hyper(_) => self.patches.keep(bytes.len()),
-        }
-    }
-
     /// Says nothing more of the tables after an error.
     fn fail_for_good(&mut self, noted: Result<(), AllocError>) -> Result<(), AllocError>
         ensures result { result ≡ noted }
         ensures ok { OnOk noted (self.new ≡ self.old) }
-        ensures err { OnErr noted (self.new.stage ≡ Stage.Failed) }
+        ensures err { OnErr noted (self.new.failed ≡ true) }
     {
         if noted.is_err() {
-            self.stage = Stage::Failed;
+            self.failed = true;
         }
         noted
     }
@@ -270,10 +272,7 @@ impl<S: BuildHasher + Drop> Visit for MessageWriter<S> {
     ghost stands = { WriterStands };
 
     fn word(&mut self, _name: &'static str, _n: u32) -> Result<(), AllocError> {
-        match self.stage {
-            Stage::Begins => self.stage = Stage::Goes,
-            Stage::Goes | Stage::Failed => self.patches.keep(4),
-        }
+        self.patches.keep(4);
         Ok(())
     }
 
@@ -318,11 +317,20 @@ impl<S: BuildHasher + Drop> Visit for MessageWriter<S> {
 
     // Inlined, so that a run of a constant size is one addition.
     #[inline(always)]
-    fn plain(&mut self, fields: &[PlainField], bytes: &[u8]) -> Result<(), AllocError> {
-        match self.stage {
-            Stage::Begins => self.note_first(fields, bytes),
-            Stage::Goes | Stage::Failed => self.patches.keep(bytes.len()),
-        }
+    fn plain(&mut self, _fields: &[PlainField], bytes: &[u8]) -> Result<(), AllocError> {
+        self.patches.keep(bytes.len());
+        Ok(())
+    }
+}
+
+impl<S: BuildHasher + Drop> MessageVisit for MessageWriter<S> {
+    ghost use Rattle.canon3.specs.machinery.MessageWriter.{WriterRests};
+
+    ghost rests = { WriterRests };
+
+    // The mtype stays; the xid is not among the replacements.
+    fn begin(&mut self, _start: Start) -> Result<(), AllocError> {
+        self.patches.keep(4);
         Ok(())
     }
 }

@@ -1,15 +1,22 @@
-//! What an entry is written as in the canonical form.
+//! What an entry is written as in the canonical form, and its writing.
 
-ghost use Rattle.std.specs.Prelude.{◌≡◌, ◌≢◌, ◌<◌, ◌^◌, ◌++◌, ◌∷◌, List, [], length, IfErr, IfOk, MatchBool};
+ghost use Rattle.std.specs.Prelude.{◌≡◌, ◌≢◌, ◌<◌, ◌^◌, ◌++◌, ◌∷◌, List, [], length, IfErr, IfOk, MatchBool, OnErr, OnOk};
+ghost use Rattle.std.specs.Io.KnownBytes.{Appends};
 ghost use Rattle.capture3.specs.Entry as spec;
 ghost use Rattle.canon3.specs.Laws.{AreFirst};
-ghost use Rattle.canon3.specs.machinery.MessageWriter.{Before, HoldsBefore, WriterStands, message_of, told_after, values_of};
+ghost use Rattle.canon3.specs.machinery.MessageWriter.{Before, HoldsBefore, WriterRests, WriterStands, message_of};
 ghost use Rattle.canon3.specs.machinery.Spelling.{HasSpelled, spelling_of};
+ghost use Rattle.canon3.specs.machinery.FormSteps.{values_before};
+ghost use Rattle.capture3.specs.MessageVisit.{HasHeard};
 ghost use Rattle.capture3.specs.Numbering.{IsLentAfter};
-ghost use Rattle.capture3.specs.Entry.{items_of};
+ghost use Rattle.canon3.specs.WriteErrors.{CountsWriting, IsOfWriting};
+ghost use Rattle.canon3.specs.SinkWrites.{AppendsFront};
 
-use crate::canonical_form::message_writer::{MessageWriter, after_xid};
+use crate::canonical_form::message_writer::MessageWriter;
 use crate::comparison::verdict::{SameError, Which, out_of_memory_in};
+use crate::sink::Sink;
+use crate::sink::container::write_word;
+use crate::sink::whole_writes::write_both;
 use capture3::{Error, LentEntry};
 use std::alloc::AllocError;
 use std::hash::BuildHasher;
@@ -35,18 +42,18 @@ pub(crate) fn spelling_of_entry<'a, S: BuildHasher + Drop>(
     ensures { (entries : List spec.Entry) (one : spec.Entry)
         → IsLentAfter entries entry.entry one
         → AreFirst (entries ++ one ∷ [])
-        → WriterStands message_writer.old (told_after (values_of entries) (items_of one))
+        → HasHeard WriterRests WriterStands message_writer.old (values_before entries) one
         → IfOk result (λ form. HasSpelled message_writer.new form entries one) }
 {
     message_writer.unless_failed()?;
     match entry {
         LentEntry::Begin => Ok(Spelling::One),
         LentEntry::Call(call) => {
-            message_writer.xid = call.number;
+            message_writer.set_number(call.number);
             Ok(Spelling::Message(call.body))
         }
         LentEntry::Reply(reply) => {
-            message_writer.xid = reply.number;
+            message_writer.set_number(reply.number);
             Ok(Spelling::Message(reply.body))
         }
         LentEntry::Turn | LentEntry::Close | LentEntry::End => Ok(Spelling::Zero),
@@ -100,11 +107,7 @@ fn have_same_bytes<S: BuildHasher + Drop>(
         → HoldsBefore other.new before }
     ensures memory { IfErr result (λ error. error.error ≡ Error.Memory) }
 {
-    if writer.xid == other.xid
-        && writer
-            .patches
-            .are_alike(after_xid(body), &other.patches, after_xid(other_body))
-    {
+    if writer.is_alike(body, other, other_body) {
         return Ok(true);
     }
     let Ok(len) = writer.compose(body) else {
@@ -113,5 +116,39 @@ fn have_same_bytes<S: BuildHasher + Drop>(
     let Ok(other_len) = other.compose(other_body) else {
         return Err(out_of_memory_in(Which::Second));
     };
-    Ok(writer.room[..len] == other.room[..other_len])
+    Ok(writer.composed(len) == other.composed(other_len))
+}
+
+/// Writes what an entry is written as. After an error a prefix of it was written.
+///
+/// # Errors
+///
+/// - `Write` if a write failed.
+/// - `Memory` if an allocation failed, or the message has more than 16,777,216 bytes.
+pub(crate) fn write_spelling<W: Sink, S: BuildHasher + Drop>(
+    sink: &mut W,
+    form: Spelling<'_>,
+    message_writer: &mut MessageWriter<S>,
+) -> Result<(), Error>
+    ensures ok { OnOk result
+        (Appends (W.written sink.old) (W.written sink.new)
+        (spelling_of form.entry message_writer.old)) }
+    ensures err { OnErr result
+        (AppendsFront (W.written sink.old) (W.written sink.new)
+        (spelling_of form.entry message_writer.old)) }
+    ensures holds { (before : Before) → HoldsBefore message_writer.old before
+        → HoldsBefore message_writer.new before }
+    ensures count { CountsWriting (W.failures sink.old) (W.failures sink.new) result }
+    ensures error { IfErr result IsOfWriting }
+{
+    match form {
+        Spelling::Zero => write_word(sink, 0),
+        Spelling::One => write_word(sink, 1),
+        Spelling::Message(body) => {
+            let Ok((len, rest)) = message_writer.compose_chunk(body) else {
+                return Err(Error::Memory);
+            };
+            write_both(sink, message_writer.composed(len), rest)
+        }
+    }
 }

@@ -6,29 +6,24 @@ ghost use Rattle.xdr3.specs.Item.{Item};
 ghost use Rattle.capture3.specs.Entries.{CountsReading, failure_of, source_of};
 ghost use Rattle.capture3.specs.machinery.EntriesHistory.{entries_left};
 ghost use Rattle.capture3.specs.Entry as spec;
-ghost use Rattle.capture3.specs.Laws.{most_entries};
 ghost use Rattle.canon3.specs.EntryWriter.{KeepsPrefixes, WritesAll, WritesAllCounted, WritesGiven, WritesGivenCounted, WritesOne};
 ghost use Rattle.canon3.specs.Summary.{AreMessageCounts};
 ghost use Rattle.canon3.specs.machinery.Reading.{ReadsAndWrites};
-ghost use Rattle.canon3.specs.machinery.WritingSteps.{BeginsWriting, WritesOn, EndsWriting, WritesToTheEnd, IsWriting, WritesMore};
-ghost use Rattle.canon3.specs.EntryCounts.{counted_steps};
+ghost use Rattle.canon3.specs.machinery.WritingSteps.{WritesOn, EndsWriting, WritesToTheEnd, IsWriting};
 ghost use Rattle.capture3.specs.Rank.{distinct, number_limit};
 ghost use Rattle.canon3.specs.Values as values;
 ghost use Rattle.canon3.specs.WriteErrors.{CountsWriting, IsOfWriting};
 ghost use Rattle.canon3.specs.SinkWrites.{IsFlushed};
 
-use crate::entries::entry_counts::EntryCounts;
-use crate::entries::entry_kind::kind_of;
 use crate::sink::Sink;
-use crate::summary::{MessageCounts, Summary};
-use capture3::{Entries, Error, LentEntry, Source, new_block};
+use crate::summary::{MessageCounts, Summary, counts_of, summary_of};
+use capture3::{Entries, Error, LentEntry, MessageVisit, Progress, Source, new_block};
 use std::alloc::Global;
 use std::hash::BuildHasher;
-use xdr3::Visit;
 
 /// A writer of a capture's entries, one after another, in some form. It visits the items of each
 /// entry while it is read, and then writes it.
-pub trait EntryWriter: Visit {
+pub trait EntryWriter: MessageVisit {
     /// The bytes that a list of entries is written as.
     ghost form: { List spec.Entry → List ℕ };
 
@@ -38,7 +33,8 @@ pub trait EntryWriter: Visit {
     /// Holds of a writer that has not failed.
     ghost going: { Self → Type 0 };
 
-    /// Writes what the entry adds to the form. Its items were visited. A message has its number.
+    /// Writes what the entry adds to the form, before which the entries had come so far. Its items
+    /// were visited. A message has its number.
     ///
     /// # Errors
     ///
@@ -48,13 +44,12 @@ pub trait EntryWriter: Visit {
     /// A prefix of the form is written then, and nothing can follow.
     fn write<W: Sink>(
         &mut self,
-        counts: &EntryCounts,
+        progress: Progress,
         sink: &mut W,
         entry: LentEntry<'_>,
     ) -> Result<(), Error>
-        requires { counted_steps counts.now + 1 < 2 ^ 32 }
-        ensures writes { WritesOne form before Self.stands going self.old self.new counts.now
-            entry.entry (W.written sink.old) (W.written sink.new) result }
+        ensures writes { WritesOne form before Self.rests Self.stands going self.old self.new
+            progress entry.entry (W.written sink.old) (W.written sink.new) result }
         ensures count { CountsWriting (W.failures sink.old) (W.failures sink.new) result }
         ensures error { IfErr result IsOfWriting };
 }
@@ -64,7 +59,7 @@ pub trait CountingWriter: EntryWriter {
     /// Returns how many distinct file handles that are not empty there were, at most 4,294,967,295.
     fn handles(&self) -> u32
         ensures { (entries : List spec.Entry) → Self.going self.now
-            → Self.stands self.now (Self.before entries)
+            → Self.rests self.now (Self.before entries)
             → result ≡ min (length (distinct bytes_eq (values.handles entries))) number_limit };
 }
 
@@ -88,7 +83,7 @@ pub fn write_entries<R: Source, W: Sink, E: CountingWriter, S: BuildHasher + Dro
     sink: &mut W,
     writer: &mut E,
 ) -> Result<Summary, Error>
-    requires new { E.stands writer.old (E.before []) }
+    requires new { E.rests writer.old (E.before []) }
     requires well { E.going writer.old }
     requires empty { E.form [] ≡ [] }
     requires prefixes { KeepsPrefixes E.form }
@@ -104,8 +99,8 @@ pub fn write_entries<R: Source, W: Sink, E: CountingWriter, S: BuildHasher + Dro
     ensures read { CountsReading (R.failures source.old) (R.failures source.new) result }
     ensures write { CountsWriting (W.failures sink.old) (W.failures sink.new) result }
 {
-    let counts = write_whole(alloc, hasher, source, sink, writer)?;
-    Ok(counts.summary(writer.handles()))
+    let progress = write_whole(alloc, hasher, source, sink, writer)?;
+    Ok(summary_of(progress, writer.handles()))
 }
 
 /// Reads a capture to its end, writes the form of its entries as they come, and flushes the sink.
@@ -127,7 +122,7 @@ pub fn write_form<R: Source, W: Sink, E: EntryWriter, S: BuildHasher + Drop>(
     sink: &mut W,
     writer: &mut E,
 ) -> Result<MessageCounts, Error>
-    requires new { E.stands writer.old (E.before []) }
+    requires new { E.rests writer.old (E.before []) }
     requires well { E.going writer.old }
     requires empty { E.form [] ≡ [] }
     requires prefixes { KeepsPrefixes E.form }
@@ -144,25 +139,25 @@ pub fn write_form<R: Source, W: Sink, E: EntryWriter, S: BuildHasher + Drop>(
     ensures read { CountsReading (R.failures source.old) (R.failures source.new) result }
     ensures write { CountsWriting (W.failures sink.old) (W.failures sink.new) result }
 {
-    let counts = write_whole(alloc, hasher, source, sink, writer)?;
-    Ok(counts.message_counts())
+    let progress = write_whole(alloc, hasher, source, sink, writer)?;
+    Ok(counts_of(progress))
 }
 
-/// Writes the form of a capture's entries, and returns what was counted.
+/// Writes the form of a capture's entries, and returns how far they came.
 fn write_whole<R: Source, W: Sink, E: EntryWriter, S: BuildHasher + Drop>(
     alloc: Global,
     hasher: S,
     source: &mut R,
     sink: &mut W,
     writer: &mut E,
-) -> Result<EntryCounts, Error>
-    requires new { E.stands writer.old (E.before []) }
+) -> Result<Progress, Error>
+    requires new { E.rests writer.old (E.before []) }
     requires well { E.going writer.old }
     requires empty { E.form [] ≡ [] }
     requires prefixes { KeepsPrefixes E.form }
 
     // What is written.
-    ensures ends { EndsWriting E.form E.before E.stands E.going (R.told source.old)
+    ensures ends { EndsWriting E.form E.before E.rests E.going (R.told source.old)
         (W.written sink.old) (R.told source.new) writer.new (W.written sink.new) result }
     ensures flushes { OnOk result (IsFlushed (W.written sink.new) (W.flushed sink.new)) }
 
@@ -185,14 +180,15 @@ fn write_new<R: Source, W: Sink, E: EntryWriter, S: BuildHasher + Drop>(
     entries: &mut Entries<'_, R, S>,
     sink: &mut W,
     writer: &mut E,
-) -> Result<EntryCounts, Error>
-    requires begins { BeginsWriting E.form E.before E.stands E.going R.told
-        (R.told (source_of entries.old)) (W.written sink.old) entries.old writer.old }
+) -> Result<Progress, Error>
+    requires begins { IsWriting E.form E.before E.rests E.going R.told
+        (R.told (source_of entries.old)) [] (W.written sink.old) entries.old writer.old
+        (W.written sink.old) }
     requires going { failure_of entries.old ≡ None }
     requires prefixes { KeepsPrefixes E.form }
 
     // What is written.
-    ensures ends { EndsWriting E.form E.before E.stands E.going (R.told (source_of entries.old))
+    ensures ends { EndsWriting E.form E.before E.rests E.going (R.told (source_of entries.old))
         (W.written sink.old) (R.told (source_of entries.new)) writer.new (W.written sink.new)
         result }
     ensures flushes { OnOk result (IsFlushed (W.written sink.new) (W.flushed sink.new)) }
@@ -201,36 +197,33 @@ fn write_new<R: Source, W: Sink, E: EntryWriter, S: BuildHasher + Drop>(
     ensures devices { ReadsAndWrites R.failures entries.old entries.new (W.failures sink.old)
         (W.failures sink.new) result }
 {
-    let mut counts = EntryCounts::new();
-    write_rest(entries, &mut counts, sink, writer)?;
+    write_rest(entries, sink, writer)?;
     match sink.flush_all() {
-        Ok(()) => Ok(counts),
+        Ok(()) => Ok(entries.progress()),
         Err(_) => Err(Error::Write),
     }
 }
 
 /// Writes all entries that are left.
-fn write_rest<R: Source, W: Sink, E: EntryWriter, S: BuildHasher + Drop>(
+pub(crate) fn write_rest<R: Source, W: Sink, E: EntryWriter, S: BuildHasher + Drop>(
     entries: &mut Entries<'_, R, S>,
-    counts: &mut EntryCounts,
     sink: &mut W,
     writer: &mut E,
 ) -> Result<(), Error>
     requires going { failure_of entries.old ≡ None }
     requires prefixes { KeepsPrefixes E.form }
-    requires room { counted_steps counts.old + entries_left entries.old ≤ most_entries }
-    ensures over { (first : Told) (old : Option (List ℕ))
-        → IsWriting E.form E.before E.stands E.going R.told first old entries.old writer.old
-        counts.old (W.written sink.old)
-        → WritesToTheEnd E.form E.before E.stands E.going R.told first old entries.new writer.new
-        counts.new
-        (W.written sink.new) result }
+    ensures over { (first : Told) (front : List spec.Entry) (old : Option (List ℕ))
+        → IsWriting E.form E.before E.rests E.going R.told first front old entries.old writer.old
+        (W.written sink.old)
+        → WritesToTheEnd E.form E.before E.rests E.going R.told first front old entries.new
+        writer.new (W.written sink.new) result }
+    ensures going { OnOk result (failure_of entries.new ≡ None) }
     ensures devices { ReadsAndWrites R.failures entries.old entries.new (W.failures sink.old)
         (W.failures sink.new) result }
 {
     // Written out, since `?` takes more instructions for each message.
     loop {
-        match write_next(entries, counts, sink, writer) {
+        match write_next(entries, sink, writer) {
             Ok(true) => {}
             Ok(false) => return Ok(()),
             Err(error) => return Err(error),
@@ -241,60 +234,34 @@ fn write_rest<R: Source, W: Sink, E: EntryWriter, S: BuildHasher + Drop>(
 /// Writes the next entry. Returns `false` at the end.
 fn write_next<R: Source, W: Sink, E: EntryWriter, S: BuildHasher + Drop>(
     entries: &mut Entries<'_, R, S>,
-    counts: &mut EntryCounts,
     sink: &mut W,
     writer: &mut E,
 ) -> Result<bool, Error>
     requires going { failure_of entries.old ≡ None }
     requires prefixes { KeepsPrefixes E.form }
-    requires room { counted_steps counts.old + entries_left entries.old ≤ most_entries }
 
     // What is written.
-    ensures goes_on { (first : Told) (old : Option (List ℕ))
-        → IsWriting E.form E.before E.stands E.going R.told first old entries.old writer.old
-        counts.old (W.written sink.old)
-        → WritesOn E.form E.before E.stands E.going R.told first old entries.new writer.new
-        counts.new
+    ensures goes_on { (first : Told) (front : List spec.Entry) (old : Option (List ℕ))
+        → IsWriting E.form E.before E.rests E.going R.told first front old entries.old writer.old
+        (W.written sink.old)
+        → WritesOn E.form E.before E.rests E.going R.told first front old entries.new writer.new
         (W.written sink.new) result }
 
     // The reader goes on.
     ensures fewer { IfOk result
         (λ more. IsTrue more → entries_left entries.new < entries_left entries.old) }
     ensures going { OnOk result (failure_of entries.new ≡ None) }
-    ensures room { IfOk result
-        (λ more. IsTrue more
-        → counted_steps counts.new + entries_left entries.new ≤ most_entries) }
 
     // The devices.
     ensures devices { ReadsAndWrites R.failures entries.old entries.new (W.failures sink.old)
         (W.failures sink.new) result }
 {
+    let progress = entries.progress();
     match entries.visit(writer)? {
-        Some(entry) => write_one(counts, sink, writer, entry),
+        Some(entry) => {
+            writer.write(progress, sink, entry)?;
+            Ok(true)
+        }
         None => Ok(false),
     }
-}
-
-/// Writes the entry, and counts it.
-fn write_one<W: Sink, E: EntryWriter>(
-    counts: &mut EntryCounts,
-    sink: &mut W,
-    writer: &mut E,
-    entry: LentEntry<'_>,
-) -> Result<bool, Error>
-    requires { counted_steps counts.old + 1 < 2 ^ 32 }
-
-    // What is written.
-    ensures more { IfOk result IsTrue }
-    ensures few { counted_steps counts.new ≤ counted_steps counts.old + 1 }
-    ensures writes { WritesMore E.form E.before E.stands E.going writer.old writer.new counts.old
-        counts.new entry.entry (W.written sink.old) (W.written sink.new) result }
-
-    // The sink, and errors.
-    ensures count { CountsWriting (W.failures sink.old) (W.failures sink.new) result }
-    ensures error { IfErr result IsOfWriting }
-{
-    writer.write(counts, sink, entry)?;
-    counts.add(kind_of(entry));
-    Ok(true)
 }

@@ -7,8 +7,12 @@ ghost use Rattle.canon3.specs.HandleTable.{Gathers, same_handle};
 ghost use Rattle.capture3.specs.Rank.{distinct, number_limit, HoldsDistinct};
 ghost use Rattle.canon3.specs.Values.{handles_in};
 
+use crate::entries::entry_writer::{CountingWriter, EntryWriter};
 use crate::numbers::Numbers;
+use crate::sink::Sink;
+use capture3::{Error, LentEntry, MessageVisit, Progress};
 use nfs3_types::Handle;
+use rpc_head::Start;
 use std::alloc::{AllocError, Global};
 use std::hash::BuildHasher;
 use std::marker::Model;
@@ -101,5 +105,43 @@ impl<S: BuildHasher + Drop> Visit for HandleTable<S> {
 
     fn plain(&mut self, _fields: &[PlainField], _bytes: &[u8]) -> Result<(), AllocError> {
         Ok(())
+    }
+}
+
+#[tactic(auto, using(crate::proofs::Lemmas::Numbers::HandleTableLemmas::gathers_none), unfolding(capture3::specs::MessageVisit::OpensMessage))]
+impl<S: BuildHasher + Drop> MessageVisit for HandleTable<S> {
+    ghost use Rattle.canon3.specs.HandleTable.{Gathers};
+
+    ghost rests = { Gathers };
+
+    fn begin(&mut self, _start: Start) -> Result<(), AllocError> {
+        Ok(())
+    }
+}
+
+/// A writer of nothing, for callers that only want to know what a capture has.
+impl<S: BuildHasher + Drop> EntryWriter for HandleTable<S> {
+    ghost use Rattle.canon3.specs.HandleTable.{all_items, always_going, nothing};
+
+    ghost form = { nothing };
+
+    ghost before = { all_items };
+
+    ghost going = { always_going };
+
+    #[inline(always)]
+    fn write<W: Sink>(
+        &mut self,
+        _progress: Progress,
+        _sink: &mut W,
+        _entry: LentEntry<'_>,
+    ) -> Result<(), Error> {
+        Ok(())
+    }
+}
+
+impl<S: BuildHasher + Drop> CountingWriter for HandleTable<S> {
+    fn handles(&self) -> u32 {
+        self.len()
     }
 }

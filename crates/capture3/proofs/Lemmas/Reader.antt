@@ -7,4 +7,5 @@ pub mod WholeFiles
 pub mod Lending
 pub mod LendingLemmas
 pub mod PassedOn
+pub mod PlacingLemmas
 pub mod ToldLemmas

@@ -6,8 +6,8 @@ use Rattle.record_mark.specs.Machine.{Run, Runs, Stops, after}
 use Rattle.record_mark.specs.Taking.{Taking, IsRunning, IsWhole, body_of, joined_body, joining_of, unbegun}
 use Rattle.capture3.specs.declared.fault.Error.{Error}
 use Rattle.capture3.specs.declared.fault.Error.TheVariants as errors
-use Rattle.capture3.specs.declared.container.position.Event.{Event}
-use Rattle.capture3.specs.declared.container.position.Event.TheVariants.{Begin, Record, Turn, Close, Streams}
+use Rattle.capture3.specs.declared.container.position.spot.Event.{Event}
+use Rattle.capture3.specs.declared.container.position.spot.Event.TheVariants.{Begin, Record, Turn, Close, Streams}
 use Rattle.capture3.specs.declared.container.Container.{Container}
 use Rattle.capture3.specs.declared.container.Cursor.{Cursor}
 use Rattle.capture3.specs.declared.fault.Side.{Side}

@@ -11,8 +11,8 @@ use Rattle.capture3.specs.declared.fault.Place.TheVariants as places
 use Rattle.capture3.specs.declared.fault.Side.{Side}
 use Rattle.capture3.specs.declared.fault.Side.TheVariants.{Client, Server}
 use Rattle.capture3.specs.declared.container.position.TheConstants.{MAGIC}
-use Rattle.capture3.specs.declared.container.position.Event.{Event}
-use Rattle.capture3.specs.declared.container.position.Event.TheVariants.{Begin, Record, Turn, Close}
+use Rattle.capture3.specs.declared.container.position.spot.Event.{Event}
+use Rattle.capture3.specs.declared.container.position.spot.Event.TheVariants.{Begin, Record, Turn, Close}
 use Rattle.capture3.specs.Capture.{Version, One, Two, digit}
 use Rattle.capture3.specs.SidedChunksMachine.{MixedPoint, SideWord, Mixing, MixedEnd, MixedCloses, MixedRefuses, mixed_step, awaiting_side, measured, sided}
 use Rattle.capture3.specs.SidedChunksMachine as mixing

@@ -3,7 +3,6 @@
 use Rattle.std.specs.Prelude.{◌≡◌, ℕ, ◌+◌, ◌≤◌, Option, Some, None, Result, Ok, Err, List, [], ◌∷◌, ◌++◌, length, slice_range, ◌≢◌, ◌<◌, Bool, IsTrue, IsFalse, IsSome, OnErr, OnOk}
 use Rattle.capture3.specs.Told.{Told, Gave, IsSpent}
 use Rattle.xdr3.specs.Item.{AreBytes, Item}
-use Rattle.xdr3.specs.Visit.{Adds}
 use Rattle.std.specs.declared.hash.BuildHasher as BuildHasher
 use Rattle.std.specs.declared.hash.Hasher as Hasher
 use Rattle.capture3.specs.declared.reader.entries.Entries.{Entries}
@@ -16,11 +15,13 @@ use Rattle.capture3.specs.declared.fault.Noted.{Noted}
 use Rattle.capture3.specs.declared.container.Container.{Container}
 use Rattle.capture3.specs.machinery.Container.{room_in}
 use Rattle.capture3.specs.machinery.CountedCalls.{known_of}
-use Rattle.capture3.specs.Entry.{Entry, items_of}
+use Rattle.capture3.specs.Entry.{Entry}
+use Rattle.capture3.specs.MessageVisit.{Hears}
 use Rattle.capture3.specs.machinery.Pairing.{HasCome, HasNumber, IsHeld}
 use Rattle.capture3.specs.OpenXids.{open_xids}
 use Rattle.capture3.specs.machinery.Stepping.{IsOfKind}
 use Rattle.capture3.specs.Laws.{most_entries}
+use Rattle.capture3.specs.Progress.{AreCounted, calls_in, replies_in}
 use Rattle.capture3.specs.Typed.{Typed}
 use Rattle.capture3.specs.Entries.{block_size, CountsReads, failure_of, IsMetBy, KeepsLimits, last_of, loan_of, source_of}
 
@@ -54,6 +55,11 @@ module _ {R S H : Type 0} {builds : BuildHasher.Ghosts S H} {hashes : Hasher.Gho
   abbrev pub unjudged : Entries R S H builds hashes → List ℕ
   unjudged entries = slice_range entries.block.items entries.start entries.end
 
+  -- the calls and the replies that were handed out
+  abbrev pub CountedMessages : Entries R S H builds hashes → List Entry → Type 0
+  CountedMessages entries handed = (entries.pairing.calls_taken ≡ calls_in handed)
+      × (entries.pairing.replies_taken ≡ replies_in handed)
+
   -- the machine for a capture file stands after the bytes judged, and has emitted what was handed
   -- out
   pub record IsReading (entries : Entries R S H builds hashes) (given : List ℕ)
@@ -63,10 +69,13 @@ module _ {R S H : Type 0} {builds : BuildHasher.Ghosts S H} {hashes : Hasher.Gho
     pub counted : entries.judged ≡ length judged
     pub machine : HasCome entries.pairing.container (known_of entries.pairing.calls) judged
         handed
+    pub messages : CountedMessages entries handed
 
   abbrev pub StandsIn : Stage → Told → Entries R S H builds hashes → List ℕ → List Entry → Type 0
   StandsIn Reading told entries given handed = IsReading entries given handed
   StandsIn Over told entries given handed = Typed given handed × IsSpent told
+      × AreCounted entries.pairing.container.position.connections
+      entries.pairing.container.position.records handed × CountedMessages entries handed
   StandsIn (Failed error) told entries given handed = IsMetBy error told given handed
 
   -- the source gave these bytes since the reader was new, and the reader handed out these entries
@@ -86,20 +95,20 @@ module _ {R S H : Type 0} {builds : BuildHasher.Ghosts S H} {hashes : Hasher.Gho
     pub stands : StandsFor told new (given ++ more) handed
 
   -- this entry is handed out and told; or none is, and it goes on or has failed
-  abbrev pub HandsOutOrGoesOn : {V : Type 0} → (R → Told) → (V → List Item → Type 0)
+  abbrev pub HandsOutOrGoesOn : {V : Type 0} → (R → Told) → (rests stands : V → List Item → Type 0)
       → Entries R S H builds hashes → (was now : V) → List ℕ → List Entry → Option Kind → Type 0
-  HandsOutOrGoesOn told stands new was now given handed (Some kind) =
-      (entry : Entry) × IsOfKind kind entry × Adds stands was now (items_of entry)
+  HandsOutOrGoesOn told rests stands new was now given handed (Some kind) =
+      (entry : Entry) × IsOfKind kind entry × Hears rests stands was now entry
       × StandsFor told new given (handed ++ entry ∷ [])
-  HandsOutOrGoesOn told stands new was now given handed None = StandsFor told new given handed
+  HandsOutOrGoesOn told rests stands new was now given handed None = StandsFor told new given handed
 
-  pub record Turns {V : Type 0} (told : R → Told) (stands : V → List Item → Type 0)
+  pub record Turns {V : Type 0} (told : R → Told) (rests stands : V → List Item → Type 0)
       (old new : Entries R S H builds hashes) (was now : V) (given : List ℕ)
       (handed : List Entry) : Type 0 where
     pub more : List ℕ
     pub consumed : Gave (told old.source.now) (told new.source.now) more
     pub goes_on :
-        HandsOutOrGoesOn told stands new was now (given ++ more) handed (last_of new)
+        HandsOutOrGoesOn told rests stands new was now (given ++ more) handed (last_of new)
 
   -- ---- what a call inside the reader leaves
 

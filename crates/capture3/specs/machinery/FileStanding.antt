@@ -6,8 +6,8 @@ use Rattle.xdr3.specs.Item.{Item}
 use Rattle.record_mark.specs.Joining.{Joining, Between}
 use Rattle.record_mark.specs.Machine.{Next, Goes, Ends, within}
 use Rattle.capture3.specs.declared.fault.Side.TheVariants.{Client, Server}
-use Rattle.capture3.specs.declared.container.position.Event.TheVariants.{Begin, Record, Turn, Close}
-use Rattle.capture3.specs.declared.container.position.Event.TheVariants as events
+use Rattle.capture3.specs.declared.container.position.spot.Event.TheVariants.{Begin, Record, Turn, Close}
+use Rattle.capture3.specs.declared.container.position.spot.Event.TheVariants as events
 use Rattle.capture3.specs.Bodies.{ReplyItems}
 use Rattle.capture3.specs.Capture.{One, Two}
 use Rattle.capture3.specs.Connections.{ShownFault, refusal}

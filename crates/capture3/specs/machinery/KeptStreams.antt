@@ -12,6 +12,7 @@ use Rattle.capture3.specs.Entry as entries
 use Rattle.capture3.specs.BodyProgram.{judge_call}
 use Rattle.capture3.specs.machinery.Messages.{IsTableOf, xids_in}
 use Rattle.capture3.specs.OpenXids.{open_xids}
+use Rattle.capture3.specs.Progress.{AreCounted}
 use Rattle.capture3.specs.ConnectionMachine.{judge_replies}
 use Rattle.capture3.specs.FileMachine.{Parsing, file_next, parsed, emitted}
 use Rattle.capture3.specs.StreamMachine.{Reading, Held, rest_end, stream_end, reading_with}
@@ -54,6 +55,7 @@ pub record Recalls (u : Unpacking) (streams : Streams) (side : Side) (taken reco
   pub calls : IsTableOf table so_far.calls
   pub opened : open_xids [] handed ≡ xids_in so_far.calls
   pub here : RecallsAt side taken records streams so_far handed
+  pub placed : AreCounted u.connections records handed
 
 -- One of the bytes shows the fault. The machine runs up to it, and what was handed out are the
 -- entries that it emitted, with those that the byte still reaches.

@@ -3,7 +3,6 @@ use Rattle.std.specs.Prelude.{◌≡◌, ◌≢◌, ◌⊎◌, ℕ, ◌+◌, min
 use Rattle.xdr3.specs.declared.reason.GetError.{GetError}
 use Rattle.xdr3.specs.declared.reason.GetError.TheVariants as gets
 use Rattle.xdr3.specs.Item.{Item}
-use Rattle.xdr3.specs.Visit.{Adds}
 use Rattle.record_mark.specs.Joining.{Between, Whole, join_next}
 use Rattle.record_mark.specs.Machine.{Ends, Runs, Stops, after}
 use Rattle.record_mark.specs.Taking.{Taking, IsWhole, body_of, released}
@@ -14,9 +13,9 @@ use Rattle.capture3.specs.declared.reader.entry.Kind.TheVariants as kinds
 use Rattle.capture3.specs.declared.fault.Error.{Error}
 use Rattle.capture3.specs.declared.fault.Error.TheVariants as errors
 use Rattle.capture3.specs.declared.fault.Side.{Side}
-use Rattle.capture3.specs.declared.container.position.Event.{Event}
-use Rattle.capture3.specs.declared.container.position.Event.TheVariants.{Begin, Record, Turn, Close}
-use Rattle.capture3.specs.declared.container.position.Event.TheVariants as events
+use Rattle.capture3.specs.declared.container.position.spot.Event.{Event}
+use Rattle.capture3.specs.declared.container.position.spot.Event.TheVariants.{Begin, Record, Turn, Close}
+use Rattle.capture3.specs.declared.container.position.spot.Event.TheVariants as events
 use Rattle.capture3.specs.declared.container.Cursor.{Cursor}
 use Rattle.capture3.specs.Capture.{Two}
 use Rattle.capture3.specs.machinery.KeptStreams.{Recalls, ShowsFirst}
@@ -25,9 +24,13 @@ use Rattle.capture3.specs.declared.container.position.Position.{Position}
 use Rattle.capture3.specs.declared.container.Container.{Container}
 use Rattle.capture3.specs.Bodies.{IsCall, IsReply, xid_in}
 use Rattle.capture3.specs.OpenXids.{open_xids}
+use Rattle.capture3.specs.Laws.{begins}
+use Rattle.capture3.specs.Progress.{AreCounted, records_after}
 use Rattle.capture3.specs.Rank.{number_limit, rank}
+use Rattle.capture3.specs.machinery.Placing.{PlacesNext}
 use Rattle.capture3.specs.machinery.Container.{stream_of, unpacking_of}
-use Rattle.capture3.specs.Entry.{Entry, items_of}
+use Rattle.capture3.specs.Entry.{Entry}
+use Rattle.capture3.specs.MessageVisit.{Hears}
 use Rattle.capture3.specs.Entry as whole
 use Rattle.capture3.specs.machinery.Messages.{IsTableOf, xids_in}
 use Rattle.capture3.specs.FileMachine.{Parsing, file_next, parsed, emitted}
@@ -45,6 +48,7 @@ pub record StandsAt (position : Position) (taking : Taking) (streams : Streams)
   pub opened : open_xids [] entries ≡ xids_in so_far.calls
   pub stands : parsed bytes ≡ Runs (parsing_at (unpacking_of position taking streams) so_far)
   pub emitted : entries ≡ emitted_at (unpacking_of position taking streams).opened so_far
+  pub placed : AreCounted position.connections position.records entries
 
 -- after a side word 0
 abbrev pub after_side_word : Position → Unpacking
@@ -93,6 +97,7 @@ pub record HasMet (container : Container) (table : Known) (event : Event)
   pub before : emitted state ≡ entries
   pub ends : file_next state byte ≡ resumed so_far (Ends (met_in event container))
   pub emits : EmitsOn so_far entries (Ends (met_in event container))
+  pub placed : PlacesNext (begins entries) (records_after 0 entries) (Ends (met_in event container))
 
 -- the next record of the streams is whole, after these entries
 pub record HasRecalled (container : Container) (table : Known) (side : Side)
@@ -161,14 +166,15 @@ SpellsLast (Some kind) taking = SpellsKind kind taking
 
 -- The bytes lead to there, and the entry, if there is one, is told a visitor and has this number. A
 -- whole record stands until the next call.
-abbrev pub GoesTo : {V : Type 0} → (V → List Item → Type 0) → (was now : V) → Option Kind
+abbrev pub GoesTo : {V : Type 0} → (rests stands : V → List Item → Type 0) → (was now : V) → Option
+    Kind
     → (number : ℕ) → Container → Known → List ℕ → List Entry → Type 0
-GoesTo stands was now None number container table bytes entries =
+GoesTo rests stands was now None number container table bytes entries =
     HasCome container table bytes entries
-GoesTo stands was now (Some kind) number container table bytes entries =
+GoesTo rests stands was now (Some kind) number container table bytes entries =
     (entry : Entry) × IsHeld kind container.joiner.taking entry
     × HasNumber number (open_xids [] (entries ++ entry ∷ [])) entry
-    × Adds stands was now (items_of entry)
+    × Hears rests stands was now entry
     × HasCome container table bytes (entries ++ entry ∷ [])
 
 -- one of the bytes shows the fault, and these entries are all that they reach, unless memory ran
@@ -194,6 +200,12 @@ IsOfBytes errors.Memory = Unit {0}
 abbrev pub entry_cost : Option Kind → ℕ
 entry_cost None = 0
 entry_cost (Some kind) = 1
+
+-- one call or reply more, or none: at most 4,294,967,295 are counted
+abbrev pub CountsMessages : Option Kind → (calls replies calls_now replies_now : ℕ) → Type 0
+CountsMessages (Some (kinds.Call id)) c r d s = (d ≡ min (c + 1) number_limit) × (s ≡ r)
+CountsMessages (Some (kinds.Reply id)) c r d s = (d ≡ c) × (s ≡ min (r + 1) number_limit)
+CountsMessages _ c r d s = (d ≡ c) × (s ≡ r)
 
 -- ---- what a call says of its result
 

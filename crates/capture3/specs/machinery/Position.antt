@@ -9,25 +9,25 @@ use Rattle.capture3.specs.declared.container.position.TheConstants.{MAGIC}
 use Rattle.capture3.specs.declared.fault.Error.{Error}
 use Rattle.capture3.specs.declared.fault.Error.TheVariants.{Refused}
 use Rattle.capture3.specs.declared.fault.Side.TheVariants as sides
-use Rattle.capture3.specs.declared.container.position.Event.{Event}
-use Rattle.capture3.specs.declared.container.position.Event.TheVariants.{Record, Streams}
-use Rattle.capture3.specs.declared.container.position.Version as declared
-use Rattle.capture3.specs.declared.container.position.Version.TheVariants as versions
+use Rattle.capture3.specs.declared.container.position.spot.Event.{Event}
+use Rattle.capture3.specs.declared.container.position.spot.Event.TheVariants.{Record, Streams}
+use Rattle.capture3.specs.declared.container.position.spot.Version as declared
+use Rattle.capture3.specs.declared.container.position.spot.Version.TheVariants as versions
 use Rattle.capture3.specs.Capture.{Version, One, Two}
 use Rattle.capture3.specs.SidedChunksMachine.{SideWord, awaiting_side}
 use Rattle.capture3.specs.SidedChunksMachine as mixing
 use Rattle.capture3.specs.SidedChunks as sided
 use Rattle.capture3.specs.SidedChunks.{size}
 use Rattle.capture3.specs.declared.container.position.Position.{Position}
-use Rattle.capture3.specs.declared.container.position.Counts.{Counts}
+use Rattle.capture3.specs.declared.container.position.counts.Counts.{Counts}
 use Rattle.capture3.specs.machinery.PositionState.{span, standing_at, words_before}
 use Rattle.record_mark.specs.declared.word_part.WordPart.{WordPart}
 use Rattle.capture3.specs.declared.container.position.Transition.{Transition}
-use Rattle.capture3.specs.declared.container.position.Spot.{Spot}
+use Rattle.capture3.specs.declared.container.position.spot.Spot.{Spot}
 use Rattle.record_mark.specs.WordPart.{bytes_so_far}
-use Rattle.capture3.specs.declared.container.position.Spot.TheVariants.{Magic, Digit, Word, Chunk, SideChunk, Ended}
-use Rattle.capture3.specs.declared.container.position.WordOf.{WordOf}
-use Rattle.capture3.specs.declared.container.position.WordOf.TheVariants as words
+use Rattle.capture3.specs.declared.container.position.spot.Spot.TheVariants.{Magic, Digit, Word, Chunk, SideChunk, Ended}
+use Rattle.capture3.specs.declared.container.position.spot.WordOf.{WordOf}
+use Rattle.capture3.specs.declared.container.position.spot.WordOf.TheVariants as words
 
 -- the version, as the definitions of a capture have it
 abbrev pub version_of : declared.Version → Version

@@ -1,11 +1,11 @@
 -- What contracts see of a position, and the limits that it keeps.
 use Rattle.std.specs.Prelude.{◌≡◌, ◌≤◌, ◌<◌, ℕ, ◌+◌, ◌*◌}
 use Rattle.capture3.specs.declared.fault.Side.TheVariants as sides
-use Rattle.capture3.specs.declared.container.position.Counts.{Counts}
-use Rattle.capture3.specs.declared.container.position.WordOf.{WordOf}
-use Rattle.capture3.specs.declared.container.position.WordOf.TheVariants as words
-use Rattle.capture3.specs.declared.container.position.Spot.{Spot}
-use Rattle.capture3.specs.declared.container.position.Spot.TheVariants.{Magic, Digit, Word, Chunk, SideChunk, Ended}
+use Rattle.capture3.specs.declared.container.position.counts.Counts.{Counts}
+use Rattle.capture3.specs.declared.container.position.spot.WordOf.{WordOf}
+use Rattle.capture3.specs.declared.container.position.spot.WordOf.TheVariants as words
+use Rattle.capture3.specs.declared.container.position.spot.Spot.{Spot}
+use Rattle.capture3.specs.declared.container.position.spot.Spot.TheVariants.{Magic, Digit, Word, Chunk, SideChunk, Ended}
 
 -- how far a capture was taken, and which part of it is open
 pub record PositionState : Type 0 where

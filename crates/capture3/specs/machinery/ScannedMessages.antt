@@ -6,7 +6,6 @@ use Rattle.xdr3.specs.declared.reason.GetError.TheVariants as errors
 use Rattle.xdr3.specs.declared.reason.Stop.{Stop}
 use Rattle.xdr3.specs.Item.{Item}
 use Rattle.xdr3.specs.Reading.{refused}
-use Rattle.xdr3.specs.Visit.{Adds}
 use Rattle.rpc_head.specs.Messages.{procedure_in}
 use Rattle.capture3.specs.declared.message.calls.NumberedCall.{NumberedCall}
 use Rattle.capture3.specs.declared.message.scan.CallHead.{CallHead}
@@ -14,11 +13,12 @@ use Rattle.capture3.specs.Bodies.{IsCall, IsReply, procedure_of, xid_in}
 use Rattle.capture3.specs.machinery.Calls.{Known}
 use Rattle.capture3.specs.BodyProgram.{agrees, judge_call, judge_reply}
 use Rattle.capture3.specs.machinery.Messages.{HasProcedures}
+use Rattle.capture3.specs.MessageVisit.{OpensMessage}
 use Rattle.capture3.specs.OpenXids.{xid_of}
 
 -- The body spells a call with this xid and this procedure, it is accepted after calls that agree
 -- with it, and a visitor was told its items.
-pub record ScansCall {V : Type 0} (stands : V → List Item → Type 0) (body : List ℕ)
+pub record ScansCall {V : Type 0} (rests stands : V → List Item → Type 0) (body : List ℕ)
     (call : CallHead) (old new : V) : Type 0 where
   pub items : List Item
   pub is_call : IsCall body items
@@ -28,11 +28,11 @@ pub record ScansCall {V : Type 0} (stands : V → List Item → Type 0) (body : 
   pub judged : (before : List (List Item))
       → judge_call before body
       ≡ cond (agrees (procedure_of before call.xid) call.id) (Ok items) (refused 0 XidConflict)
-  pub adds : Adds stands old new items
+  pub adds : OpensMessage rests stands old new items
 
 -- The body spells a reply to this call of the table, it is accepted after the table's calls, and a
 -- visitor was told its items.
-pub record ScansReply {V : Type 0} (stands : V → List Item → Type 0) (table : Known)
+pub record ScansReply {V : Type 0} (rests stands : V → List Item → Type 0) (table : Known)
     (body : List ℕ) (call : NumberedCall) (old new : V) : Type 0 where
   pub items : List Item
   pub is_reply : IsReply body (record { id = call.id; items = items })
@@ -40,7 +40,7 @@ pub record ScansReply {V : Type 0} (stands : V → List Item → Type 0) (table 
   pub asked : table.call_of (xid_in items) ≡ Some call
   pub accepted : (calls : List (List Item)) → HasProcedures table calls
       → judge_reply calls body ≡ Ok (record { id = call.id; items = items })
-  pub adds : Adds stands old new items
+  pub adds : OpensMessage rests stands old new items
 
 -- the failure is that of judging the body, unless memory ran out
 abbrev pub StopsMessage : {X : Type 0} → GetError → Result X Stop → Type 0

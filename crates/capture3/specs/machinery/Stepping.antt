@@ -1,14 +1,14 @@
 -- The kinds of entries, and what a step of the reader returns of the next entry: its kind.
 use Rattle.std.specs.Prelude.{◌≡◌, List, Option, Some, None}
 use Rattle.xdr3.specs.Item.{Item}
-use Rattle.xdr3.specs.Visit.{Adds}
 use Rattle.rpc_head.specs.Messages.{procedure_in}
 use Rattle.capture3.specs.declared.reader.entry.Kind.{Kind}
 use Rattle.capture3.specs.declared.reader.entry.Kind.TheVariants as kinds
 use Rattle.capture3.specs.declared.reader.entry.LentEntry.{LentEntry}
 use Rattle.capture3.specs.declared.reader.entry_ref.EntryRef.{EntryRef}
-use Rattle.capture3.specs.Entry.{Entry, Begin, Call, Turn, Reply, Close, End, items_of}
+use Rattle.capture3.specs.Entry.{Entry, Begin, Call, Turn, Reply, Close, End}
 use Rattle.capture3.specs.Kept.{kind_of}
+use Rattle.capture3.specs.MessageVisit.{Hears}
 use Rattle.capture3.specs.ReadAs.{kind_of_read}
 
 -- An entry is of this kind, and for this procedure where it is a message.
@@ -29,8 +29,8 @@ abbrev pub kind_read : Option EntryRef → Option Kind
 kind_read None = None
 kind_read (Some entry) = Some (kind_of_read entry)
 
--- the kind is that of the entry, and its items were added to the visitor's
-abbrev pub IsNextOfKind : {V : Type 0} → (V → List Item → Type 0) → (was now : V)
+-- the kind is that of the entry, which the visitor was told
+abbrev pub IsNextOfKind : {V : Type 0} → (rests stands : V → List Item → Type 0) → (was now : V)
     → (handed : List Entry) → Kind → Entry → Type 0
-IsNextOfKind stands was now handed kind entry =
-    IsOfKind kind entry × Adds stands was now (items_of entry)
+IsNextOfKind rests stands was now handed kind entry =
+    IsOfKind kind entry × Hears rests stands was now entry

@@ -12,9 +12,9 @@ ghost use Rattle.capture3.specs.machinery.Container.{Leads, stream_of};
 ghost use Rattle.capture3.specs.machinery.StreamsInMemory.{capacity_of};
 
 use crate::container::kept_streams::Streams;
-use crate::container::position::{
-    Counts, Event, Position, Spot, Transition, Version, WordOf, file_fault,
-};
+use crate::container::position::counts::Counts;
+use crate::container::position::spot::{Event, Spot, Version, WordOf};
+use crate::container::position::{Position, Transition, file_fault};
 use crate::fault::{Error, Side};
 use xdr3::Reason;
 

@@ -1,19 +1,18 @@
 //! Whole messages that are passed to a visitor as they are read.
 
 ghost use Rattle.std.specs.Prelude.{◌≡◌, ◌≤◌, List, length, IfErr, IfOk, OnOk};
-ghost use Rattle.rpc_head.specs.MessageStart.{start_items};
 ghost use Rattle.xdr3.specs.Item.{Item};
 ghost use Rattle.xdr3.specs.Scan.{ScansLayout, StopsLayout};
-ghost use Rattle.xdr3.specs.Visit.{Adds, body_limit};
+ghost use Rattle.xdr3.specs.Visit.{body_limit};
 ghost use Rattle.capture3.specs.BodyProgram as spec;
 ghost use Rattle.capture3.specs.machinery.ScannedMessages.{ScansCall, ScansReply, StopsMessage};
 ghost use Rattle.capture3.specs.machinery.Messages.{HasProcedures, results_after};
 
 use crate::message::calls::{KnownCalls, NumberedCall};
 use crate::message::stop;
+use crate::message::visiting::MessageVisit;
 use procs3::{scan_arguments, scan_results};
-use rpc_head::{ProcId, Start, scan_call_head, scan_reply_head, start};
-use std::alloc::AllocError;
+use rpc_head::{ProcId, scan_call_head, scan_reply_head, start};
 use xdr3::{GetError, Input, Reason, Visit};
 
 /// What a call says of itself: its xid, and the procedure that it calls.
@@ -26,10 +25,10 @@ pub(crate) struct CallHead {
 /// Parses a record of the client's stream, and passes its items to the visitor. Returns the call's
 /// xid and procedure, without comparing them with earlier calls of the connection. After an error
 /// the contents of the visitor are unspecified.
-pub(crate) fn scan_call<V: Visit>(body: &[u8], visitor: &mut V) -> Result<CallHead, GetError>
+pub(crate) fn scan_call<V: MessageVisit>(body: &[u8], visitor: &mut V) -> Result<CallHead, GetError>
     requires { length body.now ≤ body_limit }
     ensures ok { IfOk result
-        (λ call. ScansCall V.stands body.now call visitor.old visitor.new) }
+        (λ call. ScansCall V.rests V.stands body.now call visitor.old visitor.new) }
     ensures err { (before : List (List Item))
         → IfErr result (λ error. StopsMessage error (spec.judge_call before body.now)) }
 {
@@ -38,7 +37,7 @@ pub(crate) fn scan_call<V: Visit>(body: &[u8], visitor: &mut V) -> Result<CallHe
     if start.is_reply {
         return Err(stop(4, Reason::WrongSide));
     }
-    tell_start(start, visitor)?;
+    visitor.begin(start)?;
     let id = scan_call_head(&mut input, visitor)?;
     scan_arguments(id, &mut input, visitor)?;
     input.end()?;
@@ -61,14 +60,15 @@ pub(crate) fn scan_call<V: Visit>(body: &[u8], visitor: &mut V) -> Result<CallHe
 /// Parses a record of the server's stream, after all calls of its connection, and passes its items
 /// to the visitor. Returns its call. After an error the contents of the visitor
 /// are unspecified.
-pub(crate) fn scan_reply<C: KnownCalls, V: Visit>(
+pub(crate) fn scan_reply<C: KnownCalls, V: MessageVisit>(
     calls: &C,
     body: &[u8],
     visitor: &mut V,
 ) -> Result<NumberedCall, GetError>
     requires { length body.now ≤ body_limit }
     ensures ok { IfOk result
-        (λ call. ScansReply V.stands (C.known calls.now) body.now call visitor.old visitor.new) }
+        (λ call. ScansReply V.rests V.stands (C.known calls.now) body.now call visitor.old
+        visitor.new) }
     ensures err { (before : List (List Item)) → HasProcedures (C.known calls.now) before
         → IfErr result (λ error. StopsMessage error (spec.judge_reply before body.now)) }
 {
@@ -80,21 +80,11 @@ pub(crate) fn scan_reply<C: KnownCalls, V: Visit>(
     let Some(call) = calls.call_of(start.xid) else {
         return Err(stop(0, Reason::NoCall));
     };
-    tell_start(start, visitor)?;
+    visitor.begin(start)?;
     let success = scan_reply_head(&mut input, visitor)?;
     scan_results_after(success, call.id, &mut input, visitor)?;
     input.end()?;
     Ok(call)
-}
-
-/// Visits the xid and the mtype.
-#[inline]
-#[tactic(auto, using(xdr3::proofs::Lemmas::Shapes::Walks::adds_joined), unfolding(rpc_head::specs::Names::head_names))]
-fn tell_start<V: Visit>(start: Start, visitor: &mut V) -> Result<(), AllocError>
-    ensures { OnOk result (Adds V.stands visitor.old visitor.new (start_items start)) }
-{
-    visitor.word("xid", start.xid)?;
-    visitor.word("mtype", start.is_reply as u32)
 }
 
 /// Parses the results after a reply's head: none after any but an accepted success.

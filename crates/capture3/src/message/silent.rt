@@ -1,5 +1,7 @@
 //! A visitor that ignores all items.
 
+use crate::message::visiting::MessageVisit;
+use rpc_head::Start;
 use std::alloc::AllocError;
 use xdr3::{PlainField, Visit};
 
@@ -44,6 +46,15 @@ impl Visit for Silent {
     }
 
     fn plain(&mut self, _fields: &[PlainField], _bytes: &[u8]) -> Result<(), AllocError> {
+        Ok(())
+    }
+}
+
+#[tactic(auto, unfolding(crate::specs::MessageVisit::OpensMessage))]
+impl MessageVisit for Silent {
+    ghost rests = { λ silent items. Unit {0} };
+
+    fn begin(&mut self, _start: Start) -> Result<(), AllocError> {
         Ok(())
     }
 }

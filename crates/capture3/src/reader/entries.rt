@@ -18,12 +18,14 @@ use crate::device::source::Source;
 use crate::fault::{Error, Fault, Noted, Place};
 use crate::message::counted_calls::CountedCalls;
 use crate::message::silent::Silent;
+use crate::message::visiting::MessageVisit;
 use crate::reader::entry::{Kind, LentEntry};
 use crate::reader::entry_ref::EntryRef;
 use crate::reader::pairing::Pairing;
+use crate::reader::progress::Progress;
 use std::alloc::{AllocError, Global};
 use std::hash::BuildHasher;
-use xdr3::{Reason, Visit};
+use xdr3::Reason;
 
 /// How many bytes a read asks for.
 const BLOCK: usize = 65_536;
@@ -81,6 +83,7 @@ impl<'r, R: Source, S: BuildHasher + Drop> Entries<'r, R, S> {
     ghost use Rattle.capture3.specs.Handing.{HandsOutGiven};
     ghost use Rattle.capture3.specs.machinery.Stepping.{IsNextOfKind, kind_lent, kind_read};
     ghost use Rattle.capture3.specs.Numbering.{number_after, number_lent};
+    ghost use Rattle.capture3.specs.Progress.{HasPassed};
     ghost use Rattle.capture3.specs.machinery.EntriesHistory.{entries_left, HandsOutOrGoesOn, FillsOrEnds, HasRead, IsUsedUp, LendsOrFails, NotesFailure, ReadsNothing, JudgesOn, ReadsOnce, StandsFor, Turns};
 
     /// Returns a reader through a block that is not empty. It reads nothing yet. The hasher is for
@@ -178,10 +181,13 @@ impl<'r, R: Source, S: BuildHasher + Drop> Entries<'r, R, S> {
     /// It never returns `Write`. After an error the contents of the visitor are unspecified, the
     /// same error is returned from then on, and nothing is read.
     #[inline(always)]
-    pub fn visit<V: Visit>(&mut self, visitor: &mut V) -> Result<Option<LentEntry<'_>>, Error>
+    pub fn visit<V: MessageVisit>(
+        &mut self,
+        visitor: &mut V,
+    ) -> Result<Option<LentEntry<'_>>, Error>
         // What the reader ends as, and what is lent.
         ensures* ends { sem 𝓛 (EndsAs R.row S.row S.Hasher.row S.BuildHasher S.Hasher.Hasher
-            R.told V.stands R.failures self.entry visitor.old visitor.new result) }
+            R.told V.rests V.stands R.failures self.entry visitor.old visitor.new result) }
 
         // What is known while the entry is used.
         ensures untold { IfOk result (λ next. next ≡ None → visitor.new ≡ visitor.old) }
@@ -197,12 +203,12 @@ impl<'r, R: Source, S: BuildHasher + Drop> Entries<'r, R, S> {
 
     /// Reads the next entry and notes its kind, which it returns; `None` after the last one.
     #[inline(always)]
-    fn step<V: Visit>(&mut self, visitor: &mut V) -> Result<Option<Kind>, Error>
+    fn step<V: MessageVisit>(&mut self, visitor: &mut V) -> Result<Option<Kind>, Error>
         // What is returned, and which entry is lent.
         ensures answers { (given : List ℕ) (handed : List spec.Entry)
             → StandsFor R.told self.old given handed
-            → HandsOutGiven R.told (IsNextOfKind V.stands visitor.old visitor.new) self.old self.new
-            given handed result }
+            → HandsOutGiven R.told (IsNextOfKind V.rests V.stands visitor.old visitor.new) self.old
+            self.new given handed result }
         ensures end { result ≡ Ok (Some Kind.End) → IsOver self.new }
         ensures over { IsOver self.old → (result ≡ Ok None) × (self.new ≡ self.old) }
         ensures last { IfOk result (λ next. IsSome next → last_of self.new ≡ next) }
@@ -226,6 +232,15 @@ impl<'r, R: Source, S: BuildHasher + Drop> Entries<'r, R, S> {
             Stage::Over => Ok(None),
             Stage::Failed(error) => Err(error),
         }
+    }
+
+    /// Returns how far the entries have come that were lent. After an error it says nothing.
+    pub fn progress(&self) -> Progress
+        ensures { (given : List ℕ) (handed : List spec.Entry)
+            → StandsFor R.told self.now given handed → failure_of self.now ≡ None
+            → HasPassed result handed }
+    {
+        self.pairing.progress()
     }
 
     /// Lends the last entry, with its call as a value.
@@ -273,13 +288,13 @@ impl<'r, R: Source, S: BuildHasher + Drop> Entries<'r, R, S> {
     }
 
     /// Reads the next entry of a capture whose end was not returned.
-    fn next_entry<V: Visit>(&mut self, visitor: &mut V) -> Result<(), Noted>
+    fn next_entry<V: MessageVisit>(&mut self, visitor: &mut V) -> Result<(), Noted>
         requires reading { self.old.stage ≡ Stage.Reading }
 
         // Which entry is lent.
         ensures turns { (given : List ℕ) (handed : List spec.Entry)
             → StandsFor R.told self.old given handed
-            → Turns R.told V.stands self.old self.new visitor.old visitor.new given handed }
+            → Turns R.told V.rests V.stands self.old self.new visitor.old visitor.new given handed }
         ensures end { last_of self.new ≡ Some Kind.End → IsOver self.new }
         ensures some { OnOk result (IsSome (last_of self.new)) }
         ensures lends { LendsOrFails self.old self.new result }
@@ -321,6 +336,7 @@ impl<'r, R: Source, S: BuildHasher + Drop> Entries<'r, R, S> {
     }
 
     /// Reads the next block if nothing is left at hand. Returns `false` at the end of the bytes.
+    #[inline(always)]
     fn refill(&mut self) -> Result<bool, Noted>
         requires reading { self.old.stage ≡ Stage.Reading }
         requires bounded { self.old.judged ≤ most_bytes Two + 1 }
@@ -360,7 +376,7 @@ impl<'r, R: Source, S: BuildHasher + Drop> Entries<'r, R, S> {
     }
 
     /// Checks what is left up to the next entry: kept streams, or the rest of the block.
-    fn judge<V: Visit>(&mut self, visitor: &mut V) -> Result<(), Noted>
+    fn judge<V: MessageVisit>(&mut self, visitor: &mut V) -> Result<(), Noted>
         requires reading { self.old.stage ≡ Stage.Reading }
         requires bounded { self.old.judged ≤ most_bytes Two + 1 }
         requires some { self.old.pairing.container.cursor ≡ None → self.old.start < self.old.end }
@@ -368,7 +384,7 @@ impl<'r, R: Source, S: BuildHasher + Drop> Entries<'r, R, S> {
         // Which entry is lent.
         ensures goes_on { (given : List ℕ) (handed : List spec.Entry)
             → StandsFor R.told self.old given handed
-            → HandsOutOrGoesOn R.told V.stands self.new visitor.old visitor.new given handed
+            → HandsOutOrGoesOn R.told V.rests V.stands self.new visitor.old visitor.new given handed
             (last_of self.new) }
         ensures not_end { last_of self.new ≢ Some Kind.End }
         ensures on { OnOk result (JudgesOn self.old self.new visitor.old visitor.new) }

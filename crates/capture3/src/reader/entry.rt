@@ -11,9 +11,10 @@ use crate::message::calls::{NumberedCall, OneCall};
 use crate::message::reading::{read_call, read_reply};
 use crate::message::scan::{scan_call, scan_reply};
 use crate::message::values::{CallMsg, ReplyMsg};
+use crate::message::visiting::MessageVisit;
 use rpc_head::{ProcId, start};
 use std::alloc::{AllocError, Global};
-use xdr3::{GetError, Input, Visit};
+use xdr3::{GetError, Input};
 
 /// What an entry is. A message has its procedure with it; that of a reply is its call's.
 #[derive(Clone, Copy, Debug, PartialEq, Eq)]
@@ -132,8 +133,9 @@ impl<'a> CallRef<'a> {
 
     /// Passes the items of the call to a visitor, in one pass over its body. It fails only if
     /// memory runs out in the visitor, whose contents are unspecified then.
-    pub fn scan<V: Visit>(&self, visitor: &mut V) -> Result<(), AllocError>
-        ensures { OnOk result (TellsCall V.stands self.now.body.now visitor.old visitor.new) }
+    pub fn scan<V: MessageVisit>(&self, visitor: &mut V) -> Result<(), AllocError>
+        ensures { OnOk result
+            (TellsCall V.rests V.stands self.now.body.now visitor.old visitor.new) }
     {
         match scan_call(self.body, visitor) {
             Ok(_) => Ok(()),
@@ -191,9 +193,9 @@ impl<'a> ReplyRef<'a> {
 
     /// Passes the items of the reply to a visitor, in one pass over its body. It fails only if
     /// memory runs out in the visitor, whose contents are unspecified then.
-    pub fn scan<V: Visit>(&self, visitor: &mut V) -> Result<(), AllocError>
+    pub fn scan<V: MessageVisit>(&self, visitor: &mut V) -> Result<(), AllocError>
         ensures { OnOk result
-            (TellsReply V.stands self.now.body.now self.now.id visitor.old visitor.new) }
+            (TellsReply V.rests V.stands self.now.body.now self.now.id visitor.old visitor.new) }
     {
         match scan_reply(&self.answered(), self.body, visitor) {
             Ok(_) => Ok(()),
@@ -266,7 +268,21 @@ impl KeptReply {
 
 impl<'a> LentEntry<'a> {
     ghost use Rattle.capture3.specs.Entry as spec;
-    ghost use Rattle.capture3.specs.Kept.{IsCopy, IsKept, IsLent};
+    ghost use Rattle.capture3.specs.Kept.{IsCopy, IsKept, IsLent, kind_of};
+
+    /// Returns what the entry is, with the procedure if it is a message.
+    pub fn kind(self) -> Kind
+        ensures { result ≡ kind_of self.entry }
+    {
+        match self {
+            LentEntry::Begin => Kind::Begin,
+            LentEntry::Call(call) => Kind::Call(call.id),
+            LentEntry::Turn => Kind::Turn,
+            LentEntry::Reply(reply) => Kind::Reply(reply.id),
+            LentEntry::Close => Kind::Close,
+            LentEntry::End => Kind::End,
+        }
+    }
 
     /// Returns the entry with a body of its own.
     pub fn keep(&self, alloc: Global) -> Result<Entry, AllocError>

@@ -5,21 +5,23 @@ ghost use Rattle.record_mark.specs.Taking.{IsRunning, IsWhole, body_of, released
 ghost use Rattle.xdr3.specs.Item.{Item};
 ghost use Rattle.capture3.specs.machinery.Container.{CanGoOn, Leaves, room_in, TakesPiece};
 ghost use Rattle.capture3.specs.Entry as spec;
-ghost use Rattle.capture3.specs.machinery.Pairing.{entry_cost, error_at, FailsAt, FailsFrom, GoesTo, HasCome, IsHeld, IsInside, IsOfBytes, MeetsEvent, SpellsLast};
+ghost use Rattle.capture3.specs.machinery.Pairing.{CountsMessages, entry_cost, error_at, FailsAt, FailsFrom, GoesTo, HasCome, IsHeld, IsInside, IsOfBytes, MeetsEvent, SpellsLast};
 ghost use Rattle.capture3.specs.Kept.{IsLent, kind_of};
 ghost use Rattle.capture3.specs.Numbering.{number_lent};
 ghost use Rattle.capture3.specs.machinery.Calls.{KnowsNone};
 ghost use Rattle.capture3.specs.machinery.Position.{IsEndSpot, most_things};
 
 use crate::container::Container;
-use crate::container::position::Event;
+use crate::container::position::spot::Event;
 use crate::fault::{Error, Noted, Place, Side};
 use crate::message::calls::CallTable;
 use crate::message::scan::{scan_call, scan_reply};
 use crate::message::stop;
+use crate::message::visiting::MessageVisit;
 use crate::reader::entry::{CallRef, Kind, LentEntry, ReplyRef};
+use crate::reader::progress::Progress;
 use std::alloc::Global;
-use xdr3::{GetError, Reason, Visit};
+use xdr3::{GetError, Reason};
 
 /// A container, and the calls of its open connection.
 #[derive(Drop)]
@@ -28,6 +30,9 @@ pub(crate) struct Pairing<C: Drop> {
     pub(crate) calls: C,
     /// The number of the last message.
     pub(crate) number: u32,
+    /// How many calls and replies came.
+    pub(crate) calls_taken: u32,
+    pub(crate) replies_taken: u32,
     /// Why `next` failed, if it has.
     pub(crate) error: Error,
     /// What the entry is that `next` took last, whose record stands; `None` if none is whole.
@@ -43,11 +48,14 @@ impl<C: CallTable + Drop> Pairing<C> {
         ensures room { room_in result.container ≤ most_things }
         ensures machine { HasCome result.container (C.known result.calls) [] [] }
         ensures unlent { result.last ≡ None }
+        ensures uncounted { (result.calls_taken ≡ 0) × (result.replies_taken ≡ 0) }
     {
         Pairing {
             container: Container::new(alloc),
             calls,
             number: 0,
+            calls_taken: 0,
+            replies_taken: 0,
             error: Error::Memory,
             last: None,
         }
@@ -58,7 +66,11 @@ impl<C: CallTable + Drop> Pairing<C> {
     /// record stays until the next call. After an error the contents of the visitor are
     /// unspecified.
     #[inline(always)]
-    pub(crate) fn next<V: Visit>(&mut self, piece: &[u8], visitor: &mut V) -> Result<usize, Noted>
+    pub(crate) fn next<V: MessageVisit>(
+        &mut self,
+        piece: &[u8],
+        visitor: &mut V,
+    ) -> Result<usize, Noted>
         requires ready { CanGoOn self.old.container.cursor
             (released self.old.container.joiner.taking) self.old.container }
 
@@ -71,10 +83,12 @@ impl<C: CallTable + Drop> Pairing<C> {
         ensures machine { (bytes : List ℕ) (entries : List spec.Entry)
             → HasCome self.old.container (C.known self.old.calls) bytes entries
             → IfOk result
-            (λ count. GoesTo V.stands visitor.old visitor.new self.new.last self.new.number
+            (λ count. GoesTo V.rests V.stands visitor.old visitor.new self.new.last self.new.number
             self.new.container (C.known self.new.calls) (bytes ++ take count piece.now) entries) }
         ensures not_end { OnOk result (self.new.last ≢ Some Kind.End) }
         ensures untold { OnOk result (self.new.last ≡ None → visitor.new ≡ visitor.old) }
+        ensures counted { OnOk result (CountsMessages self.new.last self.old.calls_taken
+            self.old.replies_taken self.new.calls_taken self.new.replies_taken) }
 
         // Errors.
         ensures fault { OnErr result
@@ -104,6 +118,22 @@ impl<C: CallTable + Drop> Pairing<C> {
         ensures { result ≡ is_some self.now.container.cursor }
     {
         self.container.cursor.is_some()
+    }
+
+    /// Returns how far the entries have come.
+    pub(crate) fn progress(&self) -> Progress
+        ensures connections { result.connections ≡ self.now.container.position.connections }
+        ensures records { result.records ≡ self.now.container.position.records }
+        ensures calls { result.calls ≡ self.now.calls_taken }
+        ensures replies { result.replies ≡ self.now.replies_taken }
+    {
+        let position = &self.container.position;
+        Progress {
+            connections: position.counts.connections,
+            records: position.counts.records,
+            calls: self.calls_taken,
+            replies: self.replies_taken,
+        }
     }
 
     /// Borrows the entry that `next` took last, which is of this kind.
@@ -143,15 +173,17 @@ impl<C: CallTable + Drop> Pairing<C> {
     }
 
     /// Takes the entry that is whole.
-    fn entry<V: Visit>(&mut self, event: Event, visitor: &mut V) -> Result<(), Noted>
+    fn entry<V: MessageVisit>(&mut self, event: Event, visitor: &mut V) -> Result<(), Noted>
         requires leaves { Leaves (Some event) self.old.container.joiner.taking }
         requires opened { event ≢ Event.Streams }
         ensures container { self.new.container ≡ self.old.container }
         ensures inside { OnOk result (IsInside self.new.last) }
+        ensures counted { OnOk result (CountsMessages self.new.last self.old.calls_taken
+            self.old.replies_taken self.new.calls_taken self.new.replies_taken) }
         ensures machine { (bytes : List ℕ) (entries : List spec.Entry)
             → MeetsEvent self.old.container (C.known self.old.calls) event bytes entries
-            → OnOk result (GoesTo V.stands visitor.old visitor.new self.new.last self.new.number
-            self.new.container (C.known self.new.calls) bytes entries) }
+            → OnOk result (GoesTo V.rests V.stands visitor.old visitor.new self.new.last
+            self.new.number self.new.container (C.known self.new.calls) bytes entries) }
         ensures fault { (bytes : List ℕ) (entries : List spec.Entry)
             → MeetsEvent self.old.container (C.known self.old.calls) event bytes entries
             → OnErr result (FailsAt bytes entries self.new.error) }
@@ -173,15 +205,17 @@ impl<C: CallTable + Drop> Pairing<C> {
     }
 
     /// Takes the call that is whole, which joins the calls of its connection.
-    fn call<V: Visit>(&mut self, visitor: &mut V) -> Result<(), Noted>
+    fn call<V: MessageVisit>(&mut self, visitor: &mut V) -> Result<(), Noted>
         requires { IsWhole self.old.container.joiner.taking }
         ensures container { self.new.container ≡ self.old.container }
         ensures inside { OnOk result (IsInside self.new.last) }
+        ensures counted { OnOk result (CountsMessages self.new.last self.old.calls_taken
+            self.old.replies_taken self.new.calls_taken self.new.replies_taken) }
         ensures machine { (bytes : List ℕ) (entries : List spec.Entry)
             → MeetsEvent self.old.container (C.known self.old.calls) (Event.Record Side.Client)
             bytes entries
-            → OnOk result (GoesTo V.stands visitor.old visitor.new self.new.last self.new.number
-            self.new.container (C.known self.new.calls) bytes entries) }
+            → OnOk result (GoesTo V.rests V.stands visitor.old visitor.new self.new.last
+            self.new.number self.new.container (C.known self.new.calls) bytes entries) }
         ensures fault { (bytes : List ℕ) (entries : List spec.Entry)
             → MeetsEvent self.old.container (C.known self.old.calls) (Event.Record Side.Client)
             bytes entries
@@ -195,6 +229,7 @@ impl<C: CallTable + Drop> Pairing<C> {
         match self.calls.admit(call.xid, call.id) {
             Ok(Some(number)) => {
                 self.number = number;
+                self.calls_taken = self.calls_taken.saturating_add(1);
                 self.last = Some(Kind::Call(call.id));
                 Ok(())
             }
@@ -204,15 +239,17 @@ impl<C: CallTable + Drop> Pairing<C> {
     }
 
     /// Takes the reply that is whole.
-    fn reply<V: Visit>(&mut self, visitor: &mut V) -> Result<(), Noted>
+    fn reply<V: MessageVisit>(&mut self, visitor: &mut V) -> Result<(), Noted>
         requires { IsWhole self.old.container.joiner.taking }
         ensures container { self.new.container ≡ self.old.container }
         ensures inside { OnOk result (IsInside self.new.last) }
+        ensures counted { OnOk result (CountsMessages self.new.last self.old.calls_taken
+            self.old.replies_taken self.new.calls_taken self.new.replies_taken) }
         ensures machine { (bytes : List ℕ) (entries : List spec.Entry)
             → MeetsEvent self.old.container (C.known self.old.calls) (Event.Record Side.Server)
             bytes entries
-            → OnOk result (GoesTo V.stands visitor.old visitor.new self.new.last self.new.number
-            self.new.container (C.known self.new.calls) bytes entries) }
+            → OnOk result (GoesTo V.rests V.stands visitor.old visitor.new self.new.last
+            self.new.number self.new.container (C.known self.new.calls) bytes entries) }
         ensures fault { (bytes : List ℕ) (entries : List spec.Entry)
             → MeetsEvent self.old.container (C.known self.old.calls) (Event.Record Side.Server)
             bytes entries
@@ -222,6 +259,7 @@ impl<C: CallTable + Drop> Pairing<C> {
         match scan_reply(&self.calls, self.container.body(), visitor) {
             Ok(call) => {
                 self.number = call.number;
+                self.replies_taken = self.replies_taken.saturating_add(1);
                 self.last = Some(Kind::Reply(call.id));
                 Ok(())
             }

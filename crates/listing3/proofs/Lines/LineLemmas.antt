@@ -1,19 +1,27 @@
 -- A line, and what is held after it.
-use Rattle.listing3.proofs.Common.{◌≡◌, ◌⊎◌, inl, inr, ℕ, List, [], ◌∷◌, ◌++◌, ◌<◌, length, drop, refl, sym, ap, ap₂, ◌∙◌, subst, append_assoc, append-nil, length-append, arith, Result, Ok, Err, Appends, PlainField, Item, Word, Hyper, Opaque, Handle, run_items, ProcId, head_names, AppendsFront, ◌^◌, Option, None, Some, codes, decimal, OnErr, OnOk, Appends-trans, Spells, Adds, Keeps, adds_nothing, procedure_in, Entry, Begin, Call, Turn, Reply, Close, End, Gap, ItemsText, is_headed_call, is_headed_reply, front_of_second, filled, IsTextOfBody, TextStands, always, after_front, HasLineUnderWay, IsTextOf, items_before, LineStands, SkipsOthers, entry_line, line, opening, prefix, procedure_name, shown, shown_items}
+use Rattle.std.proofs.Common.{◌+◌}
+use Rattle.listing3.proofs.Common.{◌≡◌, ◌⊎◌, inl, inr, ℕ, List, [], ◌∷◌, ◌++◌, ◌<◌, length, drop, refl, sym, ap, ap₂, ◌∙◌, subst, append_assoc, append-nil, length-append, arith, Result, Ok, Err, Appends, PlainField, Item, Word, Opaque, Handle, run_items, ProcId, head_names, AppendsFront, ◌^◌, Option, codes, decimal, OnErr, OnOk, Appends-trans, Spells, Adds, Keeps, procedure_in, Entry, Begin, Call, Turn, Reply, Close, End, Gap, ItemsText, is_headed_call, is_headed_reply, front_of_second, filled, IsTextOfBody, TextStands, always, after_front, HasLineUnderWay, HasNoLine, LineRests, items_before, LineStands, SkipsOthers, entry_line, line, opening, prefix, procedure_name, shown, shown_items}
 use Rattle.capture3.specs.declared.reader.entry.Kind.{Kind}
 use Rattle.capture3.specs.declared.reader.entry.Kind.TheVariants as kinds
 use Rattle.capture3.specs.declared.fault.Error.{Error}
 use Rattle.capture3.specs.machinery.Stepping.{IsOfKind}
+use Rattle.capture3.specs.Entry.{items_of}
+use Rattle.capture3.specs.MessageVisit.{HasHeard, OpensMessage}
+use Rattle.xdr3.specs.View.{word_of}
+use Rattle.rpc_head.specs.MessageStart.{start_items}
+use Rattle.rpc_head.specs.declared.values.message_start.MessageStart.{MessageStart}
+use Rattle.canon3.specs.HandleTable.{all_items}
 use Rattle.listing3.specs.declared.line_writer.LineWriter.{LineWriter}
-use Rattle.canon3.specs.declared.entries.progress.Progress.{Progress}
+use Rattle.capture3.specs.declared.reader.progress.Progress.{Progress}
 use Rattle.canon3.specs.EntryWriter.{HasWrittenOrCut}
 use Rattle.canon3.specs.Laws.{AreFirst}
-use Rattle.canon3.specs.Progress.{HasPassed}
+use Rattle.capture3.specs.Progress.{HasPassed}
+use Rattle.canon3.proofs.Lemmas.Progress.ProgressLemmas.{records_within}
 use Rattle.canon3.specs.Values.{handles_in}
 use Rattle.canon3.proofs.Lemmas.Numbers.HandleTableLemmas.{none_in_run}
 use Rattle.canon3.proofs.Lemmas.WellFormed.Laid.{IsLaidOut, last_laid}
 use Rattle.xdr3.specs.Visit.{AddsSome}
-use Rattle.xdr3.proofs.Lemmas.Shapes.Walks.{some_after, some_none}
+use Rattle.xdr3.proofs.Lemmas.Shapes.Walks.{some_none}
 use Rattle.listing3.proofs.Lines.ItemsTexts.{filled_more}
 use Rattle.listing3.proofs.ListingLemmas.{shown_push}
 
@@ -58,9 +66,12 @@ module _ {H : Type 0} (gathers : H → List Item → Type 0) (writer : LineWrite
       subst (λ (l : List Item). HasLineUnderWay gathers writer l items) (sym same.0)
       (subst (HasLineUnderWay gathers writer other) (sym same.1) is)
 
-  pub stands_after : (front items : List Item) → HasLineUnderWay gathers writer front items
-      → LineStands gathers writer (after_front front items)
-  stands_after front items is = (front, items, refl, is)
+  pub no_line_after : (front : List Item) → LineRests gathers writer (after_front front [])
+      → HasNoLine gathers writer front
+  no_line_after front (other, are, is) =
+      let many : length front ≡ length other = cc in
+      let all : front ++ [] ≡ other ++ [] = cc in
+      subst (HasNoLine gathers writer) (sym (same_front front other [] [] many all).0) is
 
 -- ---- one item more
 
@@ -69,219 +80,103 @@ pub after_front-append : (front items more : List Item)
 after_front-append front items more =
     ap (λ (l : List Item). Word [] (length front) ∷ l) (append_assoc front items more)
 
-module _ {H : Type 0} (gathers : H → List Item → Type 0) (old new : LineWriter H)
-    (more : List Item) where
-  pub adds : ((front : List Item) → gathers old.handles front → gathers new.handles (front ++ more))
-      → ((items : List Item) → IsTextOf old.xid old.items items
-      → IsTextOf new.xid new.items (items ++ more))
-      → Adds (LineStands gathers) old new more
+module _ {H : Type 0} (gathers : H → List Item → Type 0) (writer : LineWriter H) (table : H)
+    (text : ItemsText) where
+  abbrev pub with_both : LineWriter H
+  with_both =
+      record { handles = table; xid = writer.xid; items = text; head = writer.head }
+
+  pub adds : (more : List Item)
+      → ((front : List Item) → gathers writer.handles front → gathers table (front ++ more))
+      → Adds TextStands writer.items text more → Adds (LineStands gathers) writer with_both more
   unfolding Adds
-  adds gathered text all (front, items, are, is) = (
+  adds more gathered write all (front, items, are, is) = (
     front,
     items ++ more,
     ap (λ (l : List Item). l ++ more) are ∙ after_front-append front items more,
     record {
       gathered =
-          subst (gathers new.handles) (append_assoc front items more)
+          subst (gathers table) (append_assoc front items more)
           (gathered (front ++ items) is.gathered);
-      text = text items is.text;
+      rest = is.rest ++ more;
+      begins = ap (λ (l : List Item). l ++ more) is.begins;
+      text = write is.rest is.text;
     },
   )
 
-module _ {H : Type 0} (gathers : H → List Item → Type 0) (old new : LineWriter H) where
-  pub keeps : ((items : List Item) → gathers old.handles items → gathers new.handles items)
-      → ((items : List Item) → IsTextOf old.xid old.items items → IsTextOf new.xid new.items items)
-      → Keeps (LineStands gathers) old new
+  pub kept_both : Keeps gathers writer.handles table → Keeps TextStands writer.items text
+      → Keeps (LineStands gathers) writer with_both
   unfolding Keeps
-  keeps gathered text all (front, items, are, is) = (
+  kept_both kept still all (front, items, are, is) = (
     front,
     items,
     are,
-    record { gathered = gathered (front ++ items) is.gathered; text = text items is.text },
+    record {
+      gathered = kept (front ++ items) is.gathered;
+      rest = is.rest;
+      begins = is.begins;
+      text = still is.rest is.text;
+    },
   )
 
--- the text grows by the item, where the xid was told or the item is no word
-abbrev pub IsLater : Option ℕ → Item → Type 0
-IsLater None (Word name n) = ⊥
-IsLater _ _ = Unit {0}
-
-abbrev pub IsNoWord : Item → Type 0
-IsNoWord (Word name n) = ⊥
-IsNoWord _ = Unit {0}
-
-pub no_word : (xid : Option ℕ) (i : Item) → IsNoWord i → IsLater xid i
-no_word None (Word name n) f = absurd f
-no_word None _ f = tt
-no_word (Some x) i f = tt
-
-text_more : (xid : Option ℕ) (old new : ItemsText) (i : Item) → IsLater xid i
-    → Adds TextStands old new (i ∷ []) → (items : List Item) → IsTextOf xid old items
-    → IsTextOf xid new (items ++ i ∷ [])
-unfolding Adds
-text_more None old new (Word name n) later write [] t = absurd later
-text_more (Some x) old new (Word name n) later write [] t =
-    let none : Some x ≡ None = t.0 in absurd cc
-text_more xid old new _ later write [] t = tt
-text_more xid old new i later write (Word name n ∷ items) t = (t.0, write items t.1)
-text_more xid old new i later write (_ ∷ items) t = tt
-
-text_still : (xid : Option ℕ) (old new : ItemsText) → Keeps TextStands old new → (items : List Item)
-    → IsTextOf xid old items → IsTextOf xid new items
-unfolding Keeps
-text_still xid old new kept [] t = (t.0, kept [] t.1)
-text_still xid old new kept (Word name n ∷ items) t = (t.0, kept items t.1)
-text_still xid old new kept (_ ∷ items) t = tt
-
-module _ {H : Type 0} (gathers : H → List Item → Type 0) (writer : LineWriter H)
-    (text : ItemsText) where
-  abbrev pub with_text : LineWriter H
-  with_text = record writer { items = text }
-
-  pub adds_plain : SkipsOthers gathers → (i : Item) → handles_in (i ∷ []) ≡ []
-      → IsLater writer.xid i → Adds TextStands writer.items text (i ∷ [])
-      → Adds (LineStands gathers) writer with_text (i ∷ [])
-  adds_plain skips i none later write =
-      adds gathers writer with_text (i ∷ []) (λ front h. skips writer.handles front (i ∷ []) none h)
-      (text_more writer.xid writer.items text i later write)
-
-  pub keeps_text : Keeps TextStands writer.items text → Keeps (LineStands gathers) writer with_text
-  keeps_text kept =
-      keeps gathers writer with_text (λ items h. h) (text_still writer.xid writer.items text kept)
-
   -- the text and the table with the handle
-  pub adds_both : (table : H) (name bytes : List ℕ)
+  pub adds_both : (name bytes : List ℕ)
       → Adds TextStands writer.items text (Opaque Handle name bytes ∷ [])
       → Adds gathers writer.handles table (Opaque Handle name bytes ∷ [])
-      → Adds (LineStands gathers) writer
-      (record { handles = table; xid = writer.xid; items = text; head = writer.head })
-      (Opaque Handle name bytes ∷ [])
+      → Adds (LineStands gathers) writer with_both (Opaque Handle name bytes ∷ [])
   unfolding Adds
-  adds_both table name bytes write gathered =
-      adds gathers writer
-      (record { handles = table; xid = writer.xid; items = text; head = writer.head })
-      (Opaque Handle name bytes ∷ []) gathered
-      (text_more writer.xid writer.items text (Opaque Handle name bytes)
-      (no_word writer.xid (Opaque Handle name bytes) tt) write)
-
--- the xid is told
-pub adds_xid : {H : Type 0} (gathers : H → List Item → Type 0) → SkipsOthers gathers
-    → (writer : LineWriter H) (name : List ℕ) (n : ℕ) → writer.xid ≡ None
-    → Adds (LineStands gathers) writer
-    (record writer { xid = Some n }) (Word name n ∷ [])
-adds_xid gathers skips writer name n none =
-    adds gathers writer
-    (record writer { xid = Some n }) (Word name n ∷ [])
-    (λ front h. skips writer.handles front (Word name n ∷ []) refl h) text
-  where
-    text : (items : List Item) → IsTextOf writer.xid writer.items items
-        → IsTextOf (Some n) writer.items (items ++ Word name n ∷ [])
-    text [] t = (refl, t.1)
-    text (Word other m ∷ items) t = let some : writer.xid ≡ Some m = t.0 in absurd cc
-    text (_ ∷ items) t = tt
-
--- ---- a run
-
-text_run : (x : ℕ) (old new : ItemsText) (run : List Item) → Adds TextStands old new run
-    → (items : List Item) → IsTextOf (Some x) old items → IsTextOf (Some x) new (items ++ run)
-unfolding Adds
-text_run x old new run write [] t = let none : Some x ≡ None = t.0 in absurd cc
-text_run x old new run write (Word name n ∷ items) t = (t.0, write items t.1)
-text_run x old new run write (_ ∷ items) t = tt
-
-xid_text_run : (name : List ℕ) (n : ℕ) (old new : ItemsText) (run : List Item)
-    → Adds TextStands old new run → (items : List Item) → IsTextOf None old items
-    → IsTextOf (Some n) new (items ++ Word name n ∷ run)
-unfolding Adds
-xid_text_run name n old new run write [] t = (refl, write [] t.1)
-xid_text_run name n old new run write (Word other m ∷ items) t =
-    let some : None ≡ Some m = t.0 in absurd cc
-xid_text_run name n old new run write (_ ∷ items) t = tt
-
-number_text_run : (name : List ℕ) (n : ℕ) (old new : ItemsText) (run items : List Item)
-    → IsTextOf None old items → IsTextOf None new (items ++ Hyper name n ∷ run)
-number_text_run name n old new run [] t = tt
-number_text_run name n old new run (Word other m ∷ items) t =
-    let some : None ≡ Some m = t.0 in absurd cc
-number_text_run name n old new run (_ ∷ items) t = tt
+  adds_both name bytes write gathered = adds (Opaque Handle name bytes ∷ []) gathered write
 
 module _ {H : Type 0} (gathers : H → List Item → Type 0) (skips : SkipsOthers gathers)
-    (writer : LineWriter H) (text : ItemsText) (all : List PlainField) (run : List ℕ) where
-  -- a run after the xid
-  pub adds_run : (x : ℕ) → writer.xid ≡ Some x
+    (writer : LineWriter H) (text : ItemsText) where
+  pub adds_plain : (i : Item) → handles_in (i ∷ []) ≡ []
+      → Adds TextStands writer.items text (i ∷ [])
+      → Adds (LineStands gathers) writer (with_both gathers writer writer.handles text) (i ∷ [])
+  adds_plain i none =
+      adds gathers writer writer.handles text (i ∷ [])
+      (λ front h. skips writer.handles front (i ∷ []) none h)
+
+  pub adds_run : (all : List PlainField) (run : List ℕ)
       → Adds TextStands writer.items text (run_items all run)
-      → Adds (LineStands gathers) writer (with_text gathers writer text) (run_items all run)
-  adds_run x told write =
-      adds gathers writer (with_text gathers writer text) (run_items all run)
+      → Adds (LineStands gathers) writer (with_both gathers writer writer.handles text)
+      (run_items all run)
+  adds_run all run =
+      adds gathers writer writer.handles text (run_items all run)
       (λ front h. skips writer.handles front (run_items all run) (none_in_run all run) h)
-      (subst
-      (λ xid. (items : List Item) → IsTextOf xid writer.items items
-      → IsTextOf xid text (items ++ run_items all run)) (sym told)
-      (text_run x writer.items text (run_items all run) write))
 
-  -- a run that begins with the xid
-  pub adds_xid_run : (name : List ℕ) (n m : ℕ) → n ≡ m → writer.xid ≡ None
-      → Adds TextStands writer.items text (run_items all run)
-      → Adds (LineStands gathers) writer
-      (record { handles = writer.handles; xid = Some n; items = text; head = writer.head })
-      (Word name m ∷ run_items all run)
-  adds_xid_run name n m same none write =
-      let told : LineWriter H =
-      record { handles = writer.handles; xid = Some n; items = text; head = writer.head } in
-      subst (λ (k : ℕ). Adds (LineStands gathers) writer told (Word name k ∷ run_items all run))
-      same
-      (adds gathers writer told (Word name n ∷ run_items all run)
-      (λ front h.
-      skips writer.handles front (Word name n ∷ run_items all run) (none_in_run all run) h)
-      (subst
-      (λ xid. (items : List Item) → IsTextOf xid writer.items items
-      → IsTextOf (Some n) text (items ++ Word name n ∷ run_items all run)) (sym none)
-      (xid_text_run name n writer.items text (run_items all run) write)))
+  -- a message begins, and its mtype is in the text
+  pub opens : (s : MessageStart)
+      → Adds TextStands writer.items text (Word head_names.mtype (word_of s.is_reply) ∷ [])
+      → OpensMessage (LineRests gathers) (LineStands gathers) writer
+      (record { handles = writer.handles; xid = s.xid; items = text; head = writer.head })
+      (start_items s)
+  unfolding Adds OpensMessage
+  opens s write all (front, are, is) = (
+    front,
+    start_items s,
+    ap (λ (l : List Item). l ++ start_items s) are ∙ after_front-append front [] (start_items s),
+    record {
+      gathered = skips writer.handles front (start_items s) refl is.gathered;
+      rest = Word head_names.mtype (word_of s.is_reply) ∷ [];
+      begins = refl;
+      text = write [] is.text;
+    },
+  )
 
-  -- nothing is said of a message that begins with a number
-  pub adds_number_run : (name : List ℕ) (n : ℕ) → writer.xid ≡ None
-      → Adds (LineStands gathers) writer (with_text gathers writer text)
-      (Hyper name n ∷ run_items all run)
-  adds_number_run name n none =
-      adds gathers writer (with_text gathers writer text) (Hyper name n ∷ run_items all run)
-      (λ front h.
-      skips writer.handles front (Hyper name n ∷ run_items all run) (none_in_run all run) h)
-      (subst
-      (λ xid. (items : List Item) → IsTextOf xid writer.items items
-      → IsTextOf xid text (items ++ Hyper name n ∷ run_items all run)) (sym none)
-      (number_text_run name n writer.items text (run_items all run)))
+pub keeps_text : {H : Type 0} (gathers : H → List Item → Type 0) (writer : LineWriter H)
+    (text : ItemsText) → Keeps TextStands writer.items text
+    → Keeps (LineStands gathers) writer (with_both gathers writer writer.handles text)
+unfolding Keeps
+keeps_text gathers writer text = kept_both gathers writer writer.handles text (λ items h. h)
 
--- ---- a run that fails
-
+-- a run that fails
 pub run_kept : {H : Type 0} (gathers : H → List Item → Type 0) (writer : LineWriter H)
     (text : ItemsText) (items : List Item) → text ≡ writer.items
-    → AddsSome (LineStands gathers) writer (with_text gathers writer text) items
+    → AddsSome (LineStands gathers) writer (with_both gathers writer writer.handles text) items
 unfolding Keeps
 run_kept gathers writer text items same =
-    some_none (LineStands gathers) writer (with_text gathers writer text) items
+    some_none (LineStands gathers) writer (with_both gathers writer writer.handles text) items
     (keeps_text gathers writer text (rw same (λ before h. h)))
-
--- its xid was taken
-pub xid_kept : {H : Type 0} (gathers : H → List Item → Type 0) (skips : SkipsOthers gathers)
-    (writer : LineWriter H) (text : ItemsText) (run : List ℕ) (items : List Item) (name : List ℕ)
-    (n m : ℕ) → n ≡ m → writer.xid ≡ None → text ≡ writer.items
-    → AddsSome (LineStands gathers) writer
-    (record { handles = writer.handles; xid = Some n; items = text; head = writer.head })
-    (Word name m ∷ items)
-unfolding Keeps
-xid_kept gathers skips writer text run items name n m same none kept =
-    let told : LineWriter _ =
-    record { handles = writer.handles; xid = Some n; items = text; head = writer.head } in
-    some_after (LineStands gathers) writer told told (Word name m ∷ []) items
-    (Word name m ∷ items) (adds_xid_run gathers skips writer text [] run name n m same none
-    (rw kept (adds_nothing TextStands writer.items)))
-    (some_none (LineStands gathers) told told items (λ before h. h)) refl
-
--- a run of no fields
-pub adds_no_run : {H : Type 0} (gathers : H → List Item → Type 0) (writer : LineWriter H)
-    (all : List PlainField) (run : List ℕ) → length all ≡ 0
-    → Adds (LineStands gathers) writer writer (run_items all run)
-adds_no_run gathers writer [] run none = adds_nothing (LineStands gathers) writer
-adds_no_run gathers writer (field ∷ all) run none = absurd (omega (arith, none))
 
 -- ---- what a result says
 
@@ -292,28 +187,25 @@ module _ {T E : Type 0} (result : Result T E) (P : Type 0) where
   pub told_err : (e : E) → Err e ≡ result → OnErr result P → P
   told_err e is p = subst (λ (r : Result T E). OnErr r P) (sym is) p
 
--- ---- after an error
-
-module _ {H : Type 0} (gathers : H → List Item → Type 0) (writer : LineWriter H) (table : H)
-    (new : ItemsText) where
-  pub kept_both : Keeps gathers writer.handles table → Keeps TextStands writer.items new
-      → Keeps (LineStands gathers) writer
-      (record { handles = table; xid = writer.xid; items = new; head = writer.head })
-  unfolding Keeps
-  kept_both kept text =
-      keeps gathers writer
-      (record { handles = table; xid = writer.xid; items = new; head = writer.head }) kept
-      (text_still writer.xid writer.items new text)
-
 -- ---- an entry's line
 
-pub no_xid : {H : Type 0} (gathers : H → List Item → Type 0) (writer : LineWriter H)
-    (front rest : List Item) (n : ℕ) → writer.xid ≡ None
-    → LineStands gathers writer (after_front front (Word head_names.xid n ∷ rest)) → ⊥
-no_xid gathers writer front rest n none stands =
-    let some : writer.xid ≡ Some n =
-    (is_after gathers writer front (Word head_names.xid n ∷ rest) stands).text.0 in
-    absurd cc
+module _ {H : Type 0} (gathers : H → List Item → Type 0) (writer : LineWriter H)
+    (entries : List Entry) where
+  pub in_line : (items : List Item) → LineStands gathers writer (items_before entries ++ items)
+      → LineStands gathers writer (after_front (all_items entries) items)
+  in_line items =
+      subst (LineStands gathers writer) (after_front-append (all_items entries) [] items)
+
+  -- what is gathered once the entry was told
+  pub gathered_after : (one : Entry)
+      → HasHeard (LineRests gathers) (LineStands gathers) writer (items_before entries) one
+      → gathers writer.handles (all_items entries ++ items_of one)
+  gathered_after (Call items) told =
+      (is_after gathers writer (all_items entries) items (in_line items told)).gathered
+  gathered_after (Reply id items) told =
+      (is_after gathers writer (all_items entries) items (in_line items told)).gathered
+  gathered_after _ told =
+      rw append-nil (no_line_after gathers writer (all_items entries) told).gathered
 
 -- the text with its gap filled, and the end of the line
 line_ends : (items : ItemsText) (rest : List Item) (gap : Option Gap) (text body back : List ℕ)
@@ -326,19 +218,20 @@ line_ends items rest gap text body back of text_is gap_is body_is =
     ∙ ap (λ (l : List ℕ). l ++ 10 ∷ []) of.shows))
 
 pub is_line : {H : Type 0} (gathers : H → List Item → Type 0) (writer : LineWriter H)
-    (connection : ℕ) (side : List ℕ) (number xid : ℕ) (id : ProcId) (front rest : List Item)
-    (n : ℕ) (head text body : List ℕ) (gap : Option Gap) → writer.xid ≡ Some xid
-    → Spells (Word head_names.xid n ∷ rest) body → length body < 2 ^ 64
+    (connection : ℕ) (side : List ℕ) (number : ℕ) (id : ProcId) (front rest : List Item)
+    (n : ℕ) (head text body : List ℕ) (gap : Option Gap) → Spells (Word head_names.xid n ∷ rest)
+    body → length body < 2 ^ 64
     → LineStands gathers writer (after_front front (Word head_names.xid n ∷ rest))
-    → head ≡ prefix connection side number ++ (xid_text xid ++ (32 ∷ procedure_name id))
+    → head ≡ prefix connection side number ++ (xid_text writer.xid ++ (32 ∷ procedure_name id))
     → text ≡ writer.items.text ++ 10 ∷ [] → gap ≡ writer.items.gap
     → head ++ filled gap text (drop 4 body)
     ≡ line connection side number id (Word head_names.xid n ∷ rest)
-is_line gathers writer connection side number xid id front rest n head text body gap told
+is_line gathers writer connection side number id front rest n head text body gap
     (first, back, word, spells, split) few stands head_is text_is gap_is =
-    let b = (is_after gathers writer front (Word head_names.xid n ∷ rest) stands).text in
-    let some : writer.xid ≡ Some n = b.0 in
-    let same : xid ≡ n = cc in
+    let u = is_after gathers writer front (Word head_names.xid n ∷ rest) stands in
+    let same : writer.xid ≡ n = cc (u.begins) in
+    let after : u.rest ≡ rest = cc (u.begins) in
+    let text_of = subst (TextStands writer.items) after u.text in
     let left : drop 4 body ≡ back =
     ap (drop 4) (split ∙ ap (λ (k : List ℕ). k ++ back) word.1) in
     let short : length back < 2 ^ 64 = omega (arith, few, ap length split, length-append first back)
@@ -347,7 +240,8 @@ is_line gathers writer connection side number xid id front rest n head text body
     (head_is
     ∙ ap (λ k. prefix connection side number ++ (xid_text k ++ (32 ∷ procedure_name id)))
     same)
-    (line_ends writer.items rest gap text (drop 4 body) back (b.1 back spells short) text_is gap_is
+    (line_ends writer.items rest gap text (drop 4 body) back (text_of back spells short) text_is
+    gap_is
     left)
 
 module _ (P : Entry → Type 0) (entries : List Entry) (one : Entry) (kind : Kind)
@@ -386,22 +280,35 @@ module _ (P : Entry → Type 0) (entries : List Entry) (one : Entry) (kind : Kin
       let this : one ≡ End = subst (λ k. IsOfKind k one) is of in
       subst P (sym this) s
 
+-- the next record has a number of 32 bits
+pub next_is_small : (progress : Progress) (entries : List Entry) (one : Entry)
+    → HasPassed progress entries → length (entries ++ one ∷ []) < 2 ^ 32
+    → progress.records + 1 < 2 ^ 32
+next_is_small progress entries one passed few =
+    omega (
+      arith,
+      few,
+      passed.place.records_are,
+      records_within 0 entries,
+      length-append entries (one ∷ []),
+    )
+
 -- one entry more
 pub listed_more : {H X : Type 0} (gathers : H → List Item → Type 0) (now : LineWriter H)
     (old between after : Option (List ℕ)) (progress : Progress) (entries : List Entry)
     (one : Entry) (r : Result X Error) → HasPassed progress entries
     → Appends old between (shown entries)
-    → LineStands gathers now (items_before (entries ++ one ∷ []))
+    → LineRests gathers now (items_before (entries ++ one ∷ []))
     → OnOk r (Appends between after (entry_line progress.connections progress.records one))
     → OnErr r (AppendsFront between after (entry_line progress.connections progress.records one))
-    → HasWrittenOrCut shown items_before (LineStands gathers) always now old after
+    → HasWrittenOrCut shown items_before (LineRests gathers) always now old after
     (entries ++ one ∷ []) r
 listed_more gathers now old between after progress entries one (Ok x) came written stands appended
     cut = (
       tt,
       stands,
       subst (Appends old after) (sym (shown_push entries one progress.connections progress.records
-          came.connections_are came.records_are))
+          came.place.connections_are came.place.records_are))
           (Appends-trans old between after (shown entries)
           (entry_line progress.connections progress.records one) written appended),
     )
@@ -409,5 +316,5 @@ listed_more gathers now old between after progress entries one (Err e) came writ
     cut =
     front_of_second old between after (shown entries)
     (entry_line progress.connections progress.records one) (shown (entries ++ one ∷ []))
-    (shown_push entries one progress.connections progress.records came.connections_are
-    came.records_are) written cut
+    (shown_push entries one progress.connections progress.records came.place.connections_are
+    came.place.records_are) written cut

@@ -1,19 +1,13 @@
 -- What a writer of lines holds.
-use Rattle.std.specs.Prelude.{◌≡◌, ℕ, Option, None, Some, List, [], ◌∷◌, ◌++◌, length}
+use Rattle.std.specs.Prelude.{◌≡◌, List, [], ◌∷◌, ◌++◌, length}
 use Rattle.xdr3.specs.Item.{Item, Word}
+use Rattle.rpc_head.specs.Names.{head_names}
 use Rattle.capture3.specs.Entry.{Entry}
 use Rattle.canon3.specs.Values.{handles_in}
-use Rattle.canon3.specs.machinery.Sums.{all_items}
+use Rattle.canon3.specs.HandleTable.{all_items}
 use Rattle.listing3.specs.declared.items_text.ItemsText.{ItemsText}
 use Rattle.listing3.specs.declared.line_writer.LineWriter.{LineWriter}
 use Rattle.listing3.specs.machinery.ItemsText.{TextStands}
-
--- the message up to here: its xid, and the text of the items after it; nothing is said where it
--- begins with another item
-abbrev pub IsTextOf : Option ℕ → ItemsText → List Item → Type 0
-IsTextOf xid text [] = (xid ≡ None) × TextStands text []
-IsTextOf xid text (Word name n ∷ items) = (xid ≡ Some n) × TextStands text items
-IsTextOf xid text _ = Unit {0}
 
 -- The items of the messages before stand in front of the message's own, and how many these are in
 -- front of all.
@@ -27,14 +21,24 @@ module _ {H : Type 0} (stands : H → List Item → Type 0) where
   SkipsOthers = (visitor : H) (items more : List Item) → handles_in more ≡ []
       → stands visitor items → stands visitor (items ++ more)
 
-  -- a message under way, after these items
+  -- a message that is open, after these items: its xid, and the text of the items after it
   pub record HasLineUnderWay (writer : LineWriter H) (front items : List Item) : Type 0 where
     pub gathered : stands writer.handles (front ++ items)
-    pub text : IsTextOf writer.xid writer.items items
+    pub rest : List Item
+    pub begins : items ≡ Word head_names.xid writer.xid ∷ rest
+    pub text : TextStands writer.items rest
 
   abbrev pub LineStands : LineWriter H → List Item → Type 0
   LineStands writer all = (front : List Item) × (items : List Item)
       × (all ≡ after_front front items) × HasLineUnderWay writer front items
+
+  -- no message is open, after these items
+  pub record HasNoLine (writer : LineWriter H) (front : List Item) : Type 0 where
+    pub gathered : stands writer.handles front
+    pub text : TextStands writer.items []
+
+  abbrev pub LineRests : LineWriter H → List Item → Type 0
+  LineRests writer all = (front : List Item) × (all ≡ after_front front []) × HasNoLine writer front
 
 -- what stands for entries whose lines were written
 abbrev pub items_before : List Entry → List Item

@@ -3,6 +3,7 @@ use Rattle.std.specs.Prelude.{◌≡◌, ℕ, ◌==◌, ◌&&◌, false, not, if
 use Rattle.std.specs.List.{flat_map}
 use Rattle.xdr3.specs.Item.{Item, Word, Hyper, word_bytes, zero_spelling}
 use Rattle.capture3.specs.declared.fault.Side.{Side}
+use Rattle.capture3.specs.declared.fault.Side.TheVariants.{Client}
 use Rattle.capture3.specs.Entry.{Entry, Call, Reply}
 use Rattle.capture3.specs.declared.reader.entry.Kind.{Kind}
 use Rattle.capture3.specs.declared.reader.entry.Kind.TheVariants as kinds
@@ -19,7 +20,7 @@ use Rattle.masking3.specs.Masked.{is_zero_that_stays, masked_items, values_in}
 use Rattle.masking3.specs.Spots.{next_spot}
 use Rattle.masking3.specs.Texts.{with_text}
 use Rattle.masking3.specs.machinery.ClassTables.{HoldsValues, tables_in}
-use Rattle.masking3.specs.machinery.MessageSpot.{BeginsOn, first_spot, found_after}
+use Rattle.masking3.specs.machinery.MessageSpot.{BeginsOn, first_spot, spot_after}
 use Rattle.masking3.specs.machinery.UnnamedBody.{body_by}
 
 -- ---- the messages before
@@ -58,27 +59,46 @@ abbrev pub values_so_far : (front : List Item) → Side → (items : List Item) 
 values_so_far front side items class =
     flat_map (told_value class) front ++ values_in class (first_spot side) items
 
--- ---- a message under way, after these items
+-- ---- what a writer holds
 
-pub record HasMaskedUnderWay {P S H : Type 0} (ways : Ways) (w : MaskingWriter P S H)
+-- these items of a message, after those before
+pub record HoldsMasked {P S H : Type 0} (ways : Ways) (w : MaskingWriter P S H)
     (front : List Item) (side : Side) (items : List Item) : Type 0 where
   pub ways_are : w.classes.ways ≡ ways
   pub tables : HoldsValues ways (tables_in w.classes) (values_so_far front side items)
   pub handles : Gathers w.handles (front ++ items)
-  pub spot_is : w.spot ≡ found_after items
   pub written : w.writer
       ≡ zero_spelling (map (with_text ways)
       (masked_items ways (values_so_far front side items) (first_spot side) items))
+
+-- a message that is open
+pub record HasMaskedUnderWay {P S H : Type 0} (ways : Ways) (w : MaskingWriter P S H)
+    (all : List Item) : Type 0 where
+  pub front : List Item
+  pub side : Side
+  pub items : List Item
+  pub are : all ≡ after_messages front items
+  pub begins : BeginsOn side items
+  pub spot_is : w.spot ≡ spot_after (first_spot side) items
+  pub holds : HoldsMasked ways w front side items
+
+-- no message is open
+pub record HasNoneUnderWay {P S H : Type 0} (ways : Ways) (w : MaskingWriter P S H)
+    (all : List Item) : Type 0 where
+  pub front : List Item
+  pub are : all ≡ after_messages front []
+  pub holds : HoldsMasked ways w front Client []
 
 -- memory did not run out
 abbrev pub HasMemory : {P S H : Type 0} → MaskingWriter P S H → Type 0
 HasMemory w = w.failed ≡ false
 
--- nothing is said of one that has failed, nor of items that do not begin a message
+-- nothing is said of one that has failed
 abbrev pub MaskStands : {P S H : Type 0} → Ways → MaskingWriter P S H → List Item → Type 0
-MaskStands ways w all = HasMemory w → (front : List Item) × (items : List Item)
-    × (all ≡ after_messages front items)
-    × ((side : Side) → BeginsOn side items → HasMaskedUnderWay ways w front side items)
+MaskStands ways w all = HasMemory w → HasMaskedUnderWay ways w all
+
+abbrev pub MaskRests : {P S H : Type 0} → Ways → MaskingWriter P S H → List Item → Type 0
+MaskRests ways w all = HasMemory w → HasNoneUnderWay ways w all
 
 -- what stands for entries that were written
 abbrev pub told_before : List Entry → List Item

@@ -1,5 +1,5 @@
 -- What was rewritten, entry by entry.
-use Rattle.canon3.proofs.Common.{◌≡◌, ℕ, ◌+◌, List, [], ◌∷◌, ◌++◌, refl, sym, ap, ◌∙◌, subst, arith, Option, Result, Ok, Err, Appends, Error, magic, Entry, Begin, End, MessageWriter, bytes_of, canonical, AreFirst, IsGoing, WriterStands, connections, AppendsFront, Appends-trans, Summary}
+use Rattle.canon3.proofs.Common.{◌≡◌, ℕ, ◌+◌, List, [], ◌∷◌, ◌++◌, refl, sym, ap, ◌∙◌, subst, arith, Option, Result, Ok, Err, Appends, Error, magic, Entry, Begin, End, MessageWriter, bytes_of, canonical, AreFirst, IsGoing, WriterRests, connections, AppendsFront, Appends-trans, Summary}
 use Rattle.std.proofs.lemmas.Bool.Decides.{nat_tests}
 use Rattle.canon3.specs.EntryWriter.{HasWrittenOrCut, WritesAll}
 use Rattle.canon3.specs.CanonicalForm.{canonical_bytes, WritesNoMore}
@@ -50,7 +50,7 @@ module _ {S H : Type 0} (n : MessageWriter S H) (old before between after : Opti
 
   pub written_or_cut : {X : Type 0} (r : Result X Error)
       → Appends before between (magic_before count) → Follows n between after entries one r
-      → HasWrittenOrCut canonical_bytes values_before WriterStands IsGoing n old after
+      → HasWrittenOrCut canonical_bytes values_before WriterRests IsGoing n old after
       (entries ++ one ∷ []) r
   written_or_cut (Ok x) magic (going, stands, followed) = (
     going,

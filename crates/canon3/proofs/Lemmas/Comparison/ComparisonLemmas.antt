@@ -1,12 +1,14 @@
 -- A comparison of two captures, entry by entry.
-use Rattle.canon3.proofs.Common.{◌≡◌, ◌≢◌, ℕ, List, [], ◌∷◌, ◌++◌, append-nil, append_assoc, Option, None, Some, Result, Ok, Err, refl, sym, ap, ◌∙◌, subst, Gave, Told, gave_on, gave_none, IsPrefixOf, shown_of_all, Item, Adds, Entries, Error, Place, Entry, Typed, MessageWriter, AreFirst, Before, told_after, WriterStands, values_of, Same, HasPassed, place_from, side_in, IsMetBy, source_of, StandsFor, Progress, SameError, bytes_after, HasSpelled, spelling_of}
-use Rattle.std.specs.Option.{is_some, IsSomeAnd, MatchOption}
+use Rattle.canon3.proofs.Common.{◌≡◌, ◌≢◌, ℕ, List, [], ◌∷◌, ◌++◌, append-nil, Option, None, Some, Result, Ok, Err, refl, sym, ap, ◌∙◌, subst, Gave, Told, gave_on, gave_none, IsPrefixOf, shown_of_all, Item, Entries, Error, Place, Entry, Typed, MessageWriter, AreFirst, WriterRests, WriterStands, values_before, Same, HasPassed, place_from, side_in, IsMetBy, source_of, StandsFor, Progress, SameError, bytes_after, HasSpelled, spelling_of, ◌+◌, ◌≤◌, ◌<◌, ◌^◌, length, length-append, arith}
+use Rattle.std.specs.Option.{IsSomeAnd, MatchOption}
 use Rattle.std.specs.declared.hash.BuildHasher as BuildHasher
 use Rattle.std.specs.declared.hash.Hasher as Hasher
 use Rattle.capture3.specs.declared.fault.Error.TheVariants as errors
 use Rattle.capture3.specs.declared.reader.entry.LentEntry.{LentEntry}
 use Rattle.capture3.specs.Handing.{HandsOutGiven}
+use Rattle.capture3.specs.Laws.{most_entries}
 use Rattle.capture3.specs.Lending.{IsNextLent}
+use Rattle.capture3.specs.MessageVisit.{Hears}
 use Rattle.canon3.specs.declared.comparison.Comparison.{Comparison}
 use Rattle.canon3.specs.declared.comparison.Finding.{Finding}
 use Rattle.canon3.specs.declared.comparison.Finding.TheVariants as findings
@@ -16,12 +18,13 @@ use Rattle.canon3.specs.declared.comparison.verdict.Verdict.TheVariants as verdi
 use Rattle.canon3.specs.declared.comparison.verdict.Which.{Which}
 use Rattle.canon3.specs.declared.comparison.verdict.Which.TheVariants.{First, Second}
 use Rattle.canon3.specs.Comparison.{DecidesGiven, DecidesSame, GaveAll, StopsComparing, StopsGiven}
-use Rattle.canon3.specs.machinery.ComparisonSteps.{Agree, Compares, HasGiven, HasGivenOn, HaveEnded, HaveParted, IsCompared, IsFound, IsReadAfter, IsTold, Meets, met_second, PartWith, ReadsOn, SaysOfGiven, StepsOn}
+use Rattle.canon3.specs.HandleTable.{nothing}
+use Rattle.canon3.specs.machinery.WritingSteps.{WritesToTheEnd}
+use Rattle.canon3.specs.machinery.ComparisonSteps.{Agree, Compares, HasGiven, HasGivenOn, HaveEnded, HaveParted, IsCompared, IsFound, IsReadAfter, IsReadOut, IsTold, Meets, met_second, PartWith, SaysOfGiven, StepsOn}
 use Rattle.canon3.proofs.Lemmas.Renaming.AgreementLemmas.{agree_more, differ_here, mark_alike, no_more, not_same, parting, place_there, typed_first}
 use Rattle.canon3.proofs.Lemmas.Order.First.{same_from_bytes}
 use Rattle.canon3.proofs.Lemmas.Order.Reaching.{first_reached}
 use Rattle.canon3.proofs.Lemmas.Progress.ProgressLemmas.{place_is}
-use Rattle.canon3.proofs.Lemmas.Writing.Visiting.{told_after-append}
 
 -- ---- an entry of each
 
@@ -55,34 +58,27 @@ with_first comparison n = record comparison { first = n }
 abbrev pub with_second : {S H : Type 0} → Comparison S H → MessageWriter S H → Comparison S H
 with_second comparison n = record comparison { second = n }
 
--- the items told stand after the values
-told : {S H : Type 0} (was now : MessageWriter S H) (before : Before) (items : List Item)
-    → Adds WriterStands was now items → WriterStands was (told_after before [])
-    → WriterStands now (told_after before items)
-unfolding Adds
-told was now before items adds stands =
-    rw (told_after-append before [] items) (adds (told_after before []) stands)
-
 module _ {S H : Type 0} (comparison : Comparison S H) (a b : List Entry)
     (n : MessageWriter S H) where
-  pub told_first : (items : List Item) → Adds WriterStands comparison.first n items
-      → IsCompared comparison a b → IsTold (with_first comparison n) a b items []
-  told_first items adds c =
+  pub told_first : (e : Entry) → Hears WriterRests WriterStands comparison.first n e
+      → IsCompared comparison a b → IsTold (with_first comparison n) a b (Some e) None
+  unfolding Hears
+  told_first e tells c =
       record {
         agree = c.agree;
-        first = told comparison.first n (values_of a) items adds c.first;
+        first = tells (values_before a) c.first;
         second = c.second;
-        progress = c.progress;
       }
 
-  pub told_second : (items others : List Item) → Adds WriterStands comparison.second n others
-      → IsTold comparison a b items [] → IsTold (with_second comparison n) a b items others
-  told_second items others adds c =
+  pub told_second : (e f : Entry) → Hears WriterRests WriterStands comparison.second n f
+      → IsTold comparison a b (Some e) None
+      → IsTold (with_second comparison n) a b (Some e) (Some f)
+  unfolding Hears
+  told_second e f tells c =
       record {
         agree = c.agree;
         first = c.first;
-        second = told comparison.second n (values_of b) others adds c.second;
-        progress = c.progress;
+        second = tells (values_before b) c.second;
       }
 
 -- ---- what a reader answers
@@ -136,18 +132,18 @@ module _ (old new old_other new_other : Told) (file other : List ℕ)
 -- ---- along a reader
 
 module _ {R S H V : Type 0} {builds : BuildHasher.Ghosts S H} {hashes : Hasher.Ghosts H}
-    (telling : R → Told) (stands : V → List Item → Type 0) (start : Told)
+    (telling : R → Told) (rests stands : V → List Item → Type 0) (start : Told)
     (old new : Entries R S H builds hashes) (was now : V) (handed : List Entry) where
   -- what a call of it says of what the source gave, and of the visitor
   abbrev pub Hands : Result (Option LentEntry) Error → Type 0
-  Hands (Ok (Some lent)) = (entry : Entry) × IsNextLent stands was now handed lent entry
+  Hands (Ok (Some lent)) = (entry : Entry) × IsNextLent rests stands was now handed lent entry
       × AreFirst (handed ++ entry ∷ []) × HasGiven telling start new (handed ++ entry ∷ [])
   Hands (Ok None) =
       GaveAll start (telling (source_of new)) handed × HasGiven telling start new handed
   Hands (Err error) = SaysOfGiven start (telling (source_of new)) error
 
   pub hands : (h : HasGiven telling start old handed) (result : Result (Option LentEntry) Error)
-      → HandsOutGiven telling (IsNextLent stands was now) old new h.given handed result
+      → HandsOutGiven telling (IsNextLent rests stands was now) old new h.given handed result
       → Hands result
   hands h (Ok (Some lent)) a =
       let (entry, is, reached, stands_for) = a.hands_out in (
@@ -177,19 +173,35 @@ module _ {R S H : Type 0} {builds : BuildHasher.Ghosts S H} {hashes : Hasher.Gho
   given_on h =
       record { more = []; all = subst (HasGiven telling start reader) (sym (append-nil handed)) h }
 
--- the next entry was handed out, if there is one
-pub read_on : {R S H V : Type 0} {builds : BuildHasher.Ghosts S H} {hashes : Hasher.Ghosts H}
-    (telling : R → Told) (stands : V → List Item → Type 0) (start : Told)
-    (old new : Entries R S H builds hashes) (was now : V) (handed : List Entry)
-    (h : HasGivenOn telling start old handed) (next : Option LentEntry)
-    → Hands telling stands start old new was now (handed ++ h.more) (Ok next)
-    → ReadsOn telling start new handed (Ok (is_some next))
-read_on telling stands start old new was now handed h (Some lent) (entry, is, first, given) =
+-- all that were left were handed out
+pub read_out : {R S H T X : Type 0} {builds : BuildHasher.Ghosts S H} {hashes : Hasher.Ghosts H}
+    (telling : R → Told) (start : Told) (handed : List Entry) (before : List Entry → List Item)
+    (rests : T → List Item → Type 0) (going : T → Type 0) (reader : Entries R S H builds hashes)
+    (writer : T) (new : Option (List ℕ)) (result : Result X Error)
+    → WritesToTheEnd nothing before rests going telling start handed None reader writer new result
+    → IsReadOut start (telling (source_of reader)) handed result
+read_out telling start handed before rests going reader writer new (Ok x) d = (
+  d.more,
+  record {
+    given = d.given;
+    gave = d.ended.consumed;
+    ended = d.ended.ended;
+    typed = d.ended.typed;
+  },
+)
+read_out telling start handed before rests going reader writer new (Err (errors.Refused fault)) s =
     record {
-      more = h.more ++ entry ∷ [];
-      all = subst (HasGiven telling start new) (append_assoc handed h.more (entry ∷ [])) given;
+      given = s.given;
+      handed = s.stopped.0;
+      gave = s.consumed;
+      shown = s.stopped.1;
     }
-read_on telling stands start old new was now handed h None (all, given) = (h.more, all)
+read_out telling start handed before rests going reader writer new (Err _) s = tt
+
+-- so many entries were handed out, and more may be left
+pub one_fewer : (a : List Entry) (e : Entry) (left : ℕ)
+    → length (a ++ e ∷ []) + left ≤ most_entries → length a + 1 < 2 ^ 32
+one_fewer a e left few = omega (arith, few, length-append a (e ∷ []))
 
 -- a new reader
 pub fresh : {R S H : Type 0} {builds : BuildHasher.Ghosts S H} {hashes : Hasher.Ghosts H}

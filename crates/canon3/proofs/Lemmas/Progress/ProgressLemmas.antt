@@ -1,11 +1,10 @@
 -- How far the entries of a capture have come.
-use Rattle.canon3.proofs.Common.{◌≡◌, ◌⊎◌, inl, inr, ℕ, ◌+◌, List, [], ◌∷◌, ◌++◌, Option, None, Some, refl, ◌∙◌, arith, Client, Server, Place, Entry, Begin, Call, Turn, Reply, Close, End, Kind, HasPassed, IsOfKind, Side, Progress}
+use Rattle.std.proofs.Common.{◌≤◌, length}
+use Rattle.canon3.proofs.Common.{◌≡◌, ◌⊎◌, inl, inr, ℕ, ◌+◌, List, [], ◌∷◌, ◌++◌, Option, None, Some, refl, arith, Client, Server, Place, Entry, Begin, Call, Turn, Reply, Kind, HasPassed, IsOfKind, Side, Progress}
 use Rattle.capture3.specs.declared.fault.Place.TheVariants as places
 use Rattle.capture3.specs.declared.reader.entry.Kind.TheVariants as kinds
 use Rattle.canon3.specs.Parting.{connections, records_after, IsMessageOf, IsPlaceOf, first_message, second_message, first_ends, second_ends, next_record}
-use Rattle.canon3.specs.Summary.{is_call, is_reply}
-use Rattle.canon3.specs.machinery.CountedKinds.{calls, replies}
-use Rattle.canon3.specs.machinery.ProgressSteps.{place_from, progress_after, side_in, side_of_kind}
+use Rattle.canon3.specs.machinery.ProgressSteps.{place_from, side_in, side_of_kind}
 
 -- ---- one entry more
 
@@ -20,40 +19,27 @@ records-append n [] b = refl
 records-append n (Begin ∷ a) b = records-append 0 a b
 records-append n (_ ∷ a) b = records-append _ a b
 
-module _ (progress : Progress) (entries : List Entry) (b : HasPassed progress entries) where
-  after_one : (now : Progress) (one : Entry)
-      → now.connections ≡ progress.connections + connections (one ∷ [])
-      → now.records ≡ records_after progress.records (one ∷ [])
-      → HasPassed now (entries ++ one ∷ [])
-  after_one now one more is = record {
-    connections_are = omega (arith, more, b.connections_are, connections-append entries (one ∷ []));
-    records_are = is ∙ rw (b.records_are, records-append 0 entries) refl;
-  }
+pub connections_within : (a : List Entry) → connections a ≤ length a
+connections_within [] = omega arith
+connections_within (Begin ∷ a) = omega (arith, connections_within a)
+connections_within (_ ∷ a) = omega (arith, connections_within a)
 
-  pub after_more : (kind : Kind) (one : Entry) → IsOfKind kind one
-      → HasPassed (progress_after progress kind) (entries ++ one ∷ [])
-  after_more kinds.Begin one is =
-      rw is (after_one (progress_after progress kinds.Begin) Begin refl refl)
-  after_more (kinds.Call id) one (items, asks, is) =
-      rw is (after_one (progress_after progress (kinds.Call id)) (Call items) (omega arith) refl)
-  after_more kinds.Turn one is =
-      rw is (after_one (progress_after progress kinds.Turn) Turn (omega arith) refl)
-  after_more (kinds.Reply id) one (items, is) =
-      rw is
-      (after_one (progress_after progress (kinds.Reply id)) (Reply id items) (omega arith) refl)
-  after_more kinds.Close one is = rw is (after_one progress Close (omega arith) refl)
-  after_more kinds.End one is = rw is (after_one progress End (omega arith) refl)
+pub records_within : (n : ℕ) (a : List Entry) → records_after n a ≤ n + length a
+records_within n [] = omega arith
+records_within n (Begin ∷ a) = omega (arith, records_within 0 a)
+records_within n (Call items ∷ a) = omega (arith, records_within (n + 1) a)
+records_within n (Turn ∷ a) = omega (arith, records_within 0 a)
+records_within n (Reply id items ∷ a) = omega (arith, records_within (n + 1) a)
+records_within n (_ ∷ a) = omega (arith, records_within n a)
 
 -- what the kind tells of an entry
 pub record IsToldBy (kind : Kind) (one : Entry) : Type 0 where
   pub side : side_of_kind kind ≡ side_in one
-  pub call : calls kind ≡ is_call one
-  pub reply : replies kind ≡ is_reply one
 
 pub told_by : (kind : Kind) (one : Entry) → IsOfKind kind one → IsToldBy kind one
-told_by (kinds.Call id) one is = rw is.2 (record { side = refl; call = refl; reply = refl })
-told_by (kinds.Reply id) one is = rw is.1 (record { side = refl; call = refl; reply = refl })
-told_by _ one is = rw is (record { side = refl; call = refl; reply = refl })
+told_by (kinds.Call id) one is = rw is.2 (record { side = refl })
+told_by (kinds.Reply id) one is = rw is.1 (record { side = refl })
+told_by _ one is = rw is (record { side = refl })
 
 -- ---- a place
 
@@ -74,15 +60,15 @@ no_side Server _ h e = absurd h
 module _ (progress : Progress) (before : List Entry) (b : HasPassed progress before) where
   next_is : (side : Side)
       → next_record side before ≡ places.Record progress.connections side (1 + progress.records) 0
-  next_is side = rw (b.connections_are, b.records_are)
+  next_is side = rw (b.place.connections_are, b.place.records_are)
 
   ending : (e f : Option Entry) (place : Place) → ((side : Side) → IsMessageOf side e → ⊥)
       → ((side : Side) → IsMessageOf side f → ⊥) → IsPlaceOf before e f place
       → IsPlaceOf before e f (places.Record (1 + progress.connections) Client 0 0)
   ending e f place none other_none (first_message side h) = absurd (none side h)
   ending e f place none other_none (second_message side h) = absurd (other_none side h)
-  ending e f place none other_none first_ends = rw b.connections_are first_ends
-  ending e f place none other_none second_ends = rw b.connections_are second_ends
+  ending e f place none other_none first_ends = rw b.place.connections_are first_ends
+  ending e f place none other_none second_ends = rw b.place.connections_are second_ends
 
   -- the place of two entries that differ, where they have one
   pub place_is : (e f : Entry) → (e ≡ f → side_in e ≡ None → ⊥)

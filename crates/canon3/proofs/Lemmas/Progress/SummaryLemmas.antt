@@ -1,48 +1,23 @@
 -- From what was handed out to what a capture has.
-use Rattle.std.proofs.Common.{◌≡◌, ℕ, ◌+◌, Bool, cond, min, Result, Ok, Err, List, [], ◌∷◌, ◌++◌, count_by, length, refl, append-nil, arith}
-use Rattle.canon3.proofs.Common.{bytes_eq, Gave, Told, gave_none, IsPrefixOf, shown_of_all, flat_map-append, Error, Entry, Begin, items_of, Typed, Kind, distinct, number_limit, connections, HasPassed, IsOfKind, handles, reached_by_machine, EntryCounts, Summary}
+use Rattle.std.proofs.Common.{◌≡◌, ℕ, ◌+◌, cond, min, Result, Ok, Err, List, [], ◌∷◌, ◌++◌, count_by, length, refl, subst, sym, append-nil, arith}
+use Rattle.canon3.proofs.Common.{bytes_eq, Gave, Told, IsPrefixOf, shown_of_all, flat_map-append, Error, Entry, Begin, items_of, Typed, distinct, number_limit, connections, handles, Summary}
 use Rattle.std.specs.Cmp.Lexicographic.{nat_list_eq_equiv}
-use Rattle.std.proofs.lemmas.List.Sums.{sum_by-append, sum_by-cons}
+use Rattle.std.proofs.lemmas.List.Sums.{sum_by-cons}
 use Rattle.capture3.specs.declared.fault.Error.TheVariants as errors
-use Rattle.canon3.specs.EntryCounts.{AreCounted}
-use Rattle.canon3.specs.machinery.CountedKinds.{calls, replies}
+use Rattle.capture3.specs.Entry.{Call, Reply}
+use Rattle.capture3.specs.Progress.{calls_in, replies_in}
+use Rattle.capture3.specs.Reached.{Reached}
+use Rattle.std.specs.Prelude.{IfErr, Option, ◌≢◌}
+use Rattle.canon3.specs.EntryWriter.{WritesGiven}
+use Rattle.canon3.specs.HandleTable.{all_items, nothing}
+use Rattle.canon3.specs.WriteErrors.{CountsWriting}
 use Rattle.canon3.specs.Summary.{ConcludesAll, ConcludesGiven, is_begin, is_call, is_reply}
-use Rattle.canon3.specs.machinery.Sums.{all_items}
 use Rattle.canon3.proofs.Lemmas.Order.InOrder.{typed_in_order}
 use Rattle.capture3.proofs.Lemmas.Connections.RankLemmas.{length-with_keys}
-use Rattle.canon3.proofs.Lemmas.Progress.ProgressLemmas.{told_by}
-
--- one more is counted where it is one of them
-pub counts_after : {X : Type 0} (p : X → Bool) (n m : ℕ) (items : List X) (one : X)
-    → m ≡ n + cond (p one) 1 0 → n ≡ count_by p items → m ≡ count_by p (items ++ one ∷ [])
-counts_after p n m items one more is =
-    let whole : count_by p (items ++ one ∷ []) ≡ count_by p items + count_by p (one ∷ []) =
-    sum_by-append (λ x. cond (p x) 1 0) items (one ∷ []) in
-    let last : count_by p (one ∷ []) ≡ cond (p one) 1 0 + count_by p [] =
-    sum_by-cons (λ x. cond (p x) 1 0) one [] in
-    omega (arith, more, is, whole, last)
 
 pub items_with_last : (front : List Entry) (last : Entry)
     → all_items (front ++ last ∷ []) ≡ all_items front ++ items_of last
 items_with_last front last = simp (flat_map-append, append-nil)
-
--- an entry is counted, after its place in the capture
-pub counted_more : (old new : EntryCounts) (kind : Kind) (entry : Entry) (entries : List Entry)
-    → IsOfKind kind entry → HasPassed new.progress (entries ++ entry ∷ [])
-    → new.calls ≡ old.calls + cond (calls kind) 1 0
-    → new.replies ≡ old.replies + cond (replies kind) 1 0 → AreCounted old entries
-    → AreCounted new (entries ++ entry ∷ [])
-counted_more old new kind entry entries is progress called replied t =
-    let told = told_by kind entry is in
-    record {
-      progress = progress;
-      calls_are =
-          counts_after is_call old.calls new.calls entries entry (rw told.call at called)
-          t.calls_are;
-      replies_are =
-          counts_after is_reply old.replies new.replies entries entry (rw told.reply at replied)
-          t.replies_are;
-    }
 
 pub connections_counted : (entries : List Entry) → connections entries ≡ count_by is_begin entries
 connections_counted [] = refl
@@ -51,6 +26,22 @@ connections_counted (Begin ∷ entries) =
     sum_by-cons (λ entry. cond (is_begin entry) 1 0) Begin entries in
     omega (arith, whole, connections_counted entries)
 connections_counted (_ ∷ entries) = connections_counted entries
+
+pub calls_counted : (entries : List Entry) → calls_in entries ≡ count_by is_call entries
+calls_counted [] = refl
+calls_counted (Call items ∷ entries) =
+    let whole : count_by is_call (Call items ∷ entries) ≡ 1 + count_by is_call entries =
+    sum_by-cons (λ entry. cond (is_call entry) 1 0) (Call items) entries in
+    omega (arith, whole, calls_counted entries)
+calls_counted (_ ∷ entries) = calls_counted entries
+
+pub replies_counted : (entries : List Entry) → replies_in entries ≡ count_by is_reply entries
+replies_counted [] = refl
+replies_counted (Reply id items ∷ entries) =
+    let whole : count_by is_reply (Reply id items ∷ entries) ≡ 1 + count_by is_reply entries =
+    sum_by-cons (λ entry. cond (is_reply entry) 1 0) (Reply id items) entries in
+    omega (arith, whole, replies_counted entries)
+replies_counted (_ ∷ entries) = replies_counted entries
 
 -- there are few enough handles to be counted
 pub few_distinct : (bytes : List ℕ) (entries : List Entry) → Typed bytes entries
@@ -73,6 +64,26 @@ concluded bytes old new (Err (errors.Refused fault)) prefix (given, gave, (entri
     (tt, (shown_of_all new given bytes entries fault (prefix given gave) met).0)
 concluded bytes old new (Err _) prefix c = (tt, tt)
 
--- before any byte was read
-pub nothing_concluded : (told : Told) → ConcludesGiven told told (Err errors.Memory)
-nothing_concluded told = ([], gave_none told, ([], (_, reached_by_machine [] (λ k. omega arith))))
+-- what is concluded where nothing was written
+pub concludes : (old new : Told) (result : Result Summary Error) (written : Option (List ℕ))
+    → IfErr result (λ error. error ≢ errors.Write)
+    → WritesGiven nothing old new written written result → ConcludesGiven old new result
+concludes old new (Ok summary) written never (given, gave, (entries, ended, typed, is, appends)) =
+    (given, gave, (ended, is))
+concludes old new (Err (errors.Refused fault)) written never (given, gave, (entries, met, appends))
+    =
+    (given, gave, (entries, met))
+concludes old new (Err errors.Read) written never (given, gave, (entries, met, appends)) =
+    (given, gave, (entries, met))
+concludes old new (Err errors.Write) written never w = absurd (never refl)
+concludes old new (Err errors.Memory) written never (given, gave, (entries, reached, appends)) =
+    (given, gave, (entries, ([], subst (Reached given) (sym (append-nil entries)) reached)))
+
+-- where no write failed
+pub no_write : {X : Type 0} (result : Result X Error) → CountsWriting 0 0 result
+    → IfErr result (λ error. error ≢ errors.Write)
+no_write (Ok x) counts = tt
+no_write (Err (errors.Refused fault)) counts = λ e. absurd (cc)
+no_write (Err errors.Read) counts = λ e. absurd (cc)
+no_write (Err errors.Memory) counts = λ e. absurd (cc)
+no_write (Err errors.Write) counts = absurd (omega (arith, counts))

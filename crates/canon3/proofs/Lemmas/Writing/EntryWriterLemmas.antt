@@ -1,7 +1,6 @@
 -- What is written of the entries that a reader hands out.
-use Rattle.std.proofs.Common.{⊎_elim, ◌≡◌, ℕ, Bool, true, false, List, [], ◌∷◌, ◌++◌, refl, subst, sym, Option, Result, Ok, Err, IfErr, IfOk, arith}
-use Rattle.std.specs.Prelude.{IsTrue}
-use Rattle.canon3.proofs.Common.{Gave, Told, IsPrefixOf, shown_of_all, Appends, Item, Entries, Error, Entry, Kind, AppendsFront, Appends-nil, IsMetBy, source_of, StandsFor, LentEntry, AreFirstReached, Reached, reached_by_machine, EntryCounts}
+use Rattle.std.proofs.Common.{⊎_elim, ◌≡◌, ℕ, List, [], ◌∷◌, ◌++◌, refl, subst, sym, Option, Result, Ok, Err, arith, append_assoc}
+use Rattle.canon3.proofs.Common.{Gave, Told, IsPrefixOf, shown_of_all, Appends, Item, Entries, Error, Entry, Kind, AppendsFront, Appends-nil, IsMetBy, source_of, StandsFor, LentEntry, AreFirstReached, Reached, reached_by_machine}
 use Rattle.std.specs.declared.hash.BuildHasher as BuildHasher
 use Rattle.std.specs.declared.hash.Hasher as Hasher
 use Rattle.capture3.specs.declared.fault.Error.TheVariants as errors
@@ -9,7 +8,7 @@ use Rattle.capture3.specs.declared.reader.entry.LentEntry.TheVariants as lent
 use Rattle.capture3.specs.Kept.{IsLent, kind_of}
 use Rattle.capture3.specs.machinery.Stepping.{IsOfKind}
 use Rattle.canon3.specs.EntryWriter.{IsStoppedBy, KeepsPrefixes, WritesAllCounted, WritesGivenCounted}
-use Rattle.canon3.specs.machinery.WritingSteps.{WritesOn, HasMore}
+use Rattle.canon3.specs.machinery.WritingSteps.{IsWriting}
 use Rattle.canon3.specs.WriteErrors.{IsOfWriting}
 use Rattle.canon3.proofs.Lemmas.Order.Reaching.{reached_first}
 use Rattle.canon3.proofs.Lemmas.Writing.SinkWritesLemmas.{front_of_first, whole_front}
@@ -76,43 +75,46 @@ module _ (form : List Entry → List ℕ) (prefixes : KeepsPrefixes form) where
       (entries, shown.0, shown.1, written)
   all_written AreCountsOf bytes first told old new (Err _) prefix w = tt
 
-  -- ---- along a reader
+  -- an entry was handed out, and cut
+  pub cut_stops : (error : Error) (told : Told) (old new : Option (List ℕ)) (given : List ℕ)
+      (handed : List Entry) (one : Entry) → IsOfWriting error
+      → AreFirstReached given (handed ++ one ∷ [])
+      → AppendsFront old new (form (handed ++ one ∷ []))
+      → IsStoppedBy form error told given old new
+  cut_stops errors.Memory told old new given handed one of reached cut =
+      cut_reached old new given (handed ++ one ∷ []) reached cut
+  cut_stops errors.Write told old new given handed one of reached cut =
+      cut_reached old new given (handed ++ one ∷ []) reached cut
+  cut_stops errors.Read told old new given handed one of reached cut =
+      ⊎_elim (λ e. absurd (cc)) (λ e. absurd (cc)) of
+  cut_stops (errors.Refused fault) told old new given handed one of reached cut =
+      ⊎_elim (λ e. absurd (cc)) (λ e. absurd (cc)) of
 
-  module _ {R S H T : Type 0} {builds : BuildHasher.Ghosts S H} {hashes : Hasher.Ghosts H}
-      (before : List Entry → List Item) (stands : T → List Item → Type 0) (going : T → Type 0)
-      (told : R → Told) (first : Told) (old : Option (List ℕ))
-      (reader : Entries R S H builds hashes) (writer : T) (counts : EntryCounts)
-      (new : Option (List ℕ)) where
-    -- an entry was handed out and written, or cut
-    pub written_goes_on : (given : List ℕ) (handed : List Entry) (one : Entry)
-        (result : Result Bool Error) → IfOk result IsTrue → IfErr result IsOfWriting
-        → Gave first (told (source_of reader)) given → AreFirstReached given (handed ++ one ∷ [])
-        → StandsFor told reader given (handed ++ one ∷ [])
-        → HasMore form before stands going writer counts old new (handed ++ one ∷ []) result
-        → WritesOn form before stands going told first old reader writer counts new result
-    written_goes_on given handed one (Ok true) more error consumed reached reads writes =
-        record {
-          given = given;
-          handed = handed ++ one ∷ [];
-          consumed = consumed;
-          reads = reads;
-          writes = writes;
-        }
-    written_goes_on given handed one (Ok false) more error consumed reached reads writes =
-        absurd (cc)
-    written_goes_on given handed one (Err errors.Memory) more error consumed reached reads cut =
-        record {
-          given = given;
-          consumed = consumed;
-          stopped = cut_reached old new given (handed ++ one ∷ []) reached cut;
-        }
-    written_goes_on given handed one (Err errors.Write) more error consumed reached reads cut =
-        record {
-          given = given;
-          consumed = consumed;
-          stopped = cut_reached old new given (handed ++ one ∷ []) reached cut;
-        }
-    written_goes_on given handed one (Err errors.Read) more error consumed reached reads cut =
-        ⊎_elim (λ e. absurd (cc)) (λ e. absurd (cc)) error
-    written_goes_on given handed one (Err (errors.Refused fault)) more error consumed reached reads
-        cut = ⊎_elim (λ e. absurd (cc)) (λ e. absurd (cc)) error
+-- ---- along a reader
+
+module _ {R S H T : Type 0} {builds : BuildHasher.Ghosts S H} {hashes : Hasher.Ghosts H}
+    (form : List Entry → List ℕ) (before : List Entry → List Item) (rests : T → List Item → Type 0)
+    (going : T → Type 0) (told : R → Told) (first : Told) (front : List Entry)
+    (old : Option (List ℕ)) (reader : Entries R S H builds hashes) (writer : T)
+    (new : Option (List ℕ)) where
+  -- an entry was handed out and written
+  pub written_goes_on : (given : List ℕ) (more : List Entry) (one : Entry)
+      → Gave first (told (source_of reader)) given
+      → StandsFor told reader given ((front ++ more) ++ one ∷ [])
+      → going writer × rests writer (before ((front ++ more) ++ one ∷ []))
+      × Appends old new (form ((front ++ more) ++ one ∷ []))
+      → IsWriting form before rests going told first front old reader writer new
+  written_goes_on given more one consumed reads (goes, stands, written) =
+      let all : (front ++ more) ++ one ∷ [] ≡ front ++ (more ++ one ∷ []) =
+      append_assoc front more (one ∷ []) in
+      record {
+        given = given;
+        more = more ++ one ∷ [];
+        consumed = consumed;
+        reads = subst (StandsFor told reader given) all reads;
+        writes = record {
+          goes = goes;
+          stands_for = subst (λ l. rests writer (before l)) all stands;
+          written = subst (λ l. Appends old new (form l)) all written;
+        };
+      }

@@ -1,22 +1,16 @@
--- A message with numbers is begun, or under way.
-use Rattle.canon3.proofs.Common.{◌≡◌, List, [], append-nil, refl, Item, MessageWriter, Makes, Begins, Before, told_after, HoldsBefore, IsGoing, IsWithinMessage, WriterStands}
-use Rattle.canon3.proofs.Lemmas.Writing.Noting.{noted_none}
+-- A message with numbers is to come, or under way.
+use Rattle.canon3.proofs.Common.{List, [], refl, Item, MessageWriter, Makes, Before, told_after, HoldsBefore, IsGoing, IsWithinMessage, WriterRests, WriterStands}
 use Rattle.canon3.proofs.Lemmas.Writing.Visiting.{told_after-same}
 
 module _ {S H : Type 0} (n : MessageWriter S H) (before : Before) where
-  -- the tables hold what was there before, and no message is begun
-  pub begins : HoldsBefore n before → n.stage ≡ Begins → Makes n.patches [] []
-      → WriterStands n (told_after before [])
-  begins h stage none going = record {
-    before = before;
-    items = [];
-    are = refl;
-    under_way = record {
-      handles = rw append-nil h.handles;
-      verifiers = rw append-nil h.verifiers;
-      spelled = (stage, noted_none n.patches none);
-    };
-  }
+  -- the tables hold what was there before, and nothing is noted
+  pub rests : HoldsBefore n before → Makes n.patches [] [] → WriterRests n (told_after before [])
+  rests h none going = record { before = before; are = refl; holds = h; fresh = none }
+
+  pub is_held : IsGoing n → WriterRests n (told_after before []) → HoldsBefore n before
+  is_held going rests =
+      let b = rests going in
+      rw ((told_after-same before b.before [] [] b.are).0) b.holds
 
   pub is_under_way : (items : List Item) → IsGoing n → WriterStands n (told_after before items)
       → IsWithinMessage n before items

@@ -1,5 +1,5 @@
 -- What an entry is written as in the canonical form.
-use Rattle.canon3.proofs.Common.{◌≡◌, ◌<◌, ◌≤◌, ◌^◌, ◌⊎◌, inl, inr, ℕ, List, [], ◌∷◌, ◌++◌, length, length-append, append-nil, drop, sym, ap, ◌∙◌, arith, Some, nat_eq, max_body, Item, Spells, Word, word_bytes, zero_spelling, Entry, Begin, Call, Turn, Reply, Close, End, items_of, MessageWriter, chunk_bytes, message_bytes, record_bytes, open_xids, xid_in, xid_of, AreFirst, rank, IsLentAfter, handles, handles_in, verifiers, verifiers_in, LentEntry, items_after, message_after, bytes_after, spelling_of, HasSpelled, AreFew, told_after, HoldsBefore, IsGoing, IsNotedAs, WriterStands, values_of}
+use Rattle.canon3.proofs.Common.{◌≡◌, ◌<◌, ◌≤◌, ◌^◌, ◌⊎◌, inl, inr, ℕ, List, [], ◌∷◌, ◌++◌, length, length-append, append-nil, drop, refl, subst, sym, ap, ◌∙◌, arith, Some, nat_eq, max_body, Item, Spells, Word, word_bytes, zero_spelling, Entry, Begin, Call, Turn, Reply, Close, End, items_of, MessageWriter, chunk_bytes, message_bytes, record_bytes, open_xids, xid_in, xid_of, AreFirst, rank, IsLentAfter, handles, handles_in, verifiers, verifiers_in, LentEntry, items_after, message_after, bytes_after, spelling_of, HasSpelled, AreFew, HoldsBefore, IsGoing, IsNotedAs, IsWithinMessage, WriterRests, WriterStands, values_before, values_of}
 use Rattle.patches.specs.Patches.{patched}
 use Rattle.capture3.specs.Numbering.{number_after}
 use Rattle.canon3.specs.declared.canonical_form.spelling.Spelling.{Spelling}
@@ -7,12 +7,14 @@ use Rattle.canon3.specs.declared.canonical_form.spelling.Spelling.TheVariants.{Z
 use Rattle.capture3.specs.declared.reader.entry.CallRef.{CallRef}
 use Rattle.capture3.specs.declared.reader.entry.ReplyRef.{ReplyRef}
 use Rattle.capture3.specs.declared.reader.entry.LentEntry.TheVariants as lent
-use Rattle.canon3.specs.machinery.MessageWriter.{message_of}
+use Rattle.capture3.specs.MessageVisit.{HasHeard}
+use Rattle.canon3.specs.machinery.MessageWriter.{IsNotedMessage, message_of}
 use Rattle.capture3.proofs.Lemmas.Connections.NumberingLemmas.{open-append}
 use Rattle.canon3.proofs.Lemmas.Order.First.{first_in_order}
 use Rattle.canon3.proofs.Lemmas.Order.Order.{BeginsWithXid}
 use Rattle.canon3.proofs.Lemmas.Canonical.Growing.{answering_begins, handles_push, last_paired, verifiers_push}
-use Rattle.canon3.proofs.Lemmas.Writing.Opening.{is_under_way}
+use Rattle.canon3.proofs.Lemmas.Writing.Opening.{is_held, is_under_way}
+use Rattle.canon3.proofs.Lemmas.Writing.Visiting.{told_after-append}
 
 are_few : (entries : List Entry) (one : Entry) → AreFirst (entries ++ one ∷ [])
     → AreFew (handles entries ++ handles_in (items_of one))
@@ -24,23 +26,34 @@ are_few entries one first =
     )
 
 module _ {S H : Type 0} (n : MessageWriter S H) (entries : List Entry) where
-  holds_after : (one : Entry) (number : ℕ) → IsGoing n
-      → WriterStands n (told_after (values_of entries) (items_of one))
+  -- the items of a message that the writer was told
+  within : (items : List Item) → IsGoing n → WriterStands n (values_before entries ++ items)
+      → IsWithinMessage n (values_of entries) items
+  within items going stands =
+      is_under_way n (values_of entries) items going
+      (subst (WriterStands n) (sym (told_after-append (values_of entries) [] items)) stands)
+
+  holds_after : (one : Entry) (number : ℕ) → IsWithinMessage n (values_of entries) (items_of one)
       → HoldsBefore (record n { xid = number }) (values_of (entries ++ one ∷ []))
-  holds_after one number going stands =
-      let u = is_under_way n (values_of entries) (items_of one) going stands in
-      record {
-        handles = rw (handles_push entries one) u.handles;
-        verifiers = rw (verifiers_push entries one) u.verifiers;
-      }
+  holds_after one number u = record {
+    handles = rw (handles_push entries one, u.begins) u.handles;
+    verifiers = rw (verifiers_push entries one, u.begins) u.verifiers;
+  }
 
   -- ---- an entry that is no message
 
   word_held : (one : Entry) (form : Spelling) → spelling_of form n ≡ bytes_after entries (one ∷ [])
-      → IsGoing n → WriterStands n (told_after (values_of entries) (items_of one))
+      → items_of one ≡ [] → IsGoing n → WriterRests n (values_before entries)
       → HasSpelled n form entries one
-  word_held one form is going stands =
-      record { holds = holds_after one n.xid going stands; spelled = is }
+  word_held one form is none going rests =
+      let h = is_held n (values_of entries) going rests in
+      record {
+        holds = record {
+          handles = rw (handles_push entries one, none, append-nil) h.handles;
+          verifiers = rw (verifiers_push entries one, none, append-nil) h.verifiers;
+        };
+        spelled = is;
+      }
 
   -- ---- a message
 
@@ -60,50 +73,51 @@ module _ {S H : Type 0} (n : MessageWriter S H) (entries : List Entry) where
       → BeginsWithXid items → Spells items body → length body ≤ max_body
       → Some number ≡ Some (rank nat_eq (xid_in items) xs)
       → AreFew (handles entries ++ handles_in items) (verifiers entries ++ verifiers_in items)
-      → IsGoing n → WriterStands n (told_after (values_of entries) items)
+      → IsWithinMessage n (values_of entries) items
       → chunk_bytes (record_bytes (message_of (record n { xid = number }) body))
       ≡ message_bytes (message_after (handles entries) (verifiers entries) xs items) ++ []
-  message_with xs (Word name x ∷ rest) number body begins spells short is few going stands =
+  message_with xs (Word name x ∷ rest) number body begins spells short is few u =
       let items : List Item = Word name x ∷ rest in
-      let u = is_under_way n (values_of entries) items going stands in
+      let after : u.rest ≡ rest = cc (u.begins) in
+      let noted = subst (IsNotedMessage n.patches (values_of entries)) after u.noted in
       let others = items_after (handles entries) (verifiers entries) rest in
       let same : number ≡ rank nat_eq x xs = cc in
       ap (λ (l : List ℕ). chunk_bytes (record_bytes l))
-      (message_is number body name x rest others (u.spelled.1 few) spells short
+      (message_is number body name x rest others (noted few) spells short
       ∙ ap (λ k. zero_spelling (Word name k ∷ others)) same)
       ∙ sym
       (append-nil
       (message_bytes (message_after (handles entries) (verifiers entries) xs items)))
-  message_with xs _ number body begins spells short is few going stands = absurd begins
+  message_with xs _ number body begins spells short is few u = absurd begins
 
   -- ---- a lent entry of each kind
 
   pub begin_spelled : (entry : LentEntry) (one : Entry) → entry ≡ lent.Begin
       → IsLentAfter entries entry one → IsGoing n
-      → WriterStands n (told_after (values_of entries) (items_of one))
+      → HasHeard WriterRests WriterStands n (values_before entries) one
       → HasSpelled n One entries one
   begin_spelled entry one is of =
       let this : one ≡ Begin = rw is at of.0 in
-      rw this (word_held Begin One (sym (append-nil (word_bytes 1))))
+      rw this (word_held Begin One (sym (append-nil (word_bytes 1))) refl)
 
   pub word_spelled : (entry : LentEntry) (one : Entry)
       → (entry ≡ lent.Turn) ⊎ ((entry ≡ lent.Close) ⊎ (entry ≡ lent.End))
       → IsLentAfter entries entry one → IsGoing n
-      → WriterStands n (told_after (values_of entries) (items_of one))
+      → HasHeard WriterRests WriterStands n (values_before entries) one
       → HasSpelled n Zero entries one
   word_spelled entry one (inl is) of =
       let this : one ≡ Turn = rw is at of.0 in
-      rw this (word_held Turn Zero (sym (append-nil (word_bytes 0))))
+      rw this (word_held Turn Zero (sym (append-nil (word_bytes 0))) refl)
   word_spelled entry one (inr (inl is)) of =
       let this : one ≡ Close = rw is at of.0 in
-      rw this (word_held Close Zero (sym (append-nil (word_bytes 0))))
+      rw this (word_held Close Zero (sym (append-nil (word_bytes 0))) refl)
   word_spelled entry one (inr (inr is)) of =
       let this : one ≡ End = rw is at of.0 in
-      rw this (word_held End Zero (sym (append-nil (word_bytes 0))))
+      rw this (word_held End Zero (sym (append-nil (word_bytes 0))) refl)
 
   pub call_spelled : (entry : LentEntry) (one : Entry) (call : CallRef) → entry ≡ lent.Call call
       → IsLentAfter entries entry one → AreFirst (entries ++ one ∷ []) → IsGoing n
-      → WriterStands n (told_after (values_of entries) (items_of one))
+      → HasHeard WriterRests WriterStands n (values_before entries) one
       → HasSpelled (record n { xid = call.number }) (Message call.body) entries one
   call_spelled entry one call is of =
       let ((items, spells, asks, this), number) = rw is at of in
@@ -114,17 +128,18 @@ module _ {S H : Type 0} (n : MessageWriter S H) (entries : List Entry) where
       ∙ ap (λ xs. Some (rank nat_eq (xid_in items) xs))
       (open-append entries (Call items ∷ []) [])) in
       rw this (λ first going stands.
+      let u = within items going stands in
       record {
-        holds = holds_after (Call items) call.number going stands;
+        holds = holds_after (Call items) call.number u;
         spelled =
             message_with (open_xids [] entries ++ xid_of items) items call.number call.body.now
             (last_paired entries (Call items) first).0 spells.1 call.short ranked
-            (are_few entries (Call items) first) going stands;
+            (are_few entries (Call items) first) u;
       })
 
   pub reply_spelled : (entry : LentEntry) (one : Entry) (reply : ReplyRef)
       → entry ≡ lent.Reply reply → IsLentAfter entries entry one → AreFirst (entries ++ one ∷ [])
-      → IsGoing n → WriterStands n (told_after (values_of entries) (items_of one))
+      → IsGoing n → HasHeard WriterRests WriterStands n (values_before entries) one
       → HasSpelled (record n { xid = reply.number }) (Message reply.body) entries one
   reply_spelled entry one reply is of =
       let ((items, spells, this), number) = rw is at of in
@@ -134,11 +149,12 @@ module _ {S H : Type 0} (n : MessageWriter S H) (entries : List Entry) where
       ∙ ap (λ xs. Some (rank nat_eq (xid_in items) xs))
       (open-append entries (Reply reply.id items ∷ []) [])) in
       rw this (λ first going stands.
+      let u = within items going stands in
       record {
-        holds = holds_after (Reply reply.id items) reply.number going stands;
+        holds = holds_after (Reply reply.id items) reply.number u;
         spelled =
             message_with (open_xids [] entries) items reply.number reply.body.now
             (answering_begins (open_xids [] entries) items
             (last_paired entries (Reply reply.id items) first).0) spells.1 reply.short ranked
-            (are_few entries (Reply reply.id items) first) going stands;
+            (are_few entries (Reply reply.id items) first) u;
       })

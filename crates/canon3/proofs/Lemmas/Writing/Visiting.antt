@@ -1,17 +1,19 @@
 -- Each visit adds its item to the message, and notes what it becomes with numbers.
-use Rattle.canon3.proofs.Common.{◌≡◌, ◌≢◌, ℕ, ◌+◌, ◌<◌, ◌≤◌, ◌^◌, List, [], ◌∷◌, ◌++◌, drop, take, replicate, length, length-append, append_assoc, append-nil, refl, sym, ap, ap₂, ◌∙◌, subst, arith, min, Result, Ok, Err, ◌⊎◌, inl, inr, Bool, true, Decides, AllByRecursion, flat_map, flat_map-append, Decides-eqb, bytes_eq-Decides, PlainField, run_items, run_size, Adds, MessageWriter, numbered_item, items_after, HoldsHandles, here, number_limit, rank, HoldsDistinct, handle_in, verifier_in, handles_in, verifiers_in, bytes_eq, OnOk, ◌==◌, big_bytes, big_number, Noted, IsPlain}
+use Rattle.canon3.proofs.Common.{◌≡◌, ◌≢◌, ℕ, ◌+◌, ◌<◌, ◌≤◌, ◌^◌, List, [], ◌∷◌, ◌++◌, drop, take, replicate, length, length-append, append_assoc, append-nil, refl, sym, ap, ap₂, ◌∙◌, subst, arith, min, Result, Ok, Err, Bool, true, Decides, AllByRecursion, flat_map, flat_map-append, Decides-eqb, bytes_eq-Decides, PlainField, run_items, run_size, Adds, MessageWriter, numbered_item, items_after, HoldsHandles, here, number_limit, rank, HoldsDistinct, handle_in, verifier_in, handles_in, verifiers_in, bytes_eq, OnOk, ◌==◌, big_bytes, Noted, IsPlain}
 use Rattle.std.proofs.lemmas.List.{nil_from_length}
 use Rattle.xdr3.specs.declared.plain.PlainField.TheVariants as fields
-use Rattle.xdr3.proofs.Lemmas.Shapes.Walks.{adds_both}
+use Rattle.xdr3.specs.View.{word_of}
+use Rattle.rpc_head.specs.MessageStart.{start_items}
+use Rattle.rpc_head.specs.Names.{head_names}
+use Rattle.rpc_head.specs.declared.values.message_start.MessageStart.{MessageStart}
+use Rattle.capture3.specs.MessageVisit.{OpensMessage}
 use Rattle.xdr3.specs.Item.{Item, Fixed, Hyper, Word, WriteVerf, Opaque, Rest, Kind, Handle, residue, word_bytes}
 use Rattle.nfs3_types.specs.declared.values.handle.Handle as declared
-use Rattle.canon3.specs.declared.canonical_form.message_writer.Stage.{Stage}
-use Rattle.canon3.specs.declared.canonical_form.message_writer.Stage.TheVariants.{Begins, Goes, Failed}
-use Rattle.canon3.specs.machinery.MessageWriter.{AreFew, Before, HasMessageUnderWay, IsNotedAs, IsSpelled, IsWithinMessage, Notes, in_front_of, told_after, WriterStands}
+use Rattle.canon3.specs.machinery.MessageWriter.{AreFew, Before, IsNotedAs, IsNotedMessage, Notes, in_front_of, told_after, WriterRests, WriterStands}
 use Rattle.canon3.proofs.Lemmas.Canonical.CanonicalStreamLemmas.{items_after-push}
 use Rattle.canon3.proofs.Lemmas.Canonical.OneFormLemmas.{plain_handle, plain_verifier, plain_numbered}
 use Rattle.canon3.proofs.Lemmas.Numbers.RankLemmas.{member-append_right, rank-le-length}
-use Rattle.canon3.proofs.Lemmas.Writing.Noting.{KeepsRun, ReplacesRun, bytes_fixed, hyper_fixed, notes_handle, notes_kept, notes_padded, notes_verifier, plain_fixed, rest_fixed, run_fixed, word_fixed}
+use Rattle.canon3.proofs.Lemmas.Writing.Noting.{KeepsRun, ReplacesRun, bytes_fixed, hyper_fixed, noted_none, notes_handle, notes_kept, notes_padded, notes_verifier, plain_fixed, rest_fixed, run_fixed, word_fixed}
 
 pub is_none : (l : List ℕ) (b : Bool) → b ≡ (length l == 0) → b ≡ true → l ≡ []
 is_none l b e t = nil_from_length l ((Decides-eqb (length l) 0).0 (sym e ∙ t))
@@ -69,33 +71,20 @@ are_few_before : (hs vs : List (List ℕ)) (items more : List Item)
 are_few_before hs vs items more few =
     (few_before handle_in hs items more few.0, few_before verifier_in vs items more few.1)
 
--- a message that has its xid, or an item that is no word
-abbrev pub IsLater : Item → List Item → Type 0
-IsLater (Word name x) [] = ⊥
-IsLater (Word name x) (_ ∷ _) = Unit {0}
-IsLater _ _ = Unit {0}
-
-spelled_more : (stage : Stage) (old new : Noted) (before : Before) (items : List Item) (i j : Item)
-    → IsLater i items
+notes_more : (old new : Noted) (before : Before) (items : List Item) (i j : Item)
     → (AreFew (before.handles ++ handles_in (items ++ i ∷ []))
     (before.verifiers ++ verifiers_in (items ++ i ∷ []))
     → j
     ≡ numbered_item ((before.handles ++ handles_in items) ++ handle_in i)
     ((before.verifiers ++ verifiers_in items) ++ verifier_in i) i)
-    → Notes old new (i ∷ []) (j ∷ [])
-    → IsSpelled stage old before items
-    → IsSpelled stage new before (items ++ i ∷ [])
-spelled_more stage old new before [] (Word name x) j later is notes s = absurd later
-spelled_more stage old new before [] _ j later is notes s = tt
-spelled_more stage old new before (Word name x ∷ items) i j later is notes s = (
-  s.0,
-  λ few. subst (λ (l : List Item). IsNotedAs new (items ++ i ∷ []) l)
-      (ap (λ k. items_after before.handles before.verifiers items ++ k ∷ []) (is few)
-      ∙ sym (items_after-push items before.handles before.verifiers i))
-      (notes items (items_after before.handles before.verifiers items)
-      (s.1 (are_few_before before.handles before.verifiers items (i ∷ []) few))),
-)
-spelled_more stage old new before (_ ∷ items) i j later is notes s = tt
+    → Notes old new (i ∷ []) (j ∷ []) → IsNotedMessage old before items
+    → IsNotedMessage new before (items ++ i ∷ [])
+notes_more old new before items i j is notes noted few =
+    subst (λ (l : List Item). IsNotedAs new (items ++ i ∷ []) l)
+    (ap (λ k. items_after before.handles before.verifiers items ++ k ∷ []) (is few)
+    ∙ sym (items_after-push items before.handles before.verifiers i))
+    (notes items (items_after before.handles before.verifiers items)
+    (noted (are_few_before before.handles before.verifiers items (i ∷ []) few)))
 
 module _ {S H : Type 0} (old new : MessageWriter S H) (i : Item) where
   -- what a visit keeps, besides its writing
@@ -105,57 +94,41 @@ module _ {S H : Type 0} (old new : MessageWriter S H) (i : Item) where
     pub verifiers : (vs : List (List ℕ)) → HoldsDistinct bytes_eq old.verfs vs
         → HoldsDistinct bytes_eq new.verfs (vs ++ verifier_in i)
 
-  after_by : Follows
-      → ((before : Before) (items : List Item) → IsWithinMessage old before items
-      → IsSpelled new.stage new.patches before (items ++ i ∷ []))
-      → (all : List Item) → HasMessageUnderWay old all → HasMessageUnderWay new (all ++ i ∷ [])
-  after_by f spells all b = record {
-    before = b.before;
-    items = b.items ++ i ∷ [];
-    are =
-        ap (λ (l : List Item). l ++ i ∷ []) b.are
-        ∙ sym (told_after-append b.before b.items (i ∷ []));
-    under_way = record {
-      handles =
-          rw (values-push handle_in b.before.handles b.items i)
-          (f.handles (b.before.handles ++ handles_in b.items) b.under_way.handles);
-      verifiers =
-          rw (values-push verifier_in b.before.verifiers b.items i)
-          (f.verifiers (b.before.verifiers ++ verifiers_in b.items) b.under_way.verifiers);
-      spelled = spells b.before b.items b.under_way;
-    };
-  }
-
-  -- where each message's writing goes on, so does what the visitor stands for
-  pub adds_by : Follows → (new.stage ≢ Failed → old.stage ≢ Failed)
-      → ((before : Before) (items : List Item) → new.stage ≢ Failed
-      → IsWithinMessage old before items
-      → IsSpelled new.stage new.patches before (items ++ i ∷ []))
-      → Adds WriterStands old new (i ∷ [])
-  unfolding Adds
-  adds_by f went spells all stands going =
-      after_by f (λ before items. spells before items going) all (stands (went going))
-
   -- the item with its number is written
-  pub adds : (j : Item) → Follows → new.stage ≡ old.stage
-      → ((before : Before) (items : List Item) → old.stage ≢ Failed
-      → IsSpelled old.stage old.patches before items → IsLater i items)
+  pub adds : (j : Item) → Follows → new.failed ≡ old.failed
       → ((hs vs : List (List ℕ)) → HoldsHandles old.handles hs → HoldsDistinct bytes_eq old.verfs vs
       → AreFew (hs ++ handle_in i) (vs ++ verifier_in i)
       → j ≡ numbered_item (hs ++ handle_in i) (vs ++ verifier_in i) i)
       → Notes old.patches new.patches (i ∷ []) (j ∷ []) → Adds WriterStands old new (i ∷ [])
-  adds j f stage later is notes =
-      adds_by f (λ going e. going (stage ∙ e)) (λ before items going u.
-      let hs = before.handles ++ handles_in items in
-      let vs = before.verifiers ++ verifiers_in items in
-      subst (λ s. IsSpelled s new.patches before (items ++ i ∷ [])) (sym stage)
-      (spelled_more old.stage old.patches new.patches before items i j
-      (later before items (λ e. going (stage ∙ e)) u.spelled)
-      (λ few. is hs vs u.handles u.verifiers (rw (
-        values-push handle_in before.handles items i,
-        values-push verifier_in before.verifiers items i,
-      ) at few))
-      notes u.spelled))
+  unfolding Adds
+  adds j f failed is notes all stands going =
+      let b = stands (sym failed ∙ going) in
+      let u = b.under_way in
+      let hs = b.before.handles ++ handles_in u.rest in
+      let vs = b.before.verifiers ++ verifiers_in u.rest in
+      record {
+        before = b.before;
+        items = b.items ++ i ∷ [];
+        are =
+            ap (λ (l : List Item). l ++ i ∷ []) b.are
+            ∙ sym (told_after-append b.before b.items (i ∷ []));
+        under_way = record {
+          name = u.name;
+          xid = u.xid;
+          rest = u.rest ++ i ∷ [];
+          begins = ap (λ (l : List Item). l ++ i ∷ []) u.begins;
+          handles = rw (values-push handle_in b.before.handles u.rest i) (f.handles hs u.handles);
+          verifiers =
+              rw (values-push verifier_in b.before.verifiers u.rest i) (f.verifiers vs u.verifiers);
+          noted =
+              notes_more old.patches new.patches b.before u.rest i j
+              (λ few. is hs vs u.handles u.verifiers (rw (
+                values-push handle_in b.before.handles u.rest i,
+                values-push verifier_in b.before.verifiers u.rest i,
+              ) at few))
+              notes u.noted;
+        };
+      }
 
 -- a number of a table that is not full
 uncapped : {K : Type 0} (same : K → K → Bool) → ((x y : K) → Decides (same x y) (x ≡ y))
@@ -172,53 +145,41 @@ module _ {S H : Type 0} (n : MessageWriter S H) (noted : Noted) where
   abbrev pub with_patches : MessageWriter S H
   with_patches = record n { patches = noted }
 
-  follows_plain : (i : Item) (stage : Stage) → IsPlain i
-      → Follows n (record n { patches = noted; stage = stage }) i
-  follows_plain i stage plain = record {
+  follows_plain : (i : Item) → IsPlain i → Follows n with_patches i
+  follows_plain i plain = record {
     handles = λ hs h. rw (plain_handle i plain, append-nil hs) h;
     verifiers = λ vs h. rw (plain_verifier i plain, append-nil vs) h;
   }
 
-  adds_plain : (i : Item) → IsPlain i
-      → ((before : Before) (items : List Item) → n.stage ≢ Failed
-      → IsSpelled n.stage n.patches before items → IsLater i items)
-      → Notes n.patches noted (i ∷ []) (i ∷ []) → Adds WriterStands n with_patches (i ∷ [])
-  adds_plain i plain later =
-      adds n with_patches i i (follows_plain i n.stage plain) refl later
+  adds_plain : (i : Item) → IsPlain i → Notes n.patches noted (i ∷ []) (i ∷ [])
+      → Adds WriterStands n with_patches (i ∷ [])
+  adds_plain i plain =
+      adds n with_patches i i (follows_plain i plain) refl
       (λ hs vs h g few. sym (plain_numbered (hs ++ handle_in i) (vs ++ verifier_in i) i plain))
 
-  pub after_xid : (n.stage ≡ Goes) ⊎ (n.stage ≡ Failed) → n.stage ≢ Begins
-  after_xid (inl e) b = absurd cc
-  after_xid (inr e) b = absurd cc
-
-  -- a word after the xid
-  pub adds_word : (name : List ℕ) (x : ℕ) → n.stage ≢ Begins → KeepsRun n.patches noted 4
+  pub adds_word : (name : List ℕ) (x : ℕ) → KeepsRun n.patches noted 4
       → Adds WriterStands n with_patches (Word name x ∷ [])
-  adds_word name x goes keeps =
-      adds_plain (Word name x) tt (λ before items going spelled. is_later before items spelled)
+  adds_word name x keeps =
+      adds_plain (Word name x) tt
       (notes_kept n.patches noted (Word name x ∷ []) 4 (word_fixed name x) keeps)
-    where
-      is_later : (before : Before) (items : List Item)
-          → IsSpelled n.stage n.patches before items → IsLater (Word name x) items
-      is_later before [] s = absurd (goes s.0)
-      is_later before (i ∷ items) s = tt
 
   pub adds_hyper : (name : List ℕ) (x : ℕ) → KeepsRun n.patches noted 8
       → Adds WriterStands n with_patches (Hyper name x ∷ [])
   adds_hyper name x keeps =
-      adds_plain (Hyper name x) tt (λ before items going spelled. tt)
+      adds_plain (Hyper name x) tt
       (notes_kept n.patches noted (Hyper name x ∷ []) 8 (hyper_fixed name x) keeps)
 
   pub adds_fixed : (name bytes : List ℕ) → KeepsRun n.patches noted 8
       → Adds WriterStands n with_patches (Fixed name bytes ∷ [])
   adds_fixed name bytes keeps =
-      adds_plain (Fixed name bytes) tt (λ before items going spelled. tt)
+      adds_plain (Fixed name bytes) tt
       (notes_kept n.patches noted (Fixed name bytes ∷ []) 8 (bytes_fixed name bytes) keeps)
 
   pub adds_rest : (name bytes : List ℕ) → KeepsRun n.patches noted (length bytes)
       → Adds WriterStands n with_patches (Rest name bytes ∷ [])
   adds_rest name bytes keeps =
-      adds_plain (Rest name bytes) tt (λ before items going spelled. tt) (notes_kept n.patches noted
+      adds_plain (Rest name bytes) tt
+      (notes_kept n.patches noted
       (Rest name bytes ∷ []) (length bytes) (rest_fixed name bytes) keeps)
 
   -- a run without residual bytes, and one with some
@@ -227,7 +188,7 @@ module _ {S H : Type 0} (n : MessageWriter S H) (noted : Noted) where
       → KeepsRun n.patches noted (4 + len)
       → Adds WriterStands n with_patches (Opaque kind name bytes ∷ [])
   adds_whole_run kind name bytes len count plain size is none keeps =
-      adds_plain (Opaque kind name bytes) plain (λ before items going spelled. tt)
+      adds_plain (Opaque kind name bytes) plain
       (notes_kept n.patches noted (Opaque kind name bytes ∷ []) (4 + length bytes)
       (run_fixed kind name bytes (ap residue size ∙ (sym is ∙ none)))
       (subst (λ k. KeepsRun n.patches noted (4 + k)) (sym size) keeps))
@@ -238,7 +199,7 @@ module _ {S H : Type 0} (n : MessageWriter S H) (noted : Noted) where
       → ReplacesRun mid noted count (take count (replicate 8 0))
       → Adds WriterStands n with_patches (Opaque kind name bytes ∷ [])
   adds_padded_run mid kind name bytes len count plain size is keeps replaces =
-      adds_plain (Opaque kind name bytes) plain (λ before items going spelled. tt)
+      adds_plain (Opaque kind name bytes) plain
       (notes_padded n.patches mid noted kind name bytes
       (subst (λ k. KeepsRun n.patches mid (4 + k)) (sym size) keeps) (subst
       (λ k. ReplacesRun mid noted k (take k (replicate 8 0))) (is ∙ ap residue (sym size))
@@ -248,30 +209,40 @@ module _ {S H : Type 0} (n : MessageWriter S H) (noted : Noted) where
   pub adds_empty_handle : (name handle : List ℕ) → handle ≡ [] → KeepsRun n.patches noted 4
       → Adds WriterStands n with_patches (Opaque Handle name handle ∷ [])
   adds_empty_handle name [] none keeps =
-      adds_plain (Opaque Handle name []) tt (λ before items going spelled. tt) (notes_kept n.patches
+      adds_plain (Opaque Handle name []) tt
+      (notes_kept n.patches
       noted (Opaque Handle name [] ∷ []) 4 (run_fixed Handle name [] refl) keeps)
   adds_empty_handle name (b ∷ bs) none keeps = absurd cc
 
--- ---- the xid
+-- ---- the start
 
-module _ {S H : Type 0} (n : MessageWriter S H) where
-  abbrev pub past_xid : MessageWriter S H
-  past_xid = record n { stage = Goes }
-
-  xid_spelled : (name : List ℕ) (x : ℕ) (before : Before) (items : List Item) → n.stage ≡ Begins
-      → IsSpelled n.stage n.patches before items
-      → IsSpelled Goes n.patches before (items ++ Word name x ∷ [])
-  xid_spelled name x before [] begins s = (refl, λ few. s.1)
-  xid_spelled name x before (Word other y ∷ items) begins s = absurd (cc (begins, s.0))
-  xid_spelled name x before (_ ∷ items) begins s = tt
-
-  -- the xid is passed
-  pub adds_xid : (name : List ℕ) (x : ℕ) → n.stage ≡ Begins
-      → Adds WriterStands n past_xid (Word name x ∷ [])
-  adds_xid name x begins =
-      adds_by n past_xid (Word name x) (follows_plain n n.patches (Word name x) Goes tt)
-      (λ going e. absurd cc)
-      (λ before items going u. xid_spelled name x before items begins u.spelled)
+module _ {S H : Type 0} (n : MessageWriter S H) (noted : Noted) where
+  -- the xid is passed over, and the mtype stays
+  pub opens : (s : MessageStart) → KeepsRun n.patches noted 4
+      → OpensMessage WriterRests WriterStands n (with_patches n noted) (start_items s)
+  unfolding OpensMessage
+  opens s keeps all rests going =
+      let b = rests going in
+      let mtype = Word head_names.mtype (word_of s.is_reply) in
+      record {
+        before = b.before;
+        items = start_items s;
+        are =
+            ap (λ (l : List Item). l ++ start_items s) b.are
+            ∙ sym (told_after-append b.before [] (start_items s));
+        under_way = record {
+          name = head_names.xid;
+          xid = s.xid;
+          rest = mtype ∷ [];
+          begins = refl;
+          handles = rw append-nil b.holds.handles;
+          verifiers = rw append-nil b.holds.verifiers;
+          noted =
+              λ few. notes_kept n.patches noted (mtype ∷ []) 4
+              (word_fixed head_names.mtype (word_of s.is_reply)) keeps [] []
+              (noted_none n.patches b.fresh);
+        };
+      }
 
 -- ---- runs of plain fields
 
@@ -301,96 +272,41 @@ all_plain [] run = tt
 all_plain (fields.Word name ∷ all) run = (tt, all_plain all (drop 4 run))
 all_plain (fields.Hyper name ∷ all) run = (tt, all_plain all (drop 8 run))
 
-module _ {S H : Type 0} (n : MessageWriter S H) (noted : Noted) (stage : Stage) (more : List Item)
-    (plain : AllByRecursion IsPlain more) where
-  adds_more : (stage ≢ Failed → n.stage ≢ Failed)
-      → ((before : Before) (items : List Item)
-      → IsSpelled n.stage n.patches before items
-      → IsSpelled stage noted before (items ++ more))
-      → Adds WriterStands n
-      (record n { patches = noted; stage = stage }) more
+module _ {S H : Type 0} (n : MessageWriter S H) (noted : Noted) where
+  -- a run stays as it is
+  pub adds_run : (all : List PlainField) (run : List ℕ) (count : ℕ) → count ≡ run_size all
+      → KeepsRun n.patches noted count
+      → Adds WriterStands n (with_patches n noted) (run_items all run)
   unfolding Adds
-  adds_more went spells all stands going =
-      let b = stands (went going) in
+  adds_run all run count size keeps told stands going =
+      let b = stands going in
+      let u = b.under_way in
+      let more = run_items all run in
+      let plain = all_plain all run in
+      let notes =
+      notes_kept n.patches noted more (run_size all) (plain_fixed all run)
+      (subst (KeepsRun n.patches noted) size keeps) in
+      let hs = b.before.handles in
+      let vs = b.before.verifiers in
       record {
         before = b.before;
         items = b.items ++ more;
         are =
             ap (λ (l : List Item). l ++ more) b.are ∙ sym (told_after-append b.before b.items more);
         under_way = record {
-          handles =
-              rw (same_values handle_in plain_handle b.items more plain) b.under_way.handles;
-          verifiers =
-              rw (same_values verifier_in plain_verifier b.items more plain) b.under_way.verifiers;
-          spelled = spells b.before b.items b.under_way.spelled;
+          name = u.name;
+          xid = u.xid;
+          rest = u.rest ++ more;
+          begins = ap (λ (l : List Item). l ++ more) u.begins;
+          handles = rw (same_values handle_in plain_handle u.rest more plain) u.handles;
+          verifiers = rw (same_values verifier_in plain_verifier u.rest more plain) u.verifiers;
+          noted =
+              λ few. subst (λ (l : List Item). IsNotedAs noted (u.rest ++ more) l)
+              (sym (items_after-plain u.rest more hs vs plain))
+              (notes u.rest (items_after hs vs u.rest)
+              (u.noted (are_few_before hs vs u.rest more few)));
         };
       }
-
-  run_spelled : stage ≢ Begins → Notes n.patches noted more more
-      → (before : Before) (items : List Item) → IsSpelled stage n.patches before items
-      → IsSpelled stage noted before (items ++ more)
-  run_spelled goes notes before [] s = absurd (goes s.0)
-  run_spelled goes notes before (Word name x ∷ items) s = (
-    s.0,
-    λ few. subst (λ (l : List Item). IsNotedAs noted (items ++ more) l)
-        (sym (items_after-plain items more before.handles before.verifiers plain))
-        (notes items (items_after before.handles before.verifiers items)
-        (s.1 (are_few_before before.handles before.verifiers items more few))),
-  )
-  run_spelled goes notes before (_ ∷ items) s = tt
-
-module _ {S H : Type 0} where
-  -- a run after the xid stays as it is
-  pub adds_run : (n : MessageWriter S H) (noted : Noted) (all : List PlainField) (run : List ℕ)
-      (count : ℕ) → n.stage ≢ Begins → count ≡ run_size all → KeepsRun n.patches noted count
-      → Adds WriterStands n (with_patches n noted) (run_items all run)
-  adds_run n noted all run count goes size keeps =
-      let plain = all_plain all run in
-      adds_more n noted n.stage (run_items all run) plain (λ going. going)
-      (run_spelled n noted n.stage (run_items all run) plain goes (notes_kept n.patches noted
-      (run_items all run) (run_size all) (plain_fixed all run)
-      (subst (KeepsRun n.patches noted) size keeps)))
-
-  -- a run of no fields
-  pub adds_nothing : (n : MessageWriter S H) (all : List PlainField) (run : List ℕ) → length all ≡ 0
-      → Adds WriterStands n n (run_items all run)
-  unfolding Adds
-  adds_nothing n [] run none =
-      λ before stands. rw append-nil stands
-  adds_nothing n (field ∷ all) run none = absurd (omega (arith, none))
-
-  -- a run that begins with the xid
-  pub adds_xid_run : (n : MessageWriter S H) (noted : Noted) (name : List ℕ)
-      (all : List PlainField) (run : List ℕ) (count : ℕ) → n.stage ≡ Begins
-      → count ≡ run_size all → KeepsRun n.patches noted count
-      → Adds WriterStands n (with_patches (past_xid n) noted)
-      (Word name (big_number 4 run) ∷ run_items all (drop 4 run))
-  adds_xid_run n noted name all run count begins size keeps =
-      let mid = past_xid n in
-      adds_both WriterStands n mid (with_patches mid noted) (Word name (big_number 4 run) ∷ [])
-      (run_items all (drop 4 run)) (adds_xid n name (big_number 4 run) begins)
-      (adds_run mid noted all (drop 4 run) count (after_xid mid noted (inl refl)) size keeps)
-
-  number_spelled : (n : MessageWriter S H) (noted : Noted) (name : List ℕ) (x : ℕ)
-      (more : List Item) (before : Before) (items : List Item) → n.stage ≡ Begins
-      → IsSpelled n.stage n.patches before items
-      → IsSpelled Goes noted before (items ++ Hyper name x ∷ more)
-  number_spelled n noted name x more before [] begins s = tt
-  number_spelled n noted name x more before (Word other y ∷ items) begins s =
-      absurd (cc (begins, s.0))
-  number_spelled n noted name x more before (_ ∷ items) begins s = tt
-
-  -- nothing is said of a message that begins with a number
-  pub adds_number_run : (n : MessageWriter S H) (noted : Noted) (name : List ℕ)
-      (all : List PlainField) (run : List ℕ) → n.stage ≡ Begins
-      → Adds WriterStands n
-      (record n { patches = noted; stage = Goes })
-      (Hyper name (big_number 8 run) ∷ run_items all (drop 8 run))
-  adds_number_run n noted name all run begins =
-      let more = run_items all (drop 8 run) in
-      adds_more n noted Goes (Hyper name (big_number 8 run) ∷ more) (tt, all_plain all (drop 8 run))
-      (λ going e. absurd cc)
-      (λ before items. number_spelled n noted name (big_number 8 run) more before items begins)
 
 -- ---- numbers in place of values
 
@@ -413,7 +329,7 @@ module _ {S H : Type 0} (n : MessageWriter S H) (noted : Noted) where
         handles = given;
         verifiers = λ vs h. rw append-nil h;
       })
-      refl (λ before items going spelled. tt)
+      refl
       (λ hs vs h g few.
       ap (λ k. Opaque Handle name (word_bytes k))
       (uncapped bytes_eq bytes_eq-Decides hs (b ∷ bs) number few.0 (is hs h)))
@@ -433,7 +349,7 @@ module _ {S H : Type 0} (n : MessageWriter S H) (noted : Noted) where
       (record {
         handles = λ hs h. rw append-nil h;
         verifiers = given;
-      }) refl (λ before items going spelled. tt)
+      }) refl
       (λ hs vs h g few.
       ap (WriteVerf name) (is_put
       ∙ ap (big_bytes 8)

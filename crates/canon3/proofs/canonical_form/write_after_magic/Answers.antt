@@ -4,8 +4,8 @@ use Rattle.canon3.proofs.canonical_form.write_after_magic.Goals as goal
 pub returns-clause-follows : goal.returns-clause-follows
 returns-clause-follows g c entries one of first stands =
     let s = c.in-Ok.ensures entries one of first stands in (
-      c.begin_message.ensures.going,
-      c.begin_message.ensures.stands (values_of (entries ++ one ∷ []))
+      c.end_message.ensures.going,
+      c.end_message.ensures.rests (values_of (entries ++ one ∷ []))
           (c.in_ok-write_spelling.ensures.holds (values_of (entries ++ one ∷ [])) s.holds),
       rw s.spelled at c.in_ok-write_spelling.ensures.ok,
     )

@@ -1,12 +1,28 @@
-use Rattle.canon3.proofs.Common.{error_is}
+use Rattle.canon3.proofs.Common.{[], None, refl, Appends-nil}
+use Rattle.canon3.proofs.Lemmas.Comparison.ComparisonLemmas.{read_out}
+use Rattle.canon3.proofs.Lemmas.Progress.SummaryLemmas.{no_write}
 use Rattle.canon3.proofs.comparison.drain.Goals as goal
 
-pub returns-clause-out : goal.returns-clause-out
-returns-clause-out g c start handed h =
-    rw c.if-branch.false at
-    (c.in_ok-read_next.ensures.on start handed (c.loop.invariant.given start handed h))
+pub write_rest-requires-clause-prefixes : goal.write_rest-requires-clause-prefixes
+write_rest-requires-clause-prefixes g c = λ entries more first. ([], refl)
 
-pub returns-in_err-read_next-clause-out : goal.returns-in_err-read_next-clause-out
-returns-in_err-read_next-clause-out g c start handed h =
-    rw (error_is _ _ c.from_residual.ensures)
-    (c.in_err-read_next.ensures.on start handed (c.loop.invariant.given start handed h))
+pub returns : goal.returns
+returns g c =
+    let w = c.write_rest.ensures in
+    record {
+      out =
+          λ start handed h.
+          read_out g.R.Source.told start handed _ _ _ _ _ _ c.write_rest.result
+          (w.over start handed None (record {
+            given = h.all.given;
+            more = h.more;
+            consumed = h.all.consumed;
+            reads = h.all.stands;
+            writes = record { goes = tt; stands_for = tt; written = Appends-nil None };
+          }));
+      reads = record {
+        read = w.devices.read;
+        write = no_write c.write_rest.result w.devices.write;
+        same_reference = w.devices.same_reference;
+      };
+    }

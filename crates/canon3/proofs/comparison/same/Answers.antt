@@ -2,8 +2,8 @@ use Rattle.canon3.proofs.Common.{[], rules, sym, ◌≡◌, ◌∙◌, source_of
 use Rattle.canon3.proofs.Lemmas.Comparison.ComparisonLemmas.{decides_all, fresh}
 use Rattle.canon3.proofs.comparison.same.Goals as goal
 
-pub compared-result-requires-clause-begins : goal.compared-result-requires-clause-begins
-compared-result-requires-clause-begins g c = record {
+pub judge-result-requires-clause-begins : goal.judge-result-requires-clause-begins
+judge-result-requires-clause-begins g c = record {
   a = [];
   b = [];
   first_given = fresh g.A.Source.told c.through-entries.result c.through-entries.ensures.stands;
@@ -14,7 +14,7 @@ compared-result-requires-clause-begins g c = record {
 -- the readers gave back the sources that they were lent
 pub returns : goal.returns
 returns g c =
-    let r = c.compared-result in
+    let r = c.judge-result in
     let back : _ ≡ source_of r.new.first =
     c.first-1.given.1 (sym (c.into_source.ensures.same_reference ∙ r.ensures.reads.same_first
     ∙ c.through-entries.ensures.same_reference)) ∙ c.into_source.ensures.value in

@@ -1,11 +1,9 @@
 -- The numbers of messages, and the xids that are open after entries.
-use Rattle.capture3.proofs.Common.{lengths, ◌≡◌, ℕ, ◌+◌, ◌<◌, ◌≤◌, nat_eq, Option, Some, List, [], ◌∷◌, ◌++◌, length, length-append, map, append-nil, append_assoc, refl, sym, ap, subst, ◌∙◌, arith, Item, Word, Entry, xid_in, xids_in, min, IfSome, map-append, open_xids, xid_of, before, number_limit, rank, HasNumber}
+use Rattle.capture3.proofs.Common.{lengths, ◌≡◌, ℕ, ◌+◌, ◌<◌, ◌≤◌, nat_eq, Some, List, [], ◌∷◌, ◌++◌, length, length-append, refl, sym, ap, subst, ◌∙◌, arith, Item, Word, Entry, xid_in, xids_in, min, IfSome, map-append, open_xids, xid_of, before, number_limit, rank, HasNumber}
 use Rattle.capture3.specs.Entry.{Begin, Call}
-use Rattle.capture3.specs.declared.reader.entry.Entry as kept
-use Rattle.capture3.specs.declared.reader.entry.Entry.TheVariants as variants
 use Rattle.capture3.specs.declared.reader.entry.LentEntry.{LentEntry}
 use Rattle.capture3.specs.declared.reader.entry.LentEntry.TheVariants as lent
-use Rattle.capture3.specs.Kept.{IsCopy, IsLent}
+use Rattle.capture3.specs.Kept.{IsLent}
 use Rattle.capture3.specs.Numbering.{number_after, number_lent, rank_among}
 use Rattle.capture3.proofs.Lemmas.Connections.KnownLemmas.{equality}
 use Rattle.capture3.proofs.Lemmas.Connections.RankLemmas.{length-before, length-with_keys}

@@ -7,10 +7,10 @@ use Rattle.capture3.specs.machinery.PositionInside.{position_shown}
 use Rattle.capture3.specs.declared.fault.Error.TheVariants as errors
 use Rattle.capture3.proofs.Lemmas.Container.ContainerMachineLemmas.{side_chunk_kept}
 use Rattle.capture3.specs.declared.container.position.Position.{Position}
-use Rattle.capture3.specs.declared.container.position.Spot.TheVariants.{Chunk, SideChunk}
-use Rattle.capture3.specs.declared.container.position.Spot.TheVariants as spots
-use Rattle.capture3.specs.declared.container.position.WordOf.TheVariants as words
-use Rattle.capture3.specs.declared.container.position.Version as declared
+use Rattle.capture3.specs.declared.container.position.spot.Spot.TheVariants.{Chunk, SideChunk}
+use Rattle.capture3.specs.declared.container.position.spot.Spot.TheVariants as spots
+use Rattle.capture3.specs.declared.container.position.spot.WordOf.TheVariants as words
+use Rattle.capture3.specs.declared.container.position.spot.Version as declared
 use Rattle.capture3.proofs.Lemmas.Container.PositionLemmas.{at_spot}
 
 -- ---- one step of the container alone

@@ -1,7 +1,7 @@
 -- Many bytes at once: those of a word, and those of a chunk.
 use Rattle.capture3.proofs.Common.{◌≡◌, ℕ, ◌+◌, ◌<◌, List, [], ◌++◌, length, refl, sym, ap, ◌∙◌, Goes, Ends, Runs, Stops, after, landed, within, IsWord, word_next, Joining, after-append, nested_runs, nested_stops, word_runs, word_stops, Side, Streams, with_more, SideWord, SideLength, awaiting_side, measured, mixed_next, sided, Mixed, in_side_chunk, mixed_at, mixed_ended, sides_counted, sides_marked, unpack_next, unpacking_with, mixing_in, opened_word, word_read}
-use Rattle.capture3.specs.declared.container.position.WordOf.{WordOf}
-use Rattle.capture3.specs.declared.container.position.WordOf.TheVariants as words
+use Rattle.capture3.specs.declared.container.position.spot.WordOf.{WordOf}
+use Rattle.capture3.specs.declared.container.position.spot.WordOf.TheVariants as words
 use Rattle.capture3.proofs.Lemmas.Container.SidedChunksMachineLemmas.{chunk_bytes}
 
 -- from a part of a word

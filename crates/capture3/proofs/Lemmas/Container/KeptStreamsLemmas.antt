@@ -2,6 +2,7 @@
 use Rattle.capture3.proofs.Common.{◌≡◌, inl, inr, ℕ, ◌+◌, List, [], ◌∷◌, ◌++◌, length, map, take, drop, take-append-drop, Result, Ok, Err, refl, sym, ap, subst, ◌∙◌, append_assoc, append-nil, arith, length-append, common_steps, Stop, Item, AreBytes, Joining, Between, Header, Bytes, Joined, Whole, TooLong, join_next, Next, Goes, Ends, Run, Runs, Stops, Stopped, after, landed, within, last_running, after-append, last_running-append, Known, Fault, Side, Client, Server, ReplyItems, Two, Entry, Shows, FirstFault, judge_call, judge_reply, Opening, Closing, judge_replies, server_said, client_said, Parsing, file_next, file_start, parsed, emitted, verdict, verdict_of, AreFirstReached, Reached, RecordFault, Streams, reply_entry, connection_entries, Unpacking, Mark, ShownFault, client_refusal, server_refusal, IsTableOf, xid_in, xids_in, Judge, Reading, judged, StreamEnd, Held, Faulty, left_in, end_of, rest_end, stream_end, stream_next, recorded, Judged, parsing_in, parsing_at, client_entries, server_entries, with_call, with_reply, turned, connection_closed, unpacking_with, reading_with, between_records, Recalls, ShowsFirst, map-append, xid_of}
 use Rattle.capture3.specs.Entry as entries
 use Rattle.capture3.specs.FileMachine as parsing
+use Rattle.capture3.proofs.Lemmas.Reader.PlacingLemmas.{counted_on}
 use Rattle.capture3.proofs.Lemmas.Container.BytesOf.{split_bytes}
 use Rattle.capture3.proofs.Lemmas.Reader.WholeEntries.{call_added, reply_added}
 use Rattle.capture3.proofs.Lemmas.Sides.StreamEnds.{rest_accepts, rest_refuses, rest_leaves}
@@ -81,6 +82,9 @@ module _ (u : Unpacking) (streams : Streams) (taken records : ℕ) (table : Know
           ap (λ (l : List Entry). l ++ entries.Call call ∷ []) h.2
               ∙ sym (call_added r.so_far.entries r.so_far.calls call),
         );
+        placed =
+            counted_on u.connections records u.connections (records + 1) handed (entries.Call call)
+            r.placed (omega arith) refl;
       }
 
   client_shows : (fault : RecordFault)
@@ -139,6 +143,9 @@ module _ (u : Unpacking) (streams : Streams) (taken records : ℕ) (table : Know
           ap (λ (l : List Entry). l ++ entries.Turn ∷ []) h.2
               ∙ append_assoc r.so_far.entries (client_entries r.so_far.calls) (entries.Turn ∷ []),
         );
+        placed =
+            counted_on u.connections records u.connections 0 handed entries.Turn r.placed
+            (omega arith) refl;
       }
 
 -- ---- the server stream
@@ -177,6 +184,9 @@ module _ (u : Unpacking) (streams : Streams) (taken records : ℕ) (table : Know
           ap (λ (l : List Entry). l ++ reply_entry reply ∷ []) h.3
               ∙ sym (reply_added r.so_far.entries r.so_far.calls r.so_far.replies reply),
         );
+        placed =
+            counted_on u.connections records u.connections (records + 1) handed
+            (reply_entry reply) r.placed (omega arith) refl;
       }
 
   -- what is said of both streams

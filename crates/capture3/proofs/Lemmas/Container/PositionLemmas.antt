@@ -4,9 +4,9 @@ use Rattle.std.proofs.lemmas.Bool.{ne_eqb}
 use Rattle.capture3.proofs.Common.{after-append, BadMagic, BadMark, TooManyBytes, TooManyConnections, Next, Goes, Ends, Runs, after, landed, Joining, Error, Side, Begin, Spot, Version, One, Two, Streams, ◌≢◌, drop, get_or, add-one, eq-eqb, Result, Ok, Err, IfOk, ◌≡◌, ℕ, zero, suc, ◌+◌, ◌<◌, ◌≤◌, List, [], ◌∷◌, length, take, refl, ap, ◌∙◌, arith, lt-ltb, le-ltb, Transition, MAGIC, WordPart, unpacking_with, file_fault, bytes_so_far, TakesWord, Unpacking, Unpacked, Has, at_byte, before_mark, begun_at, chunk_counted, in_chunk, left_of_magic, connection_marked, unpack_next, unpacking_at, word_read, Lands, Moves, ShowsFault}
 use Rattle.capture3.specs.declared.fault.Error.TheVariants.{Refused}
 use Rattle.capture3.specs.declared.container.position.Position.{Position}
-use Rattle.capture3.specs.declared.container.position.Counts.{Counts}
-use Rattle.capture3.specs.declared.container.position.WordOf.{WordOf}
-use Rattle.capture3.specs.declared.container.position.Spot.TheVariants.{Magic, Digit, Word}
+use Rattle.capture3.specs.declared.container.position.counts.Counts.{Counts}
+use Rattle.capture3.specs.declared.container.position.spot.WordOf.{WordOf}
+use Rattle.capture3.specs.declared.container.position.spot.Spot.TheVariants.{Magic, Digit, Word}
 use Rattle.capture3.specs.machinery.PositionState.{standing_at}
 use Rattle.record_mark.specs.declared.word_part.Word.TheVariants.{Part, Whole}
 use Rattle.record_mark.proofs.WordParts.{short_part}

@@ -1,12 +1,13 @@
 -- Whole messages that are read and told at once: judging them by the scans of their parts.
 use Rattle.std.specs.Prelude.{IfErr}
 use Rattle.std.specs.Prelude.{◌<◌, ◌^◌}
-use Rattle.capture3.proofs.Common.{IsErrAnd, ◌≡◌, ℕ, Bool, true, false, cond, List, [], ◌∷◌, ◌++◌, length, Some, None, Result, Ok, Err, refl, sym, ap, subst, ◌∙◌, eq-eqb, XidConflict, Stop, reading_layout, reading, refused, ProcId, MessageStart, call_head, message_start, reply_head, start_items, arguments_of, CallHead, Known, NumberedCall, procedure_in_call, procedure_of, agrees, judge_call, judge_reply, GetError, AreBytes, Item, followed_by, Adds, results_after}
+use Rattle.capture3.proofs.Common.{IsErrAnd, ◌≡◌, ℕ, Bool, true, false, cond, List, [], ◌∷◌, ◌++◌, append_assoc, length, Some, None, Result, Ok, Err, refl, sym, ap, subst, ◌∙◌, eq-eqb, XidConflict, Stop, reading_layout, reading, refused, ProcId, MessageStart, call_head, message_start, reply_head, start_items, arguments_of, CallHead, Known, NumberedCall, procedure_in_call, procedure_of, agrees, judge_call, judge_reply, GetError, AreBytes, Item, followed_by, Adds, results_after}
 use Rattle.xdr3.specs.declared.reason.GetError.TheVariants as errors
 use Rattle.xdr3.specs.Scan.{ScansLayout, Stops, StopsLayout}
 use Rattle.xdr3.specs.View.{View}
 use Rattle.xdr3.proofs.Lemmas.Shapes.Walks.{adds_both}
 use Rattle.rpc_head.specs.HeadScan.{ScansCallHead, ScansReplyHead}
+use Rattle.capture3.specs.MessageVisit.{OpensMessage}
 use Rattle.capture3.specs.machinery.ScannedMessages.{ScansCall, ScansReply, StopsMessage}
 use Rattle.capture3.proofs.Lemmas.Messages.BodiesLemmas.{the_calls, the_replies}
 use Rattle.capture3.proofs.Lemmas.Messages.BodySteps.{call_begins, CallBegins, ReplyBegins, call_accepted, call_bad_arguments, call_bad_head, call_procedure, call_whole, call_xid, refusal_judged, reply_accepted, reply_bad_head, reply_bad_results, reply_xid, whole_call, whole_reply}
@@ -39,6 +40,14 @@ pub start_begun : (body : List ℕ) (s : MessageStart) (is_reply : Bool) (old ne
     → s.is_reply ≡ is_reply → StartRead body s is_reply new
 start_begun body s is_reply old new body_is start_is read same side =
     record { start = rw (body_is, start_is) at read; side = side; same_body = same ∙ body_is }
+
+-- a message that is open, and more of its items
+opens_more : {V : Type 0} (rests stands : V → List Item → Type 0) (a b c : V)
+    (items more : List Item) → OpensMessage rests stands a b items → Adds stands b c more
+    → OpensMessage rests stands a c (items ++ more)
+unfolding Adds OpensMessage
+opens_more rests stands a b c items more opens adds before rested =
+    rw (← append_assoc) (adds (before ++ items) (opens before rested))
 
 -- ---- calls
 
@@ -80,22 +89,23 @@ arguments_stop stands before body s id v1 v2 n1 n2 e b h x = λ stop is.
     call_bad_arguments before body s id c.0 v1.at v2.at stop c.1 (rw (← c.2) (x stop is))
 
 -- a call was read up to the last view, and a visitor was told its items
-pub record CallRead {V : Type 0} (stands : V → List Item → Type 0) (body : List ℕ)
+pub record CallRead {V : Type 0} (rests stands : V → List Item → Type 0) (body : List ℕ)
     (s : MessageStart) (id : ProcId) (head end : ℕ) (last : View) (old new : V) : Type 0 where
   pub front : List Item
   pub more : List Item
   pub begins : CallBegins body s id front head end
   pub read : reading_layout (arguments_of id) body end ≡ Ok (more, last.at)
   pub same_body : last.body ≡ body
-  pub adds : Adds stands old new (whole_call s front more)
+  pub adds : OpensMessage rests stands old new (whole_call s front more)
 
-pub call_told : {V : Type 0} (stands : V → List Item → Type 0) (body : List ℕ) (s : MessageStart)
+pub call_told : {V : Type 0} (rests stands : V → List Item → Type 0) (body : List ℕ)
+    (s : MessageStart)
     (id : ProcId) (v1 v2 v3 : View) (n0 n1 n2 n3 : V) → StartRead body s false v1
-    → Adds stands n0 n1 (start_items s)
+    → OpensMessage rests stands n0 n1 (start_items s)
     → ScansCallHead stands id v1 v2 n1 n2 → ScansLayout stands (arguments_of id) v2 v3 n2 n3
-    → CallRead stands body s id v1.at v2.at v3 n0 n3
+    → CallRead rests stands body s id v1.at v2.at v3 n0 n3
 unfolding ScansLayout followed_by
-call_told stands body s id v1 v2 v3 n0 n1 n2 n3 b a h x =
+call_told rests stands body s id v1 v2 v3 n0 n1 n2 n3 b a h x =
     let c = call_begun stands body s id v1 v2 n1 n2 b h in
     record {
       front = c.0;
@@ -105,15 +115,16 @@ call_told stands body s id v1 v2 v3 n0 n1 n2 n3 b a h x =
           rw (← c.2) x.1;
       same_body = x.2.same_body ∙ c.2;
       adds =
-          adds_both stands n0 n1 n3 (start_items s) (c.0 ++ x.0) a
+          opens_more rests stands n0 n1 n3 (start_items s) (c.0 ++ x.0) a
           (adds_both stands n1 n2 n3 c.0 x.0 c.3 x.3);
     }
 
-pub call_scans : {V : Type 0} (stands : V → List Item → Type 0) (body : List ℕ) (s : MessageStart)
+pub call_scans : {V : Type 0} (rests stands : V → List Item → Type 0) (body : List ℕ)
+    (s : MessageStart)
     (id : ProcId) (head end : ℕ) (last : View) (old new : V) → AreBytes body
-    → CallRead stands body s id head end last old new → last.at ≡ length body
-    → ScansCall stands body (record { xid = s.xid; id = id }) old new
-call_scans stands body s id head end last old new are r is = record {
+    → CallRead rests stands body s id head end last old new → last.at ≡ length body
+    → ScansCall rests stands body (record { xid = s.xid; id = id }) old new
+call_scans rests stands body s id head end last old new are r is = record {
   items = whole_call s r.front r.more;
   is_call = (the_calls.accepted [] body (whole_call s r.front r.more) are
       (call_accepted [] body s id r.front head end last.at r.more r.begins r.read is refl)).0;
@@ -125,12 +136,12 @@ call_scans stands body s id head end last old new are r is = record {
 }
 
 -- a call that agrees with those before it is accepted
-pub call_agrees : {V : Type 0} (stands : V → List Item → Type 0) (before : List (List Item))
+pub call_agrees : {V : Type 0} (rests stands : V → List Item → Type 0) (before : List (List Item))
     (body : List ℕ) (call : CallHead) (old new : V)
-    → (s : ScansCall stands body call old new)
+    → (s : ScansCall rests stands body call old new)
     → agrees (procedure_of before call.xid) call.id ≡ true
     → judge_call before body ≡ Ok s.items
-call_agrees stands before body call old new s agree =
+call_agrees rests stands before body call old new s agree =
     s.judged before ∙ ap (λ (b : Bool). cond b (Ok s.items) (refused 0 XidConflict)) agree
 
 -- ---- replies
@@ -176,7 +187,7 @@ results_stop stands calls body s id success v1 v2 n1 n2 e b asked h x = λ stop 
     reply_bad_results calls body s id success c.0 v1.at v2.at stop c.1 (rw (← c.2) (x stop is))
 
 -- a reply was read up to the last view, and a visitor was told its items
-pub record ReplyRead {V : Type 0} (stands : V → List Item → Type 0) (body : List ℕ)
+pub record ReplyRead {V : Type 0} (rests stands : V → List Item → Type 0) (body : List ℕ)
     (s : MessageStart) (id : ProcId) (success : Bool) (head end : ℕ) (last : View) (old new : V) :
     Type 0 where
   pub front : List Item
@@ -185,20 +196,21 @@ pub record ReplyRead {V : Type 0} (stands : V → List Item → Type 0) (body : 
       → ReplyBegins calls body s id success front head end
   pub read : reading_layout (results_after success id) body end ≡ Ok (more, last.at)
   pub same_body : last.body ≡ body
-  pub adds : Adds stands old new (whole_reply s front more)
+  pub adds : OpensMessage rests stands old new (whole_reply s front more)
 
 -- a call with this xid and this procedure has them
 asked_by : (xid : ℕ) (id : ProcId) → procedure_of (asking xid id ∷ []) xid ≡ Some id
 asked_by xid id = ap (λ (b : Bool). cond b (Some id) None) (eq-eqb xid xid refl)
 
-pub reply_told : {V : Type 0} (stands : V → List Item → Type 0) (body : List ℕ) (s : MessageStart)
+pub reply_told : {V : Type 0} (rests stands : V → List Item → Type 0) (body : List ℕ)
+    (s : MessageStart)
     (id : ProcId) (success : Bool) (v1 v2 v3 : View) (n0 n1 n2 n3 : V)
     → StartRead body s true v1
-    → Adds stands n0 n1 (start_items s) → ScansReplyHead stands success v1 v2 n1 n2
+    → OpensMessage rests stands n0 n1 (start_items s) → ScansReplyHead stands success v1 v2 n1 n2
     → ScansLayout stands (results_after success id) v2 v3 n2 n3
-    → ReplyRead stands body s id success v1.at v2.at v3 n0 n3
+    → ReplyRead rests stands body s id success v1.at v2.at v3 n0 n3
 unfolding ScansReplyHead ScansLayout followed_by
-reply_told stands body s id success v1 v2 v3 n0 n1 n2 n3 b a h x =
+reply_told rests stands body s id success v1 v2 v3 n0 n1 n2 n3 b a h x =
     let same : v2.body ≡ body = h.3.same_body ∙ b.same_body in
     record {
       front = h.0;
@@ -214,26 +226,27 @@ reply_told stands body s id success v1 v2 v3 n0 n1 n2 n3 b a h x =
           rw (← same) x.1;
       same_body = x.2.same_body ∙ same;
       adds =
-          adds_both stands n0 n1 n3 (start_items s) (h.0 ++ x.0) a
+          opens_more rests stands n0 n1 n3 (start_items s) (h.0 ++ x.0) a
           (adds_both stands n1 n2 n3 h.0 x.0 h.4 x.3);
     }
 
-pub reply_scans : {V : Type 0} (stands : V → List Item → Type 0) (table : Known)
+pub reply_scans : {V : Type 0} (rests stands : V → List Item → Type 0) (table : Known)
     (body : List ℕ) (s : MessageStart) (call : NumberedCall) (success : Bool) (head end : ℕ)
     (last : View) (old new : V) → AreBytes body
-    → ReplyRead stands body s call.id success head end last old new → last.at ≡ length body
+    → ReplyRead rests stands body s call.id success head end last old new → last.at ≡ length body
     → s.xid < 2 ^ 32 → table.call_of s.xid ≡ Some call
-    → ScansReply stands table body call old new
-reply_scans stands table body s call success head end last old new are r is small asked = record {
-  items = whole_reply s r.front r.more;
-  is_reply = ((the_replies calls).accepted [] body
-      (record { id = call.id; items = whole_reply s r.front r.more }) are
-      (answers calls (asked_by s.xid call.id))).0;
-  is_xid = subst (λ (x : ℕ). x < 2 ^ 32) (sym (reply_xid s r.front r.more)) small;
-  asked = ap table.call_of (reply_xid s r.front r.more) ∙ asked;
-  accepted = λ known has. answers known (sym (has s.xid small) ∙ ap procedure_in_call asked);
-  adds = r.adds;
-}
+    → ScansReply rests stands table body call old new
+reply_scans rests stands table body s call success head end last old new are r is small asked =
+    record {
+      items = whole_reply s r.front r.more;
+      is_reply = ((the_replies calls).accepted [] body
+          (record { id = call.id; items = whole_reply s r.front r.more }) are
+          (answers calls (asked_by s.xid call.id))).0;
+      is_xid = subst (λ (x : ℕ). x < 2 ^ 32) (sym (reply_xid s r.front r.more)) small;
+      asked = ap table.call_of (reply_xid s r.front r.more) ∙ asked;
+      accepted = λ known has. answers known (sym (has s.xid small) ∙ ap procedure_in_call asked);
+      adds = r.adds;
+    }
   where
     calls : List (List Item)
     calls = asking s.xid call.id ∷ []

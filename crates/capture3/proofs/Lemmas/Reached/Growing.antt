@@ -1,7 +1,7 @@
 -- What is whole stays whole, whatever bytes come: the machine adds entries after those that it has
 -- emitted.
 use Rattle.capture3.proofs.Common.{parsing_in, ◌≡◌, ℕ, List, [], ◌∷◌, ◌++◌, map, Result, Ok, Err, refl, sym, ap, subst, ◌∙◌, append_assoc, append-nil, Stop, Item, Joining, Between, Next, Goes, Ends, Runs, Stops, after, landed, last_running, within, only_stops, Client, Server, ReplyItems, ShownFault, Entry, judge_call, judge_reply, Two, judge_replies, server_said, client_said, Parsing, file_next, emitted, StreamEnd, Held, Faulty, stream_end, reply_entry, connection_entries, unpacking_with, Begin, Record, Turn, Close, Judged, resumed_at, parsing_at, resumed, conversed, call_judged, reply_judged, connection_begun, with_call, with_reply, turned, connection_closed, Agrees, AgreesOn, emitted_at, EmitsOn}
-use Rattle.capture3.specs.declared.container.position.Event.TheVariants as events
+use Rattle.capture3.specs.declared.container.position.spot.Event.TheVariants as events
 use Rattle.capture3.specs.Entry as entries
 use Rattle.capture3.specs.FileMachine as parsing
 use Rattle.capture3.specs.machinery.ContainerMachine.{Opened, Mark, Length, Chunk, Mixed, Unpacking, Unpacked, Has, HasStreams, Refuses, unpack_next}

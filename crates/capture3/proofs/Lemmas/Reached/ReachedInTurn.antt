@@ -1,14 +1,13 @@
 -- The entries that a prefix reaches, but for a capture's end, are the first of those that more
 -- bytes reach.
-use Rattle.capture3.proofs.Common.{parsing_in, ◌≡◌, ◌⊎◌, inl, inr, ℕ, List, [], ◌∷◌, ◌++◌, length, Result, Ok, Err, refl, sym, ap, subst, ◌∙◌, append_assoc, append-nil, Stop, Item, Between, Next, Goes, Ends, Run, Runs, Stops, Stopped, last_running, last_running-append, within, Client, Server, ReplyItems, ShownFault, Entry, End, judge_call, judge_reply, Two, judge_replies, server_said, client_said, AreBytes, IsWellFormed, AreFirstReached, IsLongestClean, Reached, AreWhole, Shows, Parsing, file_next, file_start, parsed, emitted, StreamEnd, Held, Faulty, stream_end, connection_entries, unpacking_with, Begin, Record, Turn, Close, Judged, parsing_at, resumed, conversed, call_judged, reply_judged, connection_begun, with_call, with_reply, turned, connection_closed, Agrees, AgreesOn}
+use Rattle.capture3.proofs.Common.{parsing_in, ◌≡◌, ◌⊎◌, inl, inr, ℕ, List, [], ◌∷◌, ◌++◌, length, Result, Ok, Err, refl, sym, ap, subst, ◌∙◌, append_assoc, append-nil, Stop, Item, Between, Next, Goes, Ends, Run, Runs, Stops, Stopped, last_running, within, Client, Server, ReplyItems, ShownFault, Entry, End, judge_call, judge_reply, Two, judge_replies, server_said, client_said, AreBytes, IsWellFormed, AreFirstReached, IsLongestClean, Reached, AreWhole, Shows, Parsing, file_next, file_start, parsed, emitted, StreamEnd, Held, Faulty, stream_end, connection_entries, unpacking_with, Begin, Record, Turn, Close, Judged, parsing_at, resumed, call_judged, reply_judged, connection_begun, with_call, with_reply, turned, connection_closed, Agrees, AgreesOn}
 use Rattle.std.proofs.lemmas.List.{append_cancel_right}
-use Rattle.capture3.specs.declared.container.position.Event.TheVariants as events
+use Rattle.capture3.specs.declared.container.position.spot.Event.TheVariants as events
 use Rattle.capture3.specs.Entries.{AreAllBeforeEnd}
 use Rattle.capture3.specs.FileMachine as parsing
 use Rattle.capture3.specs.FileMachine.{verdict_of}
 use Rattle.capture3.specs.Typed.{Typed}
 use Rattle.capture3.specs.machinery.ContainerMachine.{Mark, Unpacking, Unpacked, Has, HasStreams, Refuses, unpack_next, unpacking_start}
-use Rattle.capture3.proofs.Lemmas.Container.BytesOf.{split_bytes}
 use Rattle.capture3.proofs.Lemmas.Files.FileMachineLemmas.{file_runs}
 use Rattle.capture3.proofs.Lemmas.Files.Verdicts.{verdict_from_fault, verdict_from_typed}
 use Rattle.capture3.proofs.Lemmas.Reached.Growing.{Adds, emitted_here, grows, last_after}

@@ -2,6 +2,11 @@
 use Rattle.std.proofs.Common.{◌≡◌, ◌⊎◌, inl, inr, ℕ, ◌+◌, ◌-◌, ◌≤◌, ◌<◌, Option, Some, None, Result, Ok, Err, IsSome, OnErr, OnOk, List, [], ◌∷◌, ◌++◌, length, take, drop, slice_range, refl, sym, ap, subst, ◌∙◌, append_assoc, append-nil, length-append, arith, take-append-drop, length-take, length-drop, vec_len}
 use Rattle.capture3.proofs.Common.{CanGoOn, common_steps, Pairing, CountedCalls, known_of, open_xids, ∥∥₁_elim, CaptureCut, AreBytes, Item, Runs, Stops, Stopped, Taking, Led, OutOfMemory, IsRunning, released, Known, Kind, Error, Spot, Container, Cursor, Two, max_connections, Entry, End, FirstFault, IsClean, begins, most_bytes, Parsing, parsed, emitted, AreFirstReached, AreWhole, Reached, parsing_at, Streams, file_fault, IsWellFormed, props, Told, Gave, IsSpent, AreStored, IsReady, room_in, unpacking_of}
 use Rattle.std.proofs.lemmas.List.{drop-take}
+use Rattle.capture3.specs.MessageVisit.{Hears}
+use Rattle.capture3.specs.Progress.{AreCounted}
+use Rattle.capture3.specs.machinery.Pairing.{CountsMessages}
+use Rattle.capture3.proofs.Lemmas.Reader.PairingLemmas.{counted_here}
+use Rattle.capture3.proofs.Lemmas.Reader.PlacingLemmas.{counted_on, messages_more, none_more}
 use Rattle.capture3.proofs.Lemmas.Reader.ToldLemmas.{gave_both, gave_none}
 use Rattle.std.specs.declared.hash.BuildHasher as BuildHasher
 use Rattle.std.specs.declared.hash.Hasher as Hasher
@@ -13,10 +18,10 @@ use Rattle.capture3.specs.declared.reader.entry.Kind.TheVariants as kinds
 use Rattle.capture3.specs.declared.fault.Error.TheVariants as errors
 use Rattle.capture3.specs.declared.fault.Noted.{Noted}
 use Rattle.capture3.specs.declared.container.position.Position.{Position}
-use Rattle.capture3.specs.declared.container.position.Spot.TheVariants as spots
-use Rattle.capture3.specs.declared.container.position.WordOf.TheVariants as words
+use Rattle.capture3.specs.declared.container.position.spot.Spot.TheVariants as spots
+use Rattle.capture3.specs.declared.container.position.spot.WordOf.TheVariants as words
 use Rattle.capture3.specs.Entries.{AreAllBeforeEnd, IsMetBy, failure_in, failure_of, last_of}
-use Rattle.capture3.specs.machinery.EntriesHistory.{entries_left_in, entries_left, unjudged, IsReading, StandsIn, StandsFor, HoldsLast, HasRead, HandsOutOrGoesOn, Turns}
+use Rattle.capture3.specs.machinery.EntriesHistory.{CountedMessages, entries_left_in, entries_left, unjudged, IsReading, StandsIn, StandsFor, HoldsLast, HasRead, HandsOutOrGoesOn, Turns}
 use Rattle.capture3.specs.Handing.{HandsOut, HandsOutGiven}
 use Rattle.capture3.specs.machinery.Stepping.{IsNextOfKind, IsOfKind}
 use Rattle.capture3.specs.machinery.Pairing.{StandsAt, StandsOrRecalls, HasCome, HasNumber, after_side_word, GoesTo, FailsAt, IsHeld, entry_cost}
@@ -25,7 +30,6 @@ use Rattle.capture3.specs.Capture.{One}
 use Rattle.capture3.specs.Laws.{IsOfVersion, most_entries}
 use Rattle.capture3.proofs.Lemmas.Reached.ReachedMore.{reached_within}
 use Rattle.capture3.proofs.Lemmas.Container.BytesOf.{AreBytes-append, split_bytes}
-use Rattle.capture3.proofs.Lemmas.Reader.PairingLemmas.{untold}
 use Rattle.capture3.proofs.Lemmas.Reached.Limits.{begins-append, typed_within}
 use Rattle.capture3.proofs.Lemmas.Reached.Growing.{emitted_is}
 use Rattle.capture3.proofs.Lemmas.Reader.WholeFiles.{cut_at, typed_at}
@@ -401,6 +405,7 @@ module _ {R S H : Type 0} {builds : BuildHasher.Ghosts S H} {hashes : Hasher.Gho
               counted = count ∙ r.counted;
               machine =
                   rw same r.machine;
+              messages = rw same r.messages;
             });
       }
 
@@ -428,9 +433,9 @@ module _ {R S H : Type 0} {builds : BuildHasher.Ghosts S H} {hashes : Hasher.Gho
       → old.start + count ≤ old.end → old.end ≤ length old.block.items
       → (r : IsReading old given handed)
       → HasCome new.pairing.container (known_of new.pairing.calls)
-      (r.judged ++ take count (unjudged old)) all
+      (r.judged ++ take count (unjudged old)) all → CountedMessages new all
       → IsReading new given all
-  moves_on old new count given handed all judged block fits within r machine =
+  moves_on old new count given handed all judged block fits within r machine messages =
       let piece : List ℕ = take count (unjudged old) in
       let inner = length-take (old.end - old.start) (drop old.start old.block.items) in
       let outer = length-take count (unjudged old) in
@@ -456,10 +461,11 @@ module _ {R S H : Type 0} {builds : BuildHasher.Ghosts S H} {hashes : Hasher.Gho
               within,
             );
         machine = machine;
+        messages = messages;
       }
 
   -- with the entry that is whole, if one is
-  pub judged_on : {V : Type 0} (stands : V → List Item → Type 0) (was now : V)
+  pub judged_on : {V : Type 0} (rests stands : V → List Item → Type 0) (was now : V)
       (old new : Entries R S H builds hashes) (count : ℕ) (given : List ℕ) (handed : List Entry)
       (came : Option Kind) → old.stage ≡ Reading → new.stage ≡ Reading → last_of new ≡ came
       → vec_len new.block ≡ vec_len old.block
@@ -470,25 +476,30 @@ module _ {R S H : Type 0} {builds : BuildHasher.Ghosts S H} {hashes : Hasher.Gho
       → (s : StandsFor told old given handed)
       → ((judged : List ℕ)
       → HasCome old.pairing.container (known_of old.pairing.calls) judged handed
-      → GoesTo stands was now came new.pairing.number new.pairing.container
+      → GoesTo rests stands was now came new.pairing.number new.pairing.container
       (known_of new.pairing.calls)
       (judged ++ take count (unjudged old)) handed)
-      → HandsOutOrGoesOn told stands new was now given handed came
-  judged_on stands was now old new count given handed None is goes last size judged block fits
-      within room s leads =
+      → CountsMessages came old.pairing.calls_taken old.pairing.replies_taken
+      new.pairing.calls_taken new.pairing.replies_taken
+      → HandsOutOrGoesOn told rests stands new was now given handed came
+  judged_on rests stands was now old new count given handed None is goes last size judged block fits
+      within room s leads counts =
       let r = reading_of old given handed is s in
       stands_reading new given handed goes s.bytes
       (omega (arith, room_before old given handed is s, room))
       (omega (arith, s.limits.most, size))
       (λ of. omega (arith, s.limits.most_of_one of, size)) (none_last new handed last)
       (moves_on old new count
-      given handed handed judged block fits within r (leads r.judged r.machine))
-  judged_on stands was now old new count given handed (Some kind) is goes last size judged block
-      fits within room s leads =
+      given handed handed judged block fits within r (leads r.judged r.machine)
+      (counts.0 ∙ r.messages.0, counts.1 ∙ r.messages.1))
+  judged_on rests stands was now old new count given handed (Some kind) is goes last size judged
+      block
+      fits within room s leads counts =
       let r = reading_of old given handed is s in
-      let (entry, held, has, adds, machine) = leads r.judged r.machine in (
+      let (entry, held, has, adds, machine) = leads r.judged r.machine in
+      let of = kind_held kind new.pairing.container.joiner.taking entry held in (
         entry,
-        kind_held kind new.pairing.container.joiner.taking entry held,
+        of,
         adds,
         stands_reading new given (handed ++ entry ∷ []) goes s.bytes
             (omega
@@ -497,7 +508,9 @@ module _ {R S H : Type 0} {builds : BuildHasher.Ghosts S H} {hashes : Hasher.Gho
             (λ of. omega (arith, s.limits.most_of_one of, size))
             (now_last new handed kind entry last held has)
             (moves_on old new count given handed (handed ++ entry ∷ []) judged block fits within r
-            machine),
+            machine (messages_more kind old.pairing.calls_taken old.pairing.replies_taken
+            new.pairing.calls_taken new.pairing.replies_taken handed entry of counts
+            (omega (arith, room_before old given handed is s)) r.messages.0 r.messages.1)),
       )
 
   fails_by : (e : Entries R S H builds hashes) (error : Error) (given : List ℕ)
@@ -528,11 +541,15 @@ module _ {R S H : Type 0} {builds : BuildHasher.Ghosts S H} {hashes : Hasher.Gho
       → vec_len new.block ≡ vec_len old.block → old.start ≡ old.end
       → old.pairing.container.cursor ≡ None → IsEndSpot old.pairing.container.position.spot
       → IsSpent (told new.source.now)
+      → new.pairing.container.position ≡ old.pairing.container.position
+      → new.pairing.calls_taken ≡ old.pairing.calls_taken
+      → new.pairing.replies_taken ≡ old.pairing.replies_taken
       → StandsFor told old given handed → StandsFor told new given (handed ++ End ∷ [])
-  finished old new given handed is over last block empty none ended end s =
+  finished old new given handed is over last block empty none ended end same calls replies s =
+      let r = reading_of old given handed is s in
       let typed =
-      typed_at given _ _ _ _ handed s.bytes
-      (machine_at old given handed empty none (reading_of old given handed is s)) ended in
+      typed_at given _ _ _ _ handed s.bytes (machine_at old given handed empty none r) ended in
+      let p = old.pairing.container.position in
       record {
         bytes = s.bytes;
         few =
@@ -552,8 +569,15 @@ module _ {R S H : Type 0} {builds : BuildHasher.Ghosts S H} {hashes : Hasher.Gho
         here =
             subst
             (λ (stage : Stage).
-            StandsIn stage (told new.source.now) new given (handed ++ End ∷ [])) (sym over)
-            (typed, end);
+            StandsIn stage (told new.source.now) new given (handed ++ End ∷ [])) (sym over) (
+              typed,
+              end,
+              rw same (counted_on p.connections p.records p.connections p.records handed End
+                  (counted_here _ _ _ _ _ _ handed r.machine) (omega arith) refl),
+              none_more old.pairing.calls_taken old.pairing.replies_taken new.pairing.calls_taken
+                  new.pairing.replies_taken handed End refl refl calls replies r.messages.0
+                  r.messages.1,
+            );
       }
 
   pub cut_short : (old new : Entries R S H builds hashes) (error : Error) (given : List ℕ)
@@ -575,6 +599,22 @@ module _ {R S H : Type 0} {builds : BuildHasher.Ghosts S H} {hashes : Hasher.Gho
       (subst (λ (e : Error). IsMetBy e (told new.source.now) given handed) (sym cut)
       (inr (end, first, reached)))
 
+  -- how far the entries have come
+  pub has_passed : (e : Entries R S H builds hashes) (given : List ℕ) (handed : List Entry)
+      → StandsFor told e given handed → failure_of e ≡ None
+      → AreCounted e.pairing.container.position.connections e.pairing.container.position.records
+      handed × CountedMessages e handed
+  has_passed e given handed s going = by_stage e.stage refl s.here
+    where
+      by_stage : (stage : Stage) → e.stage ≡ stage
+          → StandsIn stage (told e.source.now) e given handed
+          → AreCounted e.pairing.container.position.connections
+          e.pairing.container.position.records handed × CountedMessages e handed
+      by_stage Reading is h = (counted_here _ _ _ _ _ _ handed h.machine, h.messages)
+      by_stage Over is (typed, end, counted, messages) = (counted, messages)
+      by_stage (Failed error) is h =
+          let failed : failure_of e ≡ Some error = ap failure_in is in absurd (cc)
+
   -- ---- one after another
 
   pub nothing_read : (e : Entries R S H builds hashes) (given : List ℕ) (handed : List Entry)
@@ -586,37 +626,38 @@ module _ {R S H : Type 0} {builds : BuildHasher.Ghosts S H} {hashes : Hasher.Gho
   }
 
   -- none is handed out
-  pub none_on : {V : Type 0} (stands : V → List Item → Type 0) (was now : V)
+  pub none_on : {V : Type 0} (rests stands : V → List Item → Type 0) (was now : V)
       (new : Entries R S H builds hashes) (given : List ℕ) (handed : List Entry)
       → last_of new ≡ None → StandsFor told new given handed
-      → HandsOutOrGoesOn told stands new was now given handed (last_of new)
-  none_on stands was now new given handed none s =
-      subst (HandsOutOrGoesOn told stands new was now given handed) (sym none) s
+      → HandsOutOrGoesOn told rests stands new was now given handed (last_of new)
+  none_on rests stands was now new given handed none s =
+      subst (HandsOutOrGoesOn told rests stands new was now given handed) (sym none) s
 
   -- the end is handed out, of which a visitor is told nothing; or none is
-  pub ended_on : {V X : Type 0} (stands : V → List Item → Type 0) (v : V)
+  pub ended_on : {V X : Type 0} (rests stands : V → List Item → Type 0) (v : V)
       (new : Entries R S H builds hashes) (given : List ℕ) (handed : List Entry)
       (result : Result X Noted)
       → OnOk result (StandsFor told new given (handed ++ End ∷ []))
       → OnErr result (StandsFor told new given handed)
       → OnOk result (last_of new ≡ Some kinds.End) → OnErr result (last_of new ≡ None)
-      → HandsOutOrGoesOn told stands new v v given handed (last_of new)
-  ended_on stands v new given handed (Ok done) ok err last unlent =
-      subst (HandsOutOrGoesOn told stands new v v given handed) (sym last)
-      (End, refl, untold stands v, ok)
-  ended_on stands v new given handed (Err noted) ok err last unlent =
-      none_on stands v v new given handed unlent err
+      → HandsOutOrGoesOn told rests stands new v v given handed (last_of new)
+  unfolding Hears
+  ended_on rests stands v new given handed (Ok done) ok err last unlent =
+      subst (HandsOutOrGoesOn told rests stands new v v given handed) (sym last)
+      (End, refl, (λ before r. r), ok)
+  ended_on rests stands v new given handed (Err noted) ok err last unlent =
+      none_on rests stands v v new given handed unlent err
 
   -- after the turns so far, the block is read, and then it is judged
-  pub turned : {V : Type 0} (stands : V → List Item → Type 0) (was v now : V)
+  pub turned : {V : Type 0} (rests stands : V → List Item → Type 0) (was v now : V)
       (old so_far mid new : Entries R S H builds hashes) (given : List ℕ) (handed : List Entry)
       → HasRead told old so_far given handed → v ≡ was
       → ((given : List ℕ) (handed : List Entry) → StandsFor told so_far given handed
       → HasRead told so_far mid given handed)
       → ((given : List ℕ) (handed : List Entry) → StandsFor told mid given handed
-      → HandsOutOrGoesOn told stands new v now given handed (last_of new))
-      → new.source.now ≡ mid.source.now → Turns told stands old new was now given handed
-  turned stands was v now old so_far mid new given handed first unchanged reads goes same =
+      → HandsOutOrGoesOn told rests stands new v now given handed (last_of new))
+      → new.source.now ≡ mid.source.now → Turns told rests stands old new was now given handed
+  turned rests stands was v now old so_far mid new given handed first unchanged reads goes same =
       let next = reads (given ++ first.more) handed first.stands in
       record {
         more = first.more ++ next.more;
@@ -626,31 +667,33 @@ module _ {R S H : Type 0} {builds : BuildHasher.Ghosts S H} {hashes : Hasher.Gho
             (told mid.source.now) first.more next.more first.consumed next.consumed);
         goes_on =
             subst (λ w.
-            HandsOutOrGoesOn told stands new w now (given ++ (first.more ++ next.more)) handed
+            HandsOutOrGoesOn told rests stands new w now (given ++ (first.more ++ next.more)) handed
             (last_of new)) unchanged
-            (subst (λ (b : List ℕ). HandsOutOrGoesOn told stands new v now b handed (last_of new))
+            (subst (λ (b : List ℕ). HandsOutOrGoesOn told rests stands new v now b handed (last_of
+            new))
             (append_assoc given first.more next.more)
             (goes ((given ++ first.more) ++ next.more) handed next.stands));
       }
 
   -- no entry is whole yet
-  pub read_on : {V : Type 0} (stands : V → List Item → Type 0) (was now : V)
+  pub read_on : {V : Type 0} (rests stands : V → List Item → Type 0) (was now : V)
       (old new : Entries R S H builds hashes) (given : List ℕ) (handed : List Entry)
-      → last_of new ≡ None → Turns told stands old new was now given handed
+      → last_of new ≡ None → Turns told rests stands old new was now given handed
       → HasRead told old new given handed
-  read_on stands was now old new given handed none t = record {
+  read_on rests stands was now old new given handed none t = record {
     more = t.more;
     consumed = t.consumed;
     stands =
-        subst (HandsOutOrGoesOn told stands new was now (given ++ t.more) handed) none t.goes_on;
+        subst (HandsOutOrGoesOn told rests stands new was now (given ++ t.more) handed) none
+        t.goes_on;
   }
 
   -- no capture is so long
-  pub too_long : {V : Type 0} (stands : V → List Item → Type 0) (was now : V)
+  pub too_long : {V : Type 0} (rests stands : V → List Item → Type 0) (was now : V)
       (old mid new : Entries R S H builds hashes) (given : List ℕ) (handed : List Entry)
       → HasRead told old mid given handed → mid.stage ≡ Reading
-      → most_bytes Two + 1 < mid.judged → Turns told stands old new was now given handed
-  too_long stands was now old mid new given handed read is far =
+      → most_bytes Two + 1 < mid.judged → Turns told rests stands old new was now given handed
+  too_long rests stands was now old mid new given handed read is far =
       let r = reading_of mid (given ++ read.more) handed is read.stands in
       absurd (omega (
         arith,
@@ -663,20 +706,21 @@ module _ {R S H : Type 0} {builds : BuildHasher.Ghosts S H} {hashes : Hasher.Gho
 
   -- ---- the answers
 
-  pub answers_kind : {V : Type 0} (stands : V → List Item → Type 0) (was now : V)
+  pub answers_kind : {V : Type 0} (rests stands : V → List Item → Type 0) (was now : V)
       (old new : Entries R S H builds hashes) (given : List ℕ) (handed : List Entry)
       → IsSome (last_of new) → failure_of new ≡ None
-      → Turns told stands old new was now given handed
-      → HandsOutGiven told (IsNextOfKind stands was now) old new given handed (Ok (last_of new))
-  answers_kind stands was now old new given handed some goes t = record {
+      → Turns told rests stands old new was now given handed
+      → HandsOutGiven told (IsNextOfKind rests stands was now) old new given handed
+      (Ok (last_of new))
+  answers_kind rests stands was now old new given handed some goes t = record {
     more = t.more;
     consumed = t.consumed;
     hands_out = by_last (last_of new) some t.goes_on;
   }
     where
       by_last : (last : Option Kind) → IsSome last
-          → HandsOutOrGoesOn told stands new was now (given ++ t.more) handed last
-          → HandsOut told (IsNextOfKind stands was now) new (given ++ t.more) handed (Ok last)
+          → HandsOutOrGoesOn told rests stands new was now (given ++ t.more) handed last
+          → HandsOut told (IsNextOfKind rests stands was now) new (given ++ t.more) handed (Ok last)
       by_last None none h = absurd (cc)
       by_last (Some kind) some (entry, is, adds, s) =
           (entry, (is, adds), stands_first new (given ++ t.more) (handed ++ entry ∷ []) goes s, s)

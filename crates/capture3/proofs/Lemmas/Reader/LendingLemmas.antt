@@ -1,5 +1,5 @@
 -- A step of the reader returns a kind; the calls above it lend the entry.
-use Rattle.capture3.proofs.Common.{◌≡◌, ◌⊎◌, inl, inr, ◌∙◌, ap, sym, refl, ℕ, ◌<◌, Option, None, Some, Result, Ok, Err, IsSome, IfSome, List, [], ◌∷◌, ◌++◌, Error, Entry, Kind, Item}
+use Rattle.capture3.proofs.Common.{◌≡◌, inl, inr, ◌∙◌, ap, sym, refl, ℕ, ◌<◌, Option, None, Some, Result, Ok, Err, IfSome, List, [], ◌∷◌, ◌++◌, Error, Entry, Kind, Item}
 use Rattle.std.specs.declared.hash.BuildHasher as BuildHasher
 use Rattle.std.specs.declared.hash.Hasher as Hasher
 use Rattle.capture3.specs.declared.fault.Error.TheVariants as errors
@@ -109,15 +109,16 @@ module _ {R S H : Type 0} {builds : BuildHasher.Ghosts S H} {hashes : Hasher.Gho
 
   -- ---- the entry is lent
 
-  module _ {V : Type 0} (stands : V → List Item → Type 0) (was now : V) where
+  module _ {V : Type 0} (rests stands : V → List Item → Type 0) (was now : V) where
     lent_of : (kind : Kind) (next : LentEntry) (given : List ℕ) (handed : List Entry)
-        → HandsOutGiven told (IsNextOfKind stands was now) old new given handed (Ok (Some kind))
+        → HandsOutGiven told (IsNextOfKind rests stands was now) old new given handed (Ok (Some
+        kind))
         → ((bytes : List ℕ) (before : List Entry) (entry : Entry)
         → StandsFor told new bytes (before ++ entry ∷ []) → IsLent next entry)
         → ((bytes : List ℕ) (before : List Entry) (entry : Entry)
         → StandsFor told new bytes (before ++ entry ∷ [])
         → number_lent next ≡ number_after before entry)
-        → HandsOutGiven told (IsNextLent stands was now) old new given handed (Ok (Some next))
+        → HandsOutGiven told (IsNextLent rests stands was now) old new given handed (Ok (Some next))
     lent_of kind next given handed h is_lent numbered =
         let (entry, (is, adds), reached, s) = h.hands_out in
         record {
@@ -140,7 +141,7 @@ module _ {R S H : Type 0} {builds : BuildHasher.Ghosts S H} {hashes : Hasher.Gho
     pub lends_some : (kind : Kind) (next : Option LentEntry) → last_of new ≡ Some kind
         → kind_lent next ≡ last_of new
         → ((given : List ℕ) (handed : List Entry) → StandsFor told old given handed
-        → HandsOutGiven told (IsNextOfKind stands was now) old new given handed
+        → HandsOutGiven told (IsNextOfKind rests stands was now) old new given handed
         (Ok (Some kind)))
         → ((given : List ℕ) (handed : List Entry) (entry : Entry)
         → StandsFor told new given (handed ++ entry ∷ [])
@@ -152,7 +153,7 @@ module _ {R S H : Type 0} {builds : BuildHasher.Ghosts S H} {hashes : Hasher.Gho
         → (IsOver old → (◌≡◌ {A = Answer} (Ok (Some kind)) (Ok None)) × (new ≡ old))
         → entries_left new < entries_left old → KeepsErrors old new (Ok (Some kind))
         → UsesSource failures old new (Ok (Some kind))
-        → LendsNext told stands failures old was now (Ok next) new
+        → LendsNext told rests stands failures old was now (Ok next) new
     lends_some kind None last is answers is_lent numbered end over fewer errors device =
         absurd (let none : None ≡ Some kind = is ∙ last in cc)
     lends_some kind (Some next) last is answers is_lent numbered end over fewer errors device =
@@ -167,15 +168,16 @@ module _ {R S H : Type 0} {builds : BuildHasher.Ghosts S H} {hashes : Hasher.Gho
         }
 
     pub lends_none : ((given : List ℕ) (handed : List Entry) → StandsFor told old given handed
-        → HandsOutGiven told (IsNextOfKind stands was now) old new given handed (Ok None))
+        → HandsOutGiven told (IsNextOfKind rests stands was now) old new given handed (Ok None))
         → (IsOver old → (◌≡◌ {A = Answer} (Ok None) (Ok None)) × (new ≡ old))
         → KeepsErrors {X = Option Kind} old new (Ok None)
         → UsesSource {X = Option Kind} failures old new (Ok None)
-        → LendsNext told stands failures old was now (Ok None) new
+        → LendsNext told rests stands failures old was now (Ok None) new
     lends_none answers over errors device =
         record {
           answers = λ given handed s.
-              none_handed (IsNextOfKind stands was now) (IsNextLent stands was now) given handed
+              none_handed (IsNextOfKind rests stands was now) (IsNextLent rests stands was now)
+              given handed
               (answers given handed s);
           end = λ same. absurd (cc);
           over = λ over_now. (refl, (over over_now).1);
@@ -186,15 +188,16 @@ module _ {R S H : Type 0} {builds : BuildHasher.Ghosts S H} {hashes : Hasher.Gho
 
     pub lends_error : (error : Error)
         → ((given : List ℕ) (handed : List Entry) → StandsFor told old given handed
-        → HandsOutGiven told (IsNextOfKind stands was now) old new given handed (Err error))
+        → HandsOutGiven told (IsNextOfKind rests stands was now) old new given handed (Err error))
         → (IsOver old → (◌≡◌ {A = Answer} (Err error) (Ok None)) × (new ≡ old))
         → KeepsErrors {X = Option Kind} old new (Err error)
         → UsesSource {X = Option Kind} failures old new (Err error)
-        → LendsNext told stands failures old was now (Err error) new
+        → LendsNext told rests stands failures old was now (Err error) new
     lends_error error answers over errors device =
         record {
           answers = λ given handed s.
-              error_handed (IsNextOfKind stands was now) (IsNextLent stands was now) given handed
+              error_handed (IsNextOfKind rests stands was now) (IsNextLent rests stands was now)
+              given handed
               error (answers given handed s);
           end = λ same. absurd (cc);
           over = λ over_now. absurd (let none = (over over_now).0 in cc);
@@ -205,9 +208,10 @@ module _ {R S H : Type 0} {builds : BuildHasher.Ghosts S H} {hashes : Hasher.Gho
 
   -- ---- the entry is lent, with its call as a value
 
-  module _ {V : Type 0} (stands : V → List Item → Type 0) (was now : V) where
+  module _ {V : Type 0} (rests stands : V → List Item → Type 0) (was now : V) where
     read_of : (kind : Kind) (next : EntryRef) (given : List ℕ) (handed : List Entry)
-        → HandsOutGiven told (IsNextOfKind stands was now) old new given handed (Ok (Some kind))
+        → HandsOutGiven told (IsNextOfKind rests stands was now) old new given handed (Ok (Some
+        kind))
         → ((bytes : List ℕ) (before : List Entry) (entry : Entry)
         → StandsFor told new bytes (before ++ entry ∷ []) → IsReadAs next entry)
         → HandsOutGiven told (λ before. IsReadAs) old new given handed (Ok (Some next))
@@ -222,7 +226,7 @@ module _ {R S H : Type 0} {builds : BuildHasher.Ghosts S H} {hashes : Hasher.Gho
     pub reads_some : (kind : Kind) (next : Option EntryRef) → last_of new ≡ Some kind
         → kind_read next ≡ last_of new
         → ((given : List ℕ) (handed : List Entry) → StandsFor told old given handed
-        → HandsOutGiven told (IsNextOfKind stands was now) old new given handed
+        → HandsOutGiven told (IsNextOfKind rests stands was now) old new given handed
         (Ok (Some kind)))
         → ((given : List ℕ) (handed : List Entry) (entry : Entry)
         → StandsFor told new given (handed ++ entry ∷ [])
@@ -248,7 +252,7 @@ module _ {R S H : Type 0} {builds : BuildHasher.Ghosts S H} {hashes : Hasher.Gho
     -- memory ran out for the value
     pub reads_over : (kind : Kind)
         → ((given : List ℕ) (handed : List Entry) → StandsFor told old given handed
-        → HandsOutGiven told (IsNextOfKind stands was now) old new given handed
+        → HandsOutGiven told (IsNextOfKind rests stands was now) old new given handed
         (Ok (Some kind)))
         → (IsOver old → (◌≡◌ {A = Answer} (Ok (Some kind)) (Ok None)) × (new ≡ old))
         → KeepsErrors old new (Ok (Some kind)) → UsesSource failures old new (Ok (Some kind))
@@ -281,7 +285,7 @@ module _ {R S H : Type 0} {builds : BuildHasher.Ghosts S H} {hashes : Hasher.Gho
         }
 
     pub reads_none : ((given : List ℕ) (handed : List Entry) → StandsFor told old given handed
-        → HandsOutGiven told (IsNextOfKind stands was now) old new given handed (Ok None))
+        → HandsOutGiven told (IsNextOfKind rests stands was now) old new given handed (Ok None))
         → (IsOver old → (◌≡◌ {A = Answer} (Ok None) (Ok None)) × (new ≡ old))
         → KeepsErrors {X = Option Kind} old new (Ok None)
         → UsesSource {X = Option Kind} failures old new (Ok None)
@@ -289,7 +293,7 @@ module _ {R S H : Type 0} {builds : BuildHasher.Ghosts S H} {hashes : Hasher.Gho
     reads_none answers over errors device =
         record {
           answers = λ given handed s.
-              inl (none_handed (IsNextOfKind stands was now) (λ before. IsReadAs) given handed
+              inl (none_handed (IsNextOfKind rests stands was now) (λ before. IsReadAs) given handed
               (answers given handed s));
           end = λ same. absurd (cc);
           over = λ over_now. (refl, (over over_now).1);
@@ -300,7 +304,7 @@ module _ {R S H : Type 0} {builds : BuildHasher.Ghosts S H} {hashes : Hasher.Gho
 
     pub reads_error : (error : Error)
         → ((given : List ℕ) (handed : List Entry) → StandsFor told old given handed
-        → HandsOutGiven told (IsNextOfKind stands was now) old new given handed (Err error))
+        → HandsOutGiven told (IsNextOfKind rests stands was now) old new given handed (Err error))
         → (IsOver old → (◌≡◌ {A = Answer} (Err error) (Ok None)) × (new ≡ old))
         → KeepsErrors {X = Option Kind} old new (Err error)
         → UsesSource {X = Option Kind} failures old new (Err error)
@@ -308,7 +312,8 @@ module _ {R S H : Type 0} {builds : BuildHasher.Ghosts S H} {hashes : Hasher.Gho
     reads_error error answers over errors device =
         record {
           answers = λ given handed s.
-              inl (error_handed (IsNextOfKind stands was now) (λ before. IsReadAs) given handed
+              inl (error_handed (IsNextOfKind rests stands was now) (λ before. IsReadAs) given
+              handed
               error (answers given handed s));
           end = λ same. absurd (cc);
           over = λ over_now. absurd (let none = (over over_now).0 in cc);

@@ -1,11 +1,11 @@
 -- A capture whose records are judged as they come: step after step.
-use Rattle.capture3.proofs.Common.{open_xids, ap₂, ◌≡◌, ◌<◌, inl, inr, suc, ◌+◌, length, arith, append-nil, ℕ, Option, Some, None, List, [], ◌∷◌, ◌++◌, take, drop, refl, sym, ap, ◌∙◌, subst, append_assoc, take-append-drop, Item, RecordCut, RecordTooLong, Joining, Between, Header, Bytes, Whole, TooLong, Ends, Runs, Stops, Stopped, after, landed, Known, Container, Error, Fault, Side, Client, Server, Event, Spot, ReplyItems, refusal, Entry, fault_at, Streams, Cursor, after-append, judge_call, judge_reply, Parsing, file_next, file_start, parsed, emitted, IsBeforeMark, opened_at, unpacking_at, StoredWith, Two, Adds, KnowsNone, Recalls, ShowsFirst, IsTableOf, xids_in, Judged, parsing_at, resumed, call_judged, reply_judged, emitted_at, connection_begun, turned, connection_closed, unpacking_with, fault_in_record, xid_in, Ok, nat_eq, Stop}
+use Rattle.capture3.proofs.Common.{open_xids, ap₂, ◌≡◌, ◌<◌, inl, inr, suc, ◌+◌, length, arith, append-nil, ℕ, Option, Some, None, List, [], ◌∷◌, ◌++◌, take, drop, refl, sym, ap, ◌∙◌, subst, append_assoc, take-append-drop, Item, RecordCut, RecordTooLong, Joining, Between, Header, Bytes, Whole, TooLong, Ends, Runs, Stops, Stopped, after, landed, Known, Container, Error, Fault, Side, Client, Server, Event, Spot, ReplyItems, refusal, Entry, fault_at, Streams, Cursor, after-append, judge_call, judge_reply, Parsing, file_next, file_start, parsed, emitted, IsBeforeMark, opened_at, unpacking_at, StoredWith, Two, KnowsNone, Recalls, ShowsFirst, IsTableOf, xids_in, Judged, parsing_at, resumed, call_judged, reply_judged, emitted_at, connection_begun, turned, connection_closed, unpacking_with, fault_in_record, xid_in, Ok, nat_eq, Stop}
 use Rattle.std.specs.Prelude.{min, ◌^◌}
 use Rattle.capture3.specs.Rank.{number_limit, rank}
 use Rattle.record_mark.specs.Taking.{Taking, Led, OutOfMemory, IsRunning, IsWhole, body_of, joined_body, released, unbegun}
 use Rattle.capture3.specs.declared.reader.entry.Kind.TheVariants as kinds
 use Rattle.capture3.specs.declared.fault.Error.TheVariants as errors
-use Rattle.capture3.specs.declared.container.position.Event.TheVariants.{Begin, Record, Turn, Close}
+use Rattle.capture3.specs.declared.container.position.spot.Event.TheVariants.{Begin, Record, Turn, Close}
 use Rattle.capture3.specs.declared.container.position.Position.{Position}
 use Rattle.capture3.specs.machinery.Container.{AreStored, Comes, ComesToFault, FirstKept, FromFile, InFile, InFirstKept, InNextKept, IsStored, Leaves, NextKept, Recalled, first_cursor, RecallFails, unpacking_of, arrived, Arrives, ShowsError}
 use Rattle.capture3.specs.Entry as entries
@@ -13,12 +13,13 @@ use Rattle.capture3.specs.machinery.Pairing.{StandsAt, StandsOrRecalls, HasCome,
 use Rattle.capture3.specs.machinery.ScannedMessages.{ScansCall, ScansReply, StopsMessage}
 use Rattle.capture3.specs.declared.message.scan.CallHead.{CallHead}
 use Rattle.capture3.specs.machinery.Calls.{Gains, number_for}
+use Rattle.capture3.specs.MessageVisit.{OpensMessage, Hears}
 use Rattle.capture3.proofs.Lemmas.Messages.MessageScanLemmas.{call_agrees}
 use Rattle.capture3.specs.declared.message.calls.NumberedCall.{NumberedCall}
 use Rattle.xdr3.specs.declared.reason.GetError.{GetError}
 use Rattle.xdr3.specs.declared.reason.GetError.TheVariants as gets
 use Rattle.capture3.specs.StreamMachine as reading
-use Rattle.capture3.specs.declared.container.position.Event.TheVariants as events
+use Rattle.capture3.specs.declared.container.position.spot.Event.TheVariants as events
 use Rattle.capture3.proofs.Lemmas.Container.KeptStreamsLemmas.{call_cut, call_recalled, call_refused, close_recalled, reply_cut, reply_recalled, reply_refused, shows_at_last, turn_recalled}
 use Rattle.capture3.proofs.Lemmas.Container.ContainerLemmas.{mark_is}
 use Rattle.capture3.specs.machinery.FileStanding as resuming
@@ -26,6 +27,8 @@ use Rattle.capture3.specs.machinery.ContainerMachine.{Mark, Unpacking, Refuses, 
 use Rattle.capture3.proofs.Lemmas.Reader.FileStandingLemmas.{whole_connections, runs_follow, stops_follow}
 use Rattle.capture3.proofs.Lemmas.Reader.WholeEntries.{runs_emit, stops_emit}
 use Rattle.capture3.proofs.Lemmas.Reached.Growing.{stops_at_last}
+use Rattle.capture3.specs.Progress.{AreCounted, records_after}
+use Rattle.capture3.proofs.Lemmas.Reader.PlacingLemmas.{counted_more, counted_on, records-append, runs_placed, stops_placed}
 use Rattle.capture3.proofs.Lemmas.Connections.KnownLemmas.{admits_agree, admits_number, number_added, table_added, table_empty}
 use Rattle.capture3.proofs.Lemmas.Connections.NumberingLemmas.{numbered_in, open-append, opened_more, opened_still}
 
@@ -44,6 +47,10 @@ stands_at_start position taking streams table at none = record {
   opened = refl;
   stands = sym (ap (λ (u : Unpacking). Runs (parsing_at u nothing_judged)) at);
   emitted = sym (ap (λ (u : Unpacking). emitted_at u.opened nothing_judged) at);
+  placed = record {
+    connections_are = ap (λ (u : Unpacking). u.connections) at;
+    records_are = ap (λ (u : Unpacking). u.records) at;
+  };
 }
 
 -- ---- bytes of the container
@@ -73,6 +80,12 @@ stands_on p q t u old new table bytes all piece event s is came =
           s.emitted
           ∙ sym
           (runs_emit piece (unpacking_of p t old) (unpacking_of q u new) s.so_far arrives);
+      placed =
+          let at = runs_placed piece (unpacking_of p t old) (unpacking_of q u new) arrives in
+          record {
+            connections_are = at.0 ∙ s.placed.connections_are;
+            records_are = at.1 ∙ s.placed.records_are;
+          };
     }
 
 met_is : (event : Event) (q : Position) (u : Taking) (streams : Streams)
@@ -113,6 +126,9 @@ stands_met p t old new table bytes all piece event came s is arrives_at =
           subst (λ (base : List Entry). resuming.EmitsOn s.so_far base (Ends (met_in event new)))
           (sym s.emitted)
           (stops_emit piece (unpacking_of p t old) (met_in event new) s.so_far stops);
+      placed =
+          rw (← s.placed.connections_are, ← s.placed.records_are)
+          (stops_placed piece (unpacking_of p t old) (met_in event new) stops);
     }
 
 -- where the bytes with the last lead
@@ -179,11 +195,6 @@ fails_longer bytes piece n all errors.Memory f = tt
 
 -- ---- what is whole
 
--- a visitor that was not called
-pub untold : {V : Type 0} (stands : V → List Item → Type 0) (v : V) → Adds stands v v []
-unfolding Adds
-untold stands v = λ before s. subst (stands v) (sym (append-nil before)) s
-
 pub at_rest : (t : Taking) → IsRunning t → released t ≡ t
 at_rest (Led (Runs s)) h = refl
 at_rest (Led (Stops end)) h = absurd h
@@ -211,16 +222,17 @@ come_at_start c table none runs at empty =
     come_at_rest c table [] [] none runs
     (stands_at_start c.position c.joiner.taking c.streams.kept table at empty)
 
-module _ {V : Type 0} (stands : V → List Item → Type 0) where
+module _ {V : Type 0} (rests stands : V → List Item → Type 0) where
   pub begin_goes : (v : V) (number : ℕ) (c : Container) (table none : Known) (bytes : List ℕ)
       (all : List Entry) → KnowsNone none → IsRunning c.joiner.taking
       → MeetsEvent c table Begin bytes all
-      → GoesTo stands v v (Some kinds.Begin) number c none bytes all
+      → GoesTo rests stands v v (Some kinds.Begin) number c none bytes all
+  unfolding Hears
   begin_goes v number c table none bytes all empty runs (inl (unopened, m)) = (
     entries.Begin,
     refl,
     tt,
-    untold stands v,
+    (λ before r. r),
     come_at_rest c none bytes (all ++ entries.Begin ∷ []) unopened runs (record {
       so_far = connection_begun (unpacking_of c.position c.joiner.taking c.streams.kept) m.so_far;
       agrees = m.agrees;
@@ -228,18 +240,20 @@ module _ {V : Type 0} (stands : V → List Item → Type 0) where
       opened = open-append all (entries.Begin ∷ []) [];
       stands = met_leads c table Begin bytes all m;
       emitted = sym m.emits;
+      placed = counted_more _ _ all entries.Begin m.placed.0 m.placed.1;
     }),
   )
   begin_goes v number c table none bytes all empty runs (inr m) = absurd m
 
   pub turn_goes : (v : V) (number : ℕ) (c : Container) (table : Known) (bytes : List ℕ)
       (all : List Entry) → IsRunning c.joiner.taking → MeetsEvent c table Turn bytes all
-      → GoesTo stands v v (Some kinds.Turn) number c table bytes all
+      → GoesTo rests stands v v (Some kinds.Turn) number c table bytes all
+  unfolding Hears
   turn_goes v number c table bytes all runs (inl (unopened, m)) = (
     entries.Turn,
     refl,
     tt,
-    untold stands v,
+    (λ before r. r),
     come_at_rest c table bytes (all ++ entries.Turn ∷ []) unopened runs (record {
       so_far =
           turned m.so_far;
@@ -248,19 +262,21 @@ module _ {V : Type 0} (stands : V → List Item → Type 0) where
       opened = opened_still all entries.Turn (xids_in m.so_far.calls) (λ xs. refl) m.opened;
       stands = met_leads c table Turn bytes all m;
       emitted = sym m.emits;
+      placed = counted_more _ _ all entries.Turn (m.placed.0 ∙ omega arith) m.placed.1;
     }),
   )
   turn_goes v number c table bytes all runs (inr come) =
-      (entries.Turn, refl, tt, untold stands v, come)
+      (entries.Turn, refl, tt, (λ before r. r), come)
 
   pub close_goes : (v : V) (number : ℕ) (c : Container) (table : Known) (bytes : List ℕ)
       (all : List Entry) → IsRunning c.joiner.taking → MeetsEvent c table Close bytes all
-      → GoesTo stands v v (Some kinds.Close) number c table bytes all
+      → GoesTo rests stands v v (Some kinds.Close) number c table bytes all
+  unfolding Hears
   close_goes v number c table bytes all runs (inl (unopened, m)) = (
     entries.Close,
     refl,
     tt,
-    untold stands v,
+    (λ before r. r),
     come_at_rest c table bytes (all ++ entries.Close ∷ []) unopened runs (record {
       so_far =
           connection_closed m.so_far;
@@ -269,16 +285,17 @@ module _ {V : Type 0} (stands : V → List Item → Type 0) where
       opened = opened_still all entries.Close (xids_in m.so_far.calls) (λ xs. refl) m.opened;
       stands = met_leads c table Close bytes all m;
       emitted = sym m.emits;
+      placed = counted_more _ _ all entries.Close (m.placed.0 ∙ omega arith) m.placed.1;
     }),
   )
   close_goes v number c table bytes all runs (inr come) =
-      (entries.Close, refl, tt, untold stands v, come)
+      (entries.Close, refl, tt, (λ before r. r), come)
 
   -- ---- a call, from the file or from streams
 
   -- a call that is admitted joins the calls of its connection
   call_joins : (was now : V) (table new : Known) (body : List ℕ) (call : CallHead) (number : ℕ)
-      → (k : ScansCall stands body call was now) → call.xid < 2 ^ 32
+      → (k : ScansCall rests stands body call was now) → call.xid < 2 ^ 32
       → Some number ≡ number_for table call.xid call.id → Gains table call.xid call.id new
       → (calls : List (List Item)) → IsTableOf table calls
       → (judge_call calls body ≡ Ok k.items) × IsTableOf new (calls ++ k.items ∷ [])
@@ -287,7 +304,7 @@ module _ {V : Type 0} (stands : V → List Item → Type 0) where
   call_joins was now table new body call number k fits is gains calls at =
       let agree =
       admits_agree table calls call.xid call.id fits at (Some number) number refl is in (
-        call_agrees stands calls body call was now k agree,
+        call_agrees rests stands calls body call was now k agree,
         table_added table new calls k.items call.xid call.id k.xid_is k.procedure_is fits at agree
             gains,
         admits_number table calls call.xid call.id fits at (Some number) number refl is
@@ -300,9 +317,10 @@ module _ {V : Type 0} (stands : V → List Item → Type 0) where
   pub call_goes : (was now : V) (c : Container) (table new : Known) (bytes : List ℕ)
       (all : List Entry) (call : CallHead) (number : ℕ) → IsWhole c.joiner.taking
       → MeetsEvent c table (Record Client) bytes all
-      → ScansCall stands (body_of c.joiner.taking) call was now → call.xid < 2 ^ 32
+      → ScansCall rests stands (body_of c.joiner.taking) call was now → call.xid < 2 ^ 32
       → Some number ≡ number_for table call.xid call.id → Gains table call.xid call.id new
-      → GoesTo stands was now (Some (kinds.Call call.id)) number c new bytes all
+      → GoesTo rests stands was now (Some (kinds.Call call.id)) number c new bytes all
+  unfolding Hears OpensMessage
   call_goes was now c table new bytes all call number whole (inl (none, m)) k fits is gains =
       let joins =
       call_joins was now table new (body_of c.joiner.taking) call number k fits is gains
@@ -328,6 +346,8 @@ module _ {V : Type 0} (stands : V → List Item → Type 0) where
               ∙ ap (λ (w : Unpacking). Runs (parsing_at w j)) (sym at);
           emitted =
               sym (m.emits k.items) ∙ ap (λ (w : Unpacking). emitted_at w.opened j) (sym at);
+          placed =
+              counted_more _ _ all (entries.Call k.items) (m.placed.0 ∙ omega arith) m.placed.1;
         }),
       )
   call_goes was now c table new bytes all call number whole (inr m) k fits is gains =
@@ -350,8 +370,9 @@ module _ {V : Type 0} (stands : V → List Item → Type 0) where
   pub reply_goes : (was now : V) (c : Container) (table : Known) (bytes : List ℕ)
       (all : List Entry) (call : NumberedCall) → IsWhole c.joiner.taking
       → MeetsEvent c table (Record Server) bytes all
-      → ScansReply stands table (body_of c.joiner.taking) call was now
-      → GoesTo stands was now (Some (kinds.Reply call.id)) call.number c table bytes all
+      → ScansReply rests stands table (body_of c.joiner.taking) call was now
+      → GoesTo rests stands was now (Some (kinds.Reply call.id)) call.number c table bytes all
+  unfolding Hears OpensMessage
   reply_goes was now c table bytes all call whole (inl (none, m)) k =
       let v : Unpacking = unpacking_at c.position c.streams.kept Between in
       let at : unpacking_of c.position (released c.joiner.taking) c.streams.kept ≡ v =
@@ -381,6 +402,9 @@ module _ {V : Type 0} (stands : V → List Item → Type 0) where
               ∙ ap (λ (w : Unpacking). Runs (parsing_at w j)) (sym at);
           emitted =
               sym (m.emits answer) ∙ ap (λ (w : Unpacking). emitted_at w.opened j) (sym at);
+          placed =
+              counted_more _ _ all (entries.Reply call.id k.items) (m.placed.0 ∙ omega arith)
+              m.placed.1;
         }),
       )
   reply_goes was now c table bytes all call whole (inr m) k =
@@ -477,6 +501,13 @@ streams_open c table bytes all m =
       calls = subst (IsTableOf table) m.agrees.2 m.calls;
       opened = m.opened ∙ ap xids_in m.agrees.2;
       here = (refl, m.agrees.1, m.emits);
+      placed = record {
+        connections_are = m.placed.0;
+        records_are =
+            m.placed.1
+            ∙ sym (records-append 0 m.so_far.entries (entries.Begin ∷ []))
+            ∙ ap (records_after 0) (sym m.emits);
+      };
     }
 
 stored_first : (p : Position) (streams : Streams) → StoredWith (Some events.Streams) p streams
@@ -549,6 +580,9 @@ module _ (cursor : Cursor) (old new : Container) (table : Known) (bytes : List �
             closes.1
             ∙ sym (ap (λ (x : Unpacking). emitted_at x.opened (connection_closed at.so_far))
             here);
+        placed =
+            counted_on p.connections p.records p.connections p.records all entries.Close at.placed
+            (omega arith) refl;
       }))
 
   recalled_meets : (event : Event) → Leaves (Some event) new.joiner.taking
@@ -611,6 +645,14 @@ recall_fails cursor p t streams table bytes all (errors.Refused fault) s f =
 recall_fails cursor p t streams table bytes all errors.Read s f = f
 recall_fails cursor p t streams table bytes all errors.Write s f = f
 recall_fails cursor p t streams table bytes all errors.Memory s f = tt
+
+-- the entries so far were counted
+pub counted_here : (cursor : Option Cursor) (p : Position) (t : Taking) (streams : Streams)
+    (table : Known) (bytes : List ℕ) (all : List Entry)
+    → StandsOrRecalls cursor p t streams table bytes all
+    → AreCounted p.connections p.records all
+counted_here None p t streams table bytes all s = s.placed
+counted_here (Some cursor) p t streams table bytes all s = s.placed
 
 -- ---- what comes next, from the file or from streams that were kept
 

@@ -1,9 +1,11 @@
 -- What is given in turn is given at once, and what is given of known bytes is a prefix of them.
-use Rattle.capture3.proofs.Common.{◌≡◌, ◌∙◌, inl, inr, ap, sym, refl, subst, ℕ, Option, None, Some, Result, List, [], ◌++◌, append-nil, Error, Fault, Entry, Kind, FirstFault, Reached, append_cancel_left}
+use Rattle.capture3.proofs.Common.{◌≡◌, ◌∙◌, inl, inr, ap, sym, refl, subst, ℕ, Option, None, Some, Result, List, [], ◌++◌, append-nil, Error, Fault, Entry, FirstFault, Reached, append_cancel_left}
 use Rattle.std.specs.Io.KnownBytes.{Appends, Consumes}
 use Rattle.std.proofs.KnownBytes.{Appends-nil, Appends-trans, Consumes-all, Consumes-nil, Consumes-trans}
 use Rattle.capture3.specs.Entries.{IsShownBy}
 use Rattle.capture3.specs.Handing.{HandsOutGiven}
+use Rattle.capture3.specs.Entry.{Call, Reply, items_of}
+use Rattle.capture3.specs.MessageVisit.{HasHeard}
 use Rattle.capture3.specs.Told.{Told, Gave, GavePrefix, IsSpent}
 use Rattle.std.specs.declared.hash.BuildHasher as BuildHasher
 use Rattle.std.specs.declared.hash.Hasher as Hasher
@@ -28,6 +30,13 @@ pub gave_on : {R S H X : Type 0} {builds : BuildHasher.Ghosts S H} {hashes : Has
     → Gave first (told new.source.now) (given ++ a.more)
 gave_on {told = told} {old = old} {new = new} {given = given} first gave a =
     gave_both first (told old.source.now) (told new.source.now) given a.more gave a.consumed
+
+-- a visitor that rests for what it represents represents the entry's items after those before
+pub plainly_heard : {V : Type 0} (stands : V → List Item → Type 0) (v : V) (before : List Item)
+    (entry : Entry) → HasHeard stands stands v before entry → stands v (before ++ items_of entry)
+plainly_heard stands v before (Call items) heard = heard
+plainly_heard stands v before (Reply id items) heard = heard
+plainly_heard stands v before _ heard = rw append-nil heard
 
 -- the bytes given are a prefix of these, and all of them where the source is spent
 pub record IsPrefixOf (told : Told) (given bytes : List ℕ) : Type 0 where

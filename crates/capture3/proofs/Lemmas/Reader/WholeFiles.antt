@@ -1,16 +1,14 @@
 -- A whole file: from where its machine stands to what is to be said of it.
-use Rattle.capture3.proofs.Common.{Result, ◌≡◌, ℕ, zero, suc, ◌+◌, ◌-◌, Option, Some, None, take-append-drop, List, [], ◌∷◌, ◌++◌, length, map, take, take_all, drop, length-drop, append-nil, arith, refl, sym, ap, ◌∙◌, subst, Ok, Err, Bool, false, is_some, CaptureCut, AreBytes, Item, Joining, Taking, released, Known, Kind, Error, Client, Server, Spot, Container, Cursor, Version, unpacking_of, Entry, End, FirstFault, begins, concluded, verdict_of, ShowsFirst, Streams, file_fault, Typed, StandsAt, StandsOrRecalls, HasCome, GoesTo, FailsAt, IsHeld, opened_at, version_of, IsEndSpot, Judged, resumed_at, emitted_at, MAGIC}
+use Rattle.capture3.proofs.Common.{Result, ◌≡◌, ℕ, zero, suc, ◌+◌, ◌-◌, Option, Some, None, take-append-drop, List, [], ◌∷◌, ◌++◌, length, take, take_all, drop, length-drop, append-nil, arith, refl, sym, ap, ◌∙◌, subst, Ok, Err, Bool, false, is_some, CaptureCut, AreBytes, Item, Joining, Taking, released, Known, Kind, Error, Client, Server, Spot, Container, Cursor, Version, unpacking_of, Entry, End, FirstFault, begins, concluded, verdict_of, ShowsFirst, Streams, file_fault, Typed, StandsAt, StandsOrRecalls, HasCome, GoesTo, FailsAt, IsHeld, opened_at, version_of, IsEndSpot, Judged, resumed_at, emitted_at, MAGIC}
 use Rattle.capture3.specs.declared.reader.entry.Entry as kept
 use Rattle.capture3.specs.declared.reader.entry.Entry.TheVariants as variants
 use Rattle.capture3.specs.declared.fault.Error.TheVariants as errors
 use Rattle.capture3.specs.declared.container.position.Position.{Position}
-use Rattle.capture3.specs.declared.container.position.Spot.TheVariants as spots
-use Rattle.capture3.specs.declared.container.position.WordOf.TheVariants as words
-use Rattle.capture3.specs.declared.container.position.Version as declared
+use Rattle.capture3.specs.declared.container.position.spot.Spot.TheVariants as spots
+use Rattle.capture3.specs.declared.container.position.spot.WordOf.TheVariants as words
+use Rattle.capture3.specs.declared.container.position.spot.Version as declared
 use Rattle.capture3.specs.Kept.{IsKept, AreKept, begun}
 use Rattle.capture3.specs.Entries.{OnRefused}
-use Rattle.capture3.specs.OpenXids.{open_xids}
-use Rattle.capture3.specs.machinery.Pairing.{HasNumber}
 use Rattle.capture3.specs.machinery.ContainerMachine.{left_of_magic, Opened, Magic, Digit, Mark, Length, Chunk, Mixed, Ended}
 use Rattle.capture3.proofs.Lemmas.Container.ContainerLemmas.{taken_more}
 use Rattle.capture3.proofs.Lemmas.Container.KeptStreamsLemmas.{first_of}
@@ -170,12 +168,13 @@ judged_all c table bytes all model is none h =
 abbrev pub Keeps : Container → Known → List ℕ → List kept.Entry → Type 0
 Keeps c table bytes items = (model : List Entry) × HasCome c table bytes model × AreKept items model
 
-module _ {V : Type 0} (stands : V → List Item → Type 0) (was now : V) (number : ℕ) (c : Container)
+module _ {V : Type 0} (rests stands : V → List Item → Type 0) (was now : V) (number : ℕ) (c :
+    Container)
     (bytes : List ℕ) (n m : ℕ) (table : Known) (items : List kept.Entry)
     (model : List Entry) where
   abbrev Goes : Option Kind → Type 0
   Goes came =
-      GoesTo stands was now came number c table
+      GoesTo rests stands was now came number c table
       (take n bytes ++ take m (take (length bytes - n) (drop n bytes))) model
 
   pub keeps_on : (came : Option Kind) → came ≡ None → Goes came → AreKept items model

@@ -1,5 +1,5 @@
 -- Fields whose classes are known by their names.
-use Rattle.masking3.proofs.Common.{◌≡◌, ℕ, ◌+◌, true, false, Bool, ◌||◌, List, [], ◌∷◌, ◌++◌, refl, sym, ap, ap₂, ◌∙◌, subst, by_test, and_parts, bytes_eq, bytes_eq-Decides, drop, fold, map, list_all, AllByRecursion, Option, None, Some, Item, Word, Hyper, Fixed, WriteVerf, Opaque, Rest, Class, Spot, Ways, head_names, names, class_of, class_of_hyper, class_of_word, class_value, big_number, substitute, value_where, values_in, masked_items, with_text, with_value, handle_in, handles_in, next_spot, class_found, found_next, Way, Keep, Number, Zero, way_of, InCall, InReply, InDirectory, InWcc}
+use Rattle.masking3.proofs.Common.{◌≡◌, ℕ, ◌+◌, true, false, Bool, ◌||◌, List, [], ◌∷◌, ◌++◌, refl, sym, ap, ap₂, ◌∙◌, subst, by_test, and_parts, bytes_eq, bytes_eq-Decides, drop, map, list_all, AllByRecursion, Option, None, Some, Item, Word, Hyper, Fixed, WriteVerf, Opaque, Rest, Class, Spot, Ways, head_names, names, class_of, class_of_hyper, class_of_word, class_value, big_number, substitute, value_where, values_in, masked_items, with_text, with_value, handle_in, handles_in, next_spot, spot_after, Way, Keep, Number, Zero, way_of, InCall, InReply, InDirectory, InWcc}
 use Rattle.std.proofs.lemmas.List.{drop-drop}
 use Rattle.std.specs.List.{list_any}
 use Rattle.std.proofs.Common.{Bor}
@@ -11,16 +11,9 @@ use Rattle.masking3.specs.declared.class.Class.TheVariants.{Owners}
 use Rattle.masking3.specs.machinery.KnownFields.{IsKeptItem, IsKnown, attribute_fields, attributes_in, is_free_field, is_free_name, is_kept_field, is_kept_name, is_owner_name, owner_names, field_item, numbered_from}
 use Rattle.masking3.specs.machinery.UnnamedBody.{body_word}
 use Rattle.masking3.proofs.Lemmas.Classes.ClassLemmas.{none_of_other}
-use Rattle.masking3.proofs.Lemmas.Classes.SpotLemmas.{still_after, still_name}
+use Rattle.masking3.proofs.Lemmas.Classes.SpotLemmas.{IsFree, still_after, still_name}
 
 -- ---- words that stay
-
--- a word that begins nothing moves nowhere
-moves_nowhere : (name : List ℕ) → bytes_eq name head_names.mtype ≡ false
-    → bytes_eq name names.before ≡ false → bytes_eq name names.type ≡ false
-    → (o : Option Spot) (n : ℕ) → o ≡ found_next o (Word name n)
-moves_nowhere name e f g None n = rw e refl
-moves_nowhere name e f g (Some spot) n = ap Some (sym (still_name spot name n f g))
 
 module _ (name : List ℕ) (free : is_free_name name ≡ true) where
   apart : (other : List ℕ) → is_free_name other ≡ false → bytes_eq name other ≡ false
@@ -46,11 +39,10 @@ module _ (name : List ℕ) (free : is_free_name name ≡ true) where
         none_of (names.nlink ∷ []) (refl, tt),
       ) refl
 
-  free_moves_not : (o : Option Spot) (n : ℕ) → o ≡ found_next o (Word name n)
+  free_moves_not : (spot : Spot) (n : ℕ) → next_spot spot (Word name n) ≡ spot
   unfolding names head_names
-  free_moves_not =
-      moves_nowhere name (apart head_names.mtype refl) (apart names.before refl)
-      (apart names.type refl)
+  free_moves_not spot n =
+      still_name spot name n (apart names.before refl) (apart names.type refl)
 
 -- the class is none, or that of users and groups
 abbrev IsOwned : Option Class → Type 0
@@ -59,7 +51,7 @@ IsOwned o = (d : Class) → o ≡ Some d → d ≡ Owners
 -- a word of this name is a user or a group, if it has a class, and moves nowhere
 record IsOwnerName (name : List ℕ) : Type 0 where
   owned : (spot : Spot) → IsOwned (class_of_word spot name)
-  owner_moves_not : (o : Option Spot) (n : ℕ) → o ≡ found_next o (Word name n)
+  owner_moves_not : (spot : Spot) (n : ℕ) → next_spot spot (Word name n) ≡ spot
 
 group_owned : (spot : Spot) → IsOwned (class_of_group spot)
 group_owned InCall d is = cc
@@ -70,17 +62,26 @@ group_owned InWcc d is = absurd cc
 uid_is_owner : IsOwnerName names.uid
 unfolding names head_names
 uid_is_owner =
-    record { owned = λ spot d is. cc; owner_moves_not = moves_nowhere names.uid refl refl refl }
+    record {
+      owned = λ spot d is. cc;
+      owner_moves_not = λ spot n. still_name spot names.uid n refl refl;
+    }
 
 gid_is_owner : IsOwnerName names.gid
 unfolding names head_names
 gid_is_owner =
-    record { owned = λ spot d is. cc; owner_moves_not = moves_nowhere names.gid refl refl refl }
+    record {
+      owned = λ spot d is. cc;
+      owner_moves_not = λ spot n. still_name spot names.gid n refl refl;
+    }
 
 group_is_owner : IsOwnerName head_names.group
 unfolding names head_names
 group_is_owner =
-    record { owned = group_owned; owner_moves_not = moves_nowhere head_names.group refl refl refl }
+    record {
+      owned = group_owned;
+      owner_moves_not = λ spot n. still_name spot head_names.group n refl refl;
+    }
 
 free_is_owner : (name : List ℕ) → is_free_name name ≡ true → IsOwnerName name
 free_is_owner name free = record {
@@ -101,23 +102,32 @@ among_owners name t = by_test (bytes_eq name names.uid)
 
 -- the item has no class whose values change, no handle and no text that is masked, and moves
 -- nowhere
-record Stays (ways : Ways) (i : Item) : Type 0 where
-  keeps : (spot : Spot) (d : Class) → class_of spot i ≡ Some d → way_of ways d ≡ Keep
-  moves_not : (o : Option Spot) → o ≡ found_next o i
-  no_handle : handle_in i ≡ []
-  same_text : with_text ways i ≡ i
+pub record Stays (ways : Ways) (i : Item) : Type 0 where
+  pub keeps : (spot : Spot) (d : Class) → class_of spot i ≡ Some d → way_of ways d ≡ Keep
+  pub moves_not : (spot : Spot) → next_spot spot i ≡ spot
+  pub no_handle : handle_in i ≡ []
+  pub same_text : with_text ways i ≡ i
+
+abbrev pub AllStay : Ways → List Item → Type 0
+AllStay ways items = AllByRecursion (Stays ways) items
+
+-- a word without a class that moves nowhere
+pub free_stays : (ways : Ways) (name : List ℕ) → IsFree name → (n : ℕ) → Stays ways (Word name n)
+free_stays ways name free n = record {
+  keeps = λ spot d is. absurd (cc (is, free.classless spot));
+  moves_not = λ spot. free.moves_not spot n;
+  no_handle = refl;
+  same_text = refl;
+}
 
 name_stays : (ways : Ways) (name : List ℕ) → is_kept_name ways.owners name ≡ true → (n : ℕ)
     → Stays ways (Word name n)
 name_stays ways name kept n = of_way ways.owners refl kept
   where
     of_free : is_free_name name ≡ true → Stays ways (Word name n)
-    of_free t = record {
-      keeps = λ spot d is. absurd (cc (is, free_classless name t spot));
-      moves_not = λ o. free_moves_not name t o n;
-      no_handle = refl;
-      same_text = refl;
-    }
+    of_free t =
+        free_stays ways name
+        (record { classless = free_classless name t; moves_not = free_moves_not name t }) n
 
     of_way : (owners : Way) → ways.owners ≡ owners → is_kept_name owners name ≡ true
         → Stays ways (Word name n)
@@ -125,7 +135,7 @@ name_stays ways name kept n = of_way ways.owners refl kept
         let h = among_owners name t in
         record {
           keeps = λ spot d is. ap (way_of ways) (h.owned spot d is) ∙ are;
-          moves_not = λ o. h.owner_moves_not o n;
+          moves_not = λ spot. h.owner_moves_not spot n;
           no_handle = refl;
           same_text = refl;
         }
@@ -140,8 +150,10 @@ stays ways (WriteVerf name bytes) kept = absurd kept
 stays ways (Opaque kind name bytes) kept = absurd kept
 stays ways (Rest name bytes) kept = absurd kept
 
-abbrev pub AreKept : Ways → List Item → Type 0
-AreKept ways items = AllByRecursion (IsKeptItem ways.owners) items
+pub all_stay : (ways : Ways) (items : List Item) → AllByRecursion (IsKeptItem ways.owners) items
+    → AllStay ways items
+all_stay ways [] all = tt
+all_stay ways (i ∷ items) (kept, all) = (stays ways i kept, all_stay ways items all)
 
 or_true : (b : Bool) → (b || true) ≡ true
 or_true true = refl
@@ -155,11 +167,11 @@ module _ (ways : Ways) where
       none_of_other d e n (λ same. absurd (cc (numbered, keeps e refl, ap (way_of ways) same)))
 
   pub kept_values : (d : Class) (spot : Spot) (items : List Item) → way_of ways d ≡ Number
-      → AreKept ways items → values_in d spot items ≡ []
+      → AllStay ways items → values_in d spot items ≡ []
   kept_values d spot [] numbered all = refl
   kept_values d spot (i ∷ items) numbered (kept, all) =
       ap₂ (λ (l m : List ℕ). l ++ m)
-      (kept_value d (class_of spot i) (class_value i) numbered ((stays ways i kept).keeps spot))
+      (kept_value d (class_of spot i) (class_value i) numbered (kept.keeps spot))
       (kept_values d (next_spot spot i) items numbered all)
 
   kept_item : (seen : Class → List ℕ) (o : Option Class) (i : Item)
@@ -169,29 +181,29 @@ module _ (ways : Ways) where
   kept_item seen (Some e) i keeps = rw (keeps e refl) refl
 
   pub kept_masked : (seen : Class → List ℕ) (spot : Spot) (items : List Item)
-      → AreKept ways items → masked_items ways seen spot items ≡ items
+      → AllStay ways items → masked_items ways seen spot items ≡ items
   kept_masked seen spot [] all = refl
   kept_masked seen spot (i ∷ items) (kept, all) =
       ap₂ (λ (j : Item) (l : List Item). j ∷ l)
-      (kept_item seen (class_of spot i) i ((stays ways i kept).keeps spot))
+      (kept_item seen (class_of spot i) i (kept.keeps spot))
       (kept_masked seen (next_spot spot i) items all)
 
-  pub kept_texts : (items : List Item) → AreKept ways items → map (with_text ways) items ≡ items
+  pub kept_texts : (items : List Item) → AllStay ways items → map (with_text ways) items ≡ items
   kept_texts [] all = refl
   kept_texts (i ∷ items) (kept, all) =
-      ap₂ (λ (j : Item) (l : List Item). j ∷ l) (stays ways i kept).same_text
+      ap₂ (λ (j : Item) (l : List Item). j ∷ l) kept.same_text
       (kept_texts items all)
 
-  pub kept_handles : (items : List Item) → AreKept ways items → handles_in items ≡ []
+  pub kept_handles : (items : List Item) → AllStay ways items → handles_in items ≡ []
   kept_handles [] all = refl
   kept_handles (i ∷ items) (kept, all) =
-      ap₂ (λ (l m : List (List ℕ)). l ++ m) (stays ways i kept).no_handle (kept_handles items all)
+      ap₂ (λ (l m : List (List ℕ)). l ++ m) kept.no_handle (kept_handles items all)
 
-  pub kept_found : (o : Option Spot) (items : List Item) → AreKept ways items
-      → fold found_next o items ≡ o
-  kept_found o [] all = refl
-  kept_found o (i ∷ items) (kept, all) =
-      kept_found (found_next o i) items all ∙ sym ((stays ways i kept).moves_not o)
+  pub kept_spot : (spot : Spot) (items : List Item) → AllStay ways items
+      → spot_after spot items ≡ spot
+  kept_spot spot [] all = refl
+  kept_spot spot (i ∷ items) (kept, all) =
+      kept_spot (next_spot spot i) items all ∙ kept.moves_not spot
 
 kept_field : (owners : Way) (name : Bor (List ℕ)) → is_kept_field owners (fields.Word name)
     ≡ is_kept_name owners name.now
@@ -271,23 +283,16 @@ pub attributes_named : (all : List PlainField) (bytes : List ℕ)
     → run_items all bytes ≡ attributes_in bytes
 attributes_named all bytes are = run_named all 0 bytes ∙ ap (numbered_from 0 bytes) are
 
--- the class that is found at a known spot
-pub known_found : (o : Option Spot) (spot : Spot) (own : Option Class) (name : List ℕ) (n : ℕ)
-    → o ≡ Some spot → IsKnown spot own name
-    → (own ≡ class_found o (Word name n)) × (o ≡ found_next o (Word name n))
-known_found o spot own name n at known = rw at (sym known.0, ap Some (sym (known.1 n)))
+-- at a known spot: the class of a word, and the spot after it
+pub known_word : (at spot : Spot) (own : Option Class) (name : List ℕ) (n : ℕ) → at ≡ spot
+    → IsKnown spot own name → (own ≡ class_of at (Word name n)) × (at ≡ next_spot at (Word name n))
+known_word at spot own name n same known = rw same (sym known.0, sym (known.1 n))
 
--- the class of a word at a known spot, and the spot after it
-pub word_found : (o : Option Spot) (spot next : Spot) (own : Option Class) (name : List ℕ) (n : ℕ)
-    → o ≡ Some spot → own ≡ class_of_word spot name → next ≡ next_spot spot (Word name n)
-    → (own ≡ class_found o (Word name n)) × (Some next ≡ found_next o (Word name n))
-word_found o spot next own name n at is after = rw at (is, ap Some after)
-
-pub hyper_found : (o : Option Spot) (spot : Spot) (own : Option Class) (name : List ℕ) (n : ℕ)
-    → o ≡ Some spot → class_of_hyper spot name ≡ own
-    → (own ≡ class_found o (Hyper name n)) × (o ≡ found_next o (Hyper name n))
-hyper_found o spot own name n at known =
-    rw at (sym known, ap Some (sym (still_after spot (Hyper name n) tt)))
+pub known_hyper : (at spot : Spot) (own : Option Class) (name : List ℕ) (n : ℕ) → at ≡ spot
+    → class_of_hyper spot name ≡ own
+    → (own ≡ class_of at (Hyper name n)) × (at ≡ next_spot at (Hyper name n))
+known_hyper at spot own name n same known =
+    rw same (sym known, sym (still_after spot (Hyper name n) tt))
 
 pub known : (spot : Spot) (own : Option Class) (name : List ℕ) → class_of_word spot name ≡ own
     → bytes_eq name names.before ≡ false → bytes_eq name names.type ≡ false

@@ -1,9 +1,5 @@
 -- Where the items of a message stand.
-use Rattle.masking3.proofs.Common.{◌≡◌, ℕ, false, true, List, [], ◌∷◌, ◌++◌, refl, sym, ap, ◌∙◌, subst, append_assoc, bytes_eq-Decides, Item, Word, Hyper, Fixed, WriteVerf, Opaque, Rest, head_names, names, Side, Client, Server, by_test, cond_either, Class, Spot, InCall, InReply, InDirectory, InWcc, Ways, class_of, class_of_word, masked_item, masked_items, value_in, values_in, ⊤, ◌==◌, bytes_eq, fold, None, Some, after_word, next_spot}
-
--- the spot after items
-abbrev pub spot_after : Spot → List Item → Spot
-spot_after spot items = fold next_spot spot items
+use Rattle.masking3.proofs.Common.{◌≡◌, ℕ, false, true, List, [], ◌∷◌, ◌++◌, refl, sym, ap, ◌∙◌, subst, append_assoc, bytes_eq-Decides, Item, Word, Hyper, Fixed, WriteVerf, Opaque, Rest, head_names, names, Side, Client, Server, by_test, cond_either, Class, Spot, InCall, InReply, InDirectory, InWcc, Ways, class_of, class_of_word, masked_item, masked_items, value_in, values_in, ⊤, ◌==◌, bytes_eq, None, Some, after_word, next_spot, spot_after}
 
 -- what is so of the spot, and of those after words, is so of the next one
 by_next : (P : Spot → Type 0) (spot : Spot) (i : Item) → P spot

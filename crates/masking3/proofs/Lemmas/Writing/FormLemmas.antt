@@ -1,5 +1,5 @@
 -- What was written of the masked form, entry by entry.
-use Rattle.masking3.proofs.Common.{◌≡◌, ℕ, List, [], ◌∷◌, ◌++◌, Option, refl, sym, ap, ◌∙◌, subst, append_assoc, ⊤, AllByRecursion, flat_map, zero_spelling, Client, Entry, Begin, Call, Turn, Reply, Close, End, items_of, AreFirst, AppendsFront, all_entries, holds, FitsCall, FitsReply, Class, InCall, Ways, named_entry, BeginsOn, first_spot, body_by, Appends, chunk_bytes, entry_bytes, record_bytes, masked_bytes, masked_entry, masked_items, told_entry, values_so_far, written_as, are_some, magic_unless, magic_before}
+use Rattle.masking3.proofs.Common.{◌≡◌, ℕ, List, [], ◌∷◌, ◌++◌, Option, refl, sym, ap, ◌∙◌, subst, append_assoc, ⊤, AllByRecursion, flat_map, zero_spelling, Entry, Begin, Call, Turn, Reply, Close, End, items_of, AreFirst, AppendsFront, all_entries, holds, FitsCall, FitsReply, Class, InCall, Ways, named_entry, first_spot, body_by, Appends, chunk_bytes, entry_bytes, record_bytes, masked_bytes, masked_entry, masked_items, told_entry, values_so_far, written_as, are_some, magic_unless, magic_before}
 use Rattle.std.proofs.KnownBytes.{Appends-trans}
 use Rattle.capture3.specs.declared.reader.entry.Kind.{Kind}
 use Rattle.capture3.specs.declared.reader.entry.Kind.TheVariants as kinds
@@ -10,7 +10,7 @@ use Rattle.canon3.proofs.Lemmas.Writing.SinkWritesLemmas.{front_of_first, front_
 use Rattle.masking3.proofs.Lemmas.Classes.FirstEntries.{all_in_front}
 use Rattle.masking3.proofs.Lemmas.Masked.MaskedLemmas.{form_grows, last_bytes}
 use Rattle.masking3.proofs.Lemmas.Masked.MaskedMessages.{call_under}
-use Rattle.masking3.proofs.Lemmas.Classes.MessageSpotLemmas.{begins_call, begins_none, begins_reply, entry_side}
+use Rattle.masking3.proofs.Lemmas.Classes.MessageSpotLemmas.{IsBegun, begins_call, begins_reply, entry_side}
 use Rattle.masking3.proofs.Lemmas.Writing.ToldItems.{values_with_last}
 use Rattle.masking3.proofs.Lemmas.Unnamed.TextShapes.{with_texts}
 use Rattle.masking3.proofs.Lemmas.Unnamed.UnnamedCalls.{named_bytes_of}
@@ -39,16 +39,16 @@ the_last (e ∷ entries) one h = the_last entries one h.1
 last_fitting : (entries : List Entry) (one : Entry) → AreFirst (entries ++ one ∷ []) → IsFitting one
 last_fitting entries one first = the_last entries one (all_fitting (entries ++ one ∷ []) first)
 
-fitting_begins : (one : Entry) → IsFitting one → BeginsOn (entry_side one) (items_of one)
-fitting_begins Begin f = begins_none Client
+fitting_begins : (one : Entry) → IsFitting one → IsBegun one
+fitting_begins Begin f = tt
 fitting_begins (Call m) f = begins_call m f
-fitting_begins Turn f = begins_none Client
+fitting_begins Turn f = tt
 fitting_begins (Reply id m) f = begins_reply id m f
-fitting_begins Close f = begins_none Client
-fitting_begins End f = begins_none Client
+fitting_begins Close f = tt
+fitting_begins End f = tt
 
 pub last_begins : (entries : List Entry) (one : Entry) → AreFirst (entries ++ one ∷ [])
-    → BeginsOn (entry_side one) (items_of one)
+    → IsBegun one
 last_begins entries one first = fitting_begins one (last_fitting entries one first)
 
 module _ (ways : Ways) (seen : Class → List ℕ) (body : List ℕ) where

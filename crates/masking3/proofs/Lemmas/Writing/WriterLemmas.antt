@@ -1,5 +1,5 @@
 -- A message is masked item by item.
-use Rattle.masking3.proofs.Common.{◌≡◌, ℕ, List, [], ◌∷◌, ◌++◌, length, map, refl, sym, ap, ap₂, ◌∙◌, subst, append_assoc, append-nil, arith, Option, None, Some, flat_map, flat_map-append, map-append, Item, Word, Hyper, Fixed, WriteVerf, Opaque, Rest, zero_spelling, Side, Spot, Ways, Class, class_of, class_value, masked_item, masked_items, substitute, value_in, value_where, values_in, with_value, with_text, HoldsAt, HoldsValues, position, tables_in, with_one, handle_in, handles_in, member-append_right, BeginsOn, class_found, first_spot, found_after, found_next, Adds, Keeps, Gathers, HoldsHandles, after_messages, HasMaskedUnderWay, HasMemory, MaskStands, told_items, told_value, values_so_far}
+use Rattle.masking3.proofs.Common.{◌≡◌, ℕ, List, [], ◌∷◌, ◌++◌, length, map, refl, sym, ap, ap₂, ◌∙◌, subst, append_assoc, append-nil, arith, Option, None, Some, flat_map, flat_map-append, map-append, Item, Word, Hyper, zero_spelling, Side, Client, Entry, Begin, Call, Turn, Reply, Close, End, items_of, head_names, Spot, Ways, Class, class_of, class_value, masked_item, masked_items, substitute, value_in, value_where, values_in, with_value, with_text, HoldsAt, HoldsValues, position, tables_in, with_one, handle_in, handles_in, member-append_right, BeginsOn, first_spot, next_spot, side_by, spot_after, Adds, Keeps, Gathers, HoldsHandles, after_messages, HoldsMasked, HasMemory, MaskRests, MaskStands, told_items, told_value, values_so_far}
 use Rattle.nfs3_types.specs.declared.values.handle.Handle as handles
 use Rattle.canon3.proofs.Lemmas.Numbers.HandleTableLemmas.{gathers_none}
 use Rattle.masking3.specs.declared.class_tables.ClassTables.{ClassTables}
@@ -7,9 +7,12 @@ use Rattle.masking3.specs.declared.masking_writer.MaskingWriter.{MaskingWriter}
 use Rattle.std.proofs.lemmas.List.Sums.{fold-append}
 use Rattle.std.specs.Option.{unwrap_or}
 use Rattle.masking3.proofs.Lemmas.Classes.ClassLemmas.{holds_without, seen_alike}
-use Rattle.masking3.proofs.Lemmas.Classes.KnownFieldLemmas.{AreKept, kept_found, kept_handles, kept_masked, kept_texts, kept_values}
-use Rattle.masking3.proofs.Lemmas.Classes.MessageSpotLemmas.{begins_before, found_class, found_more}
-use Rattle.masking3.proofs.Lemmas.Classes.SpotLemmas.{IsNoWord, masked_items-append, spot_after, still_after, values_in-append}
+use Rattle.capture3.specs.MessageVisit.{HasHeard, OpensMessage}
+use Rattle.rpc_head.specs.MessageStart.{start_items}
+use Rattle.rpc_head.specs.declared.values.message_start.MessageStart.{MessageStart}
+use Rattle.masking3.proofs.Lemmas.Classes.KnownFieldLemmas.{AllStay, free_stays, kept_handles, kept_masked, kept_spot, kept_texts, kept_values}
+use Rattle.masking3.proofs.Lemmas.Classes.MessageSpotLemmas.{IsBegun, begins_more, entry_side, mtype_by, one_side}
+use Rattle.masking3.proofs.Lemmas.Classes.SpotLemmas.{IsNoWord, masked_items-append, mtype_free, still_after, values_in-append, xid_free}
 use Rattle.masking3.proofs.Lemmas.Masked.MaskedLemmas.{ItemsAreAmong, items_among, items_stay}
 use Rattle.masking3.proofs.Lemmas.Writing.ToldItems.{told_handles, told_values}
 
@@ -110,26 +113,59 @@ module _ (side : Side) where
       ∙ ap (λ (l : List (List ℕ)). handles_in front ++ l)
       (told_handles (first_spot side) items))
 
--- ---- a message under way
+-- ---- what is held
 
 module _ {P S H : Type 0} (ways : Ways) (w : MaskingWriter P S H) where
-  pub is_after : (front items : List Item) (side : Side) → BeginsOn side items → HasMemory w
-      → MaskStands ways w (after_messages front items) → HasMaskedUnderWay ways w front side items
-  is_after front items side begins going stands =
-      let (other, own, are, is) = stands going in
+  pub held_after : (front items other own : List Item) (side : Side)
+      → after_messages front items ≡ after_messages other own
+      → HoldsMasked ways w other side own → HoldsMasked ways w front side items
+  held_after front items other own side are h =
       let many : length front ≡ length other = cc in
       let all : front ++ items ≡ other ++ own = cc in
       let same = same_front front other items own many all in
-      subst (λ (l : List Item). HasMaskedUnderWay ways w l side items) (sym same.0)
-      (subst (HasMaskedUnderWay ways w other side) (sym same.1)
-      (is side (subst (BeginsOn side) same.1 begins)))
+      subst (λ (l : List Item). HoldsMasked ways w l side items) (sym same.0)
+      (subst (HoldsMasked ways w other side) (sym same.1) h)
 
-  pub stands_after : (front items : List Item)
-      → ((side : Side) → BeginsOn side items → HasMaskedUnderWay ways w front side items)
-      → MaskStands ways w (after_messages front items)
-  stands_after front items is going = (front, items, refl, is)
+  own_items : (front items other own : List Item)
+      → after_messages front items ≡ after_messages other own → items ≡ own
+  own_items front items other own are =
+      let many : length front ≡ length other = cc in
+      let all : front ++ items ≡ other ++ own = cc in
+      (same_front front other items own many all).1
 
-  abbrev pub with_parts : List handles.Handle → ClassTables S H → List ℕ → Option Spot
+  -- no message is open
+  pub rested : (front : List Item) → HasMemory w → MaskRests ways w (after_messages front [])
+      → HoldsMasked ways w front Client []
+  rested front going rests =
+      let u = rests going in held_after front [] u.front [] Client u.are u.holds
+
+  -- a message is open, which is of this side
+  stood : (front items : List Item) (side : Side) → BeginsOn side items → HasMemory w
+      → MaskStands ways w (after_messages front [] ++ items) → HoldsMasked ways w front side items
+  stood front items side begins going stands =
+      let u = stands going in
+      let are : after_messages front items ≡ after_messages u.front u.items =
+      sym (after_messages-append front [] items) ∙ u.are in
+      let same : u.side ≡ side =
+      one_side u.side side items
+      (subst (BeginsOn u.side) (sym (own_items front items u.front u.items are)) u.begins)
+      begins in
+      subst (λ s. HoldsMasked ways w front s items) same
+      (held_after front items u.front u.items u.side are u.holds)
+
+  -- what is held after an entry, of which the writer was told
+  pub heard : (front : List Item) (one : Entry) → IsBegun one → HasMemory w
+      → HasHeard (MaskRests ways) (MaskStands ways) w (after_messages front []) one
+      → HoldsMasked ways w front (entry_side one) (items_of one)
+  heard front Begin begun going rests = rested front going rests
+  heard front (Call items) begun going stands = stood front items Client begun going stands
+  heard front Turn begun going rests = rested front going rests
+  heard front (Reply id items) begun going stands =
+      stood front items (entry_side (Reply id items)) begun going stands
+  heard front Close begun going rests = rested front going rests
+  heard front End begun going rests = rested front going rests
+
+  abbrev pub with_parts : List handles.Handle → ClassTables S H → List ℕ → Spot
       → MaskingWriter P S H
   with_parts gathered classes bytes spot =
       record {
@@ -141,55 +177,53 @@ module _ {P S H : Type 0} (ways : Ways) (w : MaskingWriter P S H) where
         plan = w.plan;
       }
 
-  -- the next message
-  pub begun : (front items : List Item) (side : Side) (bytes : List ℕ) → bytes ≡ []
-      → BeginsOn side items → MaskStands ways w (after_messages front items)
-      → MaskStands ways (with_parts w.handles w.classes bytes None)
+  -- the message is let go
+  pub ended : (front items : List Item) (side : Side) (bytes : List ℕ) → bytes ≡ []
+      → HoldsMasked ways w front side items
+      → MaskRests ways (with_parts w.handles w.classes bytes w.spot)
       (after_messages (front ++ told_items (first_spot side) items) [])
-  begun front items side bytes empty begins stands going =
-      let h = is_after front items side begins going stands in (
-        front ++ told_items (first_spot side) items,
-        [],
-        refl,
-        (λ other b. record {
-          ways_are = h.ways_are;
-          tables =
-              subst (HoldsValues ways (tables_in w.classes)) (so_far_over side front other items)
-              h.tables;
-          handles = subst (HoldsHandles w.handles) (handles_over side front items) h.handles;
-          spot_is = refl;
-          written = empty;
-        }),
-      )
+  ended front items side bytes empty h going = record {
+    front = front ++ told_items (first_spot side) items;
+    are = refl;
+    holds = record {
+      ways_are = h.ways_are;
+      tables =
+          subst (HoldsValues ways (tables_in w.classes)) (so_far_over side front Client items)
+          h.tables;
+      handles = subst (HoldsHandles w.handles) (handles_over side front items) h.handles;
+      written = empty;
+    };
+  }
 
   -- the bytes stay, or spell what they did
   pub keeps_spelled : (bytes : List ℕ) → Keeps Spells w.writer bytes
       → Keeps (MaskStands ways) w (with_parts w.handles w.classes bytes w.spot)
   unfolding Keeps
   keeps_spelled bytes keeps all stands going =
-      let (front, items, are, is) = stands going in (
-        front,
-        items,
-        are,
-        (λ side begins.
-            let h = is side begins in
-            record {
-              ways_are = h.ways_are;
-              tables = h.tables;
-              handles = h.handles;
-              spot_is = h.spot_is;
-              written =
-                  keeps
-                  (map (with_text ways) (masked_items ways (values_so_far front side items)
-                  (first_spot side) items)) h.written;
-            }),
-      )
+      let u = stands going in
+      let h = u.holds in record {
+        front = u.front;
+        side = u.side;
+        items = u.items;
+        are = u.are;
+        begins = u.begins;
+        spot_is = u.spot_is;
+        holds = record {
+          ways_are = h.ways_are;
+          tables = h.tables;
+          handles = h.handles;
+          written =
+              keeps
+              (map (with_text ways) (masked_items ways (values_so_far u.front u.side u.items)
+              (first_spot u.side) u.items)) h.written;
+        };
+      }
 
   -- ---- one item more
 
-  -- of the class that was found, and with the spot after it
+  -- of this class, and with the spot after it
   module _ (own : Option Class) (gathered : List handles.Handle) (classes : ClassTables S H)
-      (bytes : List ℕ) (spot : Option Spot) (i : Item) where
+      (bytes : List ℕ) (spot : Spot) (i : Item) where
     abbrev more_values : (Class → List ℕ) → Class → List ℕ
     more_values seen = with_one seen own (class_value i)
 
@@ -198,15 +232,14 @@ module _ {P S H : Type 0} (ways : Ways) (w : MaskingWriter P S H) where
     put by seen = with_text by (with_value i (substitute by (more_values seen) own (class_value i)))
 
     one_more : (front : List Item) (side : Side) (items : List Item)
-        → HasMaskedUnderWay ways w front side items → own ≡ class_of (spot_of_next side items) i
-        → spot ≡ found_next w.spot i → classes.ways ≡ ways
+        → HoldsMasked ways w front side items → own ≡ class_of (spot_of_next side items) i
+        → classes.ways ≡ ways
         → HoldsValues ways (tables_in classes) (more_values (values_so_far front side items))
         → Gathers gathered (front ++ (items ++ i ∷ []))
         → Adds Spells w.writer bytes (put ways (values_so_far front side items) ∷ [])
-        → HasMaskedUnderWay ways (with_parts gathered classes bytes spot) front side
-        (items ++ i ∷ [])
+        → HoldsMasked ways (with_parts gathered classes bytes spot) front side (items ++ i ∷ [])
     unfolding Adds
-    one_more front side items is found moved are tables gathers write =
+    one_more front side items is found are tables gathers write =
         let so_far : Class → List ℕ = values_so_far front side items in
         let first : Spot = first_spot side in
         let later : Spot = spot_of_next side items in
@@ -236,9 +269,6 @@ module _ {P S H : Type 0} (ways : Ways) (w : MaskingWriter P S H) where
           ways_are = are;
           tables = subst (HoldsValues ways (tables_in classes)) now tables;
           handles = gathers;
-          spot_is =
-              moved ∙ ap (λ (o : Option Spot). found_next o i) is.spot_is
-              ∙ sym (found_more items i);
           written =
               subst
               (λ (seen : Class → List ℕ).
@@ -249,7 +279,7 @@ module _ {P S H : Type 0} (ways : Ways) (w : MaskingWriter P S H) where
 
     -- the class is that at the writer's spot, and what follows is at the next one
     abbrev pub IsFound : Type 0
-    IsFound = (own ≡ class_found w.spot i) × (spot ≡ found_next w.spot i)
+    IsFound = (own ≡ class_of w.spot i) × (spot ≡ next_spot w.spot i)
 
     abbrev Held : (Class → List ℕ) → Type 0
     Held seen = HoldsValues w.classes.ways (tables_in w.classes) seen
@@ -263,30 +293,37 @@ module _ {P S H : Type 0} (ways : Ways) (w : MaskingWriter P S H) where
         → Adds (MaskStands ways) w (with_parts gathered classes bytes spot) (i ∷ [])
     unfolding Adds
     adds same found tables gathers write all stands going =
-        let (front, items, are, is) = stands going in (
-          front,
-          items ++ i ∷ [],
-          ap (λ (l : List Item). l ++ i ∷ []) are ∙ after_messages-append front items (i ∷ []),
-          (λ side begins.
-              let h = is side (begins_before side items (i ∷ []) begins) in
-              let so_far : Class → List ℕ = values_so_far front side items in
-              let held : Held so_far =
-              subst (λ k. HoldsValues k (tables_in w.classes) so_far) (sym h.ways_are) h.tables in
-              let class : own ≡ class_of (spot_of_next side items) i =
-              found.0 ∙ ap (λ (o : Option Spot). class_found o i) h.spot_is
-              ∙ found_class side items i begins in
-              one_more front side items h class found.1 (same ∙ h.ways_are)
+        let u = stands going in
+        let h = u.holds in
+        let so_far : Class → List ℕ = values_so_far u.front u.side u.items in
+        let held : Held so_far =
+        subst (λ k. HoldsValues k (tables_in w.classes) so_far) (sym h.ways_are) h.tables in
+        let class : own ≡ class_of (spot_of_next u.side u.items) i =
+        found.0 ∙ ap (λ (s : Spot). class_of s i) u.spot_is in
+        record {
+          front = u.front;
+          side = u.side;
+          items = u.items ++ i ∷ [];
+          are =
+              ap (λ (l : List Item). l ++ i ∷ []) u.are
+              ∙ after_messages-append u.front u.items (i ∷ []);
+          begins = begins_more u.side u.items (i ∷ []) u.begins;
+          spot_is =
+              found.1 ∙ ap (λ (s : Spot). next_spot s i) u.spot_is
+              ∙ sym (fold-append next_spot (first_spot u.side) u.items (i ∷ []));
+          holds =
+              one_more u.front u.side u.items h class (same ∙ h.ways_are)
               (subst (λ k. HoldsValues k (tables_in classes) (more_values so_far))
               (same ∙ h.ways_are) (tables so_far held))
-              (subst (Gathers gathered) (append_assoc front items (i ∷ []))
-              (gathers (front ++ items) h.handles))
+              (subst (Gathers gathered) (append_assoc u.front u.items (i ∷ []))
+              (gathers (u.front ++ u.items) h.handles))
               (subst (λ k. Adds Spells w.writer bytes (put k so_far ∷ [])) h.ways_are
-              (write so_far held))),
-        )
+              (write so_far held));
+        }
 
   -- an item that may have a class, and has no handle
   pub adds_of_class : (own : Option Class) (n : ℕ) (classes : ClassTables S H) (bytes : List ℕ)
-      (spot : Option Spot) (i j : Item) → n ≡ class_value i → handles_in (i ∷ []) ≡ []
+      (spot : Spot) (i j : Item) → n ≡ class_value i → handles_in (i ∷ []) ≡ []
       → classes.ways ≡ w.classes.ways → IsFound own w.handles classes bytes spot i
       → ((seen : Class → List ℕ) → HoldsValues w.classes.ways (tables_in w.classes) seen
       → HoldsValues classes.ways (tables_in classes) (with_one seen own n))
@@ -307,39 +344,14 @@ module _ {P S H : Type 0} (ways : Ways) (w : MaskingWriter P S H) where
       (with_value i (substitute w.classes.ways (with_one seen own m) own m)) ∷ []))
       value (subst (λ k. Adds Spells w.writer bytes (k ∷ [])) (sym (is seen h)) write))
 
-  -- a word up to the mtype has no class
-  pub adds_first : (bytes name : List ℕ) (n : ℕ) (spot : Option Spot) → w.spot ≡ None
-      → spot ≡ found_next None (Word name n) → Adds Spells w.writer bytes (Word name n ∷ [])
-      → Adds (MaskStands ways) w (with_parts w.handles w.classes bytes spot) (Word name n ∷ [])
-  adds_first bytes name n spot none moved write =
-      let i : Item = Word name n in
-      adds None w.handles w.classes bytes spot i refl
-      (ap (λ o. class_found o i) (sym none), moved ∙ ap (λ o. found_next o i) (sym none))
-      (λ seen h.
-      holds_without w.classes.ways (tables_in w.classes) seen None n refl h)
-      (λ items g. gathers_none w.handles items (i ∷ []) refl g) (λ seen h. write)
-
   -- ---- an item that is no word moves nowhere
 
-  none_moves : (i : Item) → IsNoWord i → (o : Option Spot) → o ≡ found_next o i
-  none_moves (Word name n) other o = absurd other
-  none_moves (Hyper name n) other None = refl
-  none_moves (Fixed name bytes) other None = refl
-  none_moves (WriteVerf name bytes) other None = refl
-  none_moves (Opaque kind name bytes) other None = refl
-  none_moves (Rest name bytes) other None = refl
-  none_moves i other (Some spot) = ap Some (sym (still_after spot i other))
-
-  pub stays_found : (i : Item) → IsNoWord i → w.spot ≡ found_next w.spot i
-  stays_found i other = none_moves i other w.spot
+  pub stays_found : (i : Item) → IsNoWord i → w.spot ≡ next_spot w.spot i
+  stays_found i other = sym (still_after w.spot i other)
 
   -- an item of no class
   abbrev pub IsClassless : Item → Type 0
   IsClassless i = (spot : Spot) → class_of spot i ≡ None
-
-  finds_none : (i : Item) → IsClassless i → (o : Option Spot) → None ≡ class_found o i
-  finds_none i none None = refl
-  finds_none i none (Some spot) = sym (none spot)
 
   adds_classless : (gathered : List handles.Handle) (bytes : List ℕ) (i : Item) → IsNoWord i
       → IsClassless i
@@ -348,7 +360,7 @@ module _ {P S H : Type 0} (ways : Ways) (w : MaskingWriter P S H) where
       → Adds (MaskStands ways) w (with_parts gathered w.classes bytes w.spot) (i ∷ [])
   adds_classless gathered bytes i other none gathers write =
       adds None gathered w.classes bytes w.spot i refl
-      (finds_none i none w.spot, stays_found i other)
+      (sym (none w.spot), stays_found i other)
       (λ seen h.
       holds_without w.classes.ways (tables_in w.classes) seen None (class_value i) refl h)
       gathers (λ seen h. write)
@@ -370,58 +382,119 @@ module _ {P S H : Type 0} (ways : Ways) (w : MaskingWriter P S H) where
 
   -- ---- words that stay
 
-  pub adds_kept : (bytes : List ℕ) (items : List Item) → AreKept w.classes.ways items
+  held_more : (front own : List Item) (side : Side) (bytes : List ℕ) (spot : Spot)
+      (items : List Item) → AllStay ways items → HoldsMasked ways w front side own
+      → (w.writer
+      ≡ zero_spelling (map (with_text ways) (masked_items ways (values_so_far front side own)
+      (first_spot side) own))
+      → bytes
+      ≡ zero_spelling (map (with_text ways) (masked_items ways (values_so_far front side own)
+      (first_spot side) own) ++ items))
+      → HoldsMasked ways (with_parts w.handles w.classes bytes spot) front side (own ++ items)
+  held_more front own side bytes spot items kept h write =
+      let texts : List Item → List Item = map (with_text ways) in
+      let so_far : Class → List ℕ = values_so_far front side own in
+      let later : Spot = spot_of_next side own in
+      let first : Spot = first_spot side in
+      let before : List Item = masked_items ways so_far first own in
+      let grown : Class → List ℕ = λ d. so_far d ++ values_in d later items in
+      let masked : before ++ items ≡ masked_items ways grown first (own ++ items) =
+      ap₂ (λ (l m : List Item). l ++ m)
+      (sym (items_stay ways so_far (λ d. values_in d later items) first own
+      (among_so_far side front own)))
+      (sym (kept_masked ways grown later items kept))
+      ∙ sym (masked_items-append ways grown first own items) in
+      let whole : texts before ++ items ≡ texts (masked_items ways grown first (own ++ items)) =
+      ap (λ (l : List Item). texts before ++ l) (sym (kept_texts ways items kept))
+      ∙ sym (map-append (with_text ways) before items) ∙ ap texts masked in
+      record {
+        ways_are = h.ways_are;
+        tables =
+            subst (HoldsValues ways (tables_in w.classes)) (so_far_grown side front own items)
+            (λ d numbered.
+            subst (HoldsAt (tables_in w.classes) (position d))
+            (sym (ap (λ (l : List ℕ). so_far d ++ l)
+            (kept_values ways d later items numbered kept) ∙ append-nil (so_far d)))
+            (h.tables d numbered));
+        handles =
+            subst (Gathers w.handles) (append_assoc front own items)
+            (gathers_none w.handles (front ++ own) items (kept_handles ways items kept)
+            h.handles);
+        written =
+            subst
+            (λ (seen : Class → List ℕ).
+            bytes
+            ≡ zero_spelling (texts (masked_items ways seen first (own ++ items))))
+            (so_far_grown side front own items) (write h.written ∙ ap zero_spelling whole);
+      }
+
+  pub adds_kept : (bytes : List ℕ) (items : List Item) → AllStay w.classes.ways items
       → Adds Spells w.writer bytes items
       → Adds (MaskStands ways) w (with_parts w.handles w.classes bytes w.spot) items
   unfolding Adds
   adds_kept bytes items all_kept write all stands going =
-      let (front, own, are, is) = stands going in
-      let texts : List Item → List Item = map (with_text ways) in (
-        front,
-        own ++ items,
-        ap (λ (l : List Item). l ++ items) are ∙ after_messages-append front own items,
-        (λ side begins.
-            let h = is side (begins_before side own items begins) in
-            let kept : AreKept ways items =
-            subst (λ k. AreKept k items) h.ways_are all_kept in
-            let so_far : Class → List ℕ = values_so_far front side own in
-            let later : Spot = spot_of_next side own in
-            let first : Spot = first_spot side in
-            let before : List Item = masked_items ways so_far first own in
-            let grown : Class → List ℕ = λ d. so_far d ++ values_in d later items in
-            let masked : before ++ items ≡ masked_items ways grown first (own ++ items) =
-            ap₂ (λ (l m : List Item). l ++ m)
-            (sym (items_stay ways so_far (λ d. values_in d later items) first own
-            (among_so_far side front own)))
-            (sym (kept_masked ways grown later items kept))
-            ∙ sym (masked_items-append ways grown first own items) in
-            let whole : texts before ++ items
-            ≡ texts (masked_items ways grown first (own ++ items)) =
-            ap (λ (l : List Item). texts before ++ l) (sym (kept_texts ways items kept))
-            ∙ sym (map-append (with_text ways) before items) ∙ ap texts masked in
-            record {
-              ways_are = h.ways_are;
-              tables =
-                  subst (HoldsValues ways (tables_in w.classes)) (so_far_grown side front own items)
-                  (λ d numbered.
-                  subst (HoldsAt (tables_in w.classes) (position d))
-                  (sym (ap (λ (l : List ℕ). so_far d ++ l)
-                  (kept_values ways d later items numbered kept) ∙ append-nil (so_far d)))
-                  (h.tables d numbered));
-              handles =
-                  subst (Gathers w.handles) (append_assoc front own items)
-                  (gathers_none w.handles (front ++ own) items (kept_handles ways items kept)
-                  h.handles);
-              spot_is =
-                  h.spot_is
-                  ∙ sym (fold-append found_next None own items
-                  ∙ kept_found ways (found_after own) items kept);
-              written =
-                  subst
-                  (λ (seen : Class → List ℕ).
-                  bytes
-                  ≡ zero_spelling (texts (masked_items ways seen first (own ++ items))))
-                  (so_far_grown side front own items)
-                  (write (texts before) h.written ∙ ap zero_spelling whole);
-            }),
-      )
+      let u = stands going in
+      let kept : AllStay ways items = subst (λ k. AllStay k items) u.holds.ways_are all_kept in
+      record {
+        front = u.front;
+        side = u.side;
+        items = u.items ++ items;
+        are =
+            ap (λ (l : List Item). l ++ items) u.are
+            ∙ after_messages-append u.front u.items items;
+        begins = begins_more u.side u.items items u.begins;
+        spot_is =
+            u.spot_is
+            ∙ sym (fold-append next_spot (first_spot u.side) u.items items
+            ∙ kept_spot ways (spot_of_next u.side u.items) items kept);
+        holds =
+            held_more u.front u.items u.side bytes w.spot items kept u.holds
+            (write
+            (map (with_text ways) (masked_items ways (values_so_far u.front u.side u.items)
+            (first_spot u.side) u.items)));
+      }
+
+  -- ---- a message begins
+
+  start_stays : (s : MessageStart) → AllStay ways (start_items s)
+  start_stays s = (
+    free_stays ways head_names.xid xid_free s.xid,
+    (free_stays ways head_names.mtype mtype_free _, tt),
+  )
+
+  pub opens : (bytes : List ℕ) (spot : Spot) (s : MessageStart)
+      → spot ≡ first_spot (side_by s.is_reply) → OpensMessage Spells Spells w.writer bytes
+      (start_items s)
+      → OpensMessage (MaskRests ways) (MaskStands ways) w (with_parts w.handles w.classes bytes
+      spot)
+      (start_items s)
+  unfolding OpensMessage
+  opens bytes spot s spot_is write all rests going =
+      let u = rests going in
+      let side = side_by s.is_reply in
+      let h : HoldsMasked ways w u.front side [] = of_any_side u.front side u.holds in
+      record {
+        front = u.front;
+        side = side;
+        items = start_items s;
+        are =
+            ap (λ (l : List Item). l ++ start_items s) u.are
+            ∙ after_messages-append u.front [] (start_items s);
+        begins = (
+          s.xid,
+          [],
+          ap (λ n. Word head_names.xid s.xid ∷ Word head_names.mtype n ∷ []) (mtype_by s.is_reply),
+        );
+        spot_is = spot_is ∙ sym (kept_spot ways (first_spot side) (start_items s) (start_stays s));
+        holds =
+            held_more u.front [] side bytes spot (start_items s) (start_stays s) h (write []);
+      }
+    where
+      of_any_side : (front : List Item) (side : Side) → HoldsMasked ways w front Client []
+          → HoldsMasked ways w front side []
+      of_any_side front side h = record {
+        ways_are = h.ways_are;
+        tables = h.tables;
+        handles = h.handles;
+        written = h.written;
+      }

@@ -1,6 +1,6 @@
 use Rattle.uses.proofs.Common.{◌∙◌, ℕ, List, ap, flat_map, Adds, items_of, error_is, handles_of_items}
 use Rattle.uses.proofs.ComparingLemmas.{items_after}
-use Rattle.uses.proofs.Reading.{all_returned, none_is, one_more, refused}
+use Rattle.uses.proofs.Reading.{all_returned, none_is, one_more, refused, told_plainly}
 use Rattle.uses.proofs.comparing.handles_of.Goals as goal
 
 pub returns-in_err-visit-clause-refused : goal.returns-in_err-visit-clause-refused
@@ -22,7 +22,8 @@ loop-handles-preserved g c =
       returned =
           one_more _ _ _ _ _ _ u _ c.in-Some.field-0 (ends.answers u.given u.handed u.stands)
           (λ before one is has.
-          is.1 (flat_map items_of before) has ∙ ap handles_of_items (items_after before one));
+          told_plainly _ _ _ one is.1 (flat_map items_of before) has ∙ ap handles_of_items
+          (items_after before one));
     }
 
 pub returns-clause-gathered : goal.returns-clause-gathered

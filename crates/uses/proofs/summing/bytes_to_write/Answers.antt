@@ -1,5 +1,6 @@
 use Rattle.uses.proofs.Common.{◌∙◌, ℕ, [], ap, Adds, error_is}
-use Rattle.uses.proofs.Reading.{all_returned, none_is, one_more, refused}
+use Rattle.uses.specs.Summing.{HasSummed}
+use Rattle.uses.proofs.Reading.{all_returned, none_is, one_more, refused, told_plainly}
 use Rattle.uses.proofs.summing.bytes_to_write.Goals as goal
 
 pub returns-in_err-entry-clause-refused : goal.returns-in_err-entry-clause-refused
@@ -23,7 +24,7 @@ loop-entries-preserved g c =
           one_more _ _ _ _ _ _ u _ c.in-Some.entry (ends.answers u.given u.handed u.stands)
           (λ before one is sum.
           c.with_entry-sum.ensures before one sum (c.is_write-writes.ensures one is.0.0)
-          (is.1 [] c.loop-entries.invariant.fresh));
+          (told_plainly HasSummed _ _ one is.1 [] c.loop-entries.invariant.fresh));
     }
 
 pub returns-clause-summed : goal.returns-clause-summed

@@ -1,4 +1,4 @@
-use Rattle.canon3.proofs.Common.{◌≡◌, ◌≤◌, ◌+◌, None, Told, failure_of, loan_of, source_of, entries_left, most_entries, steps_of}
+use Rattle.canon3.proofs.Common.{◌≡◌, None, Told, failure_of, loan_of, source_of, entries_left}
 use Rattle.canon3.specs.machinery.ComparisonSteps.{IsComparing}
 use Rattle.canon3.proofs.comparison.Comparison.find.Given as goal
 
@@ -6,7 +6,6 @@ abbrev pub invariant-loop-finding : goal.invariant-loop-finding
 invariant-loop-finding g l = record {
   going_first : failure_of l.first ≡ None;
   going_second : failure_of l.second ≡ None;
-  room : steps_of l.self.progress + entries_left l.first ≤ most_entries;
   under_way : (start other_start : Told)
       → IsComparing g.A.Source.told g.B.Source.told start other_start l.fn.first l.fn.second
       l.fn.self

@@ -4,14 +4,14 @@ use Rattle.canon3.proofs.entries.entry_writer.write_entries.Goals as goal
 
 pub returns-clause-writes : goal.returns-clause-writes
 returns-clause-writes g c =
-    let w = c.in_ok-counts.ensures.ends in (
+    let w = c.in_ok-progress.ensures.ends in (
       w.given,
       w.ended.consumed,
       (
         w.handed,
         w.ended.ended,
         w.ended.typed,
-        c.summary.ensures w.given w.handed w.ended.typed w.writes.came
+        c.summary_of.ensures w.given w.handed w.ended.typed w.came
             (c.handles.ensures w.handed w.writes.goes w.writes.stands_for),
         w.writes.written,
       ),
@@ -21,15 +21,15 @@ pub returns-clause-whole : goal.returns-clause-whole
 returns-clause-whole g c bytes gave =
     let first = g.R.Source.told c.args.source.now in
     let told = g.R.Source.told c.write_whole.new.source in
-    all_written _ c.requires.prefixes IsSummary bytes first told _ _ (Ok c.summary.result)
+    all_written _ c.requires.prefixes IsSummary bytes first told _ _ (Ok c.summary_of.result)
     (λ given. prefix_of_kept first told given bytes gave) (returns-clause-writes g c)
 
-pub returns-in_err-counts-clause-whole : goal.returns-in_err-counts-clause-whole
-returns-in_err-counts-clause-whole g c bytes gave =
+pub returns-in_err-progress-clause-whole : goal.returns-in_err-progress-clause-whole
+returns-in_err-progress-clause-whole g c bytes gave =
     let first = g.R.Source.told c.args.source.now in
     let told = g.R.Source.told c.write_whole.new.source in
-    let s = c.in_err-counts.ensures.ends in
+    let s = c.in_err-progress.ensures.ends in
     rw (error_is _ _ c.from_residual.ensures)
     (all_written _ c.requires.prefixes IsSummary bytes first told _ _
-    (Err c.in_err-counts.field-0.0) (λ given. prefix_of_kept first told given bytes gave)
+    (Err c.in_err-progress.field-0.0) (λ given. prefix_of_kept first told given bytes gave)
     (s.given, s.consumed, s.stopped))

@@ -1,6 +1,6 @@
 use Rattle.capture3.proofs.Common.{ap, ◌∙◌}
-use Rattle.capture3.specs.declared.container.position.WordOf.{WordOf}
-use Rattle.capture3.specs.declared.container.position.Spot.TheVariants.{Word}
+use Rattle.capture3.specs.declared.container.position.spot.WordOf.{WordOf}
+use Rattle.capture3.specs.declared.container.position.spot.Spot.TheVariants.{Word}
 use Rattle.capture3.proofs.Lemmas.Container.ContainerLemmas.{shown_at, step_fails, step_reaches}
 use Rattle.capture3.proofs.container.Container.step.Goals as goal
 

@@ -1,6 +1,6 @@
 use Rattle.std.proofs.Common.{◌≤◌, ◌∙◌, ap, refl, sym, arith}
 use Rattle.capture3.specs.declared.container.position.Position.{Position}
-use Rattle.capture3.specs.declared.container.position.Spot.TheVariants.{Chunk}
+use Rattle.capture3.specs.declared.container.position.spot.Spot.TheVariants.{Chunk}
 use Rattle.capture3.specs.machinery.PositionState.{standing_at}
 use Rattle.capture3.proofs.Lemmas.Container.ContainerLemmas.{join_has_record, shown_at, stored_here}
 use Rattle.capture3.proofs.container.Container.take_whole.Goals as goal

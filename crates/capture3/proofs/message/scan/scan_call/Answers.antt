@@ -41,7 +41,8 @@ returns-in_err-end-clause-err g c before =
     start_begun _ c.in_ok-start.start false _ _ c.new-input.ensures.body c.new-input.ensures.start
     c.in_ok-start.ensures.read c.in_ok-start.ensures.moves.same_body c.if-start.false in
     let r =
-    call_told g.V.Visit.stands _ _ c.in_ok-id.id _ _ _ _ _ _ _ begun c.in_ok-tell_start.ensures
+    call_told g.V.MessageVisit.rests g.V.Visit.stands _ _ c.in_ok-id.id _ _ _ _ _ _ _ begun
+    c.in_ok-begin.ensures
     c.in_ok-id.ensures.ok c.in_ok-scan_arguments.ensures.ok in
     let other : c.scan_arguments.new.input.at ≢ length c.args.body.now =
     λ e. false≢true (c.in_err-end.ensures.ok.1 (e ∙ ap length (sym r.same_body))) in
@@ -55,8 +56,9 @@ returns-clause-ok g c =
     start_begun _ c.in_ok-start.start false _ _ c.new-input.ensures.body c.new-input.ensures.start
     c.in_ok-start.ensures.read c.in_ok-start.ensures.moves.same_body c.if-start.false in
     let r =
-    call_told g.V.Visit.stands _ _ c.in_ok-id.id _ _ _ _ _ _ _ begun c.in_ok-tell_start.ensures
+    call_told g.V.MessageVisit.rests g.V.Visit.stands _ _ c.in_ok-id.id _ _ _ _ _ _ _ begun
+    c.in_ok-begin.ensures
     c.in_ok-id.ensures.ok c.in_ok-scan_arguments.ensures.ok in
-    call_scans g.V.Visit.stands _ c.in_ok-start.start _ _ _ _ _ _
+    call_scans g.V.MessageVisit.rests g.V.Visit.stands _ c.in_ok-start.start _ _ _ _ _ _
     (λ i. omega (arith, c.type_inv.body i)) r
     (c.in_ok-end.ensures.ok.0 refl ∙ ap length r.same_body)

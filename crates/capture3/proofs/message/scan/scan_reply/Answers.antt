@@ -66,8 +66,9 @@ returns-in_err-end-clause-err g c before table =
     sym (table c.in_ok-start.start.xid (omega arith))
     ∙ ap procedure_in_call (sym c.call_of.ensures ∙ c.in-Some.is) in
     let r =
-    reply_told g.V.Visit.stands _ _ c.in-Some.call.id c.in_ok-success.success _ _ _ _ _ _ _ begun
-    c.in_ok-tell_start.ensures c.in_ok-success.ensures.ok
+    reply_told g.V.MessageVisit.rests g.V.Visit.stands _ _ c.in-Some.call.id
+    c.in_ok-success.success _ _ _ _ _ _ _ begun
+    c.in_ok-begin.ensures c.in_ok-success.ensures.ok
     c.in_ok-scan_results_after.ensures.ok in
     let other : c.scan_results_after.new.input.at ≢ length c.args.body.now =
     λ e. false≢true (c.in_err-end.ensures.ok.1 (e ∙ ap length (sym r.same_body))) in
@@ -83,10 +84,12 @@ returns-clause-ok g c =
     c.in_ok-start.ensures.read c.in_ok-start.ensures.moves.same_body
     (not_false _ c.if-not-start.false) in
     let r =
-    reply_told g.V.Visit.stands _ _ c.in-Some.call.id c.in_ok-success.success _ _ _ _ _ _ _ begun
-    c.in_ok-tell_start.ensures c.in_ok-success.ensures.ok
+    reply_told g.V.MessageVisit.rests g.V.Visit.stands _ _ c.in-Some.call.id
+    c.in_ok-success.success _ _ _ _ _ _ _ begun
+    c.in_ok-begin.ensures c.in_ok-success.ensures.ok
     c.in_ok-scan_results_after.ensures.ok in
-    reply_scans g.V.Visit.stands _ _ c.in_ok-start.start c.in-Some.call _ _ _ _ _ _
+    reply_scans g.V.MessageVisit.rests g.V.Visit.stands _ _ c.in_ok-start.start c.in-Some.call _ _
+    _ _ _ _
     (λ i. omega (arith, c.type_inv.body i)) r
     (c.in_ok-end.ensures.ok.0 refl ∙ ap length r.same_body)
     (omega arith) (sym c.call_of.ensures ∙ c.in-Some.is)

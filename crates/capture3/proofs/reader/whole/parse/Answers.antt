@@ -1,12 +1,8 @@
-use Rattle.capture3.proofs.Common.{Err, ℕ, List, arith, ap, ◌≡◌, ◌∙◌, ◌++◌, [], ◌∷◌, take, take_all, length-take, length-drop, refl, End}
+use Rattle.capture3.proofs.Common.{Err, ℕ, arith, ap, ◌≡◌, ◌∙◌, ◌++◌, [], ◌∷◌, take, take_all, length-take, length-drop, refl, End}
 use Rattle.capture3.specs.machinery.Pairing.{entry_cost}
 use Rattle.capture3.proofs.Lemmas.Reached.Limits.{typed_within}
 use Rattle.capture3.proofs.Lemmas.Reader.PassedOn.{error_is}
-use Rattle.capture3.specs.declared.reader.entry.Entry.TheVariants as variants
-use Rattle.capture3.specs.declared.reader.entry.Entry as kept
-use Rattle.std.proofs.Common.{map}
-use Rattle.capture3.proofs.Lemmas.Files.Verdicts.{typed_once}
-use Rattle.capture3.proofs.Lemmas.Reader.WholeFiles.{begun_is, kept_length, cut_at, first_fault, judged_all, kept_snoc, keeps_more, keeps_on, not_some, typed_at}
+use Rattle.capture3.proofs.Lemmas.Reader.WholeFiles.{begun_is, cut_at, first_fault, judged_all, kept_snoc, keeps_more, keeps_on, not_some, typed_at}
 use Rattle.capture3.proofs.reader.whole.parse.Goals as goal
 
 pub loop-taken-preserved-in-Continue-branch-2 : goal.loop-taken-preserved-in-Continue-branch-2
@@ -21,7 +17,7 @@ loop-taken-preserved-in-Continue-branch-2 c =
           omega (arith, invariant.room, c.in-Ok.ensures.room, cost, c.in_ok-push-in-Ok.ensures.len);
       machine =
           rw c.in_ok-push-in-Ok.ensures.items
-          (keeps_more _ _ _ c.next.new.self.number _ c.args.bytes.now c.loop-taken.taken
+          (keeps_more _ _ _ _ c.next.new.self.number _ c.args.bytes.now c.loop-taken.taken
           c.in-Ok.count
           _ c.loop-taken.entries.items invariant.machine.0 _ _ _ c.in-Some.is
           (c.in-Ok.ensures.machine (take c.loop-taken.taken c.args.bytes.now) invariant.machine.0
@@ -40,7 +36,8 @@ loop-taken-preserved c =
       ready = c.in-Ok.ensures.ready;
       room = omega (arith, invariant.room, c.in-Ok.ensures.room, cost);
       machine =
-          keeps_on _ _ _ c.next.new.self.number _ c.args.bytes.now c.loop-taken.taken c.in-Ok.count
+          keeps_on _ _ _ _ c.next.new.self.number _ c.args.bytes.now c.loop-taken.taken
+          c.in-Ok.count
           _ c.loop-taken.entries.items invariant.machine.0 _ c.in_default.is
           (c.in-Ok.ensures.machine (take c.loop-taken.taken c.args.bytes.now) invariant.machine.0
           invariant.machine.1) invariant.machine.2;

@@ -14,7 +14,7 @@ returns-clause-ok g c =
     let text =
     told_ok gathered.result _ told.field-0 told.ensures.result told.ensures.ok
     ∙ c.in_ok-append_hex.ensures.ok in
-    adds_both g.H.Visit.stands w _ gathered.new.self name bytes
+    adds_both g.H.Visit.stands w gathered.new.self _ name bytes
     (adds_text w.items c.truncate_on_error.new.self _ _ (item ∷ [])
     (data_size Handle name bytes c.encoded_size.result c.encoded_size.ensures)
     (text_appended w.items.text c.truncate_on_error.new.self item text) refl)

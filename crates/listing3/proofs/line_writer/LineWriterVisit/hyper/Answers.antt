@@ -1,13 +1,12 @@
 use Rattle.listing3.proofs.Common.{refl, on_err_weaker, on_ok_weaker, Hyper}
-use Rattle.listing3.proofs.Lines.LineLemmas.{adds_plain, keeps_text, no_word}
+use Rattle.listing3.proofs.Lines.LineLemmas.{adds_plain, keeps_text}
 use Rattle.listing3.proofs.line_writer.LineWriterVisit.hyper.Goals as goal
 
 pub returns-clause-ok : goal.returns-clause-ok
 returns-clause-ok g c =
     on_ok_weaker c.hyper.result
-    (adds_plain g.H.Visit.stands c.args.self.now c.hyper.new.self g.met.H.Gathering.skips
-    (Hyper c.args.name.now c.args.n) refl
-    (no_word c.args.self.now.xid (Hyper c.args.name.now c.args.n) tt)) c.hyper.ensures.ok
+    (adds_plain g.H.Visit.stands g.met.H.Gathering.skips c.args.self.now c.hyper.new.self
+    (Hyper c.args.name.now c.args.n) refl) c.hyper.ensures.ok
 
 pub returns-clause-err : goal.returns-clause-err
 returns-clause-err g c =

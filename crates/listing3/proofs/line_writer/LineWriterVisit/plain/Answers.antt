@@ -3,13 +3,13 @@ use Rattle.xdr3.specs.Plain.{run_items}
 use Rattle.listing3.proofs.Lines.LineLemmas.{adds_run, run_kept}
 use Rattle.listing3.proofs.line_writer.LineWriterVisit.plain.Goals as goal
 
-pub returns-in-Some : goal.returns-in-Some
-returns-in-Some g c =
+pub returns : goal.returns
+returns g c =
     record {
       ok =
           on_ok_weaker c.plain.result
           (adds_run g.H.Visit.stands g.met.H.Gathering.skips c.args.self.now c.plain.new.self
-          c.args.fields.now c.args.bytes.now c.in-Some.field-0 c.in-Some.is)
+          c.args.fields.now c.args.bytes.now)
           c.plain.ensures.ok;
       err =
           on_err_weaker c.plain.result

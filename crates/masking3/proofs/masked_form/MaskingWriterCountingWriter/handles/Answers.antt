@@ -1,7 +1,6 @@
-use Rattle.masking3.proofs.Common.{List, ℕ, [], ap, append-nil, ◌∙◌, length, min, subst, bytes_eq, flat_map, Client, told_entry, Gathers, distinct, number_limit}
-use Rattle.masking3.proofs.Lemmas.Classes.MessageSpotLemmas.{begins_none}
+use Rattle.masking3.proofs.Common.{List, ℕ, ap, append-nil, ◌∙◌, length, min, subst, bytes_eq, flat_map, told_entry, Gathers, distinct, number_limit}
 use Rattle.masking3.proofs.Lemmas.Writing.ToldItems.{handles_before}
-use Rattle.masking3.proofs.Lemmas.Writing.WriterLemmas.{is_after}
+use Rattle.masking3.proofs.Lemmas.Writing.WriterLemmas.{rested}
 use Rattle.masking3.proofs.masked_form.MaskingWriterCountingWriter.handles.Goals as goal
 
 pub returns : goal.returns
@@ -9,8 +8,7 @@ returns g c entries goes stands =
     let front = flat_map told_entry entries in
     let gathered =
     subst (Gathers c.args.self.now.handles) (append-nil front)
-    (is_after g.P.Plan.ways c.args.self.now front [] Client (begins_none Client) goes
-    stands).handles in
+    (rested g.P.Plan.ways c.args.self.now front goes stands).handles in
     c.len.ensures front gathered
     ∙ ap (λ (l : List (List ℕ)). min (length (distinct bytes_eq l)) number_limit)
     (handles_before entries)

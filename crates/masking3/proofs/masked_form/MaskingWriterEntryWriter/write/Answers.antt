@@ -1,68 +1,60 @@
-use Rattle.masking3.proofs.Common.{List, [], ap, subst, sym, ◌∙◌, flat_map, Item, items_of, Ways, after_messages, told_entry, MaskStands, written_as}
+use Rattle.masking3.proofs.Common.{List, [], ap, subst, sym, ◌∙◌, flat_map, Item, items_of, Ways, after_messages, told_entry, MaskRests, written_as}
 use Rattle.capture3.proofs.Lemmas.Reader.PassedOn.{error_is}
 use Rattle.canon3.proofs.Lemmas.Writing.EntryWriterLemmas.{lent_kind}
 use Rattle.masking3.proofs.Lemmas.Writing.FormLemmas.{all_written, cut_in_entry, cut_in_magic, entry_is, last_begins, nothing_more}
 use Rattle.masking3.proofs.Lemmas.Classes.MessageSpotLemmas.{entry_side}
 use Rattle.masking3.proofs.Lemmas.Writing.ToldItems.{before_with_last}
-use Rattle.masking3.proofs.Lemmas.Writing.WriterLemmas.{after_messages-append, is_after}
+use Rattle.masking3.proofs.Lemmas.Writing.WriterLemmas.{heard}
 use Rattle.masking3.proofs.masked_form.MaskingWriterEntryWriter.write.Goals as goal
 
 pub returns-then-self-clause-writes : goal.returns-then-self-clause-writes
 returns-then-self-clause-writes g c old entries one of first few came told written =
     let now = g.W.Sink.written c.args.sink.now in
-    nothing_more g.P.Plan.ways old now now now entries one c.args.counts.now.progress.connections
-    first came.progress.connections_are written
+    nothing_more g.P.Plan.ways old now now now entries one c.args.progress.connections
+    first came.place.connections_are written
 
 pub returns-in_err-write_magic-clause-writes : goal.returns-in_err-write_magic-clause-writes
 returns-in_err-write_magic-clause-writes g c old entries one of first few came told written =
     let between = g.W.Sink.written c.write_magic.new.sink in
     rw (error_is _ _ c.from_residual.ensures)
     (cut_in_magic g.P.Plan.ways old (g.W.Sink.written c.args.sink.now) between between entries one
-    c.args.counts.now.progress.connections first came.progress.connections_are written
+    c.args.progress.connections first came.place.connections_are written
     c.in_err-write_magic.ensures.err)
 
 pub returns-in_err-write_entry-clause-writes : goal.returns-in_err-write_entry-clause-writes
 returns-in_err-write_entry-clause-writes g c old entries one of first few came told written =
-    let stands =
-    subst (MaskStands g.P.Plan.ways c.args.self.now)
-    (after_messages-append (flat_map told_entry entries) [] (items_of one)) told in
     let is =
-    is_after g.P.Plan.ways c.args.self.now (flat_map told_entry entries) (items_of one)
-    (entry_side one) (last_begins entries one first) c.if-self.false stands in
+    heard g.P.Plan.ways c.args.self.now (flat_map told_entry entries) one
+    (last_begins entries one first) c.if-self.false told in
     rw (error_is _ _ c.from_residual-in_err-write_entry.ensures)
     (cut_in_entry g.P.Plan.ways old (g.W.Sink.written c.args.sink.now)
     (g.W.Sink.written c.write_magic.new.sink) (g.W.Sink.written c.write_entry.new.sink) entries one
-    c.args.counts.now.progress.connections first came.progress.connections_are written
-    (written_as c.args.self.now.classes.ways.machines c.kind_of.result c.args.self.now.writer)
-    (ap (λ (w : Ways). written_as w.machines c.kind_of.result c.args.self.now.writer)
+    c.args.progress.connections first came.place.connections_are written
+    (written_as c.args.self.now.classes.ways.machines c.kind.result c.args.self.now.writer)
+    (ap (λ (w : Ways). written_as w.machines c.kind.result c.args.self.now.writer)
     is.ways_are
-    ∙ entry_is g.P.Plan.ways c.args.self.now.writer c.kind_of.result entries one
-    (lent_kind c.args.entry c.kind_of.result one c.kind_of.ensures of.0) first is.written)
+    ∙ entry_is g.P.Plan.ways c.args.self.now.writer c.kind.result entries one
+    (lent_kind c.args.entry c.kind.result one c.kind.ensures of.0) first is.written)
     c.in_ok-write_magic.ensures.ok c.in_err-write_entry.ensures.err)
 
 pub returns-clause-writes : goal.returns-clause-writes
 returns-clause-writes g c old entries one of first few came told written =
-    let stands =
-    subst (MaskStands g.P.Plan.ways c.args.self.now)
-    (after_messages-append (flat_map told_entry entries) [] (items_of one)) told in
     let is =
-    is_after g.P.Plan.ways c.args.self.now (flat_map told_entry entries) (items_of one)
-    (entry_side one) (last_begins entries one first) c.if-self.false stands in (
-      c.begin_message.ensures.going c.if-self.false,
+    heard g.P.Plan.ways c.args.self.now (flat_map told_entry entries) one
+    (last_begins entries one first) c.if-self.false told in (
+      c.end_message.ensures.going c.if-self.false,
       subst
-          (λ (l : List Item).
-          MaskStands g.P.Plan.ways c.begin_message.new.self (after_messages l []))
-          (sym (before_with_last entries one)) (c.begin_message.ensures.stands
-          (flat_map told_entry entries) (items_of one) (entry_side one)
-          (last_begins entries one first) stands),
+          (λ (l : List Item). MaskRests g.P.Plan.ways c.end_message.new.self (after_messages l []))
+          (sym (before_with_last entries one)) (c.end_message.ensures.rests
+          (flat_map told_entry entries) (items_of one) (entry_side one) is),
       all_written g.P.Plan.ways old (g.W.Sink.written c.args.sink.now)
           (g.W.Sink.written c.write_magic.new.sink) (g.W.Sink.written c.write_entry.new.sink)
           entries one
-          c.args.counts.now.progress.connections first came.progress.connections_are written
-          (written_as c.args.self.now.classes.ways.machines c.kind_of.result c.args.self.now.writer)
-          (ap (λ (w : Ways). written_as w.machines c.kind_of.result c.args.self.now.writer)
+          c.args.progress.connections first came.place.connections_are written
+          (written_as c.args.self.now.classes.ways.machines c.kind.result c.args.self.now.writer)
+          (ap (λ (w : Ways). written_as w.machines c.kind.result c.args.self.now.writer)
           is.ways_are
-          ∙ entry_is g.P.Plan.ways c.args.self.now.writer c.kind_of.result entries one
-          (lent_kind c.args.entry c.kind_of.result one c.kind_of.ensures of.0) first
+          ∙ entry_is g.P.Plan.ways c.args.self.now.writer c.kind.result entries one
+          (lent_kind c.args.entry c.kind.result one c.kind.ensures of.0) first
           is.written) c.in_ok-write_magic.ensures.ok c.in_ok-write_entry.ensures.ok,
     )

@@ -2,7 +2,7 @@ use Rattle.masking3.proofs.Common.{refl, ap, ◌∙◌, Hyper, big_number, drop}
 use Rattle.std.proofs.lemmas.List.{take_rest}
 use Rattle.std.specs.Prelude.{take}
 use Rattle.masking3.specs.machinery.KnownFields.{with_run}
-use Rattle.masking3.proofs.Lemmas.Classes.KnownFieldLemmas.{hyper_found}
+use Rattle.masking3.proofs.Lemmas.Classes.KnownFieldLemmas.{known_hyper}
 use Rattle.masking3.proofs.Lemmas.Writing.RunLemmas.{put_spells, put_there}
 use Rattle.masking3.proofs.Lemmas.Writing.WriterLemmas.{adds_of_class, hyper_with}
 use Rattle.masking3.proofs.masking_writer.MaskingWriter.put_hyper.Goals as goal
@@ -15,7 +15,7 @@ returns-clause-ok g c =
     adds_of_class g.P.Plan.ways (with_run w (take c.args.at c.args.run.now)) _ _ _ _ _
     (Hyper name (big_number 8 (drop c.args.at c.args.bytes.now))) _ n_is refl
     c.replaced_hyper.ensures.ways
-    (hyper_found w.spot c.args.spot c.args.class name _ c.requires.spot c.requires.known)
+    (known_hyper w.spot c.args.spot c.args.class name _ c.requires.spot c.requires.known)
     c.in_ok-put.ensures.holds
     (λ seen h.
     hyper_with w.classes.ways name _ _ _ _ n_is (c.in_ok-put.ensures.put seen h))

@@ -3,7 +3,7 @@ use Rattle.std.proofs.lemmas.List.{take_rest}
 use Rattle.std.specs.Prelude.{take}
 use Rattle.masking3.specs.machinery.KnownFields.{with_run}
 use Rattle.masking3.specs.machinery.UnnamedBody.{body_word}
-use Rattle.masking3.proofs.Lemmas.Classes.KnownFieldLemmas.{known_found}
+use Rattle.masking3.proofs.Lemmas.Classes.KnownFieldLemmas.{known_word}
 use Rattle.masking3.proofs.Lemmas.Writing.RunLemmas.{put_spells, put_there}
 use Rattle.masking3.proofs.Lemmas.Writing.WriterLemmas.{adds_of_class, word_with}
 use Rattle.masking3.proofs.masking_writer.MaskingWriter.put_word.Goals as goal
@@ -15,7 +15,7 @@ returns-clause-ok g c =
     let n_is = c.read_u32-n.ensures ∙ ap (big_number 4) (take_rest c.args.bytes.now c.args.at) in
     adds_of_class g.P.Plan.ways (with_run w (take c.args.at c.args.run.now)) _ _ _ _ _
     (Word name (body_word c.args.at c.args.bytes.now)) _ n_is refl c.replaced_word.ensures.ways
-    (known_found w.spot c.args.spot c.args.class name _ c.requires.spot c.requires.known)
+    (known_word w.spot c.args.spot c.args.class name _ c.requires.spot c.requires.known)
     c.in_ok-put.ensures.holds
     (λ seen h.
     word_with w.classes.ways name _ _ _ _ n_is (c.in_ok-put.ensures.put seen h))

@@ -9,7 +9,7 @@ returns-in-Some g c =
       ok = on_ok_weaker c.fixed.result
           (adds_of_class g.P.Plan.ways c.args.self.now _ _ _ _ _ i _
           c.read_u64-value.ensures refl c.substitute.ensures.ways (
-            c.fixed_class-class.ensures c.args.bytes.now,
+            c.class_of_fixed-class.ensures,
             stays_found g.P.Plan.ways c.args.self.now i tt,
           )
           c.in_ok-substitute.ensures.holds
@@ -28,7 +28,7 @@ returns-in-None g c =
       ok = on_ok_weaker c.fixed-in-None.result
           (adds_of_class g.P.Plan.ways c.args.self.now _ _ _ _ _ i _
           c.read_u64-value.ensures refl c.substitute.ensures.ways (
-            c.fixed_class-class.ensures c.args.bytes.now,
+            c.class_of_fixed-class.ensures,
             stays_found g.P.Plan.ways c.args.self.now i tt,
           )
           c.in_ok-substitute.ensures.holds

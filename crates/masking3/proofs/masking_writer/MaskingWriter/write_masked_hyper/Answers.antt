@@ -9,7 +9,7 @@ returns g c =
     record {
       ok = on_ok_weaker c.hyper.result
           (adds_of_class g.P.Plan.ways w _ _ _ _ _ i _ refl refl c.replaced_hyper.ensures.ways
-          (c.hyper_class-class.ensures c.args.n, stays_found g.P.Plan.ways w i tt)
+          (c.class_of_hyper-class.ensures, stays_found g.P.Plan.ways w i tt)
           c.in_ok-put.ensures.holds
           (λ seen h.
           hyper_with w.classes.ways c.args.name.now c.args.n _ _ _ refl

@@ -1,6 +1,6 @@
 use Rattle.masking3.proofs.Common.{◌∙◌, refl, on_ok_weaker}
 use Rattle.xdr3.specs.Plain.{run_items}
-use Rattle.masking3.proofs.Lemmas.Classes.KnownFieldLemmas.{attributes_named, attributes_size, kept_run}
+use Rattle.masking3.proofs.Lemmas.Classes.KnownFieldLemmas.{all_stay, attributes_named, attributes_size, kept_run}
 use Rattle.masking3.proofs.Lemmas.Writing.WriterLemmas.{adds_kept}
 use Rattle.masking3.proofs.masking_writer.MaskingWriter.write_run.Goals as goal
 
@@ -11,16 +11,17 @@ returns-then-are_kept g c =
           on_ok_weaker c.plain.result
           (adds_kept g.P.Plan.ways c.args.self.now c.plain.new.self
           (run_items c.args.fields.now c.args.bytes.now)
+          (all_stay c.args.self.now.classes.ways (run_items c.args.fields.now c.args.bytes.now)
           (kept_run c.args.self.now.classes.ways.owners c.args.fields.now c.args.bytes.now
-          (c.if-are_kept.ensures refl))) c.plain.ensures.ok;
+          (c.if-are_kept.ensures refl)))) c.plain.ensures.ok;
     }
 
-pub write_attributes-requires-clause-size : goal.write_attributes-requires-clause-size
-write_attributes-requires-clause-size g c =
+pub write_attributes-requires : goal.write_attributes-requires
+write_attributes-requires g c =
     c.requires ∙ attributes_size c.args.fields.now (c.if-are_attributes.ensures refl)
 
-pub returns-in-Some : goal.returns-in-Some
-returns-in-Some g c =
+pub returns-then-are_attributes : goal.returns-then-are_attributes
+returns-then-are_attributes g c =
     record {
       ok =
           rw (attributes_named c.args.fields.now c.args.bytes.now

@@ -17,17 +17,19 @@ returns-in-Ok-clause-goes_on g c given handed s =
     omega (arith, c.in-Ok.ensures.taken.within, length-take {A = ℕ}, c.args.self.now.ordered) in
     let within : c.args.self.now.end ≤ length c.args.self.now.block.items =
     omega (arith, c.args.self.now.within, c.deref.ensures.len, ap length c.deref.ensures.value) in
-    judged_on g.R.Source.told g.V.Visit.stands c.args.visitor.now c.next.new.visitor c.args.self.now
+    judged_on g.R.Source.told g.V.MessageVisit.rests g.V.Visit.stands c.args.visitor.now
+    c.next.new.visitor c.args.self.now
     _ c.in-Ok.count given handed c.next.new.self.last c.requires.reading c.requires.reading refl
     refl refl refl fits within c.in-Ok.ensures.room s
     (λ judged at. subst
     (λ (items : List ℕ).
-    GoesTo g.V.Visit.stands c.args.visitor.now c.next.new.visitor c.next.new.self.last
+    GoesTo g.V.MessageVisit.rests g.V.Visit.stands c.args.visitor.now c.next.new.visitor
+    c.next.new.self.last
     c.next.new.self.number c.next.new.self.container (known_of c.next.new.self.calls)
     (judged
     ++ take c.in-Ok.count (slice_range items c.args.self.now.start c.args.self.now.end))
     handed)
-    c.deref.ensures.value (c.in-Ok.ensures.machine judged handed at))
+    c.deref.ensures.value (c.in-Ok.ensures.machine judged handed at)) c.in-Ok.ensures.counted
 
 pub returns-in-Err-clause-goes_on : goal.returns-in-Err-clause-goes_on
 returns-in-Err-clause-goes_on g c given handed s =

@@ -12,8 +12,9 @@ returns-in-Ok-Some g c =
         refl,
         λ _. tt,
         lends_some g.R.Source.told g.R.Source.failures c.args.self.now c.step.new.self
-            g.V.Visit.stands c.args.visitor.now c.step.new.visitor c.in-Ok-Some.field-0-0
-            c.entry.result last c.entry.ensures.kind step.answers c.entry.ensures.lent
+            g.V.MessageVisit.rests g.V.Visit.stands c.args.visitor.now c.step.new.visitor
+            c.in-Ok-Some.field-0-0 c.entry.result last c.entry.ensures.kind step.answers
+            c.entry.ensures.lent
             c.entry.ensures.numbered step.end step.over (step.fewer refl) step.errors step.device,
       ),
       record {

@@ -5,7 +5,7 @@ use Rattle.capture3.proofs.reader.pairing.Pairing.call.Goals as goal
 pub returns-in-Ok-Some-clause-machine : goal.returns-in-Ok-Some-clause-machine
 returns-in-Ok-Some-clause-machine g c bytes all m =
     let admitted = rw c.in-Ok-Some.field-0-is at c.in-Ok-Some.ensures in
-    call_goes g.V.Visit.stands _ _ c.args.self.now.container
+    call_goes g.V.MessageVisit.rests g.V.Visit.stands _ _ c.args.self.now.container
     (g.C.KnownCalls.known c.args.self.now.calls) _ bytes all c.in-Ok.call c.in-Ok-Some.number
     c.requires m (rw c.body.ensures.body at c.in-Ok.ensures.ok) (omega arith) admitted.0
     (admitted.1 refl)

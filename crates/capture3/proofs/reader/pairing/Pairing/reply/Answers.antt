@@ -4,7 +4,7 @@ use Rattle.capture3.proofs.reader.pairing.Pairing.reply.Goals as goal
 
 pub returns-in-Ok-clause-machine : goal.returns-in-Ok-clause-machine
 returns-in-Ok-clause-machine g c bytes all m =
-    reply_goes g.V.Visit.stands _ _ c.args.self.now.container
+    reply_goes g.V.MessageVisit.rests g.V.Visit.stands _ _ c.args.self.now.container
     (g.C.KnownCalls.known c.args.self.now.calls) bytes all c.in-Ok.call c.requires m
     (rw c.body.ensures.body at c.in-Ok.ensures.ok)
 
