@@ -20,10 +20,36 @@ _nfs3canon() {
 }
 complete -o filenames -F _nfs3canon nfs3canon
 
+# What fits a word of a tool's line: the words of the option before it, or options if it begins with a hyphen. Else bash offers files.
+_nfs3_tool() {
+  local tool=${1##*/} word=$2 option=$3 given='' words=''
+  case "$tool $option" in
+    *'compare --mask')
+      words='none times stamps machines space ids fsids cookies cookieverfs createverfs owners wcc sillynames raw'
+      given=${word%"${word##*,}"}
+      ;;
+    *'compare --order') words='strict any' ;;
+    *'compare --extra') words='asking none' ;;
+    *'calls --sort') words='time latency' ;;
+    *'procedures --sort') words='procedure calls again replies no-reply call-bytes reply-bytes median p99 most mean sum errors' ;;
+    *) [[ $word != -* ]] || words=$(_nfs3_options "$tool") ;;
+  esac
+  mapfile -t COMPREPLY < <(compgen -P "$given" -W "$words" -- "${word#"$given"}")
+}
+
+_nfs3_options() {
+  local judging='--allow-losses --allow-not-checked --program'
+  echo --port --no-midstream --whole-records --filter --version --help
+  case $1 in
+    *verdicts) echo "$judging" --quiet --follow --junit --json -j ;;
+    *calls) echo "$judging" --errors --slow --procedure --path --user --client --sort --json --csv ;;
+    *procedures) echo "$judging" --beside --total --sort --json --csv ;;
+    *compare) echo "$judging" --mask --order --extra --ignore --marks --all --brief --html --json --junit ;;
+    *cut) echo --origins --program ;;
+  esac
+}
+
 # The tools, by the names under which they are installed, and those with a name of their own also by that: compare and where are
 # names of other programs.
-complete -o default -W '--port --no-midstream --whole-records --filter --version --help' from_pcap nfs3-from-pcap nfs3-where nfs3-explain
-complete -o default -W '--follow --junit --json -j --allow-losses --allow-not-checked --port --no-midstream --whole-records --filter --program --version --help' verdicts nfs3-verdicts
-complete -o default -W '--beside --total --json --csv --allow-losses --allow-not-checked --port --no-midstream --whole-records --filter --program --version --help' procedures nfs3-procedures
-complete -o default -W '--origins --port --no-midstream --whole-records --filter --program --version --help' nfs3-cut
-complete -o default -W '--mask --order --extra --ignore --marks --all --brief --html --json --junit --allow-losses --allow-not-checked --port --no-midstream --whole-records --filter --program --version --help' nfs3-compare
+complete -o default -F _nfs3_tool from_pcap verdicts calls procedures nfs3-from-pcap nfs3-where nfs3-explain nfs3-verdicts nfs3-calls \
+  nfs3-procedures nfs3-cut nfs3-compare

@@ -18,7 +18,7 @@ complete -c nfs3canon -n '__fish_seen_subcommand_from canon same; and test (__nf
 complete -c nfs3canon -n '__fish_seen_subcommand_from pack' -F
 
 # The tools for recordings.
-for tool in from_pcap verdicts procedures nfs3-from-pcap nfs3-where nfs3-verdicts nfs3-procedures nfs3-compare nfs3-explain nfs3-cut
+for tool in from_pcap verdicts calls procedures nfs3-from-pcap nfs3-where nfs3-verdicts nfs3-calls nfs3-procedures nfs3-compare nfs3-explain nfs3-cut
     complete -c $tool -l port -x -d 'Take the connections that have one of these ports'
     complete -c $tool -l no-midstream -d 'Leave out connections whose beginning was not recorded'
     complete -c $tool -l whole-records -d 'End each stream after its last whole record'
@@ -26,27 +26,41 @@ for tool in from_pcap verdicts procedures nfs3-from-pcap nfs3-where nfs3-verdict
     complete -c $tool -l version -d 'Print the version'
     complete -c $tool -l help -d 'Print help'
 end
-for tool in verdicts nfs3-verdicts procedures nfs3-procedures nfs3-compare
+for tool in verdicts nfs3-verdicts calls nfs3-calls procedures nfs3-procedures nfs3-compare
     complete -c $tool -l allow-losses -d 'Take what is in part or left out as the status 0'
     complete -c $tool -l allow-not-checked -d 'Take what is not checked as the status 0'
 end
 for tool in verdicts nfs3-verdicts
+    complete -c $tool -s q -l quiet -d 'Print no row of what is ok'
     complete -c $tool -l follow -d 'Judge one recording while it is made'
     complete -c $tool -l junit -r -d 'Write JUnit XML'
     complete -c $tool -l json -r -d 'Write JSON'
     complete -c $tool -s j -x -d 'Judge so many recordings at once'
     complete -c $tool -l program -r -d 'nfs3canon'
 end
+for tool in calls nfs3-calls
+    complete -c $tool -l errors -d 'List calls whose reply is no success, or that got none'
+    complete -c $tool -l slow -x -d 'List calls with at least this latency, as 100ms'
+    complete -c $tool -l procedure -x -d 'List calls of these procedures'
+    complete -c $tool -l path -x -d 'List calls whose path fits a pattern'
+    complete -c $tool -l user -x -d 'List calls of this user'
+    complete -c $tool -l client -x -d 'List calls of the client with this address'
+    complete -c $tool -l sort -x -a 'time latency' -d 'The order of the lines'
+    complete -c $tool -l json -d 'Print JSON'
+    complete -c $tool -l csv -d 'Print comma-separated values'
+    complete -c $tool -l program -r -d 'nfs3canon'
+end
 for tool in procedures nfs3-procedures
     complete -c $tool -l beside -d 'Print two recordings side by side'
     complete -c $tool -l total -d 'Print no tables of connections'
+    complete -c $tool -l sort -x -a 'procedure calls again replies no-reply call-bytes reply-bytes median p99 most mean sum errors' -d 'Have the largest of a column first'
     complete -c $tool -l json -r -d 'Write JSON'
     complete -c $tool -l csv -r -d 'Write comma-separated values'
     complete -c $tool -l program -r -d 'nfs3canon'
 end
 complete -c nfs3-cut -l origins -d 'Take the exchanges too that gave the file handles'
 complete -c nfs3-cut -l program -r -d 'nfs3canon'
-complete -c nfs3-compare -l mask -x -d 'The classes of values to mask'
+complete -c nfs3-compare -l mask -x -a '(__fish_append , none times stamps machines space ids fsids cookies cookieverfs createverfs owners wcc sillynames raw)' -d 'The classes of values to mask'
 complete -c nfs3-compare -l order -x -a 'strict any' -d 'Whether the order of calls counts'
 complete -c nfs3-compare -l extra -x -a 'asking none' -d 'What is left out in any order'
 complete -c nfs3-compare -l ignore -x -d 'Fields that are left out of the explanation'

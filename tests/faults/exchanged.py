@@ -17,11 +17,11 @@ import sys
 from collections.abc import Callable
 from typing import IO
 
-sys.path.insert(0, str(pathlib.Path(__file__).resolve().parents[1] / 'shared'))
-import tracing  # noqa: E402
-from outputs import AS_IT_WAS, PART  # noqa: E402
-from running import Runs, command_of, try_tests  # noqa: E402
-from tracing import Answer, Fault  # noqa: E402
+sys.path.insert(0, str(pathlib.Path(__file__).resolve().parents[2]))
+from tests.shared import tracing
+from tests.shared.outputs import AS_IT_WAS, PART
+from tests.shared.running import Runs, command_of, try_tests
+from tests.shared.tracing import Answer, Fault
 
 TEXT = b'of somebody else'
 GOOD = (pathlib.Path(__file__).resolve().parents[2] / 'examples/getattr.nfs3cap').read_bytes()

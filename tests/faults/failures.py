@@ -18,16 +18,15 @@ import tempfile
 from collections.abc import Callable, Iterator, Mapping
 from typing import NamedTuple
 
-sys.path.insert(0, str(pathlib.Path(__file__).resolve().parents[1] / 'shared'))
-import outputs  # noqa: E402
-import tracing  # noqa: E402
-from outputs import AS_IT_WAS, PACKED, SETTINGS, Found, Setting  # noqa: E402
-from running import Runs, Try, command_of, try_all, words_of  # noqa: E402
-from texts import mixed  # noqa: E402
-from tracing import Answer, Fault  # noqa: E402
-from traffic import Names, Traffic, in_version_2, streams_of  # noqa: E402
-import messages  # noqa: E402
-from messages import NFS, NFSACL, call, fragment, success  # noqa: E402
+sys.path.insert(0, str(pathlib.Path(__file__).resolve().parents[2]))
+from examples import messages
+from examples.messages import NFS, NFSACL, call, fragment, success
+from tests.shared import outputs, tracing
+from tests.shared.outputs import AS_IT_WAS, PACKED, SETTINGS, Found, Setting
+from tests.shared.running import Runs, Try, command_of, try_all, words_of
+from tests.shared.texts import mixed
+from tests.shared.tracing import Answer, Fault
+from tests.shared.traffic import Names, Traffic, in_version_2, streams_of
 
 EXAMPLES = pathlib.Path(__file__).resolve().parents[2] / 'examples'
 OUT_OF_MEMORY, READ_FAILED, WRITE_FAILED = 'out of memory\n', 'read failed\n', 'write failed\n'

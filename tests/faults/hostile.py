@@ -22,12 +22,15 @@ import time
 from collections.abc import Callable, Iterable, Iterator, Sequence
 from typing import IO
 
-sys.path.insert(0, str(pathlib.Path(__file__).resolve().parents[1] / 'shared'))
-from outputs import PART  # noqa: E402
-from running import LIMIT, Answer, RunOptions, Runs, ended, pipe_of, pipe_without_reader, try_tests  # noqa: E402
-from texts import mixed  # noqa: E402
-import messages  # noqa: E402
-from messages import CLIENT, MAGIC_2, NFS, NFSACL, call, dirop, fh, fragment, hyper, in_turn, interleaved, success, word  # noqa: E402
+sys.path.insert(0, str(pathlib.Path(__file__).resolve().parents[2]))
+from examples import messages
+from examples.messages import (
+    CLIENT, MAGIC_2, NFS, NFSACL, call, dirop, fh, fragment, hyper, in_turn, interleaved, success,
+    word)
+from tests.shared.outputs import PART
+from tests.shared.running import (
+    LIMIT, Answer, RunOptions, Runs, ended, pipe_of, pipe_without_reader, try_tests)
+from tests.shared.texts import mixed
 
 Streams = tuple[bytes, bytes]  # the chunks of both sides, the client's first
 NOBODY = 65_534

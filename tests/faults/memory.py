@@ -12,10 +12,10 @@ import os
 import pathlib
 import sys
 
-sys.path.insert(0, str(pathlib.Path(__file__).resolve().parents[1] / 'shared'))
-import tracing  # noqa: E402
-from running import Try, ended, try_all, words_of  # noqa: E402
-from tracing import Fault  # noqa: E402
+sys.path.insert(0, str(pathlib.Path(__file__).resolve().parents[2]))
+from tests.shared import tracing
+from tests.shared.running import Try, ended, try_all, words_of
+from tests.shared.tracing import Fault
 
 TESTS = pathlib.Path(__file__).resolve().parents[2] / 'crates' / 'memory_tests' / 'out' / 'memory_tests_tests'
 

@@ -38,13 +38,13 @@ import sys
 import tempfile
 from collections.abc import Callable, Iterable, Sequence
 
-sys.path.insert(0, str(pathlib.Path(__file__).resolve().parents[1] / 'shared'))
-from containers import Container, bodies_of  # noqa: E402
-from rows import SMALL, Row, capture_in, rows_of  # noqa: E402
-from running import Answer, Runs, try_all, words_of  # noqa: E402
-from texts import Chunk, Record, bytes_of, capture_of, mixed, records_of, sent  # noqa: E402
-import messages  # noqa: E402
-from messages import chunk, fragment  # noqa: E402
+sys.path.insert(0, str(pathlib.Path(__file__).resolve().parents[2]))
+from examples import messages
+from examples.messages import chunk, fragment
+from tests.shared.containers import Container, bodies_of
+from tests.shared.rows import SMALL, Row, capture_in, rows_of
+from tests.shared.running import Answer, Runs, try_all, words_of
+from tests.shared.texts import Chunk, Record, bytes_of, capture_of, mixed, records_of, sent
 
 COUNTS = re.compile(r'ok connections=\d+ calls=(\d+) replies=(\d+) handles=\d+')
 PLACE = re.compile(r'connection (\d+) (client|server) record (\d+)')

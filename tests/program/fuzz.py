@@ -20,14 +20,14 @@ import sys
 import tempfile
 from collections.abc import Callable
 
-sys.path.insert(0, str(pathlib.Path(__file__).resolve().parents[1] / 'shared'))
-from containers import Container  # noqa: E402
-from masking import Masker, Renamer, masked_bodies  # noqa: E402
-from running import BUILT, Runs  # noqa: E402
-from traffic import Names, Traffic, in_pieces, in_version_2, streams_of  # noqa: E402
-import messages  # noqa: E402
-from messages import chunk, fragment, version_1, word  # noqa: E402
-from nfs3tools.comparison.classes import Mask, Way  # noqa: E402
+sys.path.insert(0, str(pathlib.Path(__file__).resolve().parents[2]))
+from examples import messages
+from examples.messages import chunk, fragment, version_1, word
+from tests.program.masking import Masker, Renamer, masked_bodies
+from tests.shared.containers import Container
+from tests.shared.running import BUILT, Runs
+from tests.shared.traffic import Names, Traffic, in_pieces, in_version_2, streams_of
+from tools.nfs3tools.comparison.values.classes import Mask, Way
 
 LAWS_OF_A_CAPTURE, FLIPS, CAPTURES_AT_ONCE = 2, 5, 25
 Answer = tuple[int, bytes, str]  # the status and both outputs of a run

@@ -16,25 +16,23 @@ import shutil
 import sys
 import tempfile
 
-sys.path.insert(0, str(pathlib.Path(__file__).resolve().parents[1] / 'shared'))
-from running import command_of, ended, try_all, words_of  # noqa: E402
-
-sys.path.insert(0, str(pathlib.Path(__file__).resolve().parents[2] / 'dev/measure'))
-import make  # noqa: E402
+sys.path.insert(0, str(pathlib.Path(__file__).resolve().parents[2]))
+from dev.measure import make
+from tests.shared.running import command_of, ended, try_all, words_of
 
 # The most instructions, in millions.
 LIMITS = {
-    'check small': 7.1,
-    'canon small': 10.3,
-    'show small': 16.4,
-    'same small': 17.9,
-    'check mixed': 5.4,
-    'canon mixed': 12.9,
-    'show mixed': 19.5,
-    'same mixed': 12.8,
+    'check small': 7.0,
+    'canon small': 10.05,
+    'show small': 16.2,
+    'same small': 17.6,
+    'check mixed': 5.35,
+    'canon mixed': 12.8,
+    'show mixed': 19.45,
+    'same mixed': 12.7,
     'pack small': 0.39,
-    'nfs3mask small': 13.6,
-    'nfs3mask mixed': 15.2,
+    'nfs3mask small': 13.3,
+    'nfs3mask mixed': 15.1,
 }
 MIXES = {'small': (make.SMALL, 1), 'mixed': (make.MIXED, 4)}
 

@@ -14,12 +14,13 @@ import pathlib
 import sys
 from collections.abc import Callable, Iterable, Iterator
 
-sys.path.insert(0, str(pathlib.Path(__file__).resolve().parents[1] / 'shared'))
-from running import Runs, pipe_of, try_tests  # noqa: E402
-from texts import mixed  # noqa: E402
-from traffic import COMMIT  # noqa: E402
-import messages  # noqa: E402
-from messages import NFS, call, dirop, fh, fragment, hyper, ok, post_op_attr, success, wcc, word  # noqa: E402
+sys.path.insert(0, str(pathlib.Path(__file__).resolve().parents[2]))
+from examples import messages
+from examples.messages import (
+    NFS, call, dirop, fh, fragment, hyper, ok, post_op_attr, success, wcc, word)
+from tests.shared.running import Runs, pipe_of, try_tests
+from tests.shared.texts import mixed
+from tests.shared.traffic import COMMIT
 
 # More than any table of a connection or of a capture has in the other tests.
 MANY = 1_500_000

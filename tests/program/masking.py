@@ -1,18 +1,17 @@
-"""A masker by the layouts of `tools/nfs3tools/captures/layouts.py`, with which nfs3mask is compared.
+"""A masker by the layouts of `tools/nfs3tools/shared/layouts.py`, with which nfs3mask is compared.
 
 It knows the classes by the names of `tools/compare`, and `raw`: the bodies of other programs and versions.
 """
 import random
 import re
-import sys
 from collections.abc import Iterable, Iterator
 from pathlib import Path
 
+from examples.messages import Bodies, word
+from tools.nfs3tools.comparison.values.classes import CLASSES, Mask, ValueClass, Way
+from tools.nfs3tools.shared.layouts import Item, Message, Procedure, procedure_of
+
 TOP = Path(__file__).resolve().parents[2]
-sys.path[:0] = [str(TOP / 'tools'), str(TOP / 'examples')]
-from messages import Bodies, word  # noqa: E402
-from nfs3tools.comparison.classes import CLASSES, Mask, ValueClass, Way  # noqa: E402
-from nfs3tools.captures.layouts import Item, Message, Procedure, procedure_of  # noqa: E402
 
 NF3DIR = '2'
 SILLY_NAME = re.compile(rb'\.nfs[0-9a-f]{24}')

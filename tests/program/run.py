@@ -42,9 +42,10 @@ import tempfile
 import threading
 from collections.abc import Callable
 
-sys.path.insert(0, str(pathlib.Path(__file__).resolve().parents[1] / 'shared'))
-from running import Ended, RunOptions, ended, pipe_without_reader, program_named, try_all, words_of  # noqa: E402
-from texts import bytes_of, capture_of, mixed_of  # noqa: E402
+sys.path.insert(0, str(pathlib.Path(__file__).resolve().parents[2]))
+from tests.shared.running import (
+    Ended, RunOptions, ended, pipe_without_reader, program_named, try_all, words_of)
+from tests.shared.texts import bytes_of, capture_of, mixed_of
 
 HERE = pathlib.Path(__file__).resolve().parent
 TIMEOUT = 20

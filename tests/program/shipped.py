@@ -17,8 +17,8 @@ import tempfile
 import time
 from collections.abc import Callable
 
-sys.path.insert(0, str(pathlib.Path(__file__).resolve().parents[1] / 'shared'))
-from running import Answer, Runs, ended, try_all, words_of  # noqa: E402
+sys.path.insert(0, str(pathlib.Path(__file__).resolve().parents[2]))
+from tests.shared.running import Answer, Runs, ended, try_all, words_of
 
 TOP = pathlib.Path(__file__).resolve().parents[2]
 # what the examples' page says of this capture
@@ -59,6 +59,59 @@ def tools_at_once(clone: Clone) -> None:
     """The tools ask the program that comes with the repository."""
     status, out, _ = clone.command('tools/verdicts', 'examples/bad_bool.pcap')
     clone.want('verdicts', (status, 'server record 1 byte 28: BadBool, frame 5' in out), (1, True))
+
+
+def help_through_the_launchers(clone: Clone) -> None:
+    """Help is the program's own text, on standard output with the status 0; a wrong line keeps its
+    status and standard error. After `--` a word is the name of a file."""
+    for words in (['nfs3canon', '--help'], ['nfs3canon', '-h'], ['nfs3canon', 'help'],
+                  ['nfs3canon', 'check', '--help'], ['nfs3canon', 'help', 'pack'],
+                  ['nfs3mask', '--help'], ['nfs3mask', 'in', '-h']):
+        own = clone.run(*(words if words[0] == 'nfs3mask' else words[1:]))
+        found = clone.command('./' + words[0], *words[1:])
+        clone.want(' '.join(words), (own[0], found), (4, (0, own[2], '')))
+    for words in (['help', 'no'], ['--no', '--help'], ['check'], [], ['check', '--', '--help']):
+        own = clone.run(*words)
+        clone.want(' '.join(words), clone.command('./nfs3canon', *words), own)
+        clone.want('status of ' + ' '.join(words), own[0] in (3, 4), True)
+    shutil.copy(TOP / 'examples/null.nfs3cap', clone.path('help'))
+    clone.want('a file named help', clone.command('./nfs3mask', 'help', 'masked')[0], 0)
+    full = clone.command('sh', '-c', './nfs3canon --help >/dev/full')
+    clone.want('a full device', full, (3, '', 'nfs3canon: standard output is closed or full\n'))
+
+
+def recordings_through_the_launchers(clone: Clone) -> None:
+    """After the line of a program that got a recording, the launcher says which tool reads it. The
+    status is the program's."""
+    begins = {'little': b'\xd4\xc3\xb2\xa1', 'big': b'\xa1\xb2\xc3\xd4', 'nano': b'\x4d\x3c\xb2\xa1',
+              'big nano': b'\xa1\xb2\x3c\x4d', 'pcapng': b'\x0a\x0d\x0d\x0a'}
+    for name, begin in begins.items():
+        clone.write(name, begin + bytes(20))
+        told = name.replace(' ', '\\ ')
+        advice = f'nfs3canon: {told} is a recording: `tools/verdicts {told}` reads it'
+        clone.want(name, clone.command('./nfs3canon', 'check', name),
+                   (2, '', f'file 0: BadMagic\n{advice}\n'))
+    null, both = 'examples/null.nfs3cap', '`tools/compare A B` reads recordings'
+    mask = '`tools/from_pcap little CAPTURE` makes a capture of it'
+    for words, own, advice in (
+            (['nfs3canon', 'show', 'little'], 'file 0', '`tools/calls little` reads it'),
+            (['nfs3canon', 'canon', '--', 'little', 'out'], 'file 0', mask),
+            (['nfs3canon', 'same', null, 'little'], 'second: file 0', both),
+            (['nfs3canon', 'same', 'little', null], 'first: file 0', both),
+            (['nfs3mask', 'little', 'out'], 'file 0', mask)):
+        clone.want(' '.join(words), clone.command('./' + words[0], *words[1:]), (
+            2, '', f'{own}: BadMagic\n{words[0]}: little is a recording: {advice}\n'))
+    clone.write('a\x1b\n', begins['little'])
+    hostile = clone.command('./nfs3canon', 'check', 'a\x1b\n')
+    clone.want('a hostile name', hostile[2].count('\x1b'), 0)
+    for content in (b'', b'NFS', b'NFS3CAP3', b'\0\0\0\0', b'\xd4\xc3\xb2'):
+        clone.write('other', content)
+        found = clone.command('./nfs3canon', 'check', 'other')
+        clone.want(repr(content), found, clone.run('check', 'other'))
+    for words in (['check', 'little', 'big'], ['pack', 'out', 'little', 'big'], ['check', 'absent'],
+                  ['check', 'examples']):
+        found = clone.command('./nfs3canon', *words)
+        clone.want(' '.join(words), found[2].count('is a recording'), 0)
 
 
 def a_changed_source(clone: Clone) -> None:
@@ -176,7 +229,8 @@ def a_release(clone: Clone) -> None:
 
 
 TESTS: tuple[Callable[[Clone], None], ...] = (
-    the_first_answer, tools_at_once, a_changed_source, a_source_that_plays_no_part, asked_to_prove, a_damaged_program,
+    the_first_answer, tools_at_once, help_through_the_launchers, recordings_through_the_launchers,
+    a_changed_source, a_source_that_plays_no_part, asked_to_prove, a_damaged_program,
     a_clone_that_cannot_be_written, a_stale_folder,
     another_kit, what_was_built_here, a_release)
 

@@ -1,14 +1,11 @@
 """What a capture shows by its container alone: a model beside the program's, which looks into no record, and the reader of the tests.
 
-It does not use the reader of tools/nfs3tools/captures/container.py, which tells neither the place of a fault nor its reason.
+It does not use the reader of tools/nfs3tools/recordings/container.py, which tells neither the place of a fault nor its reason.
 """
-import sys
 from dataclasses import dataclass, field
-from pathlib import Path
 from typing import NoReturn, TypeVar
 
-sys.path.insert(0, str(Path(__file__).resolve().parents[2] / 'examples'))
-from messages import MAGIC, MAGIC_2, chunk, version_1, word  # noqa: E402
+from examples.messages import MAGIC, MAGIC_2, chunk, version_1, word
 
 MOST_CONNECTIONS, MOST_BYTES = 65_535, 1_073_741_824
 CUT = 'CaptureCut'

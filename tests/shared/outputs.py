@@ -2,17 +2,13 @@
 import os
 import re
 import stat
-import sys
 from dataclasses import dataclass
-from pathlib import Path
 from typing import Optional
 
-import tracing
-from running import command_of
-from tracing import Answer, Fault
-
-sys.path.insert(0, str(Path(__file__).resolve().parents[2] / 'examples'))
-from messages import chunk, version_1  # noqa: E402
+from examples.messages import chunk, version_1
+from tests.shared import tracing
+from tests.shared.running import command_of
+from tests.shared.tracing import Answer, Fault
 
 AS_IT_WAS = b'as it was'
 # What a file is called that is written beside the name of the output.

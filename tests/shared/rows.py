@@ -2,7 +2,7 @@
 import pathlib
 from collections.abc import Callable
 
-from texts import bytes_of, capture_of, mixed_of
+from tests.shared.texts import bytes_of, capture_of, mixed_of
 
 FOLDER = pathlib.Path(__file__).resolve().parents[1] / 'program'
 # Longer captures are not cut into single bytes, nor cut short.

@@ -12,7 +12,7 @@ import subprocess
 import sys
 import tempfile
 from collections.abc import Callable, Iterable, Mapping, Sequence
-from typing import IO, NamedTuple, TypedDict, TypeVar, Unpack
+from typing import IO, NamedTuple, TypeVar, TypedDict, Unpack
 
 BUILT = pathlib.Path(__file__).resolve().parents[2] / 'crates/nfs3canon/out/nfs3canon'
 LIMIT = 60  # the seconds that a run may take if nothing else is said

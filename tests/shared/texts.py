@@ -1,11 +1,8 @@
 """Captures from texts."""
 import re
-import sys
 from collections.abc import Callable, Iterable
-from pathlib import Path
 
-sys.path.insert(0, str(Path(__file__).resolve().parents[2] / 'examples'))
-from messages import CLIENT, SERVER, chunk, fragment, record, version_1, version_2  # noqa: E402
+from examples.messages import CLIENT, SERVER, chunk, fragment, record, version_1, version_2
 
 # A record: its side, `>` for the client and `<` for the server, and its body.
 Record = tuple[str, bytes]

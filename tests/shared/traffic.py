@@ -4,18 +4,16 @@ All choices come out of a seed, and all that a canonical form renames out of `Na
 same traffic up to renaming.
 """
 import random
-import sys
 from collections.abc import Callable, Iterable, Sequence
 from dataclasses import dataclass, replace
-from pathlib import Path
 from typing import NamedTuple, TypeVar
 
-sys.path.insert(0, str(Path(__file__).resolve().parents[2] / 'examples'))
-import messages  # noqa: E402
-from messages import (  # noqa: E402
-    AUTH_NONE, CLIENT, DONT_CHANGE, EXCLUSIVE, MOUNT, NFS, NFSACL, SERVER, SET_TO_SERVER_TIME, Bodies, array, auth_sys, call, chunk,
-    dirop, entries, entry, entryplus, exports, failed, fattr, fh, fragment, guard, how, hyper, made, mountlist, nfstime, ok, opaque,
-    post_op_attr, sattr, set_to_client_time, success, version_1, version_2, wcc, word)
+from examples import messages
+from examples.messages import (
+    AUTH_NONE, CLIENT, DONT_CHANGE, EXCLUSIVE, MOUNT, NFS, NFSACL, SERVER, SET_TO_SERVER_TIME,
+    Bodies, array, auth_sys, call, chunk, dirop, entries, entry, entryplus, exports, failed, fattr,
+    fh, fragment, guard, how, hyper, made, mountlist, nfstime, ok, opaque, post_op_attr, sattr,
+    set_to_client_time, success, version_1, version_2, wcc, word)
 
 HANDLES, VERIFIERS, CONNECTIONS, XIDS = 7, 3, 3, 10
 WRITE, COMMIT = 7, 21

@@ -15,20 +15,20 @@ import subprocess
 import sys
 from typing import NamedTuple
 
-sys.path.insert(0, str(pathlib.Path(__file__).resolve().parents[1] / 'shared'))
-import call_trees  # noqa: E402
-import crate_pages  # noqa: E402
-import pages  # noqa: E402
-from rows import rows_of  # noqa: E402
-from rooms import (crowded_folders, in_the_wrong_room, long_lines, of_private_fields, of_several_meanings, of_two_files,  # noqa: E402
-                   scans_without_values)
-from running import Answer, ended, program_named, try_all, words_of  # noqa: E402
-from scripts import TOP, Tools, sums, tried  # noqa: E402
-import messages  # noqa: E402
-from messages import NFS, call, success  # noqa: E402
+sys.path.insert(0, str(pathlib.Path(__file__).resolve().parents[2]))
+from examples import messages
+from examples.messages import NFS, call, success
+from tests.shared.rows import rows_of
+from tests.shared.running import Answer, ended, program_named, tried, try_all, words_of
+from tests.sources import call_trees, crate_pages, pages, tool_rooms
+from tests.sources.rooms import (
+    crowded_folders, in_the_wrong_room, long_lines, of_private_fields, of_several_meanings,
+    of_two_files, scans_without_values)
+from tools.tests.scripts import TOP, Tools, sums
 
 README = (TOP / 'README.md').read_text()
 EXAMPLES = (TOP / 'examples/README.md').read_text()
+OF_THE_TOOLS = (TOP / 'tools/README.md').read_text()
 
 
 class Command(NamedTuple):
@@ -62,16 +62,16 @@ def is_printed(wanted: list[str], printed: list[str]) -> bool:
 
 
 def commands_of_the_pages(tools: Tools) -> None:
-    """Each command of the top README and of that of the examples is run, in order, and prints the lines below it. The status is told by
-    what is printed."""
-    commands = console_of(README) + console_of(EXAMPLES)
-    tools.want('commands', (len(console_of(README)), len(commands)), (4, 13))
+    """Each command of the top README, of that of the examples and of that of the tools is run, in order, and prints the lines below it. The
+    status is told by what is printed."""
+    commands = console_of(README) + console_of(EXAMPLES) + console_of(OF_THE_TOOLS)
+    tools.want('commands', (len(console_of(README)), len(commands)), (4, 16))
     for command, wanted in commands:
         here = {'/tmp/': tools.folder + '/', './nfs3canon': tools.program, './nfs3mask': program_named('nfs3mask', tools.program)}
         words = command
         for word, local in here.items():
             words = words.replace(word, local)
-        words = re.sub(r'^tools/(verdicts|compare|procedures) ', r'tools/\1 --program %s ' % tools.program, words)
+        words = re.sub(r'^tools/(verdicts|compare|calls|procedures) ', r'tools/\1 --program %s ' % tools.program, words)
         _, out, _ = ended(['sh', '-c', words], TOP, stderr=subprocess.STDOUT, limit=None).text()
         printed = out.splitlines()
         tools.want(command, 'as written' if is_printed(wanted, printed) else printed, 'as written')
@@ -89,7 +89,7 @@ def contract_of_the_readme(tools: Tools) -> None:
 def lines_for_many_captures(tools: Tools) -> None:
     """The README's lines without a comment, but `./test`, and the line of the manual for GNU parallel, which is run if it is there,
     check the examples."""
-    parallel = re.findall(r'^parallel .*$', (TOP / 'man/verdicts.1').read_text().replace('\\-', '-'), re.M)
+    parallel = re.findall(r'^parallel .*$', (TOP / 'tools/man/verdicts.1').read_text().replace('\\-', '-'), re.M)
     lines = [line.strip() for line in README.splitlines() if line.startswith('    ') and line.strip().startswith(('./', 'tools/'))] + parallel
     tools.want('lines', [line.split()[0] for line in lines], ['./test', 'tools/verdicts', 'parallel'])
     version = ['sh', '-c', 'parallel --version 2>&1 </dev/null']
@@ -115,7 +115,7 @@ def rows_of_the_examples() -> list[tuple[str, str, str]]:
 def examples_are_used(tools: Tools) -> None:
     """Each file of examples/ is checked by its row there, is run or imported by examples_are_made_alike, or is in a command line of
     a page that is run."""
-    used = {name for name, _, _ in rows_of_the_examples()} | {'README.md', 'make.py', 'messages.py', 'packets.py'}
+    used = {name for name, _, _ in rows_of_the_examples()} | {'README.md', '__init__.py', 'make.py', 'messages.py', 'packets.py'}
     used |= {name for command, _ in console_of(README + EXAMPLES) for name in re.findall(r'examples/(\w+\.\w+)', command)}
     there = {path.name for path in (TOP / 'examples').iterdir()} - {'__pycache__'}
     tools.want('files', sorted(there), sorted(used))
@@ -152,7 +152,7 @@ def pages_agree(tools: Tools) -> None:
     reasons = re.findall(r'^\| \d+ \| `(\w+)` \|', formats, re.M)
     tools.want('reasons', len(reasons), 19)
     tools.want('man page', re.findall(r'^(\w+)\|', (TOP / 'man/nfs3canon.1').read_text(), re.M), reasons)
-    tools.want('explain', re.findall(r"'([A-Z]\w+)': ", (TOP / 'tools/explain').read_text()), reasons)
+    tools.want('explain', re.findall(r"'([A-Z]\w+)': ", (TOP / 'tools/nfs3tools/commands/explain.py').read_text()), reasons)
     told = {row['line'].rpartition(' ')[2] for _, row in rows_of('captures.rows') if not row['line'].startswith('ok ')}
     tools.want('rows', sorted(told), sorted(reasons))
     rows = re.findall(r'^\| (\d+) \| ((?:[0-9a-f]{8} ?)+) \|', formats, re.M)
@@ -163,14 +163,14 @@ def pages_agree(tools: Tools) -> None:
         sizes = [len(bytes.fromhex(words)) for _, words in dump]
         tools.want('places of the dump', [int(at) for at, _ in dump], [sum(sizes[:at]) for at in range(len(sizes))])
     if shutil.which('man'):
-        for page in (TOP / 'man').iterdir():
+        for page in [*(TOP / 'man').iterdir(), *(TOP / 'tools/man').iterdir()]:
             tools.want('warnings of ' + page.name, ended(['man', '--warnings', '-l', str(page)], TOP).error, b'')
 
 
 def pages_of_the_tools(tools: Tools) -> None:
     """Each tool for recordings has a page of the manual with all its options, and prints its help."""
-    for name in ('from_pcap', 'where', 'verdicts', 'procedures', 'compare', 'explain', 'cut'):
-        page = (TOP / 'man' / (name + '.1')).read_text().replace('\\-', '-')
+    for name in ('from_pcap', 'where', 'verdicts', 'calls', 'procedures', 'compare', 'explain', 'cut'):
+        page = (TOP / 'tools/man' / (name + '.1')).read_text().replace('\\-', '-')
         status, out, error = tools.tool(name, '--help')
         tools.want('help of ' + name, (status, error, 'The status is 0' in out), (0, '', True))
         options = set(re.findall(r'(?<![\w-])--?[a-z][a-z-]*', out.partition('options:')[2])) - {'-h', '--help', '--version', '-w', '-dc'}
@@ -213,6 +213,21 @@ def rooms_stand_apart(tools: Tools) -> None:
     tools.want('scans without values', scans_without_values(), [])
 
 
+def rooms_of_the_tools(tools: Tools) -> None:
+    """A module of the tools imports from its own room and from those below it, none imports itself through others, and each has its row in
+    tools/DESIGN.md."""
+    good = {'shared.a': 'import re', 'recordings.b': 'from ..shared.a import x', 'recordings.c': 'from . import b'}
+    tools.want('no import is wrong', tool_rooms.wrong_imports(good), [])
+    planted = (({'shared.a': 'from ..recordings.c import x'}, 'shared.a imports recordings.c'),
+               ({'shared.a': 'def f():\n    from ..recordings import c'}, 'shared.a imports recordings.c'),
+               ({'attic.d': 'from ..shared import a'}, 'attic.d imports shared.a'),
+               ({'recordings.b': 'from .c import x'}, 'recordings.b is imported in a circle'))
+    for changed, wrong in planted:
+        tools.want(wrong, wrong in tool_rooms.wrong_imports(good | changed), True)
+    tools.want('the tools', tool_rooms.against_the_order(), [])
+    tools.want('tools/DESIGN.md', tool_rooms.not_in_the_design(), [])
+
+
 def pages_are_plain(tools: Tools) -> None:
     """No sentence, bullet or section of a page is too long."""
     tools.want('pages', pages.long_ones(), [])
@@ -243,7 +258,7 @@ def trees_are_of_the_code(tools: Tools) -> None:
     tools.want('calls', call_trees.calls_not_there(page), [])
     planted = (('Entries::finish', 'Entries::failure', ['Entries::next_entry does not call Entries::failure',
                                                         'Entries::failure does not call Pairing::end']),
-               ('Counts::take_word                      capture3/src/container/position.rt', 'Counts::take_word',
+               ('Counts::take_word                  capture3/src/container/position/counts.rt', 'Counts::take_word',
                 ['Counts::take_word is not in capture3/src/container.rt']))
     for old, new, wrong in planted:
         tools.want(f'{new} for {old}', call_trees.calls_not_there(page.replace(old, new, 1)), wrong)
@@ -294,12 +309,12 @@ def pages_of_the_crates(tools: Tools) -> None:
 
 
 TESTS = [commands_of_the_pages, contract_of_the_readme, lines_for_many_captures, examples_are_used, answers_of_the_examples, examples_are_made_alike, pages_agree, pages_of_the_tools,
-         what_is_believed, rooms_stand_apart, pages_are_plain, tables_are_whole, names_lead_somewhere, trees_are_of_the_code, what_is_not_proved, bugs_are_counted,
+         what_is_believed, rooms_stand_apart, rooms_of_the_tools, pages_are_plain, tables_are_whole, names_lead_somewhere, trees_are_of_the_code, what_is_not_proved, bugs_are_counted,
          clauses_of_each_function, pages_of_the_crates]
 
 
 def main() -> None:
-    try_all(words_of(__doc__), [(test.__name__, tried, test) for test in TESTS], os.cpu_count() or 2)
+    try_all(words_of(__doc__), [(test.__name__, tried, Tools, test) for test in TESTS], os.cpu_count() or 2)
 
 
 if __name__ == '__main__':

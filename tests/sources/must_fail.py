@@ -12,12 +12,11 @@ import re
 import sys
 import tempfile
 
-sys.path.insert(0, str(pathlib.Path(__file__).resolve().parents[1] / 'shared'))
-from running import Runs, ended, try_all, words_of  # noqa: E402
+sys.path.insert(0, str(pathlib.Path(__file__).resolve().parents[2]))
+from dev.bodies import function_at
+from tests.shared.running import Runs, ended, try_all, words_of
 
 TOP = pathlib.Path(__file__).resolve().parents[2]
-sys.path.insert(0, str(TOP / 'dev'))
-from bodies import function_at  # noqa: E402
 
 SOURCE = '''//! Two sums.
 

@@ -5,7 +5,8 @@ import re
 
 TOP = pathlib.Path(__file__).resolve().parents[2]
 PAGES = ('README.md', 'CONTRIBUTING.md', 'CHANGELOG.md', 'docs/ARCHITECTURE.md', 'docs/DECISIONS.md', 'docs/FORMATS.md',
-         'docs/PERFORMANCE.md', 'docs/PROOFS.md', 'docs/SECURITY.md', 'examples/README.md', 'tests/README.md')
+         'docs/PERFORMANCE.md', 'docs/PROOFS.md', 'docs/SECURITY.md', 'examples/README.md', 'tests/README.md',
+         'tools/README.md', 'tools/DESIGN.md', 'tools/CHANGELOG.md', 'tools/tests/README.md')
 MOST_WORDS_OF_A_SENTENCE = 40
 MOST_WORDS_OF_A_BULLET = 60
 MOST_BULLETS = 12  # in a row of bullets under one heading
@@ -90,7 +91,8 @@ def anchors_of(text: str) -> set[str]:
 
 
 def not_there(text: str, folder: pathlib.Path) -> list[str]:
-    """The links of a page in a folder that lead nowhere, and the paths of files that do not exist. A path may lack its ending."""
+    """The links of a page in a folder that lead nowhere, and the paths of files that do not exist. A path is from the top or from the
+    folder, and may lack its ending."""
     wrong: list[str] = []
     for place, anchor in LINK.findall(text):
         target = folder / place
@@ -98,12 +100,12 @@ def not_there(text: str, folder: pathlib.Path) -> list[str]:
             wrong.append('no link: %s#%s' % (place, anchor))
         elif place.endswith('.md') and anchor and anchor not in anchors_of(target.read_text()):
             wrong.append('no heading: %s#%s' % (place, anchor))
-    return wrong + ['no file: ' + path for path in PATH.findall(text)
-                    if STANDS_FOR_ANY not in path and not (TOP / path).exists() and not list(TOP.glob(path + '.*'))]
+    return wrong + ['no file: ' + path for path in PATH.findall(text) if STANDS_FOR_ANY not in path
+                    and not any((place / path).exists() or list(place.glob(path + '.*')) for place in (TOP, folder))]
 
 
 def all_pages() -> list[pathlib.Path]:
-    folders = ('', 'docs', 'crates/*', 'examples', 'dev/measure', 'tests')
+    folders = ('', 'docs', 'crates/*', 'examples', 'dev/measure', 'tests', 'tools', 'tools/tests')
     return [path for folder in folders for path in sorted(TOP.glob(folder + '/*.md' if folder else '*.md'))]
 
 

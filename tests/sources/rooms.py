@@ -156,11 +156,11 @@ def of_private_fields() -> list[str]:
 
 
 def long_lines() -> list[str]:
-    """Returns the lines over 100 columns of clauses, definitions and proofs, with their files. Imports do not count."""
+    """Returns the lines over 100 columns of clauses, definitions and proofs, with their files. Imports do not count, nor what was built."""
     pattern = tool().CLAUSE
     sources = ((path, path.read_text()) for path in sorted(TOP.glob('crates/*/src/**/*.rt')))
     texts = [(path, clause[0]) for path, text in sources for clause in pattern.finditer(text)]
-    texts += [(path, path.read_text()) for path in sorted(TOP.glob('crates/*/**/*.antt'))]
+    texts += [(path, path.read_text()) for room in ('specs', 'proofs') for path in sorted(TOP.glob(f'crates/*/{room}/**/*.antt'))]
     return ['%s: %s' % (path.relative_to(TOP), line) for path, text in texts for line in text.splitlines()
             if len(line) > 100 and not re.match('(unfoldable )?(pub )?use ', line)]
 

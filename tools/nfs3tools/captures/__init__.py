@@ -1,1 +1,1 @@
-"""Captures: their container, what `show` lists of them, and the layouts of messages."""
+"""What `show` lists of a capture, and whose each item is."""

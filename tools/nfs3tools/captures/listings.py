@@ -1,8 +1,10 @@
 """The listing of a capture, as `nfs3canon show` prints it, read again: messages, and the exchanges that they make up."""
+from __future__ import annotations
+
 import re
 from collections import defaultdict, deque
 from collections.abc import Callable, Iterable, Iterator
-from dataclasses import dataclass, field
+from dataclasses import dataclass
 from typing import NamedTuple
 
 LINE = re.compile(r'(\d+) (client|server) (\d+) xid=(\d+) (\S+)(.*)', re.DOTALL)
@@ -15,9 +17,10 @@ class Item(NamedTuple):
     value: str
 
 
-@dataclass(frozen=True, slots=True)
+@dataclass(frozen=True)
 class Message:
     """A call or a reply, where it is in its capture, and its items after the xid."""
+    __slots__ = ('connection', 'side', 'record', 'xid', 'procedure', 'items')
     connection: int
     side: str
     record: int
@@ -39,11 +42,12 @@ class Message:
         return next((item.value for item in self.items if item.name == name), None)
 
 
-@dataclass(slots=True)
+@dataclass
 class Exchange:
     """A call and its replies."""
+    __slots__ = ('call', 'replies')
     call: Message
-    replies: list[Message] = field(default_factory=list)
+    replies: list[Message]
 
     @property
     def procedure(self) -> str:
@@ -66,14 +70,14 @@ def messages_of(lines: Iterable[str], kept: Callable[[str], str] = str) -> Itera
 
 
 def exchanges_of(messages: Iterable[Message]) -> dict[int, list[Exchange]]:
-    """Returns the exchanges of each connection, in the order of their calls. If several calls have one xid, its replies are
-    given to them in their order, and what is left to the last of them."""
+    """Returns the exchanges of each connection, in the order of their calls. If several calls have
+    one xid, its replies are given to them in their order, and what is left to the last of them."""
     exchanges: dict[int, list[Exchange]] = defaultdict(list)
     waiting: dict[tuple[int, int], deque[Exchange]] = defaultdict(deque)
     for message in messages:
         owners = waiting[message.connection, message.xid]
         if message.is_call:
-            exchange = Exchange(message)
+            exchange = Exchange(message, [])
             exchanges[message.connection].append(exchange)
             if len(owners) == 1 and owners[0].replies:
                 owners.pop()

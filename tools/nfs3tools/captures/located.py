@@ -6,20 +6,23 @@
 
 A capture is read piece by piece, so memory grows neither with it nor with the record. Of a recording is in memory what `take` keeps there.
 """
+from __future__ import annotations
+
 import contextlib
 import sys
 import typing
 
-from .container import Container, capture_of
-from ..recordings.kinds import MAGICS
-from ..recordings.parts import files_of
-from ..shared.places import SIDES, FilePlace, NoPlace, Place, Side
+from ..recordings.container import Container, capture_of
 from ..recordings.frames import NoRecording, Recording, Source, opened
-from ..recordings.records import LONGEST_BODY, READ_AT_ONCE, Extent, Window, body_of, extents, fragments, xids
+from ..recordings.parts import files_of
+from ..recordings.records import (
+    LONGEST_BODY, READ_AT_ONCE, Extent, Window, body_of, extents, fragments, xids)
 from ..recordings.selection import Options
 from ..recordings.spool import Spool, Stored
 from ..recordings.taken import FrameRef, NotTaken, Taken, TakenStream, bytes_of, copied, take, whole
 from ..recordings.unpacking import Damaged
+from ..shared.kinds import MAGICS
+from ..shared.places import SIDES, FilePlace, FramePlace, NoPlace, Place, Side
 
 HEAD_OF_CALL = 24  # bytes: the xid, mtype and rpcvers, and then the program, the version and the procedure
 
@@ -212,7 +215,7 @@ class Joined:
 
 
 @contextlib.contextmanager
-def located(path: str, place: Place | FilePlace, options: Options) -> typing.Iterator[Within]:
+def located(path: str, place: Place | FilePlace | FramePlace, options: Options) -> typing.Iterator[Within]:
     """Opens a capture, or takes a recording as `take` does. What begins as neither is taken as a capture for the place of a byte of the
     file, which may be in its magic.
 

@@ -2,10 +2,14 @@
 
 A handle has another value in each run, and its path the same. So exchanges of two runs are brought together by paths.
 """
+from __future__ import annotations
+
+from collections.abc import Iterable, Sequence
 from typing import NamedTuple
 
 from .listings import Exchange, Item
 
+MOUNTING, LISTING = 'MOUNTPROC3_MNT', 'NFSPROC3_READDIRPLUS'
 MAKING = {'NFSPROC3_LOOKUP', 'NFSPROC3_CREATE', 'NFSPROC3_MKDIR', 'NFSPROC3_SYMLINK', 'NFSPROC3_MKNOD'}
 DOTS = ('.', '..')  # the folder itself, and the one above it
 UNKNOWN = '?'  # a folder whose path is not known
@@ -71,16 +75,22 @@ class Paths:
     def take(self, exchange: Exchange) -> None:
         """Learns from what an exchange says of handles. A reply that failed has none."""
         call = exchange.call
-        folder, name = call.value_of('fh') or '', (call.value_of('name') or '').strip('"')
+        folder = call.value_of('fh') or ''
+        name = (call.value_of('name') or call.value_of('dirpath') or '').strip('"')
         for reply in exchange.replies:
-            if exchange.procedure == 'MOUNTPROC3_MNT':
-                self.learn(reply.value_of('fh'), Origin(None, (call.value_of('dirpath') or '').strip('"'), True))
-            elif exchange.procedure in MAKING:
-                self.learn(reply.value_of('fh'), Origin(folder, name, exchange.procedure != 'NFSPROC3_LOOKUP'))
-            elif exchange.procedure == 'NFSPROC3_READDIRPLUS':
-                self.take_entries(folder, reply.items)
+            self.take_reply(exchange.procedure, folder, name, reply.items)
 
-    def take_entries(self, folder: str, items: tuple[Item, ...]) -> None:
+    def take_reply(self, procedure: str, folder: str, name: str, items: Sequence[Item]) -> None:
+        """Learns from the items of a reply to a call with this folder and this name, or this whole
+        path if it is MNT."""
+        if procedure == MOUNTING:
+            self.learn(first_handle(items), Origin(None, name, True))
+        elif procedure in MAKING:
+            self.learn(first_handle(items), Origin(folder, name, procedure != 'NFSPROC3_LOOKUP'))
+        elif procedure == LISTING:
+            self.take_entries(folder, items)
+
+    def take_entries(self, folder: str, items: Iterable[Item]) -> None:
         """Learns the handles of a READDIRPLUS reply, each of which comes after the name of its entry."""
         name = '.'
         for item in items:
@@ -88,3 +98,7 @@ class Paths:
                 name = item.value.strip('"')
             elif item.name == 'fh':
                 self.learn(item.value, Origin(folder, name, False))
+
+
+def first_handle(items: Iterable[Item]) -> str | None:
+    return next((item.value for item in items if item.name == 'fh'), None)

@@ -1,4 +1,6 @@
 """Long values of listed messages, which are kept in a temporary file: of data that differ nobody reads the whole."""
+from __future__ import annotations
+
 import hashlib
 import os
 import tempfile
@@ -8,7 +10,8 @@ KEPT_AT_MOST = 1_024  # characters of a value that is kept in memory, as the lis
 
 
 class Stored(str):
-    """Hexadecimal digits in a file. As a string it is a word for their bytes, so equal values are equal strings.
+    """Hexadecimal digits in a file. As a string it is a word for their bytes, so equal values are
+    equal strings.
 
     digest, size: SHA-256 of the bytes, and how many there are
     """

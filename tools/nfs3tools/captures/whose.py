@@ -4,12 +4,14 @@ A message may have several items of one name, as `size` is one of the attributes
 whose it is by the layouts, a dot, and its name in the listing, as in `dir after.size` or `entry "a".size`. Its field is the label
 without the names and numbers of entries: `entry.size`. Both are the name alone for items of which the layouts say nothing more.
 """
+from __future__ import annotations
+
 import contextlib
 from collections.abc import Iterator, Mapping, Sequence
 from functools import cached_property
 from typing import NamedTuple
 
-from .layouts import BY_NAME, Procedure, Spell, Stop, Walk, cases_of, meaning_of
+from ..shared.layouts import BY_NAME, Procedure, Spell, Stop, Walk, cases_of, meaning_of
 from .listings import Item, Message
 
 DIRECTORY = '2'  # NF3DIR
@@ -18,7 +20,8 @@ ANY = '*'
 
 
 class Owner(NamedTuple):
-    """A part of a message: a name of the layouts, or of a list with the number of its part and the index of the item that names this."""
+    """A part of a message: a name of the layouts, or of a list with the number of its part and the
+    index of the item that names this."""
     word: str
     number: int = 0
     named_at: int | None = None
@@ -30,8 +33,9 @@ class Owner(NamedTuple):
 
 
 class Slot(NamedTuple):
-    """What the layouts say of an item: its name, the parts that it is in, the outermost first, the values that it may have by their
-    names, and the index of the type of file if it is one of the attributes of a file."""
+    """What the layouts say of an item: its name, the parts that it is in, the outermost first, the
+    values that it may have by their names, and the index of the type of file if it is one of the
+    attributes of a file."""
     name: str
     owners: tuple[Owner, ...] = ()
     values: Mapping[int, str] | None = None
@@ -73,7 +77,8 @@ class Owned(Walk):
 
 
 class Slots(Owned):
-    """A walk through the items of a listed message. Those after one that the layouts do not have there are nobody's."""
+    """A walk through the items of a listed message. Those after one that the layouts do not have
+    there are nobody's."""
 
     def __init__(self, message: Message) -> None:
         super().__init__(BY_NAME.get(message.procedure))
@@ -91,7 +96,8 @@ class Slots(Owned):
             self.type_at = at
         self.slots.append(Slot(name, tuple(self.owners), values, self.type_at))
 
-    def word(self, name: str, values: Mapping[int, str] | None = None, most: int = 0xffffffff) -> int:
+    def word(self, name: str, values: Mapping[int, str] | None = None,
+             most: int = 0xffffffff) -> int:
         self.met(name, values)
         return int(self.items[len(self.slots) - 1].value)
 
@@ -118,7 +124,8 @@ class Labels:
 
     @cached_property
     def slots(self) -> list[Slot]:
-        """The names of the items say where each of them is, so messages that have the same names share their slots."""
+        """The names of the items say where each of them is, so messages that have the same names
+        share their slots."""
         shape = self.message.procedure, self.message.is_call, tuple(item.name for item in self.message.items)
         if shape not in self.shapes:
             if len(self.shapes) == SHAPES_AT_MOST:
@@ -127,7 +134,8 @@ class Labels:
         return self.shapes[shape]
 
     def label(self, at: int) -> str:
-        return labelled([owner.told(self.message.items) for owner in self.slots[at].owners], self.slots[at].name)
+        return labelled([owner.told(self.message.items) for owner in self.slots[at].owners],
+                        self.slots[at].name)
 
     def field(self, at: int) -> str:
         return labelled([owner.word for owner in self.slots[at].owners], self.slots[at].name)
@@ -157,7 +165,8 @@ class Fields(Owned):
     def met(self, name: str, values: Mapping[int, str] | None = None) -> None:
         self.found[labelled([owner.word for owner in self.owners], name)] = name
 
-    def word(self, name: str, values: Mapping[int, str] | None = None, most: int = 0xffffffff) -> int:
+    def word(self, name: str, values: Mapping[int, str] | None = None,
+             most: int = 0xffffffff) -> int:
         self.met(name, values)
         return 0
 
@@ -176,7 +185,8 @@ class Fields(Owned):
 
 
 def fields_of(procedure: str) -> dict[str, str]:
-    """Returns the fields that the calls and replies of a procedure, or with `*` of any, may have, each with the name of its item."""
+    """Returns the fields that the calls and replies of a procedure, or with `*` of any, may have,
+    each with the name of its item."""
     if procedure == ANY:
         return {field: name for one in BY_NAME for field, name in fields_of(one).items()}
     fields = Fields(BY_NAME[procedure])

@@ -1,1 +1,1 @@
-"""The commands, and what they have in common."""
+"""The commands."""

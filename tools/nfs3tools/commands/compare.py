@@ -39,6 +39,8 @@ error. The status is 0 if the runs are the same under the mask, 1 if they differ
 --allow-losses and --allow-not-checked change), 2 if a recording, a connection, a capture, FILE or the command line is refused, or if there is
 nothing to compare, 3 if a file, a program or memory failed.
 """
+from __future__ import annotations
+
 import argparse
 import os
 import sys
@@ -47,31 +49,36 @@ from collections import Counter
 from collections.abc import Iterator, Sequence
 from contextlib import ExitStack
 from dataclasses import replace
+from functools import partial
 from pathlib import Path
 from typing import NamedTuple
 
-from ..reporting import pages, summing, telling
-from ..comparison.classes import CLASSES, in_any_order, mask_word, told
-from ..comparison.comparing import Compared, Framing, Run
-from ..comparison.covering import Cover, Size, cover_of, lines_of_counts
-from ..comparison.deciding import judged, run_of
-from ..comparison.ignoring import ignored_of, without
-from .messages import REFUSED, add_losses, add_options, add_program, add_unchecked, advice_on, allowed_of, ended, options_of, parser_of
-from ..comparison.marks import NoMark
-from ..comparison.orders import Choices, NothingToCompare
-from ..shared.outputs import held, printed_beside, try_outputs, write_file
-from ..reporting.pages import Content, Recorded
-from ..comparison.pairing import ASKING
-from ..comparison.part_by_part import PartByPart
+from ..comparison.exchanges.pairing import ASKING
+from ..comparison.parts.marks import NoMark
+from ..comparison.parts.part_by_part import PartByPart
+from ..comparison.values.classes import CLASSES, in_any_order, mask_word, told
+from ..comparison.verdict import summary
+from ..comparison.verdict.cover import Cover, Size, cover_of, lines_of_counts
+from ..comparison.verdict.decision import judged, run_of
+from ..comparison.verdict.excerpt import Around
+from ..comparison.verdict.findings import Compared, Framing, Run
+from ..comparison.verdict.ignored import ignored_of, without
+from ..comparison.verdict.orders import Choices, NothingToCompare
+from ..comparison.verdict.report import Report
+from ..comparison.verdict.trial import Trial
+from ..recordings.coverage import Allowed
 from ..recordings.parts import files_of
+from ..recordings.selection import Options
+from ..recordings.taken import NotTaken, Taken, take
+from ..reporting import pages, telling
+from ..reporting.messages import (
+    REFUSED, add_judging, advice_on, allowed_of, ended,
+    options_of, parser_of, run)
+from ..reporting.pages import Content, Recorded
+from ..reporting.reports import json_of, json_of_parts, junit_of, junit_of_error, junit_of_parts
+from ..shared.outputs import held, printed_beside, try_outputs, write_file
 from ..shared.printed import escaped
 from ..shared.programs import program_path
-from ..reporting.reports import Report, json_of, json_of_parts, junit_of, junit_of_error, junit_of_parts
-from ..recordings.coverage import Allowed
-from ..recordings.selection import Options
-from ..comparison.shown import Around
-from ..recordings.taken import NotTaken, Taken, take
-from ..comparison.trial import Trial
 
 SAME, DIFFERENT = range(2)
 FINDINGS_AT_MOST, SILENT_AT_MOST = 20, 12
@@ -80,31 +87,35 @@ AROUND = Around(3, pages.SHOWN_AT_MOST)  # on a page
 
 def classes_told() -> str:
     """The classes of values, those masked by default with a star."""
-    rows = [f'  {one.name + ("*" if one.is_default else ""):<13} {one.way.value:<7} {one.meaning}' for one in CLASSES]
+    rows = [f'  {one.name + ("*" if one.is_default else ""):<13} {one.way.value:<7} {one.meaning}'
+            for one in CLASSES]
     return '\n'.join(['classes of values:', *rows])
 
 
 def words_of(words: list[str]) -> argparse.Namespace:
     parser = parser_of(__doc__, 'compare')
     parser.epilog = classes_told()
-    parser.add_argument('--mask', type=mask_word, metavar='CLASS,..', help='the classes of values to mask')
-    parser.add_argument('--order', choices=('strict', 'any'), help='whether the order of calls counts; by default any is tried second')
+    parser.add_argument('--mask', type=mask_word, metavar='CLASS,..',
+                        help='the classes of values to mask')
+    parser.add_argument('--order', choices=('strict', 'any'),
+                        help='whether the order of calls counts; by default any is tried second')
     parser.add_argument('--extra', choices=('asking', 'none'), default='asking',
                         help='what is left out in any order if one run alone has it: calls that ask and change nothing, or none')
-    parser.add_argument('--ignore', type=ignored_of, action='extend', default=[], metavar='PROCEDURE.FIELD,..',
+    parser.add_argument('--ignore', type=ignored_of, action='extend', default=[],
+                        metavar='PROCEDURE.FIELD,..',
                         help='fields that are left out of the explanation; * is any procedure')
     parser.add_argument('--marks', metavar='PATTERN',
                         help='compares the parts that begin at calls of LOOKUP, CREATE and MKDIR whose name fits a pattern of the shell')
     parser.add_argument('--all', action='store_true',
                         help=f'prints each finding by itself; by default, equal ones are one, and {FINDINGS_AT_MOST} are printed')
     parser.add_argument('--brief', action='store_true', help='prints a line for each finding')
-    parser.add_argument('--html', metavar='FILE', help='writes a page for a browser with what differs and the calls around it')
-    parser.add_argument('--json', metavar='FILE', help='writes the verdict and all findings as JSON')
-    parser.add_argument('--junit', metavar='FILE', help='writes the verdict and the findings as JUnit XML')
-    add_options(parser)
-    add_losses(parser)
-    add_unchecked(parser)
-    add_program(parser)
+    parser.add_argument('--html', metavar='FILE',
+                        help='writes a page for a browser with what differs and the calls around it')
+    parser.add_argument('--json', metavar='FILE',
+                        help='writes the verdict and all findings as JSON')
+    parser.add_argument('--junit', metavar='FILE',
+                        help='writes the verdict and the findings as JUnit XML')
+    add_judging(parser)
     parser.add_argument('first', metavar='A')
     parser.add_argument('second', metavar='B')
     chosen = parser.parse_args(words)
@@ -115,8 +126,11 @@ def words_of(words: list[str]) -> argparse.Namespace:
 
 def tell(name: str, taken: Taken) -> None:
     """Prints what is missing from a recording, and what is left out of it."""
-    lines = [*taken.notes, *(f'connection {connection.number} {note}' for connection in taken.connections for note in connection.notes),
-             *(f'left out: {line}' for line in taken.left_out), *(f'{remark.word}: {remark.reason}' for remark in taken.remarks)]
+    lines = [*taken.notes,
+             *(f'connection {connection.number} {note}' for connection in taken.connections
+               for note in connection.notes),
+             *(f'left out: {line}' for line in taken.left_out),
+             *(f'{remark.word}: {remark.reason}' for remark in taken.remarks)]
     for line in lines:
         print(f'{escaped(name)}: {line}', file=sys.stderr)
 
@@ -124,16 +138,19 @@ def tell(name: str, taken: Taken) -> None:
 def recorded_of(taken: Taken, name: str) -> Recorded:
     files = files_of(name)
     is_known = all(os.path.isfile(file) for file in files)
-    return Recorded(sum(map(os.path.getsize, files)) if is_known else None, taken.ends(), taken.parts)
+    return Recorded(sum(map(os.path.getsize, files)) if is_known else None, taken.ends(),
+                    taken.parts)
 
 
 def write_page(path: str, inputs: list[str], content: Content) -> None:
-    write_file(path, (piece.encode(errors='backslashreplace') for piece in pages.page(content)), inputs)
+    write_file(path, (piece.encode(errors='backslashreplace') for piece in pages.page(content)),
+               inputs)
 
 
 def losses_of(covers: Sequence[Cover]) -> str:
     """What of both runs is not compared, or nothing."""
-    return ', '.join(words for name, cover in zip(summing.RUNS, covers) for words in cover.lacking(name))
+    return ', '.join(words for name, cover in zip(summary.RUNS, covers)
+                     for words in cover.lacking(name))
 
 
 class Whole(NamedTuple):
@@ -159,7 +176,7 @@ class Whole(NamedTuple):
         return all(cover.is_good(allowed) for cover in self.covers)
 
     def lines_of_counts(self) -> Iterator[str]:
-        return lines_of_counts(self.covers, summing.RUNS)
+        return lines_of_counts(self.covers, summary.RUNS)
 
 
 def outputs_of(words: argparse.Namespace) -> list[str | None]:
@@ -187,27 +204,33 @@ def compared_runs(words: argparse.Namespace, stack: ExitStack) -> int:
     whole = whole_of(program, folder, names, inputs, runs)
     masks = in_any_order(words.mask, any(cover.has_raw for cover in whole.covers))
     print(f'masked: {told(masks[0])}', flush=True)
-    choices = Choices(words.order, masks, frozenset() if words.extra == 'none' else ASKING, AROUND if words.html else None)
-    is_same = (compared_whole if words.marks is None else compared_by_parts)(words, whole, choices, losses_of(whole.covers))
+    choices = Choices(words.order, masks, frozenset() if words.extra == 'none' else ASKING,
+                      AROUND if words.html else None)
+    is_same = (compared_whole if words.marks is None
+               else compared_by_parts)(words, whole, choices, losses_of(whole.covers))
     if any(cover.is_refused for cover in whole.covers):
         return REFUSED
     return SAME if is_same else DIFFERENT
 
 
-def whole_of(program: str, folder: Path, names: list[str], inputs: list[str], runs: Sequence[Taken]) -> Whole:
-    """Checks both runs, and prints what is refused. Raises `NothingToCompare` if a run has no call that can be compared."""
+def whole_of(program: str, folder: Path, names: list[str], inputs: list[str],
+             runs: Sequence[Taken]) -> Whole:
+    """Checks both runs, and prints what is refused. Raises `NothingToCompare` if a run has no call
+    that can be compared."""
     trial = Trial(program, folder, runs)
     covers = [cover_of(program, *one) for one in zip(runs, trial.captures)]
     for cover, name in zip(covers, names):
         if not cover.size.calls:
             faults = '; '.join(f'{escaped(name)}: {fault}' for fault in cover.faults())
-            raise NothingToCompare(faults or f'nothing to compare: no call of {escaped(name)} is taken')
+            raise NothingToCompare(faults
+                                   or f'nothing to compare: no call of {escaped(name)} is taken')
     for cover, name in zip(covers, names):
         for line in cover.notes():
             print(f'{escaped(name)}: {line}', file=sys.stderr)
     if any(cover.refused for cover in covers):
         trial = Trial(program, folder, [cover.taken for cover in covers])
-    return Whole(names, inputs, covers, trial, [run_of(trial, *one) for one in zip(trial.runs, trial.captures, names)])
+    return Whole(names, inputs, covers, trial,
+                 [run_of(trial, *one) for one in zip(trial.runs, trial.captures, names)])
 
 
 def compared_whole(words: argparse.Namespace, whole: Whole, choices: Choices, losses: str) -> bool:
@@ -221,55 +244,68 @@ def compared_whole(words: argparse.Namespace, whole: Whole, choices: Choices, lo
     return is_good
 
 
-def explain(words: argparse.Namespace, whole: Whole, line: str, report: Report, found: Compared, is_good: bool) -> None:
+def explain(words: argparse.Namespace, whole: Whole, line: str, report: Report, found: Compared,
+            is_good: bool) -> None:
     """Writes and prints what differs between two runs."""
     compared, left_out = without(found, words.ignore)
     if words.junit:
         told_of = compared if is_told(words, report) else replace(compared, findings=[])
-        write_file(words.junit, [junit_of(line, report, told_of, whole.framings(), is_good)], whole.inputs)
+        write_file(words.junit, [junit_of(line, report, told_of, whole.framings(), is_good)],
+                   whole.inputs)
     if words.html:
         recorded = [recorded_of(*one) for one in zip(whole.taken, whole.names)]
-        write_page(words.html, whole.inputs, Content(line, report, compared, words.ignore, left_out, whole.runs, recorded))
+        write_page(words.html, whole.inputs,
+                   Content(line, report, compared, words.ignore, left_out, whole.runs, recorded))
     if words.json:
         write_file(words.json, json_of(report, compared, left_out, whole.framings()), whole.inputs)
     print_found(words, whole, report, compared, left_out)
 
 
 def is_told(words: argparse.Namespace, report: Report) -> bool:
-    """Whether findings are told. Those that do not count in another order are if all are asked for."""
+    """Whether findings are told. Those that do not count in another order are if all are asked
+    for."""
     return report.same_under is None or bool(words.all)
 
 
-def print_found(words: argparse.Namespace, whole: Whole, report: Report, compared: Compared, left_out: Counter[tuple[str, str]]) -> None:
+def print_found(words: argparse.Namespace, whole: Whole, report: Report, compared: Compared,
+                left_out: Counter[tuple[str, str]]) -> None:
     if report.verdict == 'same':
         return
     if is_told(words, report):
         first, second = whole.framings()
-        for text in telling.of_compared(compared, first, second, None if words.all else FINDINGS_AT_MOST, left_out, words.brief):
+        for text in telling.of_compared(compared, first, second,
+                                        None if words.all else FINDINGS_AT_MOST, left_out,
+                                        words.brief):
             print(text)
-    for text in telling.of_silent(compared, *whole.framings(), None if words.all else SILENT_AT_MOST):
+    for text in telling.of_silent(compared, whole.framings(),
+                                  None if words.all else SILENT_AT_MOST):
         print(text)
-    print(summing.of_compared(compared))
+    print(summary.of_compared(compared))
 
 
-def compared_by_parts(words: argparse.Namespace, whole: Whole, choices: Choices, losses: str) -> bool:
+def compared_by_parts(words: argparse.Namespace, whole: Whole, choices: Choices,
+                      losses: str) -> bool:
     """Compares the parts that begin at marks. Returns whether all are the same."""
-    parts = PartByPart(whole.trial, whole.names, whole.runs, words.marks, choices).reports(words.ignore)
+    parts = PartByPart(whole.trial, whole.names, whole.runs, words.marks,
+                       choices).reports(words.ignore)
     for part in parts:
         print(part.line)
     is_good = whole.is_good(allowed_of(words))
     if words.junit:
         counting = '' if is_good else losses
-        write_file(words.junit, [junit_of_parts(whole.names, whole.covers, counting, parts, whole.framings())], whole.inputs)
+        write_file(words.junit,
+                   [junit_of_parts(whole.names, whole.covers, counting, parts, whole.framings())],
+                   whole.inputs)
     if words.json:
-        write_file(words.json, json_of_parts(words.marks, whole.covers, parts, whole.framings()), whole.inputs)
+        write_file(words.json, json_of_parts(words.marks, whole.covers, parts, whole.framings()),
+                   whole.inputs)
     for part in parts:
         if part.report and part.report.verdict != 'same' and (part.compared.silent or is_told(words, part.report)):
             print(part.label)
             print_found(words, whole, part.report, part.compared, part.left_out)
     if losses:
         print(f'compared in part: {losses}')
-    print(*whole.lines_of_counts(), summing.of_parts([part.word() for part in parts]), sep='\n')
+    print(*whole.lines_of_counts(), summary.of_parts([part.word() for part in parts]), sep='\n')
     return is_good and all(part.is_good for part in parts)
 
 
@@ -277,7 +313,8 @@ def write_error(words: argparse.Namespace, message: str) -> None:
     """Writes for those who read JUnit XML that the runs could not be compared."""
     if words.junit:
         names = [words.first, words.second]
-        write_file(words.junit, [junit_of_error(names, message)], [file for name in names for file in files_of(name)])
+        write_file(words.junit, [junit_of_error(names, message)],
+                   [file for name in names for file in files_of(name)])
 
 
 def main(words: list[str]) -> int:
@@ -293,3 +330,9 @@ def main(words: list[str]) -> int:
         raise
     finally:
         stack.close()
+
+
+command = partial(run, 'compare', main)
+
+if __name__ == '__main__':
+    sys.exit(command())

@@ -1,41 +1,64 @@
-"""Cuts an exchange out of a recording or a capture: a small capture for a bug report or a test.
+"""Cuts an exchange out of a recording or a capture, for a bug report or a test.
 
     tools/cut [--origins] RECORDING|CAPTURE 'connection 1 server record 7 byte 24' OUT
+    tools/cut [--origins] RECORDING 'frame 12' OUT.pcap
 
 OUT has all calls and replies of the connection that have the xid of the message at POSITION, as they were recorded. POSITION is a line of
 `check` or `same`, or of `show`, as tools/explain takes it. It names a record, of which any byte may be named.
+
+A frame of a recording, as `frame 12`, stands for the records whose bytes it carries, and all their
+exchanges are taken.
 
 --origins takes the exchanges too that gave the file handles of these calls, up to the MNT call that gave the first: of each handle the one
 that made its object, or else the first that reached it. They are on the connections on which they were recorded. RECORDING has to be one
 that `nfs3canon check` accepts.
 
+If OUT ends in `.pcap`, it is a recording for Wireshark and the tools: the frames that brought the
+bytes of these records, as they were recorded, and those of the SYN of both ends. Other records may
+be in these frames, too. The bytes between them are left out, so a connection of OUT is mostly `ok
+in part`.
+
 Printed are a line for each record of OUT, which says where it was, with its frames, and what `nfs3canon check` says of OUT. That is `ok`,
-or the reason for which the message was refused before.
+or the reason for which the message was refused before. If OUT is a recording, tools/verdicts judges it.
 
 A recording is taken as by tools/from_pcap (--midstream, --whole-records, --filter, a pattern in quotes for the parts of one recording).
 OUT is written beside its name, and gets it once it is whole. It is refused if it is an input or begins as a recording; an older capture is
 replaced. If OUT is `-` it is standard output, and the lines are printed on standard error. The status is 0 if OUT was written, 1 if there is
 no such position, 2 if POSITION, RECORDING, FILTER or OUT is refused or a program is missing, 3 if a file, a program or memory failed.
 """
+from __future__ import annotations
+
+import argparse
+import contextlib
+import io
 import os
+import sys
 import tempfile
 from collections import defaultdict
 from collections.abc import Iterable, Iterator
+from functools import partial
 from typing import NamedTuple
 
-from ..captures.container import capture_of
-from .messages import ABSENT, add_options, add_program, ended, options_of, parser_of
-from ..comparison.outlines import Outlines
-from ..shared.outputs import CAPTURE, held, printed_beside, try_outputs, write_file
+from ..comparison.exchanges.outlines import Outlines
+from ..comparison.verdict.trial import when_of
+from ..judgement.verdict import Verdict, sums_of
+from ..recordings.carried import places_at
+from ..recordings.container import capture_of
+from ..recordings.extract import frames_of, pcap_of
+from ..recordings.frames import Frame, Source, opened
 from ..recordings.parts import files_of
-from ..shared.places import SIDES, FilePlace, NoPlace, Place, Side, parse_place
-from ..shared.printed import escaped
-from ..shared.programs import CHECKED, lines_of_program, program_path, run_program
 from ..recordings.records import Extent, Window, body_of, xids
-from ..recordings.selection import plural
-from ..recordings.taken import NotTaken, Taken, TakenConnection, TakenStream, take
-from ..comparison.trial import when_of
+from ..recordings.selection import Options, plural
+from ..recordings.taken import (
+    NotTaken, Progress, Taken, TakenConnection, TakenStream, copied, take, take_from)
+from ..reporting.messages import ABSENT, add_options, add_program, ended, options_of, parser_of, run
+from ..shared.outputs import CAPTURE, Refused, held, printed_beside, try_outputs, write_file
+from ..shared.places import SIDES, FilePlace, FramePlace, NoPlace, Place, Side, parse_place
+from ..shared.printed import escaped, printable
+from ..shared.programs import CHECKED, lines_of_program, program_path, run_program
+from .verdicts import Judge
 
+PCAP, PCAPNG = '.pcap', '.pcapng'
 HEAD = 8  # bytes: the xid and mtype, without which a record has no xid
 
 
@@ -84,8 +107,9 @@ def picked(stream: TakenStream, side: Side, wanted: Wanted) -> Iterator[tuple[in
             yield number, extent
 
 
-def origins_of(program: str, taken: Taken, place: Place, name: str) -> list[Place]:
-    """Returns the calls that gave the handles of the exchange at a place, and its own. Raises `NotTaken` if the whole is refused."""
+def origins_of(program: str, taken: Taken, places: Iterable[Place], name: str) -> list[Place]:
+    """Returns the calls that gave the handles of the exchanges at some places, and their own.
+    Raises `NotTaken` if the whole is refused."""
     with held():
         folder = tempfile.TemporaryDirectory(prefix='nfs3canon')
     with folder:
@@ -95,22 +119,38 @@ def origins_of(program: str, taken: Taken, place: Place, name: str) -> list[Plac
         if answer.status:
             raise NotTaken(f'{escaped(name)} is refused, so nothing tells where its handles are from: {answer.error.strip()}')
         outlines = Outlines(lines_of_program(program, ['show', form]), {}, when_of(taken))
+    turns = [turn_of(outlines, place) for place in places]
+    records = map(outlines.record_of, outlines.with_origins(turns))
+    return [Place(connection, 'client', record) for connection, record in records]
+
+
+def turn_of(outlines: Outlines, place: Place) -> int:
+    """Returns the exchange at a place, by its number in the listing."""
     at = outlines.place_of(place.connection)
-    turn = outlines.starts[at] + place.record - 1 if place.side == 'client' else outlines.exchanges_of_replies(at)[place.record]
-    return [Place(connection, 'client', record) for connection, record in map(outlines.record_of, outlines.with_origins([turn]))]
+    if place.side == 'client':
+        return outlines.starts[at] + place.record - 1
+    return outlines.exchanges_of_replies(at)[place.record]
 
 
 def lines_of(taken: Taken, cuts: list[Cut]) -> Iterator[str]:
     """Iterates over a line for each record of the cut, which says where it was."""
     pairs = ((Place(number, side, record), Place(cut.connection.number, side, old)) for number, cut in enumerate(cuts, 1)
              for side in SIDES for record, old in enumerate(cut.records[side], 1))
-    for place, old in pairs:
-        frames = [str(frame.number) for frame in taken.frames(old)]
-        told = f', {plural(len(frames), "frame", "frames")} {", ".join(frames)}' if frames else ''
-        yield f'{place}: {old}{told}'
+    return (line_of(taken, place, old) for place, old in pairs)
 
 
-def main(words: list[str]) -> int:
+def cuts_at(program: str, taken: Taken, place: Place | FramePlace, has_origins: bool,
+            name: str) -> list[Cut]:
+    """Returns what is cut out for a place. Raises `NoPlace` if there is none, and what `origins_of`
+    does."""
+    places = [one for one in places_at(taken, place) if isinstance(one, Place)]
+    wanted = wanted_at(taken, places)
+    if has_origins:
+        wanted = wanted_at(taken, [*places, *origins_of(program, taken, places, name)])
+    return [cut_of(taken.connections[number - 1], wanted[number]) for number in sorted(wanted)]
+
+
+def words_of(words: list[str]) -> argparse.Namespace:
     parser = parser_of(__doc__, 'cut')
     parser.add_argument('recording', metavar='RECORDING|CAPTURE')
     parser.add_argument('place', metavar='POSITION')
@@ -118,25 +158,123 @@ def main(words: list[str]) -> int:
     parser.add_argument('--origins', action='store_true', help='takes the exchanges too that gave the file handles')
     add_program(parser)
     add_options(parser)
-    chosen = parser.parse_args(words)
+    return parser.parse_args(words)
+
+
+def main(words: list[str]) -> int:
+    chosen = words_of(words)
     place, inputs = parse_place(chosen.place), files_of(chosen.recording)
+    is_pcap = chosen.out.endswith(PCAP)
     if isinstance(place, FilePlace):
         raise NoPlace(f'no record: {place}')
-    try_outputs([chosen.out], inputs, (CAPTURE,))
+    if chosen.out.endswith(PCAPNG):
+        raise Refused(f'{escaped(chosen.out)}: OUT may be a {PCAP}, and no {PCAPNG}')
+    try_outputs([chosen.out], inputs, () if is_pcap else (CAPTURE,))
     program = program_path(chosen.program)
-    with take(chosen.recording, options_of(chosen)) as taken:
+    with contextlib.ExitStack() as stack:
+        recording = chosen.recording
+        if is_pcap:
+            recording = stack.enter_context(read_twice(recording))
+        taken = stack.enter_context(take(recording, options_of(chosen)))
+        if not taken.is_recording and (is_pcap or isinstance(place, FramePlace)):
+            raise NotTaken(f'{escaped(chosen.recording)} is a capture, which has no frames')
         try:
-            wanted = wanted_at(taken, [place])
+            cuts = cuts_at(program, taken, place, chosen.origins, chosen.recording)
         except NoPlace as absent:
             return ended('cut', str(absent), ABSENT)
-        if chosen.origins:
-            wanted = wanted_at(taken, [place, *origins_of(program, taken, place, chosen.recording)])
-        cuts = [cut_of(taken.connections[number - 1], wanted[number]) for number in sorted(wanted)]
-        pairs = [cut.streams() for cut in cuts]
-        answer = run_program(program, ['check', '/dev/stdin'], CHECKED, capture_of(pairs))
-        write_file(chosen.out, capture_of(pairs), inputs, (CAPTURE,))
-        with printed_beside([chosen.out]):
-            for line in lines_of(taken, cuts):
-                print(line)
-            print((answer.out or answer.error).strip())
+        write = write_recording if is_pcap else write_cuts
+        lines = write(program, taken, cuts, recording, chosen.out, inputs)
+    with printed_beside([chosen.out]):
+        print('\n'.join(lines))
     return 0
+
+
+def write_cuts(program: str, taken: Taken, cuts: list[Cut], _: str, out: str,
+               inputs: list[str]) -> list[str]:
+    """Writes OUT as a capture, and returns what is printed of it."""
+    pairs = [cut.streams() for cut in cuts]
+    answer = run_program(program, ['check', '/dev/stdin'], CHECKED, capture_of(pairs))
+    write_file(out, capture_of(pairs), inputs, (CAPTURE,))
+    return [*lines_of(taken, cuts), (answer.out or answer.error).strip()]
+
+
+# --- As a recording ---
+
+class Extract(NamedTuple):
+    """A recording of some frames, and where it has the records of a cut: those there with their
+    places here, if they can be read."""
+    content: bytes
+    verdicts: list[Verdict]
+    found: list[tuple[Place | None, Place]]
+
+    @property
+    def number(self) -> int:
+        """How many records can be read."""
+        return sum(there is not None for there, _ in self.found)
+
+
+@contextlib.contextmanager
+def read_twice(recording: str) -> Iterator[str]:
+    """A recording that can be read again: a copy if it is standard input or a pipe."""
+    if recording != '-' and (os.path.isfile(recording) or not os.path.exists(recording)):
+        yield recording
+        return
+    with opened(recording) as file, copied(file) as copy:
+        yield copy.name
+
+
+def write_recording(program: str, taken: Taken, cuts: list[Cut], recording: str, out: str,
+                    inputs: list[str]) -> list[str]:
+    """Writes OUT as a recording, and returns what is printed of it. The frames of SYN are left out
+    if the records are so far behind them that they can be read only without."""
+    records = [Place(cut.connection.number, side, record) for cut in cuts for side in SIDES
+               for record in cut.records[side]]
+    frames = {frame.number for place in records for frame in taken.frames(place)}
+    opening = {number for cut in cuts for number in cut.connection.opened_by}
+    extracts = (extract_of(program, frames_of(recording, some), cuts, out)
+                for some in (frames | opening, frames))
+    extract = next(extracts)
+    if extract.number < len(records):
+        extract = max(extract, next(extracts), key=lambda one: one.number)
+    write_file(out, [extract.content], inputs)
+    lines = [line_of(taken, there, here) for there, here in extract.found]
+    lines += [f'connection {verdict.connection}: {verdict.message}'
+              for verdict in extract.verdicts if verdict.connection is not None]
+    return [*map(printable, lines), sums_of(extract.verdicts)]
+
+
+def extract_of(program: str, frames: list[Frame], cuts: list[Cut], name: str) -> Extract:
+    """Makes a recording of some frames, and reads it again."""
+    content = b''.join(pcap_of(frames))
+    with take_from(Source(io.BytesIO(content)), None, Options(), True, Progress(False)) as there:
+        verdicts = Judge(program, Options(), 1, False).of_taken(name, there)
+        return Extract(content, verdicts, [pair for cut in cuts for pair in places_in(there, cut)])
+
+
+def places_in(extract: Taken, cut: Cut) -> Iterator[tuple[Place | None, Place]]:
+    """Iterates over the records of a cut, each with the place of the same record in an extract, if
+    it can be read there."""
+    ends = cut.connection.client_end, cut.connection.server_end
+    same = [one for one in extract.connections if (one.client_end, one.server_end) == ends]
+    for side in SIDES:
+        bodies = [(Place(one.number, side, record.number), record.body) for one in same
+                  for record in one.stream(side).records()]
+        stream = cut.connection.stream(side)
+        for record, extent in cut.records[side].items():
+            body = body_of(Window(stream), extent)
+            at = next((at for at, (_, other) in enumerate(bodies) if other == body), None)
+            there = None if at is None else bodies.pop(at)[0]
+            yield there, Place(cut.connection.number, side, record)
+
+
+def line_of(taken: Taken, place: Place | None, old: Place) -> str:
+    """The line of a record, which says where it was."""
+    frames = [str(frame.number) for frame in taken.frames(old)]
+    told = f', {plural(len(frames), "frame", "frames")} {", ".join(frames)}' if frames else ''
+    return f'{place or "it cannot be read there"}: {old}{told}'
+
+
+command = partial(run, 'cut', main)
+
+if __name__ == '__main__':
+    sys.exit(command())

@@ -33,13 +33,17 @@ OUT is written under a short name beside its own, `.nfs3canon-` and 16 digits, a
 It is refused if it begins as a recording; an older capture is replaced. The status is 0 if OUT was written, 1 if no connection is
 taken, 2 if RECORDING, OUT or FILTER is refused or tshark is missing, 3 if a file, tshark or memory failed.
 """
-import argparse
+from __future__ import annotations
 
-from .messages import add_options, ended, options_of, parser_of, tell
-from ..shared.outputs import CAPTURE, try_outputs
+import argparse
+import sys
+from functools import partial
+
 from ..recordings.parts import files_of
-from ..shared.printed import escaped
 from ..recordings.taken import NotTaken, take
+from ..reporting.messages import add_options, ended, options_of, parser_of, run, tell
+from ..shared.outputs import CAPTURE, try_outputs
+from ..shared.printed import escaped
 
 NOTHING_TAKEN = 1
 
@@ -49,7 +53,8 @@ def main(words: list[str]) -> int:
     parser.add_argument('recording', metavar='RECORDING')
     parser.add_argument('out', metavar='OUT')
     add_options(parser)
-    parser.add_argument('--program', help=argparse.SUPPRESS)  # which packed the streams once; scripts may name it still
+    # Which packed the streams once; scripts may name it still
+    parser.add_argument('--program', help=argparse.SUPPRESS)
     chosen = parser.parse_args(words)
     try_outputs([chosen.out], files_of(chosen.recording), (CAPTURE,))
     with take(chosen.recording, options_of(chosen), frames=False) as taken:
@@ -60,3 +65,9 @@ def main(words: list[str]) -> int:
             return ended('from_pcap', 'no connection to pack', NOTHING_TAKEN)
         taken.write_capture(chosen.out, [chosen.recording])
     return 0
+
+
+command = partial(run, 'from_pcap', main)
+
+if __name__ == '__main__':
+    sys.exit(command())

@@ -1,21 +1,22 @@
 """Counts calls, errors, bytes and latencies by procedure.
 
-    tools/procedures [--total] [--json FILE] [--csv FILE] RECORDING|CAPTURE ..
+    tools/procedures [--total] [--sort COLUMN] [--json FILE] [--csv FILE] RECORDING|CAPTURE ..
     tools/procedures --beside A B
 
 Printed is a table for each connection, one for each recording in all, and one for all recordings if they are several. A row has the
 calls of a procedure as `nfs3canon check` counts them; how many of them were sent again (an earlier call of the connection has the same xid
 and the same items); the replies; the calls without a reply (a call and its retransmissions are one); the bytes of the records of calls and
-of replies, with their marks; the latencies in milliseconds; and how many replies have which error.
+of replies, with their marks; the latencies in milliseconds; the call with the longest; and how many replies have which error.
 
 A latency is the time from a call to its first reply. The time of a message is that of the frame that completed its record: of the frames
 that first brought its bytes the one with the largest number. That of a call which was sent again is the time of the first. The columns are
-the median and the 99th percentile, each the smallest latency that 50 or 99 % of all do not exceed, and the longest. A capture has no times,
-and so no latencies.
+the median and the 99th percentile, each the smallest latency that 50 or 99 % of all do not exceed, the longest, the mean and the sum. The
+longest is at CONNECTION:RECORD, the record of its call, with the frame that completed it. A capture has no times, and so no latencies. If
+the clock went back, latencies are negative; their number is told.
 
 Each connection is judged as by tools/verdicts, whose verdict is above its table: one of which bytes are missing is `ok in part`, and one
 that is refused is counted up to its fault. The counts of tools/verdicts stand above the table of a recording. --total leaves out the tables
-of the connections. --beside has two recordings in one table: a number that differs is `A -> B`, with the change in per cent for bytes and
+of the connections. --sort has the largest of a column first. --beside has two recordings in one table: a number that differs is `A -> B`, with the change in per cent for bytes and
 latencies. --json and --csv write all tables.
 
 The recordings are taken as by tools/from_pcap (--port, --no-midstream, --whole-records, --filter, patterns in quotes for the parts of one
@@ -23,29 +24,46 @@ recording); `-` is standard input. FILE is written beside its name, and gets it 
 as a recording or a capture. The status is 0 if that of
 tools/verdicts is, and 1 to 3 as there; --allow-losses and --allow-not-checked are the same.
 """
+from __future__ import annotations
+
 import argparse
 import csv
 import io
 import json
+import sys
 import typing
 from collections import Counter
 from collections.abc import Iterator, Sequence
+from functools import partial
 
-from .judging import Verdict, counts_after, is_row, named, status_of, sums_of, tell_notes
-from .messages import add_losses, add_options, add_program, add_unchecked, allowed_of, options_of, parser_of
-from ..shared.outputs import printed_beside, try_outputs, write_file
+from ..judgement.tallies import Tallies, Tally, counted_of, in_order, sum_of
+from ..judgement.verdict import Verdict, counts_after, is_row, named, status_of, sums_of, tell_notes
 from ..recordings.parts import files_of
+from ..recordings.selection import plural
+from ..recordings.taken import Taken, TakenConnection
+from ..reporting.messages import add_judging, allowed_of, options_of, parser_of, run
+from ..shared.outputs import printed_beside, try_outputs, write_file
+from ..shared.places import Place
 from ..shared.printed import columns, escaped, printable
 from ..shared.programs import program_path
-from ..recordings.taken import Taken, TakenConnection
-from .tallies import Tallies, Tally, counted_of, in_order, sum_of
 from .verdicts import CONNECTIONS_AT_ONCE, VERSION, Judge, objects_of
 
 PARTS = (0.5, 0.99, 1)  # of the latencies: the median, the 99th percentile, and the longest
 COUNTS = ('calls', 'again', 'replies', 'unanswered', 'call_bytes', 'reply_bytes')
-RANKS = ('median_ns', 'p99_ns', 'most_ns')
-HEADS = ('procedure', 'calls', 'again', 'replies', 'no reply', 'call bytes', 'reply bytes', 'median ms', '99 % ms', 'most ms', 'errors')
+RANKS = ('median_ns', 'p99_ns', 'most_ns', 'mean_ns', 'sum_ns')
+HEADS = ('procedure', 'calls', 'again', 'replies', 'no reply', 'call bytes',
+         'reply bytes', 'median ms', '99 % ms', 'most ms', 'mean ms', 'sum ms', 'errors')
+LONGEST = 'longest'  # is before the errors in tables of one recording
 IN_ALL = 'in all'
+# The columns by which rows are sorted, but for the first with the largest number first.
+BY_NAME = 'procedure'
+COLUMNS: dict[str, typing.Callable[[Tally], int | None]] = {
+    'calls': lambda tally: tally.calls, 'again': lambda tally: tally.again,
+    'replies': lambda tally: tally.replies, 'no-reply': lambda tally: tally.unanswered,
+    'call-bytes': lambda tally: tally.call_bytes, 'reply-bytes': lambda tally: tally.reply_bytes,
+    'median': lambda tally: tally.ranked(PARTS)[0], 'p99': lambda tally: tally.ranked(PARTS)[1],
+    'most': lambda tally: tally.ranked(PARTS)[2], 'mean': lambda tally: tally.mean,
+    'sum': lambda tally: tally.total, 'errors': lambda tally: sum(tally.errors.values())}
 NANOSECONDS_OF_A_MILLISECOND = 1_000_000
 
 
@@ -56,11 +74,23 @@ class Table(typing.NamedTuple):
     verdict: Verdict | None
     tallies: Tallies
 
-    def rows(self) -> Iterator[tuple[str, Tally]]:
-        """Iterates over the procedures, and then all of them."""
-        for name in in_order(self.tallies):
+    def rows(self, column: str = BY_NAME) -> Iterator[tuple[str, Tally]]:
+        """Iterates over the procedures, sorted by a column, and then all of them."""
+        for name in sorted_by(column, in_order(self.tallies), self.tallies):
             yield name, self.tallies[name]
         yield IN_ALL, total_of(self.tallies)
+
+
+def sorted_by(column: str, names: list[str], *several: Tallies) -> list[str]:
+    """Returns names of procedures with the largest number of a column first, in whichever of
+    several tables that is; without a number last."""
+    if column == BY_NAME:
+        return names
+    def rank(name: str) -> tuple[bool, int]:
+        found = (COLUMNS[column](tallies[name]) for tallies in several if name in tallies)
+        numbers = [number for number in found if number is not None]
+        return not numbers, -max(numbers, default=0)
+    return sorted(names, key=rank)
 
 
 class Counted(typing.NamedTuple):
@@ -92,15 +122,32 @@ def counted(judge: Judge, recording: str) -> Counted:
 
 
 def table_of(judge: Judge, connection: TakenConnection, verdict: Verdict) -> Table:
-    return Table(verdict.recording, verdict, counted_of(judge.program, connection, verdict.state == 'refused'))
+    return Table(verdict.recording, verdict,
+                 counted_of(judge.program, verdict.recording, connection,
+                            verdict.state == 'refused'))
 
 
 # --- What is printed ---
 
-def cells_of(name: str, tally: Tally) -> list[str]:
-    """The cells of a row."""
+def cells_of(name: str, tally: Tally, is_named: bool) -> list[str]:
+    """The cells of a row. The longest latency is named by its recording, or not."""
     counts = (str(getattr(tally, count)) for count in COUNTS)
-    return [name, *counts, *map(milliseconds, tally.ranked(PARTS)), errors_of(tally.errors)]
+    return [name, *counts, *map(milliseconds, latencies_of(tally)),
+            longest_of(tally, is_named), errors_of(tally.errors)]
+
+
+def latencies_of(tally: Tally) -> list[int | None]:
+    """The latencies of a row."""
+    return [*tally.ranked(PARTS), tally.mean, tally.total]
+
+
+def longest_of(tally: Tally, is_named: bool) -> str:
+    """Where the longest latency is."""
+    longest = tally.longest
+    if longest is None:
+        return '-'
+    place = f'{longest.connection}:{longest.record} frame {longest.frame}'
+    return printable(f'{escaped(longest.recording)} {place}') if is_named else place
 
 
 def milliseconds(rank: int | None) -> str:
@@ -115,11 +162,20 @@ def most_first(errors: Counter[str]) -> list[tuple[str, int]]:
     return sorted(errors.items(), key=lambda error: (-error[1], error[0]))
 
 
-def print_table(title: str, table: Table) -> None:
+def print_table(title: str, table: Table, column: str) -> None:
     """Prints a table below its title, which is alone if there is nothing in the table. An empty line is before it."""
-    print(f'\n{title}')
-    for line in table.tallies and columns([HEADS, *(cells_of(*row) for row in table.rows())], range(1, len(HEADS) - 1)):
+    print(f'\n{title}{told_of_clock(total_of(table.tallies))}')
+    rows = [(*HEADS[:-1], LONGEST, HEADS[-1]),
+            *(cells_of(*row, table.recording is None) for row in table.rows(column))]
+    for line in table.tallies and columns(rows, range(1, len(HEADS) - 1)):
         print(line)
+
+
+def told_of_clock(tally: Tally) -> str:
+    """What is told of negative latencies."""
+    number = tally.backward
+    are = plural(number, 'latency is', 'latencies are')
+    return f'; the clock went back: {number:,} {are} negative' if number else ''
 
 
 def title_of(verdict: Verdict) -> str:
@@ -129,30 +185,33 @@ def title_of(verdict: Verdict) -> str:
     return printable(f'{named(verdict)}{ends}: {verdict.message}{how_far}')
 
 
-def print_tables(found: Sequence[Counted], is_total: bool) -> None:
+def print_tables(found: Sequence[Counted], is_total: bool, column: str) -> None:
     """Prints the tables of each recording, and what is said of it that is none of a connection."""
     for one in found:
         for table in [] if is_total else one.tables:
             assert table.verdict
-            print_table(title_of(table.verdict), table)
+            print_table(title_of(table.verdict), table, column)
         for verdict in one.verdicts:
             if is_row(verdict) and (verdict.state == 'error' or verdict.connection is None):
                 print('\n' + printable(f'{named(verdict)}: {verdict.message}'))
-        print_table(printable(f'{escaped(one.recording)} in all: {sums_of(one.verdicts)}'), one.in_all)
+        print_table(printable(f'{escaped(one.recording)} in all: {sums_of(one.verdicts)}'),
+                    one.in_all, column)
     if len(found) > 1:
         sums = sums_of([verdict for one in found for verdict in one.verdicts])
-        print_table(f'all recordings: {sums}', Table(None, None, sum_of(one.in_all.tallies for one in found)))
+        print_table(f'all recordings: {sums}',
+                    Table(None, None, sum_of(one.in_all.tallies for one in found)), column)
 
 
-def print_beside(first: Counted, second: Counted) -> None:
+def print_beside(first: Counted, second: Counted, column: str) -> None:
     """Prints two recordings in one table."""
     for name, one in zip('AB', (first, second)):
         for verdict in one.verdicts:
             if is_row(verdict) and verdict.state != 'ok':
                 print(printable(f'{named(verdict)}: {verdict.message}'))
-        print(printable(f'{name}: {escaped(one.recording)}: {sums_of(one.verdicts)}'))
+        told = told_of_clock(total_of(one.in_all.tallies))
+        print(printable(f'{name}: {escaped(one.recording)}: {sums_of(one.verdicts)}{told}'))
     here, there = (dict(one.in_all.rows()) for one in (first, second))
-    names = [*in_order({*here, *there} - {IN_ALL}), IN_ALL]
+    names = [*sorted_by(column, in_order({*here, *there} - {IN_ALL}), here, there), IN_ALL]
     rows = [cells_beside(name, here.get(name, Tally()), there.get(name, Tally())) for name in names]
     for line in columns([HEADS, *rows], range(1, len(HEADS) - 1)):
         print(line)
@@ -165,7 +224,7 @@ def cells_beside(name: str, first: Tally, second: Tally) -> list[str]:
               for error, _ in most_first(first.errors + second.errors))
     return [name, *(changed(str(number), str(other), change_of(number, other) if is_size else '') for number, other, is_size in counts),
             *(changed(milliseconds(rank), milliseconds(other), change_of(rank, other))
-              for rank, other in zip(first.ranked(PARTS), second.ranked(PARTS))),
+              for rank, other in zip(latencies_of(first), latencies_of(second))),
             ', '.join(errors) or '-']
 
 
@@ -182,8 +241,14 @@ def change_of(first: int | None, second: int | None) -> str:
 # --- What is written ---
 
 def object_of(name: str, tally: Tally) -> dict[str, typing.Any]:
-    counts, ranks = {count: getattr(tally, count) for count in COUNTS}, dict(zip(RANKS, tally.ranked(PARTS)))
-    return {'procedure': name, **counts, 'errors': dict(most_first(tally.errors)), 'latencies': len(tally.latencies), **ranks}
+    counts = {count: getattr(tally, count) for count in COUNTS}
+    ranks = dict(zip(RANKS, latencies_of(tally)))
+    longest = tally.longest
+    position = longest and str(Place(longest.connection, 'client', longest.record))
+    where = {'most_position': position, 'most_frame': longest and longest.frame,
+             'negative': tally.backward}
+    return {'procedure': name, **counts, 'errors': dict(most_first(tally.errors)),
+            'latencies': len(tally.latencies), **ranks, **where}
 
 
 def whose(table: Table) -> dict[str, typing.Any]:
@@ -194,20 +259,21 @@ def whose(table: Table) -> dict[str, typing.Any]:
             'server': verdict.server if verdict else ''}
 
 
-def json_of(found: Sequence[Counted]) -> bytes:
+def json_of(found: Sequence[Counted], column: str) -> bytes:
     """The verdicts, as tools/verdicts writes them, and the tables; of each the last object of its procedures is the sum."""
     verdicts = [verdict for one in found for verdict in one.verdicts]
-    tables = [{**whose(table), 'procedures': [object_of(*row) for row in table.rows()]}
+    tables = [{**whose(table), 'procedures': [object_of(*row) for row in table.rows(column)]}
               for one in found for table in (*one.tables, one.in_all)]
     whole = {'version': VERSION, 'counts': counts_after(verdicts).members(), 'verdicts': objects_of(verdicts), 'tables': tables}
     return json.dumps(whole, indent=1).encode() + b'\n'
 
 
-def csv_of(found: Sequence[Counted]) -> bytes:
+def csv_of(found: Sequence[Counted], column: str) -> bytes:
     """The tables in one, without the rows of sums. The rows of a recording in all have no connection."""
     text = io.StringIO()
     rows = [{**whose(table), **object_of(*row), 'errors': ' '.join(f'{name}={number}' for name, number in most_first(row[1].errors))}
-            for one in found for table in (*one.tables, one.in_all) for row in table.rows() if row[0] != IN_ALL]
+            for one in found for table in (*one.tables, one.in_all) for row in table.rows(column)
+            if row[0] != IN_ALL]
     heads = [*whose(Table(None, None, {})), *object_of('', Tally())]
     writer = csv.DictWriter(text, heads)
     writer.writeheader()
@@ -222,12 +288,11 @@ def words_of(words: list[str]) -> argparse.Namespace:
     parser.add_argument('recordings', metavar='RECORDING|CAPTURE', nargs='+')
     parser.add_argument('--beside', action='store_true', help='prints two recordings side by side, with what changed')
     parser.add_argument('--total', action='store_true', help='prints no tables of connections')
+    parser.add_argument('--sort', metavar='COLUMN', choices=[BY_NAME, *COLUMNS], default=BY_NAME,
+                        help=f'has the largest of a column first: {", ".join(COLUMNS)}')
     parser.add_argument('--json', metavar='FILE', help='writes the verdicts and the tables as JSON')
     parser.add_argument('--csv', metavar='FILE', help='writes the tables as comma-separated values')
-    add_program(parser)
-    add_options(parser)
-    add_losses(parser)
-    add_unchecked(parser)
+    add_judging(parser)
     chosen = parser.parse_args(words)
     if chosen.beside and len(chosen.recordings) != 2:
         parser.error('--beside takes two recordings')
@@ -244,11 +309,17 @@ def main(words: list[str]) -> int:
     tell_notes(verdicts)
     with printed_beside([chosen.json, chosen.csv]):
         if chosen.beside:
-            print_beside(*found)
+            print_beside(found[0], found[1], chosen.sort)
         else:
-            print_tables(found, chosen.total)
+            print_tables(found, chosen.total, chosen.sort)
     if chosen.json:
-        write_file(chosen.json, [json_of(found)], inputs)
+        write_file(chosen.json, [json_of(found, chosen.sort)], inputs)
     if chosen.csv:
-        write_file(chosen.csv, [csv_of(found)], inputs)
+        write_file(chosen.csv, [csv_of(found, chosen.sort)], inputs)
     return status_of(verdicts, allowed_of(chosen))
+
+
+command = partial(run, 'procedures', main)
+
+if __name__ == '__main__':
+    sys.exit(command())

@@ -1,11 +1,12 @@
 """Judges each connection of recordings and captures by itself.
 
-    tools/verdicts [--junit FILE] [--json FILE] [-j N] RECORDING|CAPTURE ..
-    tcpdump -i any -U -w - port 2049 | tools/verdicts --follow -
+    tools/verdicts [-q] [--junit FILE] [--json FILE] [-j N] RECORDING|CAPTURE ..
+    tcpdump -i any -U -w - port 2049 | tools/verdicts [-q] --follow -
 
 Each connection is a capture of its own, which `nfs3canon check` judges, so a fault in one hides nothing of another. A row is printed
 for each: the recording, the connection's number and ends, its calls and replies, and the verdict: `ok`, or the position and reason of
 its first fault with the frame that carries it. A recording that cannot be read has a row, too, and the others are judged still.
+-q prints no row of what is `ok`, and no heads.
 
 The last line counts all of them. Each comes under one word:
 
@@ -34,6 +35,8 @@ FILE is written beside its name, and gets it once it is whole. It is refused if 
 other statuses are 1 if a verdict is not good, 2 if the command line or FILE is refused or the program is missing, 3 if FILE cannot be
 written or a program died.
 """
+from __future__ import annotations
+
 import concurrent.futures
 import contextlib
 import functools
@@ -44,20 +47,23 @@ import sys
 import time
 import typing
 import xml.etree.ElementTree
+from functools import partial
 
-from .following import follow
-from .judging import (HEADS, Verdict, counts_after, error_of, is_row, of_covered, row_of, status_of, sums_of, tell_notes, told,
-                      verdict_of)
-from .messages import add_losses, add_options, add_program, add_unchecked, advice_on, allowed_of, options_of, parser_of, words_of
-from ..shared.outputs import printed_beside, try_outputs, write_file
+from ..judgement.following import follow
+from ..judgement.verdict import (
+    HEADS, Verdict, counts_after, error_of, is_row, of_covered, row_of, status_of, sums_of,
+    tell_notes, told, verdict_of)
+from ..recordings.coverage import Allowed, named as named_calls
 from ..recordings.parts import files_of
+from ..recordings.selection import Options
+from ..recordings.taken import NotTaken, Taken, TakenConnection, take
+from ..reporting.messages import (
+    add_judging, advice_on, allowed_of, options_of,
+    parser_of, run, words_of)
+from ..shared.outputs import printed_beside, try_outputs, write_file
 from ..shared.places import Place, parse_fault
 from ..shared.printed import columns, escaped, printable
 from ..shared.programs import CHECKED, Died, FilterRefused, Missing, program_path, run_program
-from ..recordings.coverage import Allowed
-from ..recordings.coverage import named as named_calls
-from ..recordings.selection import Options
-from ..recordings.taken import NotTaken, Taken, TakenConnection, take
 
 CONNECTIONS_AT_ONCE = 32  # of a recording
 VERSION = 2  # of the form of --json; the first was a list of the rows
@@ -72,8 +78,8 @@ class Judge(typing.NamedTuple):
     shows_progress: bool
 
     def verdicts(self, recording: str, look: Look | None = None) -> list[Verdict]:
-        """The verdicts on a recording or capture. What cannot be read is an error among them. `look` is called with them and with what
-        is taken."""
+        """The verdicts on a recording or capture. What cannot be read is an error among them.
+        `look` is called with them and with what is taken."""
         try:
             with take(recording, self.options, shows_progress=self.shows_progress) as taken:
                 verdicts = self.of_taken(recording, taken)
@@ -93,7 +99,8 @@ class Judge(typing.NamedTuple):
 
     def of_taken(self, recording: str, taken: Taken) -> list[Verdict]:
         with concurrent.futures.ThreadPoolExecutor(self.at_once) as threads:
-            verdicts = list(threads.map(functools.partial(self.of_connection, recording, taken), taken.connections))
+            verdicts = list(threads.map(functools.partial(self.of_connection, recording, taken),
+                                        taken.connections))
         verdicts += [of_covered(recording, covered) for covered in taken.not_taken()]
         if taken.damage and not taken.is_recording:
             verdicts += self.of_container(recording, verdicts)
@@ -110,7 +117,8 @@ class Judge(typing.NamedTuple):
         return verdict._replace(notes=connection.notes, seconds=time.monotonic() - begin)
 
     def of_container(self, recording: str, others: list[Verdict]) -> list[Verdict]:
-        """The verdict on a capture that is not whole, unless it is that on one of its connections."""
+        """The verdict on a capture that is not whole, unless it is that on one of its
+        connections."""
         answer = run_program(self.program, ['check', *files_of(recording)], CHECKED)
         fault = parse_fault(answer.error)
         if fault is None:
@@ -118,7 +126,8 @@ class Judge(typing.NamedTuple):
         at = fault.place.connection if isinstance(fault.place, Place) else None
         if at is not None and any(other.connection == at for other in others):
             return []
-        return [Verdict(recording, at, state='refused', message=str(fault), position=str(fault.place), reason=fault.reason)]
+        return [Verdict(recording, at, state='refused', message=str(fault),
+                        position=str(fault.place), reason=fault.reason)]
 
 
 # --- The command ---
@@ -126,30 +135,34 @@ class Judge(typing.NamedTuple):
 def main(words: list[str]) -> int:
     parser = parser_of(__doc__, 'verdicts')
     parser.add_argument('recordings', metavar='RECORDING|CAPTURE', nargs='+')
+    parser.add_argument('-q', '--quiet', action='store_true',
+                        help='prints no row of what is ok, and no heads')
     parser.add_argument('--junit', metavar='FILE', help='writes the verdicts as JUnit XML')
     parser.add_argument('--json', metavar='FILE', help='writes the verdicts as JSON')
     parser.add_argument('-j', metavar='N', type=positive, help='judges N recordings at once')
-    parser.add_argument('--follow', action='store_true', help='judges one recording while it is made, and prints each verdict at once')
-    add_program(parser)
-    add_options(parser)
-    add_losses(parser)
-    add_unchecked(parser)
+    parser.add_argument('--follow', action='store_true',
+                        help='judges one recording while it is made, and prints each verdict at once')
+    add_judging(parser)
     chosen = parser.parse_args(words)
     if chosen.follow:
         if len(chosen.recordings) > 1 or any((chosen.j, chosen.junit, chosen.json, chosen.filter)):
-            parser.error('--follow takes one recording, and none of -j, --junit, --json and --filter')
-        return follow(chosen.recordings[0], program_path(chosen.program), options_of(chosen), allowed_of(chosen))
+            parser.error(
+                '--follow takes one recording, and none of -j, --junit, --json and --filter')
+        return follow(chosen.recordings[0], program_path(chosen.program), options_of(chosen),
+                      allowed_of(chosen), chosen.quiet)
     recordings_at_once = chosen.j or os.cpu_count() or 1
     at_once = max(1, min(CONNECTIONS_AT_ONCE, recordings_at_once // len(chosen.recordings)))
     inputs = [file for recording in chosen.recordings for file in files_of(recording)]
     try_outputs([chosen.junit, chosen.json], inputs)
-    judge = Judge(program_path(chosen.program), options_of(chosen), at_once, len(chosen.recordings) == 1)
+    judge = Judge(program_path(chosen.program), options_of(chosen), at_once,
+                  len(chosen.recordings) == 1)
     try:
         verdicts = list(judged(judge, chosen.recordings, recordings_at_once))
     except concurrent.futures.BrokenExecutor as broken:
-        raise OSError('a process that judged a recording was killed, as when memory runs out') from broken
+        raise OSError(
+            'a process that judged a recording was killed, as when memory runs out') from broken
     with printed_beside([chosen.junit, chosen.json]):
-        print_table(verdicts)
+        print_table(verdicts, chosen.quiet)
     if chosen.junit:
         write_file(chosen.junit, [junit_of(verdicts, allowed_of(chosen))], inputs)
     if chosen.json:
@@ -164,7 +177,8 @@ def positive(word: str) -> int:
 
 
 def judged(judge: Judge, recordings: list[str], at_once: int) -> typing.Iterator[Verdict]:
-    """Iterates over the verdicts in the order of the recordings, which processes of their own judge if they are several."""
+    """Iterates over the verdicts in the order of the recordings, which processes of their own judge
+    if they are several."""
     processes, is_shown = min(at_once, len(recordings)), sys.stderr.isatty()
     with contextlib.ExitStack() as pools:
         map_all: typing.Callable[..., typing.Iterator[list[Verdict]]] = map
@@ -174,7 +188,8 @@ def judged(judge: Judge, recordings: list[str], at_once: int) -> typing.Iterator
             map_all = pool.map
         for number, verdicts in enumerate(map_all(judge.verdicts, recordings), 1):
             if is_shown and len(recordings) > 1:
-                print(f'\r{number} of {len(recordings)} recordings', end='' if number < len(recordings) else '\r\x1b[K',
+                print(f'\r{number} of {len(recordings)} recordings',
+                      end='' if number < len(recordings) else '\r\x1b[K',
                       file=sys.stderr, flush=True)
             yield from verdicts
 
@@ -188,22 +203,25 @@ def leave_interrupts() -> None:
 
 # --- What is printed and written ---
 
-def print_table(verdicts: list[Verdict]) -> None:
-    """Prints a row for each verdict but those on connections that show no call, which with all notes go to standard error."""
+def print_table(verdicts: list[Verdict], is_quiet: bool) -> None:
+    """Prints a row for each verdict but those on connections that show no call, which with all
+    notes go to standard error."""
     tell_notes(verdicts)
-    for line in columns([HEADS, *(row_of(verdict) for verdict in verdicts if is_row(verdict))]):
+    rows = [row_of(verdict) for verdict in verdicts if is_row(verdict, is_quiet)]
+    for line in columns(rows if is_quiet else [HEADS, *rows]):
         print(line)
     print(sums_of(verdicts))
 
 
 def junit_of(verdicts: list[Verdict], allowed: Allowed) -> bytes:
-    """The verdicts as JUnit XML: a suite with a test case for each, the counts as its properties, and the notes on whole recordings as its
-    output."""
+    """The verdicts as JUnit XML: a suite with a test case for each, the counts as its properties,
+    and the notes on whole recordings as its output."""
     element = xml.etree.ElementTree.SubElement
     suites = xml.etree.ElementTree.Element('testsuites')
     cases = [verdict for verdict in verdicts if verdict.state != 'note']
     found = [tag_of(verdict, allowed) for verdict in cases]
-    suite = element(suites, 'testsuite', name='nfs3canon', tests=str(len(cases)), failures=str(found.count('failure')),
+    suite = element(suites, 'testsuite', name='nfs3canon', tests=str(len(cases)),
+                    failures=str(found.count('failure')),
                     errors=str(found.count('error')), skipped=str(found.count('skipped')),
                     time=f'{sum(verdict.seconds for verdict in verdicts):.3f}')
     properties = element(suite, 'properties')
@@ -211,18 +229,22 @@ def junit_of(verdicts: list[Verdict], allowed: Allowed) -> bytes:
     for name, value in [*counts.numbers().items(), ('raw', named_calls(counts.raw))]:
         element(properties, 'property', name=name, value=str(value))
     for verdict, tag in zip(cases, found):
-        case = element(suite, 'testcase', classname=escaped(verdict.recording), name=name_of(verdict),
+        case = element(suite, 'testcase', classname=escaped(verdict.recording),
+                       name=name_of(verdict),
                        time=f'{verdict.seconds:.3f}')
         is_word = verdict.state in ('in part', 'left out', 'not checked')
         if tag:
-            element(case, tag, {'type': verdict.state} if is_word and tag == 'failure' else {}, message=printable(verdict.message))
+            element(case, tag, {'type': verdict.state} if is_word and tag == 'failure' else {},
+                    message=printable(verdict.message))
         told = [verdict.message] * is_word + verdict.notes
         if told and tag != 'skipped':
             element(case, 'system-out').text = '\n'.join(map(printable, told))
-    notes = [printable(f'{escaped(verdict.recording)}: {verdict.message}') for verdict in verdicts if verdict.state == 'note']
+    notes = [printable(f'{escaped(verdict.recording)}: {verdict.message}') for verdict in verdicts
+             if verdict.state == 'note']
     if notes:
         element(suite, 'system-out').text = '\n'.join(notes)
-    return bytes(xml.etree.ElementTree.tostring(suites, encoding='utf-8', xml_declaration=True)) + b'\n'
+    return bytes(xml.etree.ElementTree.tostring(suites, encoding='utf-8',
+                                                xml_declaration=True)) + b'\n'
 
 
 def tag_of(verdict: Verdict, allowed: Allowed) -> str | None:
@@ -242,7 +264,8 @@ def name_of(verdict: Verdict) -> str:
 
 def json_of(verdicts: list[Verdict]) -> bytes:
     """The verdicts as JSON, with the version of this form, the counts, and an object for each."""
-    whole = {'version': VERSION, 'counts': counts_after(verdicts).members(), 'rows': objects_of(verdicts)}
+    whole = {'version': VERSION, 'counts': counts_after(verdicts).members(),
+             'rows': objects_of(verdicts)}
     return json.dumps(whole, indent=1).encode() + b'\n'
 
 
@@ -251,7 +274,14 @@ def objects_of(verdicts: list[Verdict]) -> list[dict[str, object]]:
     rows = []
     for verdict in verdicts:
         row = verdict._asdict()
-        row.update(recording=escaped(verdict.recording), raw=dict(verdict.raw), frames=[frame._asdict() for frame in verdict.frames],
+        row.update(recording=escaped(verdict.recording), raw=dict(verdict.raw),
+                   frames=[frame._asdict() for frame in verdict.frames],
                    seconds=round(verdict.seconds, 3))
         rows.append(row)
     return rows
+
+
+command = partial(run, 'verdicts', main)
+
+if __name__ == '__main__':
+    sys.exit(command())

@@ -1,1 +1,1 @@
-"""What is taken of a recording: its files, frames, segments, streams and records."""
+"""What is taken of a recording or a capture: its files, frames, segments, streams, records and container."""

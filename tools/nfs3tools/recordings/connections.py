@@ -1,4 +1,6 @@
 """Connections of TCP: which segments belong to which, also if the same ends have several."""
+from __future__ import annotations
+
 from .segments import ACK, FIN, RST, SYN, Segment, ends_of, turned
 from .spool import Frames, Spool
 from .streams import HELD_BY_ALL, NUMBERS, Budget, Stream
@@ -13,12 +15,14 @@ class Connection:
     strays: frames of which nothing is taken, and why
     """
     __slots__ = ('number', 'key', 'client', 'has_syn', 'first_payload', 'is_chosen', 'is_judged', 'is_closed_later', 'reset_at',
-                 'streams', 'older', 'begun_by', 'is_stray', 'strays', 'after', 'shown_after', 'is_told')
+                 'streams', 'older', 'begun_by', 'is_stray', 'strays', 'after', 'shown_after', 'is_told',
+                 'opened_by')
 
     def __init__(self, number: int, key: bytes, spool: Spool, budget: Budget, keeps_frames: bool, begun_by: int = 0) -> None:
         self.number, self.key, self.begun_by = number, key, begun_by  # the number as Wireshark counts tcp.stream, from 0
         self.client: int | None = None  # the end that sent SYN
         self.has_syn = [False, False]  # whether SYN of each end was recorded
+        self.opened_by = [0, 0]  # and its frame
         self.first_payload: int | None = None  # the end that sent payload first
         self.is_chosen = False
         self.is_judged = False  # nothing of it is wanted any more
@@ -80,6 +84,7 @@ class Connection:
             return
         if flags & SYN:
             self.client, self.has_syn[side] = 1 - side if flags & ACK else side, True
+            self.opened_by[side] = self.opened_by[side] or number
             own.begun_late(sequence + 1, number)
             sequence += 1
         if flags & ACK and (acknowledged != other.acknowledged or flags & SYN):

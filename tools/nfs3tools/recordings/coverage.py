@@ -9,12 +9,14 @@
 `Taken.covered` returns a `Covered` for each. What is not judged though no connection stands for it has one, too: datagrams of UDP, a
 recording that ends inside a frame. `Counts` is the sum of any number of them.
 """
+from __future__ import annotations
+
 import collections
 import struct
 import typing
 from collections.abc import Iterable, Mapping
 
-from ..captures.layouts import MOUNT, NFS, RAW, procedure_of
+from ..shared.layouts import MOUNT, NFS, RAW, procedure_of
 from .records import Window, body_of, extents
 
 Word = typing.Literal['judged', 'in part', 'left out', 'not checked']
@@ -25,32 +27,40 @@ HEAD_AT, HEAD_END = 4, 4 + HEAD.size  # after the xid
 
 # The procedures of other programs by their numbers, for what is printed.
 PORTMAP, NLM, NFSACL = 100000, 100021, 100227
-PROGRAMS = {NFS: 'NFS', MOUNT: 'MOUNT', PORTMAP: 'PORTMAP', NLM: 'NLM', NFSACL: 'NFSACL', 100011: 'RQUOTA', 100024: 'NSM'}
-RPCBIND = ('NULL', 'SET', 'UNSET', 'GETADDR', 'DUMP', 'BCAST', 'GETTIME', 'UADDR2TADDR', 'TADDR2UADDR', 'GETVERSADDR', 'INDIRECT',
+PROGRAMS = {NFS: 'NFS', MOUNT: 'MOUNT', PORTMAP: 'PORTMAP', NLM: 'NLM', NFSACL: 'NFSACL',
+            100011: 'RQUOTA', 100024: 'NSM'}
+RPCBIND = ('NULL', 'SET', 'UNSET', 'GETADDR', 'DUMP', 'BCAST', 'GETTIME', 'UADDR2TADDR',
+           'TADDR2UADDR', 'GETVERSADDR', 'INDIRECT',
            'GETADDRLIST', 'GETSTAT')
 PROCEDURES: Mapping[tuple[int, int], tuple[str, ...]] = {
-    (PORTMAP, 2): ('NULL', 'SET', 'UNSET', 'GETPORT', 'DUMP', 'CALLIT'), (PORTMAP, 3): RPCBIND, (PORTMAP, 4): RPCBIND,
-    (NFSACL, 2): ('NULL', 'GETACL', 'SETACL', 'GETATTR', 'ACCESS'), (NFSACL, 3): ('NULL', 'GETACL', 'SETACL'),
-    **{(NLM, version): ('NULL', 'TEST', 'LOCK', 'CANCEL', 'UNLOCK', 'GRANTED', 'TEST_MSG', 'LOCK_MSG', 'CANCEL_MSG', 'UNLOCK_MSG',
-                        'GRANTED_MSG', 'TEST_RES', 'LOCK_RES', 'CANCEL_RES', 'UNLOCK_RES', 'GRANTED_RES') for version in (1, 3, 4)}}
+    (PORTMAP, 2): ('NULL', 'SET', 'UNSET', 'GETPORT', 'DUMP', 'CALLIT'), (PORTMAP, 3): RPCBIND,
+    (PORTMAP, 4): RPCBIND,
+    (NFSACL, 2): ('NULL', 'GETACL', 'SETACL', 'GETATTR', 'ACCESS'),
+    (NFSACL, 3): ('NULL', 'GETACL', 'SETACL'),
+    **{(NLM, version): ('NULL', 'TEST', 'LOCK', 'CANCEL', 'UNLOCK', 'GRANTED', 'TEST_MSG',
+                        'LOCK_MSG', 'CANCEL_MSG', 'UNLOCK_MSG',
+                        'GRANTED_MSG', 'TEST_RES', 'LOCK_RES', 'CANCEL_RES', 'UNLOCK_RES',
+                        'GRANTED_RES') for version in (1, 3, 4)}}
 
 
 class Allowed(typing.NamedTuple):
-    """What does not make the status 1: bytes that are missing and connections that are left out, and calls that are not checked."""
+    """What does not make the status 1: bytes that are missing and connections that are left out,
+    and calls that are not checked."""
     losses: bool = False
     not_checked: bool = False
 
 
 class Called(typing.NamedTuple):
-    """The calls of a connection by the heads of their records: how many there are, how many of them have a type, and the others by
-    name: those of NFS and MOUNT, and those of other programs."""
+    """The calls of a connection by the heads of their records: how many there are, how many of them
+    have a type, and the others by name: those of NFS and MOUNT, and those of other programs."""
     calls: int = 0
     typed: int = 0
     unchecked: Mapping[str, int] = {}
     raw: Mapping[str, int] = {}
 
     def __add__(self, other: 'Called') -> 'Called':  # type: ignore[override]
-        return Called(self.calls + other.calls, self.typed + other.typed, together(self.unchecked, other.unchecked),
+        return Called(self.calls + other.calls, self.typed + other.typed,
+                      together(self.unchecked, other.unchecked),
                       together(self.raw, other.raw))
 
 
@@ -63,7 +73,8 @@ class Covered(typing.NamedTuple):
     missing: its bytes that the recording lacks
     lacks: why it is in part, other than for these bytes
     called: the calls of a connection that is taken
-    shows_calls: whether calls may be in it; a connection that is left out and shows none changes no status
+    shows_calls: whether calls may be in it; a connection that is left out and shows none changes no
+        status
     """
     word: Word
     reason: str = ''
@@ -86,7 +97,8 @@ class Covered(typing.NamedTuple):
 
 
 class Counts(typing.NamedTuple):
-    """How many there are under each word: those that are judged by the program's verdict, and those that could not be read at all.
+    """How many there are under each word: those that are judged by the program's verdict, and those
+    that could not be read at all.
 
     without_calls: how many of those that are left out show no call
     raw: the calls of other programs in connections that are taken, by name
@@ -105,8 +117,9 @@ class Counts(typing.NamedTuple):
         return self.ok + self.refused
 
     def __add__(self, other: 'Counts') -> 'Counts':  # type: ignore[override]
-        numbers = (one + more for one, more in zip(self[:-1], other[:-1]))
-        return Counts(*typing.cast(Iterable[int], numbers), raw=together(self.raw, other.raw))
+        numbers = {name: getattr(self, name) + getattr(other, name) for name in self._fields
+                   if name != 'raw'}
+        return Counts(**numbers, raw=together(self.raw, other.raw))
 
     def words(self) -> str:
         """The sum as all tools print it."""
@@ -117,26 +130,29 @@ class Counts(typing.NamedTuple):
 
     def numbers(self) -> dict[str, int]:
         """How many there are under each word, for files that others read."""
-        return {'judged': self.judged, 'ok': self.ok, 'refused': self.refused, 'in part': self.in_part, 'left out': self.left_out,
-                'without calls': self.without_calls, 'not checked': self.not_checked, 'errors': self.errors}
+        return {'judged': self.judged, 'ok': self.ok, 'refused': self.refused,
+                'in part': self.in_part, 'left out': self.left_out,
+                'without calls': self.without_calls, 'not checked': self.not_checked,
+                'errors': self.errors}
 
     def members(self) -> dict[str, object]:
         """The same for JSON, with the calls of other programs."""
         return {**self.numbers(), 'raw': dict(self.raw)}
 
 
-Counted = Word | typing.Literal['ok', 'refused', 'error', 'note']
+Counted = typing.Union[Word, typing.Literal['ok', 'refused', 'error', 'note']]
 
 
 def counts_of(several: Iterable[tuple[Counted, bool, Mapping[str, int]]]) -> Counts:
-    """Returns the sum of several, each its word (`ok` or `refused` in place of `judged`), whether calls may be in it, and the calls of
-    other programs."""
+    """Returns the sum of several, each its word (`ok` or `refused` in place of `judged`), whether
+    calls may be in it, and the calls of other programs."""
     words, bare, raw = collections.Counter[Counted](), 0, collections.Counter[str]()
     for word, shows_calls, calls in several:
         words[word] += 1
         bare += not shows_calls
         raw.update(calls)
-    return Counts(words['ok'] + words['judged'], words['refused'], words['in part'], words['left out'], words['not checked'],
+    return Counts(words['ok'] + words['judged'], words['refused'], words['in part'],
+                  words['left out'], words['not checked'],
                   words['error'], bare, raw)
 
 
@@ -146,7 +162,8 @@ def together(first: Mapping[str, int], second: Mapping[str, int]) -> Mapping[str
 
 def named(calls: Mapping[str, int]) -> str:
     """Calls by name, the most frequent first."""
-    return ', '.join(f'{number:,} {name}' for name, number in sorted(calls.items(), key=lambda one: (-one[1], one[0])))
+    return ', '.join(f'{number:,} {name}'
+                     for name, number in sorted(calls.items(), key=lambda one: (-one[1], one[0])))
 
 
 # --- Calls ---
@@ -160,9 +177,11 @@ class Sized(typing.Protocol):
 
 
 def called_in(stream: Sized) -> Called:
-    """Counts the calls in a stream of records. It reads the heads of their messages and nothing more."""
+    """Counts the calls in a stream of records. It reads the heads of their messages and nothing
+    more."""
     heads = heads_in(stream)
-    calls = {HEAD.unpack(head)[2:]: number for head, number in heads.items() if len(head) == HEAD.size and HEAD.unpack(head)[:2] == (0, 2)}
+    calls = {HEAD.unpack(head)[2:]: number for head, number in heads.items()
+             if len(head) == HEAD.size and HEAD.unpack(head)[:2] == (0, 2)}
     typed, unchecked, raw = 0, collections.Counter[str](), collections.Counter[str]()
     for (program, version, procedure), number in calls.items():
         if procedure_of(program, version, procedure) is not RAW:
@@ -175,11 +194,13 @@ def called_in(stream: Sized) -> Called:
 
 
 def heads_in(stream: Sized) -> collections.Counter[bytes]:
-    """How many records have each head, from the word after the xid up to the procedure; fewer bytes of those that have no more."""
+    """How many records have each head, from the word after the xid up to the procedure; fewer bytes
+    of those that have no more."""
     window, found = Window(stream), collections.Counter[bytes]()
     for extent in extents(window, 0, stream.size):
         if extent.marks == 1:
-            found[window.read(extent.begin + 4, min(HEAD_END, extent.end - extent.begin - 4))[HEAD_AT:]] += 1
+            found[window.read(extent.begin + 4,
+                              min(HEAD_END, extent.end - extent.begin - 4))[HEAD_AT:]] += 1
         else:
             found[body_of(window, extent, HEAD_END)[HEAD_AT:]] += 1
     return found
@@ -187,7 +208,8 @@ def heads_in(stream: Sized) -> collections.Counter[bytes]:
 
 def version_named(program: int, version: int, procedure: int) -> str:
     """The name of a call of NFS or MOUNT that has no type."""
-    return f'{PROGRAMS[program]} version {version}' + (f' procedure {procedure}' if version == 3 else '')
+    return f'{PROGRAMS[program]} version {version}' + (f' procedure {procedure}' if version == 3
+                                                       else '')
 
 
 def call_named(program: int, version: int, procedure: int) -> str:
@@ -199,13 +221,16 @@ def call_named(program: int, version: int, procedure: int) -> str:
 
 # --- Connections ---
 
-def of_connection(called: Called, server_port: int | None, ports: frozenset[int], missing: int, lacks: tuple[str, ...]) -> Covered:
-    """Returns the word of a connection that is taken. `server_port` is `None` if it is not known; `ports` are those of NFS."""
+def of_connection(called: Called, server_port: int | None, ports: frozenset[int], missing: int,
+                  lacks: tuple[str, ...]) -> Covered:
+    """Returns the word of a connection that is taken. `server_port` is `None` if it is not known;
+    `ports` are those of NFS."""
     reason = not_checked(called, server_port in ports)
     if reason:
         return Covered('not checked', reason, missing=missing, lacks=lacks, called=called)
     is_whole = not (missing or lacks)
-    return Covered('judged' if is_whole else 'in part', in_part(missing, lacks), missing=missing, lacks=lacks, called=called)
+    return Covered('judged' if is_whole else 'in part', in_part(missing, lacks), missing=missing,
+                   lacks=lacks, called=called)
 
 
 def not_checked(called: Called, is_of_nfs: bool) -> str:
@@ -214,10 +239,12 @@ def not_checked(called: Called, is_of_nfs: bool) -> str:
         what = named(called.unchecked) if len(called.unchecked) > 1 else next(iter(called.unchecked))
         return f'{sum(called.unchecked.values()):,} of {called.calls:,} calls ({what})'
     if is_of_nfs and not called.typed:
-        return 'no call of NFS or MOUNT version 3' + (f' ({named(called.raw)})' if called.raw else '')
+        return 'no call of NFS or MOUNT version 3' + (f' ({named(called.raw)})' if called.raw
+                                                      else '')
     return ''
 
 
 def in_part(missing: int, lacks: Iterable[str]) -> str:
     """Why a connection is in part; '' if it is not."""
-    return ', '.join([*([f'{missing:,} {"byte" if missing == 1 else "bytes"} missing'] if missing else []), *lacks])
+    return ', '.join([*([f'{missing:,} {"byte" if missing == 1 else "bytes"} missing'] if missing
+                        else []), *lacks])

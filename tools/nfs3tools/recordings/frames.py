@@ -1,10 +1,12 @@
 """Recordings of packets: pcap and pcapng, also compressed, as a run of frames."""
+from __future__ import annotations
+
 import contextlib
 import struct
 import sys
 import typing
 
-from .kinds import LONGEST_MAGIC, PACKED_BY, PCAP, SECTION
+from ..shared.kinds import LONGEST_MAGIC, PACKED_BY, PCAP, SECTION
 from .unpacking import READ_AT_ONCE, CutShort, Damaged, Readable, unpacked
 
 LONGEST = 1 << 24  # bytes of a frame or block; a greater length is damage, and is never allocated
@@ -16,7 +18,8 @@ TIME_UNIT, TIME_OFFSET = 9, 14  # options of an interface: if_tsresol, if_tsoffs
 
 
 class NoRecording(Exception):
-    """The file is neither pcap nor pcapng. `packed_by` is the program that compressed it, if that is known."""
+    """The file is neither pcap nor pcapng. `packed_by` is the program that compressed it, if that
+    is known."""
 
     def __init__(self, text: str, packed_by: str | None = None) -> None:
         super().__init__(text)
@@ -24,8 +27,8 @@ class NoRecording(Exception):
 
 
 class Frame(typing.NamedTuple):
-    """A frame: its number, from 1; nanoseconds since 1970, 0 if it has no time; its link type; the bytes that were
-    recorded; and how many it had on the wire, which may be more."""
+    """A frame: its number, from 1; nanoseconds since 1970, 0 if it has no time; its link type; the
+    bytes that were recorded; and how many it had on the wire, which may be more."""
     number: int
     time: int
     link: int
@@ -34,8 +37,8 @@ class Frame(typing.NamedTuple):
 
 
 class Source:
-    """Bytes that are taken from the front, in pieces of any size. `at` counts those that were taken. Those of a compressed file are what is
-    in it."""
+    """Bytes that are taken from the front, in pieces of any size. `at` counts those that were
+    taken. Those of a compressed file are what is in it."""
 
     def __init__(self, file: Readable) -> None:
         self.file, self.block, self.begin, self.before = file, b'', 0, 0
@@ -69,7 +72,8 @@ class Source:
         return self.take(size)
 
     def fill(self, size: int) -> None:
-        """Reads until `size` bytes are there, or the file ends. Raises `Damaged` if it is not known whether it does."""
+        """Reads until `size` bytes are there, or the file ends. Raises `Damaged` if it is not known
+        whether it does."""
         self.before += self.begin
         parts, there = [self.block[self.begin:]], len(self.block) - self.begin
         while there < size and (more := self.more()):
@@ -89,7 +93,8 @@ class Source:
 
 
 class Interface(typing.NamedTuple):
-    """An interface of pcapng: its link type, the bytes kept of a frame (0 for all), and its unit and offset of time."""
+    """An interface of pcapng: its link type, the bytes kept of a frame (0 for all), and its unit
+    and offset of time."""
     link: int
     kept: int
     units: int
@@ -102,7 +107,8 @@ class Interface(typing.NamedTuple):
 
 
 class Recording:
-    """The frames of a recording. After they were iterated over, `cut` or `damage` says how it ended, if not as a whole."""
+    """The frames of a recording. After they were iterated over, `cut` or `damage` says how it
+    ended, if not as a whole."""
 
     def __init__(self, source: Source) -> None:
         self.source = source
@@ -152,10 +158,12 @@ class Recording:
             if data is None:
                 return
             self.count += 1
-            yield Frame(self.count, seconds * NANOSECONDS + fraction * scale, link, data, max(length, kept))
+            yield Frame(self.count, seconds * NANOSECONDS + fraction * scale, link, data,
+                        max(length, kept))
 
     def of_block(self, fields: struct.Struct, scale: int, link: int) -> typing.Iterator[Frame]:
-        """Iterates over the frames that stand whole in the block that was read; this is where the time goes."""
+        """Iterates over the frames that stand whole in the block that was read; this is where the
+        time goes."""
         block, at, number, unpack = self.source.block, self.source.begin, self.count, fields.unpack_from
         last = len(block) - 16
         while at <= last:
@@ -164,7 +172,8 @@ class Recording:
             if end > len(block):
                 break
             number += 1
-            yield Frame(number, seconds * NANOSECONDS + fraction * scale, link, block[at + 16:end], length if length > kept else kept)
+            yield Frame(number, seconds * NANOSECONDS + fraction * scale, link, block[at + 16:end],
+                        length if length > kept else kept)
             at = end
         self.source.begin, self.count = at, number
 
@@ -262,7 +271,8 @@ def obsolete(order: str, body: bytes, interfaces: list[Interface], number: int) 
 
 
 def simple(order: str, body: bytes, interfaces: list[Interface], number: int) -> Frame:
-    """A frame of the first interface, without a time. What was kept of it is not told but by the interface."""
+    """A frame of the first interface, without a time. What was kept of it is not told but by the
+    interface."""
     length, = fields_of(order, 'I', body)
     interface = interface_at(interfaces, 0)
     kept = min(length, interface.kept or length, len(body) - 4)
@@ -270,7 +280,8 @@ def simple(order: str, body: bytes, interfaces: list[Interface], number: int) ->
 
 
 Packet = typing.Callable[[str, bytes, list[Interface], int], Frame]
-PACKETS: dict[int, Packet] = {ENHANCED_PACKET: enhanced, OBSOLETE_PACKET: obsolete, SIMPLE_PACKET: simple}
+PACKETS: dict[int, Packet] = {ENHANCED_PACKET: enhanced, OBSOLETE_PACKET: obsolete,
+                              SIMPLE_PACKET: simple}
 
 
 @contextlib.contextmanager

@@ -1,4 +1,6 @@
 """Pieces of bytes that wait for others."""
+from __future__ import annotations
+
 import bisect
 
 COST_OF_PIECE = 128  # bytes that a piece takes besides its own

@@ -2,6 +2,8 @@
 
 An argument that is the name of no file is a pattern, as `run.pcap*`. In quotes the shell leaves it to the tool.
 """
+from __future__ import annotations
+
 import glob
 import os
 import re
@@ -20,18 +22,21 @@ class Part(typing.NamedTuple):
 
 
 def files_of(path: str) -> list[str]:
-    """Returns the files that an argument names, sorted by their names; itself if no pattern helps."""
+    """Returns the files that an argument names, sorted by their names; itself if no pattern
+    helps."""
     if path == '-' or os.path.lexists(path):
         return [path]
     return sorted(glob.glob(path)) or [path]
 
 
 def in_order(files: list[str]) -> list[str]:
-    """Returns parts in the order of the times of their first frames, and of their numbers if these are equal.
+    """Returns parts in the order of the times of their first frames, and of their numbers if these
+    are equal.
 
     Raises `NoRecording` if one is none, and `OSError`.
     """
-    return sorted(files, key=lambda file: (first_time(file), len(file), file)) if len(files) > 1 else files
+    return sorted(files,
+                  key=lambda file: (first_time(file), len(file), file)) if len(files) > 1 else files
 
 
 def first_time(path: str) -> int:
@@ -44,10 +49,12 @@ def first_time(path: str) -> int:
 
 
 def pattern_beside(path: str) -> str | None:
-    """Returns a pattern in quotes for a file and those beside it whose names differ in a last number alone, if there are any."""
+    """Returns a pattern in quotes for a file and those beside it whose names differ in a last
+    number alone, if there are any."""
     if path == '-':
         return None
     base = re.sub(r'\d+$', '', path)
     numbered = re.compile(re.escape(base) + r'\d*')
-    others = [file for file in glob.glob(glob.escape(base) + '*') if numbered.fullmatch(file) and file != path]
+    others = [file for file in glob.glob(glob.escape(base) + '*') if numbered.fullmatch(file)
+              and file != path]
     return shlex.quote(glob.escape(base) + '*') if others and os.path.basename(base) else None

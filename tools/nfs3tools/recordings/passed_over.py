@@ -1,4 +1,6 @@
 """What is told of frames of which nothing is taken."""
+from __future__ import annotations
+
 from .coverage import Covered
 from .segments import Segments
 from .selection import count, plural
@@ -24,7 +26,8 @@ def notes_of(segments: Segments) -> list[str]:
 
 
 def nothing_in(segments: Segments) -> str:
-    """What is said of a recording in which there is no connection: the kinds of its frames, if it has some."""
+    """What is said of a recording in which there is no connection: the kinds of its frames, if it
+    has some."""
     kinds = sorted(segments.others.items(), key=lambda one: (-one[1], one[0]))
     told = ', '.join(f'{number:,} of {name.rstrip(TUNNEL)}' for name, number in kinds)
     frames = count(sum(segments.others.values()), 'frame')

@@ -1,4 +1,6 @@
 """Records of a stream (RFC 5531, section 11): their marks, the heads of their messages, and where a run of them begins."""
+from __future__ import annotations
+
 import array
 import re
 import struct
@@ -18,8 +20,9 @@ LONGEST_AUTH = 400
 HEAD_OF_CALL, HEAD_OF_REPLY = 40, 20  # bytes of the shortest call and reply
 LONGEST_HEAD = 28 + LONGEST_AUTH  # bytes up to the accept_stat of a reply, with the mark
 
-# What follows the xid: mtype and rpcvers, any program, a small version and procedure, a flavor and the length of its body;
-# and mtype and reply_stat, then the flavor of a verifier and its length, or the reason of a denial.
+# What follows the xid: mtype and rpcvers, any program, a small version and procedure, a flavor and
+# the length of its body; and mtype and reply_stat, then the flavor of a verifier and its length, or
+# the reason of a denial.
 FLAVOR = rb'\0\0\0[\0-\x03\x06\x07]\0\0[\0\x01].'
 CALL = re.compile(rb'\0\0\0\0\0\0\0\x02....\0\0\0.\0\0..' + FLAVOR, re.DOTALL)
 REPLY = re.compile(rb'\0\0\0\x01\0\0\0(?:\0' + FLAVOR + rb'|\x01\0\0\0[\0\x01])', re.DOTALL)
@@ -52,8 +55,8 @@ class Window:
 
 
 class Extent(typing.NamedTuple):
-    """A record: where it begins with its first mark, where it ends, whether it is whole, and whether a mark claims more
-    than a body may have (then nothing tells where it ends)."""
+    """A record: where it begins with its first mark, where it ends, whether it is whole, and
+    whether a mark claims more than a body may have (then nothing tells where it ends)."""
     begin: int
     end: int
     is_whole: bool
@@ -88,8 +91,8 @@ def extents(window: Window, begin: int, end: int) -> typing.Iterator[Extent]:
 
 
 def plain_extents(window: Window, begin: int, end: int) -> typing.Iterator[Extent]:
-    """The same of records that are whole and of one fragment, as most are, and whose marks are in the block that was fetched last. This is
-    where the time goes."""
+    """The same of records that are whole and of one fragment, as most are, and whose marks are in
+    the block that was fetched last. This is where the time goes."""
     block, unpack, make = window.block, MARK.unpack_from, Extent._make
     shift, last = window.begin, window.begin + len(block) - 4
     while shift <= begin <= last:
@@ -115,7 +118,8 @@ def has_head(head: bytes, side: Side) -> bool:
     if len(head) < 8 + 20:
         return False
     if side == 'client':
-        mtype, rpcvers, _, version, procedure, flavor, size = struct.unpack_from('>7I', head.ljust(36, b'\xff'), 8)
+        mtype, rpcvers, _, version, procedure, flavor, size = struct.unpack_from(
+            '>7I', head.ljust(36, b'\xff'), 8)
         return (mtype, rpcvers) == (0, 2) and version < 256 and procedure < 65_536 and flavor in FLAVORS and size <= LONGEST_AUTH
     mtype, status, flavor, size = struct.unpack_from('>4I', head, 8)
     if (mtype, status) == (1, 1):
@@ -125,8 +129,8 @@ def has_head(head: bytes, side: Side) -> bool:
 
 
 class Walk(typing.NamedTuple):
-    """The records that follow one another from a place: how many are whole, whether they reach the end of the run, and
-    whether the first has one fragment."""
+    """The records that follow one another from a place: how many are whole, whether they reach the
+    end of the run, and whether the first has one fragment."""
     begin: int
     records: int
     reaches_end: bool
@@ -141,8 +145,9 @@ class Walk(typing.NamedTuple):
 class Search:
     """The search for the first record of a run, whose beginning is missing.
 
-    A place counts if from it record follows record up to the end of the run; the last record may be cut. A record of one
-    fragment whose head is none may stand between two that have one: it is for the program to judge.
+    A place counts if from it record follows record up to the end of the run; the last record may be
+    cut. A record of one fragment whose head is none may stand between two that have one: it is for
+    the program to judge.
     """
 
     def __init__(self, stored: Bytes, side: Side, begin: int, end: int) -> None:
@@ -151,10 +156,11 @@ class Search:
         self.failed: set[int] = set()  # places from which records do not reach the end
 
     def first(self) -> int | None:
-        """Where the first record begins: at the first place that counts, if there is one at which a record of one fragment
-        begins; any bytes look like a record of many.
+        """Where the first record begins: at the first place that counts, if there is one at which a
+        record of one fragment begins; any bytes look like a record of many.
 
-        If there is no place that counts, it is that with the most records, of three or more: then the run has a fault.
+        If there is no place that counts, it is that with the most records, of three or more: then
+        the run has a fault.
         """
         best = Walk(self.end, 0, False, False)
         for begin in self.places():
@@ -183,7 +189,8 @@ class Search:
             extent = extent_of(self.window, at, self.end)
             self.marks += extent.marks
             is_good = self.is_good(extent, shortest)
-            if extent.is_too_long or not is_good and (is_doubted or not extent.is_whole or at == begin or extent.marks > 1):
+            if extent.is_too_long or not is_good and (is_doubted or not extent.is_whole
+                                                      or at == begin or extent.marks > 1):
                 break
             passed.append(at)
             is_single |= at == begin and extent.marks == 1
@@ -194,7 +201,8 @@ class Search:
         return Walk(begin, records, reaches_end, is_single)
 
     def is_hopeless(self, at: int) -> bool:
-        """Whether a record of several fragments without a head begins there; its fragments need not be followed."""
+        """Whether a record of several fragments without a head begins there; its fragments need not
+        be followed."""
         self.marks += 1
         head = self.window.read(at, min(self.end - at, LONGEST_HEAD))
         return len(head) == LONGEST_HEAD and not head[0] >> 7 and not has_head(head, self.side)
@@ -217,7 +225,8 @@ def end_of_whole(window: Window, begin: int, end: int) -> int:
 
 
 def xids(window: Window, begin: int, end: int) -> typing.Iterator[tuple[Extent, int, int]]:
-    """Iterates over the records of a run with the xid and the mtype of each, -1 for those that it has not."""
+    """Iterates over the records of a run with the xid and the mtype of each, -1 for those that it
+    has not."""
     for extent in extents(window, begin, end):
         first = next(fragments(window, extent), (extent.end, extent.end))
         head = window.read(first[0], min(8, first[1] - first[0]))

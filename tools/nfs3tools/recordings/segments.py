@@ -1,10 +1,12 @@
 """TCP segments out of frames: link layers, tunnels whose header has a fixed form, IPv4 and IPv6 with their fragments, TCP."""
+from __future__ import annotations
+
 import ipaddress
 import struct
 import typing
 
-from .held import COST_OF_PIECE, Held
 from .frames import NANOSECONDS, Frame
+from .held import COST_OF_PIECE, Held
 
 FIN, SYN, RST, ACK = 1, 2, 4, 16
 ETHERNET = 1
@@ -18,31 +20,40 @@ VLAN_TAGS = {0x8100, 0x88a8, 0x9100}
 IP_IN_IP, TCP, UDP, IPV6_IN_IP, FRAGMENT, GRE, AUTHENTICATION = 4, 6, 17, 41, 44, 47, 51
 VXLAN, GENEVE = {4789, 8472}, 6081  # ports of UDP; Linux has 8472 unless it is told the other
 TUNNELS_AT_MOST = 4  # one in the other
-EXTENSIONS = {0, 43, 60, AUTHENTICATION, 135, 139, 140}  # of IPv6, each with its length in its second byte
+# Of IPv6, each with its length in its second byte
+EXTENSIONS = {0, 43, 60, AUTHENTICATION, 135, 139, 140}
 PENDING_AT_MOST = 4 << 20  # bytes of fragments whose datagrams are not whole
 DATAGRAM_AT_MOST = 1 << 17
-WAITING_4, WAITING_6 = 30 * NANOSECONDS, 60 * NANOSECONDS  # for the fragments of a datagram (RFC 791, section 3.2; RFC 8200, section 4.5)
+# For the fragments of a datagram (RFC 791, section 3.2; RFC 8200, section 4.5)
+WAITING_4, WAITING_6 = 30 * NANOSECONDS, 60 * NANOSECONDS
 LONGEST_NAME_4 = 11  # bytes that name a datagram of IPv4: identification, protocol, addresses
 
-# The names of what is no segment of TCP, by the kind of Ethernet and by the protocol of IP. What may have segments in it has a star.
-KINDS = {0x0806: 'ARP', 0x88cc: 'LLDP', 0x8863: 'PPPoE', PPPOE: 'PPPoE*', 0x8847: 'MPLS*', 0x8848: 'MPLS*', 0x88e5: 'MACsec*'}
-PROTOCOLS = {1: 'ICMP', 2: 'IGMP', 58: 'ICMP', IP_IN_IP: 'IP in IP*', UDP: 'UDP', IPV6_IN_IP: 'IP in IP*', GRE: 'GRE*', 50: 'ESP*',
+# The names of what is no segment of TCP, by the kind of Ethernet and by the protocol of IP. What
+# may have segments in it has a star.
+KINDS = {0x0806: 'ARP', 0x88cc: 'LLDP', 0x8863: 'PPPoE', PPPOE: 'PPPoE*', 0x8847: 'MPLS*',
+         0x8848: 'MPLS*', 0x88e5: 'MACsec*'}
+PROTOCOLS = {1: 'ICMP', 2: 'IGMP', 58: 'ICMP', IP_IN_IP: 'IP in IP*', UDP: 'UDP',
+             IPV6_IN_IP: 'IP in IP*', GRE: 'GRE*', 50: 'ESP*',
              AUTHENTICATION: 'AH*', 115: 'L2TP*', 132: 'SCTP'}
 
-# Where the kind of the network layer stands (None: in the datagram itself), and where the datagram begins, by link type.
+# Where the kind of the network layer stands (None: in the datagram itself), and where the datagram
+# begins, by link type.
 LINKS: dict[int, tuple[int | None, int]] = {
     ETHERNET: (12, 14), 113: (14, 16), 276: (0, 20),  # Ethernet, and cooked as `tcpdump -i any` records it, in both versions
     0: (None, 4), 108: (None, 4),  # the loopback of BSD, in the byte order of the machine and of the network
     12: (None, 0), 14: (None, 0), 101: (None, 0), 228: (None, 0), 229: (None, 0)}  # raw IP
 
-IPV4_HEADER = struct.Struct('>BxHHHxB')  # version and length, total length, identification, fragment, protocol
+# Version and length, total length, identification, fragment, protocol
+IPV4_HEADER = struct.Struct('>BxHHHxB')
 IPV6_HEADER = struct.Struct('>HB')  # payload length, next header
 TCP_HEADER = struct.Struct('>IIBB')  # sequence, acknowledgement, length, flags
-PLAIN = struct.Struct('>16xH2xHxB14xIIBB')  # the total length, fragment and protocol of IPv4 in Ethernet, and the same of TCP
+# The total length, fragment and protocol of IPv4 in Ethernet, and the same of TCP
+PLAIN = struct.Struct('>16xH2xHxB14xIIBB')
 
 
 class Segment(typing.NamedTuple):
-    """A segment: the addresses and ports of its source and target as they stand in its headers, and what it carries.
+    """A segment: the addresses and ports of its source and target as they stand in its headers, and
+    what it carries.
 
     `missing` is the number of bytes of payload that were on the wire and are not in the recording.
     """
@@ -76,11 +87,12 @@ def end_of(address: bytes, port: bytes) -> str:
 
 
 class Pending:
-    """The fragments of a datagram. Of bytes that came twice the first count. A datagram that is whole is kept for a while, so that
-    fragments that were recorded twice begin no other."""
+    """The fragments of a datagram. Of bytes that came twice the first count. A datagram that is
+    whole is kept for a while, so that fragments that were recorded twice begin no other."""
 
     def __init__(self, counts: bool, expires: int) -> None:
-        self.counts, self.expires = counts, expires  # whether it counts if it is given up, and when, in nanoseconds since 1970
+        # Whether it counts if it is given up, and when, in nanoseconds since 1970
+        self.counts, self.expires = counts, expires
         self.held = Held()
         self.size: int | None = None
         self.count = 0  # of the fragments that came
@@ -93,7 +105,8 @@ class Pending:
 
     @property
     def has_too_many(self) -> bool:
-        """Whether more fragments came than an eighth of the datagram's bytes, as offsets count by eight (RFC 791)."""
+        """Whether more fragments came than an eighth of the datagram's bytes, as offsets count by
+        eight (RFC 791)."""
         return self.count > -(-(DATAGRAM_AT_MOST if self.size is None else self.size) // 8)
 
     def has(self, begin: int, piece: bytes, is_last: bool) -> bool:
@@ -105,7 +118,8 @@ class Pending:
         self.count += 1
         if is_last and self.size is None:
             self.size = begin + len(piece)
-            self.there = sum(max(0, min(at + len(held), self.size) - at) for at, (held, _, _) in zip(self.held.begins, self.held.pieces))
+            self.there = sum(max(0, min(at + len(held), self.size) - at)
+                             for at, (held, _, _) in zip(self.held.begins, self.held.pieces))
         if self.size is not None:
             piece = piece[:max(0, self.size - begin)]
         before = self.held.size
@@ -123,12 +137,15 @@ class Pending:
 class Segments:
     """Finds the TCP segment of a frame, and counts what is passed over.
 
-    cut: frames of which the recording has fewer bytes than were on the wire, and which lack payload or headers for it
+    cut: frames of which the recording has fewer bytes than were on the wire, and which lack payload
+        or headers for it
     lying: frames whose headers claim more bytes than were on the wire
-    given_up: datagrams with TCP that never were whole: not in time, or of more fragments than an eighth of their bytes
+    given_up: datagrams with TCP that never were whole: not in time, or of more fragments than an
+        eighth of their bytes
     links: frames whose link type is not known, by link type
     datagrams: those of UDP to or from a port of NFS, by port
-    others: frames of known link types that carry no segment of TCP, by kind; a star marks those that may have one in a tunnel
+    others: frames of known link types that carry no segment of TCP, by kind; a star marks those
+        that may have one in a tunnel
     """
 
     def __init__(self, ports: frozenset[int] = frozenset()) -> None:
@@ -138,11 +155,12 @@ class Segments:
         self.datagrams: dict[int, int] = {}
         self.others: dict[str, int] = {}
         self.pending: dict[bytes, Pending] = {}
-        self.held = self.tunnels = self.time = 0  # bytes of fragments; tunnels round what is read; the time of the frame
+        # Bytes of fragments; tunnels round what is read; the time of the frame
+        self.held = self.tunnels = self.time = 0
 
     def segment(self, frame: Frame, is_chosen: bool = True) -> Segment | None:
-        """Returns the segment that the frame carries, or completes as the last fragment, if there is one. If the frame is not chosen, no
-        datagram of it is counted."""
+        """Returns the segment that the frame carries, or completes as the last fragment, if there
+        is one. If the frame is not chosen, no datagram of it is counted."""
         data = frame.data
         if frame.link == ETHERNET and data[12:15] == PLAIN_IPV4 and len(data) >= PLAIN.size:
             total, fragment, protocol, sequence, acknowledged, size, flags = PLAIN.unpack_from(data)
@@ -153,7 +171,8 @@ class Segments:
         return self.of_any(frame)
 
     def of_any(self, frame: Frame) -> Segment | None:
-        """The same of a frame of any kind; the shorter way is for those that are plain and whole, as most are."""
+        """The same of a frame of any kind; the shorter way is for those that are plain and whole,
+        as most are."""
         data, link = frame.data, LINKS.get(frame.link)
         if link is None:
             self.links[frame.link] = self.links.get(frame.link, 0) + 1
@@ -171,7 +190,8 @@ class Segments:
             return self.of_ipv4(data, at, length)
         if version == 6 and kind in (IPV6, ANY_IP):
             return self.of_ipv6(data, at, length)
-        return self.other(kind_named(kind))
+        self.other(kind_named(kind))
+        return None
 
     def other(self, name: str) -> None:
         """Counts a frame that carries no segment of TCP."""
@@ -193,10 +213,12 @@ class Segments:
         if fragment & 0x3fff:
             name = data[at + 4:at + 6] + data[at + 9:at + 10] + data[at + 12:at + 20]
             piece = data[begin:end]
-            joined = self.joined(protocol, name, (fragment & 0x1fff) * 8, piece, len(piece) < end - begin, not fragment & 0x2000)
+            joined = self.joined(protocol, name, (fragment & 0x1fff) * 8, piece,
+                                 len(piece) < end - begin, not fragment & 0x2000)
             if joined is None:
                 return None
-            return self.of_protocol(protocol, joined, 0, len(joined), len(joined), data[at + 12:at + 20])
+            return self.of_protocol(protocol, joined, 0, len(joined), len(joined),
+                                    data[at + 12:at + 20])
         return self.of_protocol(protocol, data, begin, end, length, data[at + 12:at + 20])
 
     def of_ipv6(self, data: bytes, at: int, length: int) -> Segment | None:
@@ -215,7 +237,8 @@ class Segments:
             if following == UDP and not place & 0xfff8:
                 self.count_datagram(data, begin + 8)
             piece = data[begin + 8:end]
-            joined = self.joined(following, data[begin + 4:begin + 8] + addresses, place & 0xfff8, piece,
+            joined = self.joined(following, data[begin + 4:begin + 8] + addresses, place & 0xfff8,
+                                 piece,
                                  len(piece) < end - begin - 8, not place & 1)
             if joined is None:
                 return None
@@ -225,17 +248,21 @@ class Segments:
             self.count_datagram(data, begin)
         return self.of_protocol(following, data, begin, end, length, addresses)
 
-    def of_protocol(self, protocol: int, data: bytes, begin: int, end: int, length: int, addresses: bytes) -> Segment | None:
+    def of_protocol(self, protocol: int, data: bytes, begin: int, end: int, length: int,
+                    addresses: bytes) -> Segment | None:
         """The segment in the payload of a datagram of IP."""
         if protocol == TCP:
             return self.of_tcp(data, begin, end, length, addresses)
         carried = in_tunnel(protocol, data, begin, end)
         if carried is None or self.tunnels == TUNNELS_AT_MOST:
-            return self.other(PROTOCOLS.get(protocol, f'the protocol {protocol} of IP') if carried is None else 'many tunnels*')
+            self.other(PROTOCOLS.get(protocol, f'the protocol {protocol} of IP') if carried is None
+                       else 'many tunnels*')
+            return None
         self.tunnels += 1
         return self.of_kind(*carried, data, end)
 
-    def of_tcp(self, data: bytes, at: int, end: int, length: int, addresses: bytes) -> Segment | None:
+    def of_tcp(self, data: bytes, at: int, end: int, length: int,
+               addresses: bytes) -> Segment | None:
         there = min(end, len(data))
         if at + 20 > there:
             self.shortened(at + 20, there, end)
@@ -247,11 +274,13 @@ class Segments:
             return None
         missing = end - max(there, begin)
         self.cut += missing > 0
-        return Segment(addresses + data[at:at + 4], sequence, acknowledged, flags, data[begin:there], missing)
+        return Segment(addresses + data[at:at + 4], sequence, acknowledged, flags,
+                       data[begin:there], missing)
 
     def count_datagram(self, data: bytes, at: int) -> None:
         """Counts a datagram of UDP, or the first fragment of one, if it has a port of NFS."""
-        for port in (int.from_bytes(data[at:at + 2], 'big'), int.from_bytes(data[at + 2:at + 4], 'big')):
+        for port in (int.from_bytes(data[at:at + 2], 'big'),
+                     int.from_bytes(data[at + 2:at + 4], 'big')):
             if port in self.ports and self.is_chosen:
                 self.datagrams[port] = self.datagrams.get(port, 0) + 1
                 return
@@ -260,7 +289,8 @@ class Segments:
         """Counts a frame whose headers are not whole."""
         self.cut += there < wanted <= on_the_wire
 
-    def joined(self, protocol: int, name: bytes, begin: int, piece: bytes, is_cut: bool, is_last: bool) -> bytes | None:
+    def joined(self, protocol: int, name: bytes, begin: int, piece: bytes, is_cut: bool,
+               is_last: bool) -> bytes | None:
         """Takes a fragment, and returns the datagram's payload if this completes it."""
         self.cut += is_cut
         if is_cut or begin + len(piece) > DATAGRAM_AT_MOST:
@@ -282,7 +312,8 @@ class Segments:
         return whole
 
     def pending_of(self, protocol: int, name: bytes) -> Pending:
-        """The datagram of which a fragment has come. Those that have waited for too long are given up, the oldest first."""
+        """The datagram of which a fragment has come. Those that have waited for too long are given
+        up, the oldest first."""
         while self.pending and (first := next(iter(self.pending.items())))[1].expires < self.time:
             self.forget(first[0])
         pending = self.pending.get(name)
@@ -291,7 +322,8 @@ class Segments:
             pending = None
         if pending is None:
             waits = WAITING_6 if len(name) > LONGEST_NAME_4 else WAITING_4
-            pending = self.pending[name] = Pending(protocol == TCP and self.is_chosen, self.time + waits)
+            pending = self.pending[name] = Pending(protocol == TCP and self.is_chosen,
+                                                   self.time + waits)
             self.held += pending.cost
         return pending
 
@@ -324,7 +356,8 @@ def kind_named(kind: int) -> str:
 
 
 def in_labels(data: bytes, kind: int, at: int) -> tuple[int, int]:
-    """The kind of what is in MPLS (RFC 3032) or in a session of PPPoE (RFC 2516), and where it begins; of anything else its own."""
+    """The kind of what is in MPLS (RFC 3032) or in a session of PPPoE (RFC 2516), and where it
+    begins; of anything else its own."""
     if kind == PPPOE:
         carried = PPP.get(int.from_bytes(data[at + 6:at + 8], 'big'))
         return (kind, at) if carried is None else (carried, at + 8)
@@ -336,7 +369,8 @@ def in_labels(data: bytes, kind: int, at: int) -> tuple[int, int]:
 
 
 def in_tunnel(protocol: int, data: bytes, begin: int, end: int) -> tuple[int, int] | None:
-    """The kind of what a datagram of IP carries as a tunnel, and where that begins; `None` if it carries nothing that is known."""
+    """The kind of what a datagram of IP carries as a tunnel, and where that begins; `None` if it
+    carries nothing that is known."""
     if protocol in (IP_IN_IP, IPV6_IN_IP):
         return (IPV4 if protocol == IP_IN_IP else IPV6), begin
     if protocol == GRE and begin + 4 <= len(data):
@@ -355,7 +389,7 @@ def in_gre(data: bytes, begin: int) -> tuple[int, int] | None:
     flags, kind = int.from_bytes(data[begin:begin + 2], 'big'), int.from_bytes(data[begin + 2:begin + 4], 'big')
     if flags & 0x4007:  # routing, or another version
         return None
-    return kind, begin + 4 + 4 * (flags >> 12 & 0b1011).bit_count()
+    return kind, begin + 4 + 4 * bin(flags >> 12 & 0b1011).count('1')
 
 
 def after_extensions(data: bytes, following: int, at: int) -> tuple[int, int]:

@@ -1,4 +1,6 @@
 """Which bytes of a connection are kept: what to do without its beginning, and about bytes that are missing."""
+from __future__ import annotations
+
 import dataclasses
 import typing
 
@@ -17,7 +19,8 @@ RESET_INSIDE = 'the other end reset it inside a record'
 class Options(typing.NamedTuple):
     """How a recording is taken. None of these changes what is taken of a capture.
 
-    midstream: takes connections whose beginning was not recorded, and goes on after bytes that are missing
+    midstream: takes connections whose beginning was not recorded, and goes on after bytes that are
+        missing
     whole_records: ends each stream after its last whole record
     filter: a display filter of Wireshark that is true of whole connections, or None; needs tshark
     ports: of which each connection has one; any connection if there are none
@@ -30,8 +33,9 @@ class Options(typing.NamedTuple):
 
 @dataclasses.dataclass
 class Kept:
-    """The ranges of a stream's stored bytes that are kept, whether any of its bytes are not, how many the recording lacks, what is
-    told of it, and why it is in part, other than for bytes that the recording lacks."""
+    """The ranges of a stream's stored bytes that are kept, whether any of its bytes are not, how
+    many the recording lacks, what is told of it, and why it is in part, other than for bytes that
+    the recording lacks."""
     ranges: list[tuple[int, int]] = dataclasses.field(default_factory=list)
     lacks: bool = False
     missing: int = 0
@@ -44,7 +48,8 @@ class Kept:
 
 
 class Selected(typing.NamedTuple):
-    """What is kept of a connection: which of its ends is the client, how that is known, and what of both streams."""
+    """What is kept of a connection: which of its ends is the client, how that is known, and what of
+    both streams."""
     client: int
     why: str
     kept: tuple[Kept, Kept]
@@ -86,14 +91,16 @@ def missing_of(stream: Stream) -> int:
     return sum(gap.size for gap in gaps_of(stream))
 
 
-def select(connection: Connection, options: Options, known: typing.Iterable[int] = (), goes_on: bool = False) -> Selected:
-    """Chooses what is kept of a connection. `known` has the xids of calls that were kept before. If it goes on, a record that is cut at
-    its end is kept."""
+def select(connection: Connection, options: Options, known: typing.Iterable[int] = (),
+           goes_on: bool = False) -> Selected:
+    """Chooses what is kept of a connection. `known` has the xids of calls that were kept before. If
+    it goes on, a record that is cut at its end is kept."""
     client, why = client_of(connection, options)
     ends = client, 1 - client
     streams = connection.streams[client], connection.streams[1 - client]
     choose = keep_midstream if options.midstream else keep_front
-    calls, replies = (choose(connection.streams[end], side, options, '' if goes_on else cut_by(connection, end))
+    calls, replies = (choose(connection.streams[end], side, options,
+                             '' if goes_on else cut_by(connection, end))
                       for end, side in zip(ends, SIDES))
     if calls.lacks and replies.ranges:
         leave_out_replies(streams, calls, replies, known)
@@ -103,7 +110,8 @@ def select(connection: Connection, options: Options, known: typing.Iterable[int]
 
 
 def add_uncertain(stream: Stream, kept: Kept, side: Side) -> None:
-    """Adds what is told of bytes that are recorded and not taken, and of others that may be missing."""
+    """Adds what is told of bytes that are recorded and not taken, and of others that may be
+    missing."""
     if stream.conflicts:
         kept.notes.append(f'{count(stream.conflicts, "frame")} {plural(stream.conflicts, "repeats", "repeat")} bytes with '
                           f'other content, first frame {stream.conflict}; the bytes that came first are taken')
@@ -118,14 +126,16 @@ def add_uncertain(stream: Stream, kept: Kept, side: Side) -> None:
 
 
 def cut_by(connection: Connection, end: int) -> str:
-    """Why an end is not at fault if its stream ends inside a record; '' if it closed its stream or reset the connection."""
+    """Why an end is not at fault if its stream ends inside a record; '' if it closed its stream or
+    reset the connection."""
     if connection.streams[end].end is not None or connection.is_reset_by(end):
         return ''
     return RESET_INSIDE if connection.is_reset_by(1 - end) else ENDS_INSIDE
 
 
 def client_of(connection: Connection, options: Options) -> tuple[int, str]:
-    """Which end is the client, and how that is known: by the SYN, else by its calls, the ports, or the first payload."""
+    """Which end is the client, and how that is known: by the SYN, else by its calls, the ports, or
+    the first payload."""
     if connection.client is not None:
         return connection.client, 'by the SYN'
     served = [end.rpartition(':')[2] in SERVER_PORTS for end in connection.ends]
@@ -142,18 +152,22 @@ def is_of_rpc(connection: Connection, ports: frozenset[int]) -> bool:
     """Whether a connection has a port of NFS, or bytes that may be the head of a message of RPC."""
     served = SERVER_PORTS | {str(port) for port in ports}
     return any(end.rpartition(':')[2] in served for end in connection.ends) or any(
-        next(Search(stream.stored, side, stream.begin, stream.stored.size).places(), None) is not None
+        next(Search(stream.stored, side, stream.begin, stream.stored.size).places(),
+             None) is not None
         for stream in connection.streams for side in SIDES)
 
 
 def has_calls(stream: Stream) -> bool:
     """Whether calls follow one another in a run of the stream."""
-    return any(Search(stream.stored, 'client', part.begin, part.end).first() is not None for part in parts_of(stream))
+    return any(Search(stream.stored, 'client', part.begin, part.end).first() is not None
+               for part in parts_of(stream))
 
 
 def keep_front(stream: Stream, side: Side, options: Options, cut: str) -> Kept:
-    """Keeps a stream from its beginning up to the first gap. `cut` is why a record at its end that is cut is none of its sender's fault."""
-    kept, parts, gaps = Kept(lacks=stream.lacks or not stream.is_begin, missing=missing_of(stream)), parts_of(stream), gaps_of(stream)
+    """Keeps a stream from its beginning up to the first gap. `cut` is why a record at its end that
+    is cut is none of its sender's fault."""
+    kept, parts, gaps = Kept(lacks=stream.lacks or not stream.is_begin,
+                             missing=missing_of(stream)), parts_of(stream), gaps_of(stream)
     if not stream.is_begin:
         if stream.stored.size:
             kept.missing += stream.stored.size
@@ -168,7 +182,8 @@ def keep_front(stream: Stream, side: Side, options: Options, cut: str) -> Kept:
 
 
 def keep_midstream(stream: Stream, side: Side, options: Options, cut: str) -> Kept:
-    """Keeps of each run of a stream what follows from the first record on. `cut` is as for `keep_front`."""
+    """Keeps of each run of a stream what follows from the first record on. `cut` is as for
+    `keep_front`."""
     kept, gaps, parts = Kept(missing=missing_of(stream)), gaps_of(stream), parts_of(stream)
     kept.lacks, left_out = bool(gaps) or stream.lacks or not stream.is_begin, 0
     if stream.stored.size and not stream.is_begin:
@@ -185,7 +200,8 @@ def keep_midstream(stream: Stream, side: Side, options: Options, cut: str) -> Ke
         else:
             left_out += begin - part.begin
         if begin is not None:
-            dropped = keep_up_to_whole(stream, part._replace(begin=begin), side, kept, cut if part is parts[-1] else '', options)
+            dropped = keep_up_to_whole(stream, part._replace(begin=begin), side, kept,
+                                       cut if part is parts[-1] else '', options)
             left_out += dropped if part.gap_after else 0
     if gaps:
         kept.notes.append(f'{side}: {told_of_all(gaps)}; {count(left_out, "byte")} of torn records '
@@ -193,9 +209,10 @@ def keep_midstream(stream: Stream, side: Side, options: Options, cut: str) -> Ke
     return kept
 
 
-def keep_up_to_whole(stream: Stream, part: Part, side: Side, kept: Kept, cut: str, options: Options) -> int:
-    """Keeps a run, up to the end of its last whole record if bytes are missing after it, if `cut` says why it is cut, or if that is asked
-    for. Returns how many bytes that leaves out."""
+def keep_up_to_whole(stream: Stream, part: Part, side: Side, kept: Kept, cut: str,
+                     options: Options) -> int:
+    """Keeps a run, up to the end of its last whole record if bytes are missing after it, if `cut`
+    says why it is cut, or if that is asked for. Returns how many bytes that leaves out."""
     is_whole = bool(part.gap_after or cut or options.whole_records)
     end = end_of_whole(Window(stream.stored), part.begin, part.end) if is_whole else part.end
     dropped = part.end - end
@@ -206,14 +223,17 @@ def keep_up_to_whole(stream: Stream, part: Part, side: Side, kept: Kept, cut: st
         if not part.gap_after:
             kept.reasons.append(cut or f'{count(dropped, "byte")} left out')
         if not part.gap_after or not options.midstream:
-            kept.notes.append(f'{side}: the last {dropped:,} bytes are no whole record, and are dropped')
+            kept.notes.append(
+                f'{side}: the last {dropped:,} bytes are no whole record, and are dropped')
     return dropped
 
 
-def leave_out_replies(streams: tuple[Stream, Stream], calls: Kept, replies: Kept, before: typing.Iterable[int]) -> None:
+def leave_out_replies(streams: tuple[Stream, Stream], calls: Kept, replies: Kept,
+                      before: typing.Iterable[int]) -> None:
     """Leaves out the replies whose calls are not kept and were not kept before."""
     window = Window(streams[0].stored)
-    known = {*before, *(xid for begin, end in calls.ranges for _, xid, _ in xids(window, begin, end))}
+    known = {*before,
+             *(xid for begin, end in calls.ranges for _, xid, _ in xids(window, begin, end))}
     window, ranges, left_out = Window(streams[1].stored), list[tuple[int, int]](), 0
     for begin, end in replies.ranges:
         kept, count_of_range = with_calls(window, begin, end, known)
@@ -226,8 +246,10 @@ def leave_out_replies(streams: tuple[Stream, Stream], calls: Kept, replies: Kept
             'replies to calls that are not in the recording are left out'))
 
 
-def with_calls(window: Window, begin: int, end: int, known: set[int]) -> tuple[list[tuple[int, int]], int]:
-    """The ranges of a run without the replies to calls that are not known, and how many these are."""
+def with_calls(window: Window, begin: int, end: int,
+               known: set[int]) -> tuple[list[tuple[int, int]], int]:
+    """The ranges of a run without the replies to calls that are not known, and how many these
+    are."""
     ranges, left_out = list[tuple[int, int]](), 0
     for extent, xid, mtype in xids(window, begin, end):
         if mtype == REPLY and xid not in known and not extent.is_too_long:

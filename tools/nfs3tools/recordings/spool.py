@@ -1,4 +1,6 @@
 """The temporary file in which streams stand, and which frame brought which of their bytes."""
+from __future__ import annotations
+
 import array
 import bisect
 import os
@@ -11,7 +13,8 @@ UNWRITTEN_AT_MOST = 8 << 20  # bytes of all streams together that are not in the
 
 
 class Room:
-    """Which bytes of a file are free to be written again: ranges in order, none of which touch. All bytes from `end` on are free."""
+    """Which bytes of a file are free to be written again: ranges in order, none of which touch. All
+    bytes from `end` on are free."""
 
     def __init__(self) -> None:
         self.begins: list[int] = []
@@ -68,7 +71,8 @@ class Spool:
             while done < len(piece):
                 done += os.pwrite(self.file.fileno(), piece[done:] if done else piece, begin + done)
         except OSError as failed:
-            raise OSError(failed.errno, failed.strerror or str(failed), 'a temporary file') from failed
+            raise OSError(failed.errno, failed.strerror or str(failed),
+                          'a temporary file') from failed
         return begin
 
     def read(self, begin: int, size: int) -> bytes:
@@ -134,7 +138,8 @@ class Stored:
         part = bisect.bisect_right(self.begins, begin) - 1
         while begin < min(end, self.written):
             part_end = self.begins[part + 1] if part + 1 < len(self.begins) else self.written
-            piece = self.spool.read(self.places[part] + begin - self.begins[part], min(end, part_end) - begin)
+            piece = self.spool.read(self.places[part] + begin - self.begins[part],
+                                    min(end, part_end) - begin)
             if not piece:
                 raise OSError('the temporary file is shorter than it was')
             pieces.append(piece)
@@ -145,7 +150,8 @@ class Stored:
         return pieces[0] if len(pieces) == 1 else b''.join(pieces)
 
     def drop(self, end: int) -> None:
-        """Forgets the bytes before a position, as far as whole parts go. They must not be read again."""
+        """Forgets the bytes before a position, as far as whole parts go. They must not be read
+        again."""
         parts = len(self.begins) if end >= self.written else max(0, bisect.bisect_right(self.begins, end) - 1)
         ends = [*self.begins[1:parts + 1], self.written][:parts]
         for begin, part_end, place in zip(self.begins, ends, self.places):
@@ -171,11 +177,13 @@ class Brought(typing.NamedTuple):
 
 
 class Frames:
-    """Which frame brought which of the stored bytes, in order. It is stored as the bytes are, so little memory follows the frames."""
+    """Which frame brought which of the stored bytes, in order. It is stored as the bytes are, so
+    little memory follows the frames."""
     __slots__ = 'stored', 'firsts', 'dropped'
 
     def __init__(self, spool: Spool) -> None:
-        self.stored, self.firsts = Stored(spool), array.array('Q')  # where the bytes of every 128th frame begin
+        # Where the bytes of every 128th frame begin
+        self.stored, self.firsts = Stored(spool), array.array('Q')
         self.dropped = 0  # blocks of 128 frames
 
     def append(self, begin: int, number: int, time: int) -> None:
@@ -184,7 +192,8 @@ class Frames:
         self.stored.append(BROUGHT.pack(begin, number, time))
 
     def between(self, begin: int, end: int) -> typing.Iterator[Brought]:
-        """Iterates over the frames that brought the stored bytes from `begin` up to `end`, in order of the bytes."""
+        """Iterates over the frames that brought the stored bytes from `begin` up to `end`, in order
+        of the bytes."""
         noted = self.noted_from(max(0, bisect.bisect_right(self.firsts, begin) - 1))
         last = next(noted, None)
         for brought in noted:
@@ -205,5 +214,7 @@ class Frames:
 
     def noted_from(self, block: int) -> typing.Iterator[Brought]:
         """Iterates over the frames from a block on, the first of those that are kept being 0."""
-        for at in range((self.dropped + block) * BLOCK_OF_FRAMES, self.stored.size, BLOCK_OF_FRAMES):
-            yield from map(Brought._make, BROUGHT.iter_unpack(self.stored.read(at, BLOCK_OF_FRAMES)))
+        for at in range((self.dropped + block) * BLOCK_OF_FRAMES, self.stored.size,
+                        BLOCK_OF_FRAMES):
+            yield from map(Brought._make,
+                           BROUGHT.iter_unpack(self.stored.read(at, BLOCK_OF_FRAMES)))

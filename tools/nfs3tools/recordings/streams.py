@@ -1,15 +1,20 @@
 """The stream of bytes that one end of a connection sends, put together from segments."""
+from __future__ import annotations
+
 import bisect
 import typing
 
 from .held import Held
+from .keys import Keys
 from .spool import Frames, Spool, Stored
 
 HELD_AT_MOST = 8 << 20  # bytes of a stream behind a gap; then the bytes of the gap count as lost
 HELD_BY_ALL = 64 << 20  # the same of all streams together
-LIKELY_AT_MOST = 64 << 20  # bytes that were sent beyond the last that is known, or before those that were acknowledged
+# Bytes that were sent beyond the last that is known, or before those that were acknowledged
+LIKELY_AT_MOST = 64 << 20
 IN_FLIGHT_AT_MOST = 1 << 30  # bytes that were sent and not acknowledged (RFC 7323, section 2.3)
-COMPARED_AT_MOST = 4 << 20  # bytes before those that are forgotten, with which others that come again are compared
+# Bytes before those that are forgotten, with which others that come again are compared
+COMPARED_AT_MOST = 4 << 20
 TAIL = 4 << 10  # bytes of a connection that was judged, for the same
 NUMBERS = 1 << 32  # of sequence
 
@@ -22,14 +27,16 @@ class Budget:
 
 
 class Gap(typing.NamedTuple):
-    """Bytes that are missing: after how many bytes of the stream, how many, and the frame that shows it."""
+    """Bytes that are missing: after how many bytes of the stream, how many, and the frame that
+    shows it."""
     position: int
     size: int
     frame: int
 
 
 class Run(typing.NamedTuple):
-    """Bytes without a gap, up to the next run: where they begin among the stored bytes, the gap before them, and their position."""
+    """Bytes without a gap, up to the next run: where they begin among the stored bytes, the gap
+    before them, and their position."""
     begin: int
     gap: Gap | None
     position: int = 0
@@ -38,16 +45,20 @@ class Run(typing.NamedTuple):
 class Stream:
     """The bytes that one end sends, in order. Positions count the bytes from the first one on.
 
-    Each byte of payload is taken, or equals one that was taken, or is counted: in `unplaced`, or as one of a frame in `conflicts`.
+    Each byte of payload is taken, or equals one that was taken, or is counted: in `unplaced`, or as
+    one of a frame in `conflicts`.
     """
-    __slots__ = ('stored', 'budget', 'frames', 'first', 'is_begin', 'begin', 'compared', 'lacks', 'next', 'expected', 'acknowledged',
-                 'acked', 'runs', 'held', 'end', 'beyond', 'known_end', 'known_by', 'far', 'far_by', 'far_fin', 'conflicts', 'conflict',
+    __slots__ = ('stored', 'budget', 'frames', 'first', 'is_begin', 'begin', 'compared', 'lacks',
+                 'next', 'expected', 'acknowledged',
+                 'acked', 'runs', 'held', 'end', 'beyond', 'known_end', 'known_by', 'far',
+                 'far_by', 'far_fin', 'conflicts', 'conflict',
                  'unplaced', 'unplaced_by', 'tail', 'tail_end')
 
     def __init__(self, spool: Spool, budget: Budget, frames: Frames | None) -> None:
         self.stored, self.budget, self.frames = Stored(spool), budget, frames
         self.first: int | None = None  # the sequence number of position 0
-        self.is_begin = False  # the bytes at `begin` are the first that were sent, or the first of a record
+        # The bytes at `begin` are the first that were sent, or the first of a record
+        self.is_begin = False
         self.begin = 0  # the stored bytes before it are forgotten
         self.compared = 0  # but for those from here on, with which others are compared
         self.lacks = False  # some of these were not whole
@@ -63,12 +74,16 @@ class Stream:
         self.far: int | None = None  # an end far beyond that, which a single frame shows
         self.far_by = 0
         self.far_fin: int | None = None  # the same of FIN
-        self.conflicts, self.conflict = 0, 0  # frames that repeat bytes with other content, and the first of them
-        self.unplaced, self.unplaced_by = 0, 0  # bytes that could not be taken, and the first frame of them
-        self.tail, self.tail_end = b'', 0  # the last bytes, once all are forgotten, and the position after them
+        # Frames that repeat bytes with other content, and the first of them
+        self.conflicts, self.conflict = 0, 0
+        # Bytes that could not be taken, and the first frame of them
+        self.unplaced, self.unplaced_by = 0, 0
+        # The last bytes, once all are forgotten, and the position after them
+        self.tail, self.tail_end = b'', 0
 
     def position(self, sequence: int) -> int:
-        """The position of a sequence number, which wraps: the first one that is not long before what was acknowledged."""
+        """The position of a sequence number, which wraps: the first one that is not long before
+        what was acknowledged."""
         low = max(min(self.acked, self.next), self.next - IN_FLIGHT_AT_MOST) - LIKELY_AT_MOST
         return low + (sequence - (self.first or 0) - low) % NUMBERS
 
@@ -96,7 +111,9 @@ class Stream:
         """Bytes are missing before the first that was known."""
         if self.runs:
             gap = Gap(0, before, number)
-            self.runs = [Run(run.begin, run.gap and run.gap._replace(position=run.gap.position + before), run.position + before)
+            self.runs = [Run(run.begin,
+                             run.gap and run.gap._replace(position=run.gap.position + before),
+                             run.position + before)
                          for run in self.runs]
             self.runs[0] = self.runs[0]._replace(gap=gap)
             self.next += before
@@ -104,12 +121,13 @@ class Stream:
         for held in (self.held, self.beyond):
             held.begins = [begin + before for begin in held.begins]
         self.known_end += before if self.known_end else 0
-        self.end, self.far, self.far_fin = (None if at is None else at + before for at in (self.end, self.far, self.far_fin))
+        self.end, self.far, self.far_fin = (None if at is None else at + before
+                                            for at in (self.end, self.far, self.far_fin))
         self.expected = ((self.first or 0) + self.next) % NUMBERS
 
     def shows(self, end: int, number: int) -> None:
-        """A frame shows that bytes were sent up to a position. FIN is acknowledged as one more. An end that is far beyond all that is known
-        counts once a second frame agrees."""
+        """A frame shows that bytes were sent up to a position. FIN is acknowledged as one more. An
+        end that is far beyond all that is known counts once a second frame agrees."""
         if self.end is not None and end <= self.end + 1:
             end = min(end, self.end)
         if end <= self.known_end:
@@ -128,8 +146,10 @@ class Stream:
         self.known_end, self.known_by = end, number
 
     def is_likely(self, position: int) -> bool:
-        """Whether an end of the bytes that were sent is not far beyond all that is known, as that of an older connection."""
-        return position <= max(self.next, self.known_end, self.held.end, self.beyond.end) + LIKELY_AT_MOST
+        """Whether an end of the bytes that were sent is not far beyond all that is known, as that
+        of an older connection."""
+        return position <= max(self.next, self.known_end, self.held.end,
+                               self.beyond.end) + LIKELY_AT_MOST
 
     def is_acknowledged(self, acknowledged: int, number: int) -> None:
         """The other end has received all bytes before a sequence number."""
@@ -142,12 +162,14 @@ class Stream:
         self.shows(position, number)
 
     def is_beyond(self, acknowledged: int) -> bool:
-        """Whether an acknowledgement shows bytes after all that are known. FIN is acknowledged as one more."""
+        """Whether an acknowledgement shows bytes after all that are known. FIN is acknowledged as
+        one more."""
         return self.first is not None and self.position(acknowledged) > max(self.next, self.known_end) + 1
 
     def ends_at(self, end: int, number: int) -> None:
         """The position of the end is known, unless bytes beyond it were sent."""
-        if end < max(self.next, self.held.end, self.known_end - 1) or self.end is not None and end <= self.end:
+        if end < max(self.next, self.held.end,
+                     self.known_end - 1) or self.end is not None and end <= self.end:
             return
         if not self.is_likely(end):
             self.far_fin = end
@@ -234,7 +256,8 @@ class Stream:
             self.drain()
 
     def compare(self, position: int, old: bytes, number: int) -> None:
-        """Compares bytes that come again with those that were taken, and counts those for which there are none."""
+        """Compares bytes that come again with those that were taken, and counts those for which
+        there are none."""
         end, compared, is_other = position + len(old), 0, False
         for begin, at, size in self.ranges_from(position):
             if begin >= end:
@@ -248,12 +271,13 @@ class Stream:
         self.leave_out(len(old) - compared, number)
 
     def ranges_from(self, position: int) -> typing.Iterator[tuple[int, int, int]]:
-        """Iterates over runs of bytes with which others can be compared, from the last that begins at a position or before it, or from the
-        first: the position of each, where it is stored, and its size."""
+        """Iterates over runs of bytes with which others can be compared, from the last that begins
+        at a position or before it, or from the first: the position of each, where it is stored, and
+        its size."""
         if self.compared < self.begin and self.runs and position < self.runs[0].position:
             size = self.begin - self.compared
             yield self.runs[0].position - size, self.compared, size
-        for at in range(max(0, bisect.bisect_right(self.runs, position, key=lambda run: run.position) - 1), len(self.runs)):
+        for at in range(max(0, bisect.bisect_right(Keys(self.runs, lambda run: run.position), position) - 1), len(self.runs)):
             end = self.runs[at + 1].begin if at + 1 < len(self.runs) else self.stored.size
             yield self.runs[at].position, self.runs[at].begin, end - self.runs[at].begin
 
@@ -271,7 +295,8 @@ class Stream:
     def give_up_gap(self) -> None:
         """Goes on after the bytes that are missing."""
         begin = self.held.begins[0]
-        self.runs.append(Run(self.stored.size, Gap(self.next, begin - self.next, self.held.pieces[0][1]), begin))
+        self.runs.append(Run(self.stored.size,
+                             Gap(self.next, begin - self.next, self.held.pieces[0][1]), begin))
         self.next = begin
         self.drain()  # which appends bytes, so that the sequence number that is expected follows
 
@@ -285,7 +310,8 @@ class Stream:
             self.beyond = Held()
 
     def drop(self, begin: int) -> None:
-        """Forgets the stored bytes before a place at which a record begins, but for some with which others are compared."""
+        """Forgets the stored bytes before a place at which a record begins, but for some with which
+        others are compared."""
         passed = [run for run in self.runs if run.begin <= begin]
         self.lacks |= not self.is_begin or any(run.gap for run in passed)
         last = passed[-1] if passed else Run(begin, None, self.next)
@@ -298,7 +324,8 @@ class Stream:
             self.frames.drop(begin)
 
     def close(self) -> None:
-        """Forgets all bytes but the last, with which others that come later are compared. Nothing is taken after this."""
+        """Forgets all bytes but the last, with which others that come later are compared. Nothing
+        is taken after this."""
         begin = max(self.begin, self.runs[-1].begin if self.runs else 0, self.stored.size - TAIL)
         self.tail, self.tail_end = self.stored.read(begin, self.stored.size - begin), self.next
         self.budget.held -= self.held.cost + self.beyond.cost
@@ -308,7 +335,8 @@ class Stream:
             self.frames.stored.close()
 
     def new_in(self, position: int, payload: bytes) -> int:
-        """How many bytes of a segment that comes after all are forgotten cannot be seen to be those that were taken."""
+        """How many bytes of a segment that comes after all are forgotten cannot be seen to be those
+        that were taken."""
         if len(payload) == 1 and position == self.next - 1:  # a keep-alive
             return 0
         first = self.tail_end - len(self.tail)

@@ -11,6 +11,8 @@
 `check`, `show` and `same` on the file that `write_capture` writes are positions of `taken`: connections have the numbers of
 `TakenConnection.number`, and records are those of its streams.
 """
+from __future__ import annotations
+
 import array
 import bisect
 import contextlib
@@ -20,17 +22,19 @@ import tempfile
 import time
 import typing
 
-from ..captures.container import CHUNK, MOST_BYTES, MOST_CONNECTIONS, BadCapture, Container, capture_of, place_in
-from .kinds import MAGICS
+from ..shared.kinds import MAGICS
 from ..shared.outputs import CAPTURE, write_file
-from .parts import Part, files_of, in_order, pattern_beside
-from .passed_over import notes_of, nothing_in, remarks_of
 from ..shared.places import SIDES, FilePlace, NoPlace, Place, Side
 from ..shared.programs import chosen_frames
 from .connections import Connection, Connections
+from .container import (
+    CHUNK, MOST_BYTES, MOST_CONNECTIONS, BadCapture, Container, capture_of, place_in)
 from .coverage import NFS_PORTS, PORT_MAPPER, Covered, called_in, of_connection
 from .frames import NoRecording, Recording, Source, opened
-from .records import Extent, Window, body_of, extents, extent_of, fragments
+from .keys import Keys
+from .parts import Part, files_of, in_order, pattern_beside
+from .passed_over import notes_of, nothing_in, remarks_of
+from .records import Extent, Window, body_of, extent_of, extents, fragments
 from .segments import Segments
 from .selection import Options, Selected, count, is_of_rpc, select
 from .spool import Brought, Frames, Spool, Stored
@@ -55,6 +59,14 @@ class FrameRef(typing.NamedTuple):
     """A frame of the recording: its number, from 1 as Wireshark counts, also through all parts of a recording, and its time in
     nanoseconds since 1970 (UTC), 0 if it has none."""
     number: int
+    time: int
+
+
+class Completion(typing.NamedTuple):
+    """How many bytes a record has with its marks, and the frame that completed it: its number and
+    its time, 0 if it has none or is not noted."""
+    size: int
+    frame: int
     time: int
 
 
@@ -118,10 +130,9 @@ class TakenStream:
                 shift, found = at - low, self.noted.between(low, high)
                 yield from found if not shift else (brought._replace(begin=brought.begin + shift) for brought in found)
 
-    def completions(self) -> typing.Iterator[tuple[int, int]]:
-        """Iterates over the records in order: how many bytes each has with its marks, and the time of the frame that completed it, 0 if
-        that has none or is not noted. Of the frames that brought bytes of a record the one with the largest number completed it. The last
-        record may be cut."""
+    def completions(self) -> typing.Iterator[Completion]:
+        """Iterates over the records in order: what completed each. Of the frames that brought bytes
+        of a record the one with the largest number completed it. The last record may be cut."""
         brought, held = self.brought(), NOTHING
         following = next(brought, NOTHING_MORE)
         for extent in extents(Window(self), 0, self.size):
@@ -130,7 +141,7 @@ class TakenStream:
             while following.begin < end:
                 held, following = following, next(brought, NOTHING_MORE)
                 last = held if held.number > last.number else last
-            yield end - begin, last.time
+            yield Completion(end - begin, last.number, last.time)
 
     def first_frames(self) -> typing.Iterator[int]:
         """Iterates over the records in order: the number of the frame that brought the first byte of each, 0 if frames are not noted."""
@@ -164,6 +175,8 @@ class TakenConnection(typing.NamedTuple):
     notes: what was left out of its streams, each beginning with the side, as 'client: 12 bytes are missing ..'
     missing: the bytes of both sides that were sent and are not in the recording, as far as it shows
     lacks: why it is in part, other than for these bytes
+    is_closed: whether the recording shows that an end closed or reset it
+    opened_by: the frames of the SYN of each end, as far as they were recorded
     """
     number: int
     stream_number: int | None
@@ -176,6 +189,8 @@ class TakenConnection(typing.NamedTuple):
     notes: list[str]
     missing: int = 0
     lacks: tuple[str, ...] = ()
+    is_closed: bool = False
+    opened_by: tuple[int, ...] = ()
 
     @property
     def server_port(self) -> int | None:
@@ -218,6 +233,7 @@ class Taken:
     has_frames: whether the frames of bytes are noted
     parts: those of a recording that has several, in order
     ports: those of NFS
+    begun: the time of the first frame of a recording that has one, in nanoseconds since 1970
     """
 
     def __init__(self, spool: Spool, is_recording: bool, has_frames: bool, ports: frozenset[int] = NFS_PORTS) -> None:
@@ -229,6 +245,7 @@ class Taken:
         self.damage: str | None = None
         self.nothing = 'no connection to judge'
         self.parts: list[Part] = []
+        self.begun = 0
 
     @property
     def missing(self) -> int:
@@ -286,7 +303,7 @@ class Taken:
 
     def record_at(self, place: Place) -> tuple[TakenStream, Extent]:
         """Returns the stream of a record, and where the record is in it. Raises `NoPlace` if there is no such record."""
-        at = bisect.bisect_left(self.connections, place.connection, key=lambda one: one.number)  # (some may be left out)
+        at = bisect.bisect_left(Keys(self.connections, lambda one: one.number), place.connection)  # (some may be left out)
         if at == len(self.connections) or self.connections[at].number != place.connection:
             raise NoPlace(f'there is no connection {place.connection}')
         stream = self.connections[at].stream(place.side)
@@ -435,6 +452,7 @@ class Taking:
         """Takes a part, of which only the frames that are chosen count, if `chosen` is not None. A name stands before what is told."""
         before, segments, connections, ports = self.count, self.segments, self.connections, self.options.ports
         for frame in recording.frames():
+            self.taken.begun = self.taken.begun or frame.time
             is_chosen = chosen is None or frame.number in chosen
             segment = segments.segment(frame, is_chosen)
             if segment is not None:
@@ -493,7 +511,8 @@ def taken_connection(number: int, connection: Connection, selected: Selected) ->
     client, server = (TakenStream(stream.stored, stream.frames, kept.ranges) for stream, kept in zip(streams, selected.kept))
     return TakenConnection(number, connection.number, connection.ends[selected.client], connection.ends[1 - selected.client],
                            ' and '.join(connection.ends), selected.why, client, server, [*selected.notes, *connection.strays],
-                           selected.missing, selected.lacks)
+                           selected.missing, selected.lacks, connection.is_closed,
+                           tuple(filter(None, connection.opened_by)))
 
 
 def why_left_out(connection: Connection, options: Options) -> str:

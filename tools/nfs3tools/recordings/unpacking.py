@@ -1,4 +1,6 @@
 """What is in compressed files: gzip, xz and bzip2 by the standard library, zstd by its program. What stands before damage is read."""
+from __future__ import annotations
+
 import bz2
 import contextlib
 import lzma
@@ -8,7 +10,7 @@ import tempfile
 import typing
 import zlib
 
-from .kinds import BZIP2, GZIP, XZ, ZSTD
+from ..shared.kinds import BZIP2, GZIP, XZ, ZSTD
 from ..shared.printed import printable
 from ..shared.programs import begun, died, text_of
 
@@ -35,7 +37,8 @@ class Readable(typing.Protocol):
 
 
 class Packed:
-    """A compressed file. `packed` has what was read of it, of which the bytes up to `at` are done with."""
+    """A compressed file. `packed` has what was read of it, of which the bytes up to `at` are done
+    with."""
 
     def __init__(self, file: Readable, begun: bytes) -> None:
         self.file, self.packed, self.at = file, begun, 0
@@ -54,25 +57,29 @@ class Packed:
         return b''
 
     def is_followed_by(self, magic: bytes) -> bool:
-        """Whether another stream follows, perhaps after zeros. If anything else does, the file is damaged."""
+        """Whether another stream follows, perhaps after zeros. If anything else does, the file is
+        damaged."""
         while self.peek(1) == b'\0':
             rest = self.peek(STEP)
             self.at += len(rest) - len(rest.lstrip(b'\0'))
         found = self.peek(len(magic))
         if found and found != magic:
-            self.damage = Damaged('the compressed file is damaged: what follows its end is not compressed in this way')
+            self.damage = Damaged(
+                'the compressed file is damaged: what follows its end is not compressed in this way')
         return found == magic
 
 
 class Inflated(Packed):
-    """The bytes of a gzipped file, decompressed block by block. What stands before damage is read."""
+    """The bytes of a gzipped file, decompressed block by block. What stands before damage is
+    read."""
 
     def __init__(self, file: Readable, begun: bytes) -> None:
         super().__init__(file, begun)
         self.begin_member()
 
     def begin_member(self) -> None:
-        """A member gets few bytes at first, and then more: what comes after its end is copied for nothing."""
+        """A member gets few bytes at first, and then more: what comes after its end is copied for
+        nothing."""
         self.inflate, self.step = zlib.decompressobj(31), FIRST_STEP
 
     def read(self, size: int, /) -> bytes:
@@ -89,7 +96,8 @@ class Inflated(Packed):
         return self.end()
 
     def inflated(self, piece: bytes, size: int) -> bytes:
-        """The next bytes, of which there may be none yet; of damaged ones those before the damage."""
+        """The next bytes, of which there may be none yet; of damaged ones those before the
+        damage."""
         before = self.inflate.copy()
         try:
             content = self.inflate.decompress(piece, size)
@@ -126,7 +134,8 @@ class Decompressor(typing.Protocol):
 
 
 class Unpacked(Packed):
-    """The bytes of a file of xz or bzip2, which may be several streams one after the other. What stands before damage is read."""
+    """The bytes of a file of xz or bzip2, which may be several streams one after the other. What
+    stands before damage is read."""
 
     def __init__(self, file: Readable, begun: bytes, magic: bytes) -> None:
         super().__init__(file, begun)
@@ -178,7 +187,8 @@ class Piped:
                 self.copy.write(block)
             self.copy.seek(0)
         except OSError as failed:
-            raise OSError(failed.errno, failed.strerror or str(failed), 'a temporary file') from failed
+            raise OSError(failed.errno, failed.strerror or str(failed),
+                          'a temporary file') from failed
         self.process = begun(command, stdin=self.copy, stdout=subprocess.PIPE, stderr=self.error)
 
     def read(self, size: int, /) -> bytes:
@@ -192,7 +202,8 @@ class Piped:
             raise died(self.command[:1], status, '')
         if status:
             said = text_of(self.error).strip().rpartition('\n')[2]
-            raise (CutShort if PREMATURE in said else Damaged)(f'the compressed file is damaged or cut short: {printable(said)}')
+            raise (CutShort if PREMATURE in said
+                   else Damaged)(f'the compressed file is damaged or cut short: {printable(said)}')
         return b''
 
     def __del__(self) -> None:
@@ -205,8 +216,8 @@ class Piped:
 
 
 def unpacked(file: Readable, magic: bytes, begun_with: bytes) -> Readable | None:
-    """Returns what is in a compressed file, which begins with `magic` and of which `begun_with` was read. Returns `None` if it is none that
-    can be read."""
+    """Returns what is in a compressed file, which begins with `magic` and of which `begun_with` was
+    read. Returns `None` if it is none that can be read."""
     if magic.startswith(GZIP):
         return Inflated(file, begun_with)
     if magic.startswith(XZ) or magic.startswith(BZIP2):

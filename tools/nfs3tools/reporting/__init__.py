@@ -1,1 +1,1 @@
-"""What is printed and written of a comparison."""
+"""What is printed and written, and how the tools speak and end."""

@@ -3,33 +3,37 @@ around that.
 
 A page has at most 2,000 findings, those that say the same as one. It is made in pieces, and all that comes from a recording is escaped.
 """
+from __future__ import annotations
+
 from collections import Counter
 from collections.abc import Iterator, Sequence
 from dataclasses import dataclass
 from functools import cached_property
 from html import escape
 from itertools import zip_longest
-from typing import NamedTuple
+from typing import NamedTuple, Optional
 
-from . import summing, telling
-from ..comparison import apart
-from ..comparison.classes import besides, told
-from ..comparison.comparing import Compared, Finding, Run
-from ..comparison.covering import Cover, Row as NotJudged
-from ..comparison.ignoring import Ignored
 from ..captures.listings import Message
+from ..captures.whose import Labels
+from ..comparison.values import long_values
+from ..comparison.values.classes import besides, told
+from ..comparison.verdict import summary
+from ..comparison.verdict.cover import Cover, Row as NotJudged
+from ..comparison.verdict.excerpt import Connection, Gap, Row
+from ..comparison.verdict.findings import Compared, Finding, Run
+from ..comparison.verdict.ignored import Ignored
+from ..comparison.verdict.report import Report
 from ..recordings.coverage import named
 from ..recordings.parts import Part
-from .reports import Report
 from ..recordings.selection import count, plural
-from ..comparison.shown import Connection, Gap, Row
-from .styling import SCRIPT, STYLE
 from ..recordings.taken import FrameRef
-from ..captures.whose import Labels
-from ..commands.where import filters_of, time_of
+from . import telling
+from .frames import filters_of, time_of
+from .styling import SCRIPT, STYLE
 
 SHOWN_AT_MOST = 2_000  # findings
-OTHERS_AT_MOST, OTHERS_OF_ALL = 300, 20_000  # places of findings that say the same as one: of one, and about so many of all
+# Places of findings that say the same as one: of one, and about so many of all
+OTHERS_AT_MOST, OTHERS_OF_ALL = 300, 20_000
 DIFFERENCES_AT_MOST = 200  # of a finding
 NOT_JUDGED_AT_MOST = 20  # connections of a run that are named
 FIELDS_AT_MOST = 6_000  # characters of a message's fields
@@ -37,12 +41,13 @@ MANY = 2_000  # messages whose calls are shown
 BOTH = (0, 1)
 GLUE = '\u00a0'  # a space after a sign at which no line ends
 SIGNS, SIDES, RUNS = ('-', '+'), ('minus', 'plus'), ('first', 'second')
-Places = tuple[str | None, str | None]
+Places = tuple[Optional[str], Optional[str]]
 
 
 class Recorded(NamedTuple):
-    """What is known of a run's files: how many bytes they have (None of a pipe), the first and the last frame that carries a message
-    (None of a capture), and the parts of a recording that has several."""
+    """What is known of a run's files: how many bytes they have (None of a pipe), the first and the
+    last frame that carries a message (None of a capture), and the parts of a recording that has
+    several."""
     size: int | None
     ends: tuple[FrameRef, FrameRef] | None
     parts: Sequence[Part]
@@ -50,8 +55,8 @@ class Recorded(NamedTuple):
 
 @dataclass(frozen=True)
 class Content:
-    """What a page is made of: what is printed of the verdict, the report, the comparison, the fields that are left out of it and how
-    often each differs, and both runs."""
+    """What a page is made of: what is printed of the verdict, the report, the comparison, the
+    fields that are left out of it and how often each differs, and both runs."""
     line: str
     report: Report
     compared: Compared
@@ -101,7 +106,7 @@ def head(content: Content, word: str) -> Iterator[str]:
     look = 'differ' if not is_same else 'part' if content.report.is_in_part else 'same'
     yield f'<h1 class={look}>The runs {"are the " if is_same else ""}{escape(word)}</h1>'
     yield ''.join(f'<p>{code(line)}</p>' for line in content.line.splitlines())
-    yield f'<p>{escape(summing.of_compared(content.compared))}.</p>'
+    yield f'<p>{escape(summary.of_compared(content.compared))}.</p>'
 
 
 def facts(content: Content) -> Iterator[str]:
@@ -119,10 +124,12 @@ def rows_of_runs(content: Content) -> Iterator[tuple[str, Sequence[str]]]:
     """What both runs are, each with a name. What neither of them has is not there."""
     report, compared = content.report, content.compared
     yield 'name', [run.name for run in content.runs]
-    yield 'file', ['size not known' if one.size is None else count(one.size, 'byte') for one in content.recorded]
+    yield 'file', ['size not known' if one.size is None else count(one.size, 'byte')
+                   for one in content.recorded]
     if any(one.ends for one in content.recorded):
         for at, what in enumerate(('first frame', 'last frame')):
-            yield what, [f'{time_of(one.ends[at])}, frame {one.ends[at].number}' if one.ends else 'no frames' for one in content.recorded]
+            yield what, [f'{time_of(one.ends[at])}, frame {one.ends[at].number}' if one.ends
+                         else 'no frames' for one in content.recorded]
     yield 'calls', [f'{size.calls:,}' for size in report.sizes]
     yield 'connections', [f'{size.connections:,}' for size in report.sizes]
     if report.covers:
@@ -130,12 +137,14 @@ def rows_of_runs(content: Content) -> Iterator[tuple[str, Sequence[str]]]:
     if any(compared.lonely):
         yield 'only in this run', [count(number, 'call') for number in compared.lonely]
     if any(compared.left_out):
-        yield 'calls left out', [', '.join(f'{number:,} {summing.short(name)}' for name, number in sorted(some.items())) or 'nothing'
+        yield 'calls left out', [', '.join(f'{number:,} {summary.short(name)}'
+                                           for name, number in sorted(some.items())) or 'nothing'
                            for some in compared.left_out]
 
 
 def rows_of_counts(covers: Sequence[Cover]) -> Iterator[tuple[str, Sequence[str]]]:
-    """How much of both runs is compared: the four counts, the calls of other programs, and what is not judged as a whole."""
+    """How much of both runs is compared: the four counts, the calls of other programs, and what is
+    not judged as a whole."""
     if any(cover.missing for cover in covers):
         yield 'missing', [count(cover.missing, 'byte') for cover in covers]
     for name in covers[0].counts().numbers():
@@ -165,7 +174,8 @@ def words_of_masks(content: Content) -> Iterator[tuple[str, str]]:
     more = besides(report.same_under or content.compared.mask, report.mask)
     if more:
         yield 'masked besides', (f'{code(told(more).replace(",", ", "))}, ' + (
-            'in another order.' if is_turned else 'since any order was tried. What differs in these alone is not told.'))
+            'in another order.' if is_turned
+            else 'since any order was tried. What differs in these alone is not told.'))
     if content.compared.silent:
         yield 'left out', 'Calls that only ask, which one run alone has, or which the calls of others overtook.'
     if content.ignored:
@@ -187,17 +197,21 @@ def kind_of(finding: Finding) -> tuple[str, str]:
     """Returns of which messages a finding is that has no fields, and what is said of them."""
     message = finding.first or finding.second
     assert message
-    said = {'only': f'only in the {run_of(finding)} run', 'connection': f'only in the {run_of(finding)} run', 'moved': finding.remark,
+    said = {'only': f'only in the {run_of(finding)} run',
+            'connection': f'only in the {run_of(finding)} run', 'moved': finding.remark,
             'replies': 'another number of replies', 'order': 'replies in another order'}
     return 'connections' if is_told_of_connections(finding) else message.procedure, said.get(finding.kind, finding.kind)
 
 
 def change_of(finding: Finding) -> Iterator[str]:
-    """The values of both runs, each with its sign, or the arguments of a call that one run alone has."""
-    lines = [line.strip() for difference in finding.differences[:DIFFERENCES_AT_MOST] for line in telling.of_difference(difference)]
+    """The values of both runs, each with its sign, or the arguments of a call that one run alone
+    has."""
+    lines = [line.strip() for difference in finding.differences[:DIFFERENCES_AT_MOST]
+             for line in telling.of_difference(difference)]
     lines += telling.of_arguments(finding)
     yield '<div class=change>'
-    yield from (f'<div{class_of(line[0])}>{line[0]}{GLUE}{escape(line[2:])}</div>' for line in lines)
+    yield from (f'<div{class_of(line[0])}>{line[0]}{GLUE}{escape(line[2:])}</div>'
+                for line in lines)
     if len(finding.differences) > DIFFERENCES_AT_MOST:
         yield f'<div>.. and {len(finding.differences) - DIFFERENCES_AT_MOST:,} more fields</div>'
     yield '</div>'
@@ -208,7 +222,8 @@ def class_of(sign: str) -> str:
 
 
 class Body:
-    """What differs, and the calls around it. Findings that say the same are one, and have a number from 1 on."""
+    """What differs, and the calls around it. Findings that say the same are one, and have a number
+    from 1 on."""
 
     def __init__(self, content: Content) -> None:
         self.content, self.compared, self.runs = content, content.compared, content.runs
@@ -230,8 +245,10 @@ class Body:
     @cached_property
     def anchors(self) -> dict[Places, int]:
         """By the places of two messages: the number of their row."""
-        rows = (row for connection in self.beside.connections for row in connection.rows if isinstance(row, Row))
-        return {places_of(*both): number for number, row in enumerate(rows, 1) for both in together(row)}
+        rows = (row for connection in self.beside.connections for row in connection.rows
+                if isinstance(row, Row))
+        return {places_of(*both): number for number, row in enumerate(rows, 1)
+                for both in together(row)}
 
     def bar(self) -> Iterator[str]:
         """What searches, and goes from finding to finding, if scripts run."""
@@ -242,7 +259,8 @@ class Body:
     # --- Fields ---
 
     def firsts(self) -> dict[tuple[str, str], int]:
-        """Returns where each field of a procedure, or what else is told, is first: the number of the finding."""
+        """Returns where each field of a procedure, or what else is told, is first: the number of
+        the finding."""
         out: dict[tuple[str, str], int] = {}
         for number, group in enumerate(self.groups, 1):
             message = group[0].first or group[0].second
@@ -256,12 +274,14 @@ class Body:
     def fields(self) -> Iterator[str]:
         """The fields by their procedures, with their counts."""
         counts = self.compared.fields()
-        counts.update(kind_of(finding) for finding in self.compared.findings if not finding.differences)
+        counts.update(kind_of(finding) for finding in self.compared.findings
+                      if not finding.differences)
         if not counts:
             return
         yield '<section><h2>What differs</h2><table><thead><tr><th>procedure</th><th>field</th><th>how often</th></tr></thead>'
         firsts, before = self.firsts(), ''
-        for (procedure, field), number in sorted(counts.items(), key=lambda item: (item[0][0], -item[1], item[0][1])):
+        for (procedure, field), number in sorted(counts.items(),
+                                                 key=lambda item: (item[0][0], -item[1], item[0][1])):
             first = firsts[procedure, field]
             often = f'<a href=#f{first}>{number:,}</a>' if first <= len(self.shown) else f'{number:,}'
             same = '' if procedure == before else escape(procedure)
@@ -329,7 +349,8 @@ class Body:
         one, some = ('call', 'calls') if message.is_call else ('reply', 'replies')
         what = f'{message.procedure} {one}' if len(group) == 1 else f'{len(group):,} {some} of {message.procedure}'
         path = f' {code(finding.path)}' if finding.path else ''
-        return f'{only}{what}{path}' + (f', the first of {len(paths):,} paths' if len(paths) > 1 else '')
+        return f'{only}{what}{path}' + (f', the first of {len(paths):,} paths' if len(paths) > 1
+                                        else '')
 
     def place(self, message: Message, side: int) -> str:
         """Where a message is, its frames, and a display filter for them to copy, as HTML."""
@@ -345,7 +366,8 @@ class Body:
         yield f'<details class=others><summary>{count(len(group) - 1, "position")} more</summary><ol start=2>'
         for finding in group[1:1 + self.others_at_most]:
             both = ((finding.first, self.runs[0]), (finding.second, self.runs[1]))
-            places = ' | '.join(f'{message.place}{telling.frames_of(message, run.frames)}' for message, run in both if message)
+            places = ' | '.join(f'{message.place}{telling.frames_of(message, run.frames)}'
+                                for message, run in both if message)
             path = f'{code(finding.path)}: ' if finding.path else ''
             anchor = self.anchors.get(places_of(finding.first, finding.second))
             yield f'<li>{path}{f"<a href=#r{anchor}>{places}</a>" if anchor else places}</li>'
@@ -356,7 +378,8 @@ class Body:
 
     def silent(self) -> Iterator[str]:
         """The calls that are left out, by procedures and paths."""
-        lines = list(telling.of_silent(self.compared, *(run.frames for run in self.runs), OTHERS_AT_MOST))
+        lines = list(telling.of_silent(self.compared, [run.frames for run in self.runs],
+                                       OTHERS_AT_MOST))
         if lines:
             yield '<section><h2>Left out</h2>'
             yield from (f'<p>{escape(line)}</p>' for line in lines)
@@ -378,7 +401,8 @@ class Body:
                 yield from self.row(row, connection, number) if isinstance(row, Row) else gap(row)
             yield '</div>'
         if self.beside.others:
-            which = count(self.beside.others, 'other connection' if self.beside.connections else 'connection')
+            which = count(self.beside.others,
+                          'other connection' if self.beside.connections else 'connection')
             yield from gap(self.beside.rest, f' in {which}')
         if self.beside.cut:
             yield f'<p class=gap>{count(self.beside.cut, "call")} more {plural(self.beside.cut, "is", "are")} only in the second run</p>'
@@ -390,7 +414,9 @@ class Body:
         assert exchange
         mark, said = self.mark(row)
         places = ' | '.join(f'{record_of(one.call, own)}{telling.frames_of(one.call, run.frames)}'
-                            for one, own, run in zip((row.first, row.second), (connection.first, connection.second), self.runs) if one)
+                            for one, own, run in zip((row.first, row.second),
+                                                     (connection.first, connection.second),
+                                                     self.runs) if one)
         yield (f'<details class="row{" told" if mark != "=" else ""}" id=r{number}><summary><b class=mark>{mark}</b> {exchange.procedure}'
                f'{f" {code(row.path)}" if row.path else ""} <span class=quiet>{places}</span>{said}</summary>')
         for first, second in together(row):
@@ -399,8 +425,10 @@ class Body:
 
     def mark(self, row: Row) -> tuple[str, str]:
         """Returns a sign for what a row is, and what is said of it, as HTML."""
-        numbers = sorted({number for both in together(row) for number in self.numbers.get(places_of(*both), ())})
-        links = ', '.join(f'<a href=#f{number}>finding {number}</a>' for number in numbers if number <= len(self.shown))
+        numbers = sorted({number for both in together(row)
+                          for number in self.numbers.get(places_of(*both), ())})
+        links = ', '.join(f'<a href=#f{number}>finding {number}</a>' for number in numbers
+                          if number <= len(self.shown))
         if row.first is None or row.second is None:
             return SIGNS[row.first is None], f' <span>{links or f"only in the {RUNS[row.first is None]} run"}</span>'
         if numbers:
@@ -408,10 +436,12 @@ class Body:
         return ('≠', ' <span>differs in what is ignored</span>') if row.is_told else ('=', '')
 
     def message(self, first: Message | None, second: Message | None) -> str:
-        """A message of both runs: where it is, and its fields. Values of both are written if they differ."""
+        """A message of both runs: where it is, and its fields. Values of both are written if they
+        differ."""
         message = first or second
         assert message
-        places = ' | '.join(f'{one.place}{telling.frames_of(one, run.frames)}' for one, run in zip((first, second), self.runs) if one)
+        places = ' | '.join(f'{one.place}{telling.frames_of(one, run.frames)}'
+                            for one, run in zip((first, second), self.runs) if one)
         fields = '\n'.join(cut(lines_of(first, second)))
         return f'<h4>{"call" if message.is_call else "reply"}: {places}</h4><div class=fields>{escape(fields)}</div>'
 
@@ -430,7 +460,8 @@ def record_of(call: Message, connection: int | None) -> str:
 def gap(some: Gap, where: str = '') -> Iterator[str]:
     """A line for calls that are not shown."""
     words = [(some.equal, count(some.equal, 'equal call')),
-             (some.told, f'{count(some.told, "call")} that {plural(some.told, "differs", "differ")}'),
+             (some.told,
+              f'{count(some.told, "call")} that {plural(some.told, "differs", "differ")}'),
              (some.left_out, f'{count(some.left_out, "call")} of the first run left out')]
     if any(some):
         yield f'<p class=gap>{", ".join(said for number, said in words if number)}{where}</p>'
@@ -439,7 +470,8 @@ def gap(some: Gap, where: str = '') -> Iterator[str]:
 # --- Fields of messages ---
 
 def values_of(message: Message) -> Iterator[tuple[str, str]]:
-    """Returns the labels of a message's items, and their values as they are printed, with their names if they have some."""
+    """Returns the labels of a message's items, and their values as they are printed, with their
+    names if they have some."""
     labels = Labels(message)
     for at, item in enumerate(message.items):
         meaning = labels.meaning(at)
@@ -447,8 +479,10 @@ def values_of(message: Message) -> Iterator[tuple[str, str]]:
 
 
 def lines_of(first: Message | None, second: Message | None) -> Iterator[str]:
-    """The fields of a message of both runs. If they have not the same fields, those of the second come after those of the first."""
-    if first and second and [item.name for item in first.items] == [item.name for item in second.items]:
+    """The fields of a message of both runs. If they have not the same fields, those of the second
+    come after those of the first."""
+    if first and second and [item.name
+                             for item in first.items] == [item.name for item in second.items]:
         values = (item.value for item in first.items), (item.value for item in second.items)
         for (label, one), (_, other), *both in zip(values_of(first), values_of(second), *values):
             yield f'{label}={one}' if both[0] == both[1] else f'{label}={parting_of(*both) or f"{one} | {other}"}'
@@ -459,11 +493,12 @@ def lines_of(first: Message | None, second: Message | None) -> Iterator[str]:
 
 
 def parting_of(first: str, second: str) -> str:
-    """Returns how two values differ of which one at least is not printed whole, or nothing: what is cut off may be all that differs."""
+    """Returns how two values differ of which one at least is not printed whole, or nothing: what is
+    cut off may be all that differs."""
     if telling.shortened(first) == first and telling.shortened(second) == second:
         return ''
-    parting = apart.apart(first, second)
-    return f'{parting.shown[0]} | {parting.shown[1]} ({apart.told(parting)})'
+    parting = long_values.apart(first, second)
+    return f'{parting.shown[0]} | {parting.shown[1]} ({long_values.told(parting)})'
 
 
 def cut(lines: Iterator[str]) -> Iterator[str]:

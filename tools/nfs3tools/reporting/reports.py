@@ -1,19 +1,21 @@
 """A comparison as JSON, and as JUnit XML."""
+from __future__ import annotations
+
 import json
 import xml.etree.ElementTree
 from collections import Counter
 from collections.abc import Iterable, Iterator, Sequence
-from typing import Any, NamedTuple
+from typing import Any
 
-from ..comparison.classes import Mask
-from ..comparison.comparing import Compared, Finding, Framing
-from ..comparison.covering import Cover, Size
-from ..comparison.differing import Difference
 from ..captures.listings import Message
 from ..captures.stored import Stored
+from ..comparison.values.classes import Mask
+from ..comparison.verdict.cover import Cover
+from ..comparison.verdict.differences import Difference
+from ..comparison.verdict.findings import Compared, Finding, Framing
+from ..comparison.verdict.report import PartReport, Report
+from ..comparison.verdict.summary import RUNS, short
 from ..shared.printed import escaped, printable
-from ..recordings.coverage import Allowed
-from .summing import IN_ANOTHER_ORDER, RUNS, short
 from .telling import brief_of, folded, is_summed, of_group, of_silent, shortened
 
 CASES_AT_MOST = 1_000  # of findings
@@ -21,64 +23,25 @@ FIELDS_AT_MOST = 4  # in the name of a case
 KINDS = {'moved': 'another turn', 'replies': 'another number of replies'}
 
 
-class Report(NamedTuple):
-    """What is said of two runs as a whole: what `same` says of them, what is masked, and of both their names and how much they have; the
-    mask under which they are the same in another order, if they are; and how much of both is compared, unless they are parts."""
-    verdict: str
-    mask: Mask
-    names: tuple[str, str]
-    sizes: tuple[Size, Size]
-    same_under: Mask | None = None
-    covers: tuple[Cover, Cover] | None = None
-
-    @property
-    def is_in_part(self) -> bool:
-        """Whether something of a run is not compared."""
-        return self.covers is not None and not all(cover.is_good(Allowed()) for cover in self.covers)
-
-    def word(self) -> str:
-        """Returns the verdict as a word."""
-        verdict = IN_ANOTHER_ORDER if self.same_under is not None else self.verdict.partition(' at ')[0]
-        return f'{verdict} in part' if verdict.startswith('same') and self.is_in_part else verdict
-
-
-class PartReport(NamedTuple):
-    """What is said of a part of two runs.
-
-    label: its name as it is printed
-    name, number: the name of its mark, None before the first mark, and how often parts had that name so far
-    line: what is printed of it
-    is_good: whether it is the same, if the order counts as was asked for
-    only: 'first' or 'second' if one run alone has it
-    report, compared, left_out: if both runs have it, as of whole runs
-    """
-    label: str
-    name: str | None
-    number: int
-    line: str
-    is_good: bool
-    only: str | None
-    report: Report | None
-    compared: Compared
-    left_out: Counter[tuple[str, str]]
-
-    def word(self) -> str:
-        return self.report.word() if self.report else f'only in the {self.only} run'
-
-
-def json_of(report: Report, compared: Compared, left_out: Counter[tuple[str, str]], framings: Sequence[Framing]) -> Iterator[bytes]:
-    """The comparison, in pieces: an object, each of whose findings is a line. Without findings there need be no framings."""
+def json_of(report: Report, compared: Compared, left_out: Counter[tuple[str, str]],
+            framings: Sequence[Framing]) -> Iterator[bytes]:
+    """The comparison, in pieces: an object, each of whose findings is a line. Without findings
+    there need be no framings."""
     covers = [members_of(cover) for cover in report.covers] if report.covers else [{}, {}]
     runs = zip(report.names, report.sizes, covers, compared.lonely, compared.left_out)
     head = {
-        'verdict': report.word(), 'position': report.verdict.partition(' at ')[2] or None, 'mask': words_of(report.mask),
+        'verdict': report.word(), 'position': report.verdict.partition(' at ')[2] or None,
+        'mask': words_of(report.mask),
         'same_under': report.same_under and words_of(report.same_under),
-        'runs': [{'name': escaped(name), **size._asdict(), **cover, 'only': only, 'left_out': dict(left)}
+        'runs': [{'name': escaped(name), **size._asdict(), **cover, 'only': only,
+                  'left_out': dict(left)}
                  for name, size, cover, only, left in runs],
         'order': {'together': compared.exchanges, 'calls': compared.moved, 'replies': compared.late,
-                  'connections': compared.late_connections, 'on_another_connection': compared.elsewhere},
+                  'connections': compared.late_connections,
+                  'on_another_connection': compared.elsewhere},
         'fields': counts_of(compared.fields()), 'ignored': counts_of(left_out),
-        'left_out': [{'procedure': one.call.procedure, 'path': one.path, 'first': of_message(one.first, framings[0]),
+        'left_out': [{'procedure': one.call.procedure, 'path': one.path,
+                      'first': of_message(one.first, framings[0]),
                       'second': of_message(one.second, framings[1])} for one in compared.silent]}
     yield json.dumps(head, indent=1).removesuffix('\n}').encode() + b',\n "findings": ['
     for number, finding in enumerate(compared.findings):
@@ -88,18 +51,23 @@ def json_of(report: Report, compared: Compared, left_out: Counter[tuple[str, str
 
 
 def members_of(cover: Cover) -> dict[str, Any]:
-    """How much of a run is compared: the bytes that are missing, the counts, and what is not judged as a whole."""
+    """How much of a run is compared: the bytes that are missing, the counts, and what is not judged
+    as a whole."""
     return {'missing': cover.missing, 'counts': cover.counts().members(),
             'not_judged': [{**row._asdict(), 'ends': row.ends or None} for row in cover.rows()]}
 
 
-def json_of_parts(marks: str, covers: Sequence[Cover], parts: Sequence[PartReport], framings: Sequence[Framing]) -> Iterator[bytes]:
-    """The comparison of parts, in pieces: an object with a list of the parts. What is said of a part is an object as of whole runs."""
-    yield json.dumps({'marks': escaped(marks), 'runs': [*map(members_of, covers)]}, indent=1).removesuffix('\n}').encode() + b',\n "parts": ['
+def json_of_parts(marks: str, covers: Sequence[Cover], parts: Sequence[PartReport],
+                  framings: Sequence[Framing]) -> Iterator[bytes]:
+    """The comparison of parts, in pieces: an object with a list of the parts. What is said of a
+    part is an object as of whole runs."""
+    yield json.dumps({'marks': escaped(marks), 'runs': [*map(members_of, covers)]},
+                     indent=1).removesuffix('\n}').encode() + b',\n "parts": ['
     for turn, part in enumerate(parts):
         head = {'name': part.name, 'number': part.number, 'verdict': part.word(), 'only': part.only}
         yield (b',\n' if turn else b'\n') + json.dumps(head).removesuffix('}').encode() + b', "comparison": '
-        yield from json_of(part.report, part.compared, part.left_out, framings) if part.report else [b'null\n']
+        yield from json_of(part.report, part.compared, part.left_out,
+                           framings) if part.report else [b'null\n']
         yield b'}'
     yield b'\n ]\n}\n'
 
@@ -109,29 +77,39 @@ def words_of(mask: Mask) -> dict[str, str]:
 
 
 def counts_of(fields: Counter[tuple[str, str]]) -> list[dict[str, Any]]:
-    return [{'procedure': procedure, 'field': field, 'count': number} for (procedure, field), number in fields.most_common()]
+    return [{'procedure': procedure, 'field': field, 'count': number}
+            for (procedure, field), number in fields.most_common()]
 
 
 def of_finding(finding: Finding, first: Framing, second: Framing) -> dict[str, Any]:
     message = finding.first or finding.second
     assert message
-    return {'kind': finding.kind, 'procedure': message.procedure, 'is_call': message.is_call, 'path': finding.path,
-            'first': of_message(finding.first, first), 'second': of_message(finding.second, second), 'remark': finding.remark,
+    return {'kind': finding.kind, 'procedure': message.procedure, 'is_call': message.is_call,
+            'path': finding.path,
+            'first': of_message(finding.first, first),
+            'second': of_message(finding.second, second), 'remark': finding.remark,
             'differences': [of_difference(one) for one in finding.differences],
-            'arguments': [{'label': one.label, 'value': cut(one.value), 'name': one.meaning or None} for one in finding.arguments]}
+            'arguments': [{'label': one.label, 'value': cut(one.value),
+                           'name': one.meaning or None} for one in finding.arguments]}
 
 
 def of_message(message: Message | None, framing: Framing) -> dict[str, Any] | None:
-    return None if message is None else {'position': message.place, 'frames': list(framing(message))}
+    return None if message is None else {'position': message.place,
+                                         'frames': list(framing(message))}
 
 
 def of_difference(difference: Difference) -> dict[str, Any]:
-    """The values are as the listing spells them. Long ones are cut, and have a digest of their bytes."""
+    """The values are as the listing spells them. Long ones are cut, and have a digest of their
+    bytes."""
     parting = difference.apart and {
-        'at': difference.apart.at, 'offset': difference.apart.offset, 'differing': difference.apart.differing,
-        'sizes': difference.apart.sizes, 'shown': difference.apart.shown, 'sha256': [*map(digest_of, (difference.first, difference.second))]}
-    return {'field': difference.field, 'label': difference.label, 'first': cut(difference.first), 'second': cut(difference.second),
-            'remark': difference.remark, 'names': [name or None for name in difference.meanings], 'apart': parting}
+        'at': difference.apart.at, 'offset': difference.apart.offset,
+        'differing': difference.apart.differing,
+        'sizes': difference.apart.sizes, 'shown': difference.apart.shown,
+        'sha256': [*map(digest_of, (difference.first, difference.second))]}
+    return {'field': difference.field, 'label': difference.label, 'first': cut(difference.first),
+            'second': cut(difference.second),
+            'remark': difference.remark, 'names': [name or None for name in difference.meanings],
+            'apart': parting}
 
 
 def cut(value: str | None) -> str | None:
@@ -150,7 +128,8 @@ class Suite:
 
     def __init__(self, names: Sequence[str], covers: Sequence[Cover] = ()) -> None:
         self.root, self.names = xml.etree.ElementTree.Element('testsuites'), names
-        self.suite = xml.etree.ElementTree.SubElement(self.root, 'testsuite', name='nfs3canon compare')
+        self.suite = xml.etree.ElementTree.SubElement(self.root, 'testsuite',
+                                                      name='nfs3canon compare')
         self.number_of = Counter[str]()  # cases of a name
         self.add_counts(covers)
         for run, cover in zip(RUNS, covers):
@@ -167,12 +146,15 @@ class Suite:
             for name, number in cover.counts().raw.items():
                 element(properties, 'property', name=f'{run} run: raw: {name}', value=str(number))
 
-    def add(self, given: str, tag: str | None = None, message: str = '', text: Iterable[str] = (), **attributes: str) -> None:
-        """Adds a case, which passed if there is no tag. If several have one name, they are numbered."""
+    def add(self, given: str, tag: str | None = None, message: str = '', text: Iterable[str] = (),
+            **attributes: str) -> None:
+        """Adds a case, which passed if there is no tag. If several have one name, they are
+        numbered."""
         element, name = xml.etree.ElementTree.SubElement, printable(given)
         self.number_of[name] += 1
         name += f' ({self.number_of[name]})' if self.number_of[name] > 1 else ''
-        case = element(self.suite, 'testcase', classname=' | '.join(map(escaped, self.names)), name=name)
+        case = element(self.suite, 'testcase', classname=' | '.join(map(escaped, self.names)),
+                       name=name)
         lines = '\n'.join(map(printable, text))
         if tag:
             element(case, tag, attributes, message=printable(message)).text = lines or None
@@ -183,27 +165,32 @@ class Suite:
         for tag, total in (('failure', 'failures'), ('error', 'errors'), ('skipped', 'skipped')):
             self.suite.set(total, str(len(self.suite.findall(f'testcase/{tag}'))))
         self.suite.set('tests', str(len(self.suite.findall('testcase'))))
-        return bytes(xml.etree.ElementTree.tostring(self.root, encoding='utf-8', xml_declaration=True)) + b'\n'
+        return bytes(xml.etree.ElementTree.tostring(self.root, encoding='utf-8',
+                                                    xml_declaration=True)) + b'\n'
 
 
-def junit_of(line: str, report: Report, compared: Compared, framings: Sequence[Framing], is_good: bool) -> bytes:
-    """The verdict as a case, which passed if it is good, and else each finding as one that failed. Findings that say the same are one. The
-    counts are properties, and each run of which a part is refused has a case with an error."""
-    suite, groups = Suite(report.names, report.covers or ()), [] if is_good else folded(compared.findings)
-    silent = list(of_silent(compared, *framings, CASES_AT_MOST))
+def junit_of(line: str, report: Report, compared: Compared, framings: Sequence[Framing],
+             is_good: bool) -> bytes:
+    """The verdict as a case, which passed if it is good, and else each finding as one that failed.
+    Findings that say the same are one. The counts are properties, and each run of which a part is
+    refused has a case with an error."""
+    suite, groups = Suite(report.names,
+                          report.covers or ()), [] if is_good else folded(compared.findings)
+    silent = list(of_silent(compared, framings, CASES_AT_MOST))
     more = [f'{len(groups) - CASES_AT_MOST:,} more findings have no case'] if len(groups) > CASES_AT_MOST else []
     if is_good:
         suite.add('the runs are the same', text=[line, *silent])
     else:
         suite.add('the runs are the same', 'failure', line, [*more, *silent], type=report.word())
     for group in groups[:CASES_AT_MOST]:
-        suite.add(case_name(group), 'failure', brief_of(group, *framings), of_group(group, *framings), type=group[0].kind)
+        suite.add(case_name(group), 'failure', brief_of(group, *framings),
+                  of_group(group, *framings), type=group[0].kind)
     return suite.written()
 
 
 def case_name(group: Sequence[Finding]) -> str:
-    """Returns the name of a case. It is the same in the next run if that differs in the same way: it has no numbers of records and frames,
-    no ports, and does not say how many there are."""
+    """Returns the name of a case. It is the same in the next run if that differs in the same way:
+    it has no numbers of records and frames, no ports, and does not say how many there are."""
     finding, paths, is_one_run = group[0], {one.path for one in group}, (group[0].first is None) != (group[0].second is None)
     message = finding.first or finding.second
     assert message
@@ -214,25 +201,31 @@ def case_name(group: Sequence[Finding]) -> str:
         return f'{only}a connection'
     if is_summed(group):
         return 'values that stand for others elsewhere'
-    words = [short(message.procedure) + ('' if message.is_call else ' reply'), *({finding.path} - {None} if len(paths) == 1 else ())]
+    words = [short(message.procedure) + ('' if message.is_call else ' reply'),
+             *({finding.path} - {None} if len(paths) == 1 else ())]
     fields = list(dict.fromkeys(difference.field for difference in finding.differences))
-    words += [', '.join(fields[:FIELDS_AT_MOST]) + (', ..' if len(fields) > FIELDS_AT_MOST else '')] if fields else []
-    return only + ' '.join(filter(None, words)) + (f': {KINDS[finding.kind]}' if finding.kind in KINDS else '')
+    words += [', '.join(fields[:FIELDS_AT_MOST]) + (', ..' if len(fields) > FIELDS_AT_MOST
+                                                    else '')] if fields else []
+    return only + ' '.join(filter(None, words)) + (f': {KINDS[finding.kind]}'
+                                                   if finding.kind in KINDS else '')
 
 
-def junit_of_parts(names: Sequence[str], covers: Sequence[Cover], losses: str, parts: Sequence[PartReport],
+def junit_of_parts(names: Sequence[str], covers: Sequence[Cover], losses: str,
+                   parts: Sequence[PartReport],
                    framings: Sequence[Framing]) -> bytes:
-    """A case for each part, which passed if the part is good, with what differs. Before them one for what is missing, if that counts."""
+    """A case for each part, which passed if the part is good, with what differs. Before them one
+    for what is missing, if that counts."""
     suite = Suite(names, covers)
     if losses:
         suite.add('the runs are whole', 'failure', losses, type='same in part')
     for part in parts:
-        silent = list(of_silent(part.compared, *framings, CASES_AT_MOST))
+        silent = list(of_silent(part.compared, framings, CASES_AT_MOST))
         if part.is_good:
             suite.add(part.label, text=[part.line, *silent])
         else:
             groups = folded(part.compared.findings)
-            texts = [line for group in groups[:CASES_AT_MOST] for line in of_group(group, *framings)] + silent
+            texts = [line for group in groups[:CASES_AT_MOST]
+                     for line in of_group(group, *framings)] + silent
             more = [f'{len(groups) - CASES_AT_MOST:,} more findings'] if len(groups) > CASES_AT_MOST else []
             suite.add(part.label, 'failure', part.line, [*texts, *more], type=part.word())
     return suite.written()

@@ -1,5 +1,7 @@
 """How a page of a comparison looks, and what its keys and buttons do. Without the script the page can be read all the same."""
 
+from __future__ import annotations
+
 STYLE = '''
 :root {
   color-scheme: light dark; --line: #8885; --soft: #8881; --quiet: #57606a; --link: #0550ae; --here: #0969da;

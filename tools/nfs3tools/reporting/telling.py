@@ -1,18 +1,22 @@
 """What is printed of a comparison."""
+from __future__ import annotations
+
 from collections import Counter, defaultdict
 from collections.abc import Iterable, Iterator, Sequence
 
-from ..comparison import apart
-from ..comparison.comparing import Compared, Finding, Framing, Silent
-from ..comparison.differing import Difference
 from ..captures.listings import Message
 from ..captures.stored import Stored
+from ..comparison.values import long_values
+from ..comparison.verdict.differences import Difference
+from ..comparison.verdict.findings import Compared, Finding, Framing, Silent
 
 LONGEST_VALUE, LONGEST_NAME = 128, 1024  # characters, as the listing spells them
 LONGEST_LIST = 4  # frames
 FIELDS_AT_MOST = 12
-# Arguments by which calls on one file differ that are one finding: where in it they read or write, and what.
-PLACES = frozenset(('fh', 'offset', 'count', 'data', 'cookie', 'cookieverf', 'dircount', 'maxcount', 'createverf'))
+# Arguments by which calls on one file differ that are one finding: where in it they read or write,
+# and what.
+PLACES = frozenset(('fh', 'offset', 'count', 'data', 'cookie', 'cookieverf', 'dircount',
+                    'maxcount', 'createverf'))
 
 
 def shortened(value: str) -> str:
@@ -38,7 +42,8 @@ def frames_of(message: Message | None, framing: Framing) -> str:
 
 
 def of_difference(difference: Difference) -> Iterator[str]:
-    """Two lines, as `diff` has them, and a remark after the second. A value that is equal in both runs is one line."""
+    """Two lines, as `diff` has them, and a remark after the second. A value that is equal in both
+    runs is one line."""
     remark = f'    # {remark_on(difference)}' if remark_on(difference) else ''
     if difference.is_equal:
         yield f'  = {difference.label}={value_of(difference, 0)}{remark}'
@@ -50,19 +55,22 @@ def of_difference(difference: Difference) -> Iterator[str]:
 
 
 def remark_on(difference: Difference) -> str:
-    parts = [apart.told(difference.apart)] if difference.apart else []
+    parts = [long_values.told(difference.apart)] if difference.apart else []
     return '; '.join([*parts, *filter(None, [difference.remark])])
 
 
 def value_of(difference: Difference, number: int) -> str:
-    """Returns a value as it is printed, with its name if it has one: that of the first run, of number 0, or of the second."""
+    """Returns a value as it is printed, with its name if it has one: that of the first run, of
+    number 0, or of the second."""
     if difference.apart:
         return difference.apart.shown[number]
-    return named(difference.name, (difference.first, difference.second)[number] or '', difference.meanings[number])
+    return named(difference.name, (difference.first, difference.second)[number] or '',
+                 difference.meanings[number])
 
 
 def named(name: str, value: str, meaning: str) -> str:
-    """Returns the value of an item with what it is called, if it has a name. A mode is known by its octal digits, which come first."""
+    """Returns the value of an item with what it is called, if it has a name. A mode is known by its
+    octal digits, which come first."""
     if name == 'mode' and meaning:
         return f'{meaning} ({value})'
     return shortened(value) + (f' ({meaning})' if meaning else '')
@@ -77,7 +85,8 @@ def of_arguments(finding: Finding) -> Iterator[str]:
 
 
 def folded(findings: Iterable[Finding]) -> list[list[Finding]]:
-    """Returns the findings in groups that say the same of one procedure, each with its first finding's place among the others."""
+    """Returns the findings in groups that say the same of one procedure, each with its first
+    finding's place among the others."""
     groups: dict[object, list[Finding]] = {}
     for number, finding in enumerate(findings):
         groups.setdefault(said_by(finding) or number, []).append(finding)
@@ -90,14 +99,16 @@ def is_of_equal_values(finding: Finding) -> bool:
 
 
 def said_by(finding: Finding) -> object:
-    """Returns what a finding says: of renamed values, of which each finding has others, only what they have in common. Calls of one run
-    alone say which file they ask for, and what of it. Returns None for what is said of a connection."""
+    """Returns what a finding says: of renamed values, of which each finding has others, only what
+    they have in common. Calls of one run alone say which file they ask for, and what of it. Returns
+    None for what is said of a connection."""
     message = finding.first or finding.second
     if message is None or finding.kind in ('order', 'connection'):
         return None
     if is_of_equal_values(finding):
         return 'equal values'
-    said = tuple((one.label, one.alike) if one.alike else (one.label, one.first, one.second, one.remark) for one in finding.differences)
+    said = tuple((one.label, one.alike) if one.alike
+                 else (one.label, one.first, one.second, one.remark) for one in finding.differences)
     path = finding.path if finding.kind == 'only' else None
     asked = tuple((one.label, one.value) for one in finding.arguments if one.name not in PLACES)
     return finding.kind, finding.first is None, message.procedure, message.is_call, path, finding.remark, said, asked
@@ -154,15 +165,18 @@ def brief_of(findings: Sequence[Finding], first: Framing, second: Framing) -> st
     """One line for findings that say the same."""
     finding = findings[0]
     if is_summed(findings):
-        fields = Counter((procedure_of(one), difference.field) for one in findings for difference in one.differences)
+        fields = Counter((procedure_of(one), difference.field) for one in findings
+                         for difference in one.differences)
         return f'{heading_of(findings, first, second)}: {told(fields.most_common(FIELDS_AT_MOST))}'
-    said = [*([finding.remark] if finding.remark else []), *map(brief_difference, finding.differences),
+    said = [*([finding.remark] if finding.remark else []),
+            *map(brief_difference, finding.differences),
             *(line.replace(' ', '', 1) for line in of_arguments(finding))]
     return ': '.join([heading_of(findings, first, second), *(['; '.join(said)] if said else [])])
 
 
 def brief_difference(difference: Difference) -> str:
-    """A difference in a part of a line. If one run alone has the item, it is as in `of_difference`."""
+    """A difference in a part of a line. If one run alone has the item, it is as in
+    `of_difference`."""
     if difference.second is None:
         return f'-{difference.label}={value_of(difference, 0)}'
     if difference.first is None:
@@ -173,9 +187,10 @@ def brief_difference(difference: Difference) -> str:
     return f'{difference.label}={value_of(difference, 0)} -> {value_of(difference, 1)}{remark}'
 
 
-def of_silent(compared: Compared, first: Framing, second: Framing, most: int | None) -> Iterator[str]:
-    """The calls that are left out, those together of one procedure and path, up to `most` of such groups, or each by itself."""
-    groups = defaultdict[object, list[Silent]](list)
+def of_silent(compared: Compared, framings: Sequence[Framing], most: int | None) -> Iterator[str]:
+    """The calls that are left out, those together of one procedure and path, up to `most` of such
+    groups, or each by itself."""
+    groups, (first, second) = defaultdict[object, list[Silent]](list), framings
     for number, call in enumerate(compared.silent):
         key = call.first is None, call.second is None, call.call.procedure, call.path
         groups[number if most is None else key].append(call)
@@ -199,14 +214,18 @@ def silent_of(some: Sequence[Silent]) -> str:
 
 def places_of(one: Message | None, other: Message | None, first: Framing, second: Framing) -> str:
     """Returns the places of messages in both runs, with their frames."""
-    return ' | '.join(f'{message.place}{frames_of(message, framing)}' for message, framing in ((one, first), (other, second)) if message)
+    return ' | '.join(f'{message.place}{frames_of(message, framing)}'
+                      for message, framing in ((one, first), (other, second)) if message)
 
 
-def of_compared(compared: Compared, first: Framing, second: Framing, most: int | None, left_out: Counter[tuple[str, str]],
+def of_compared(compared: Compared, first: Framing, second: Framing, most: int | None,
+                left_out: Counter[tuple[str, str]],
                 is_brief: bool = False) -> Iterator[str]:
-    """The findings, those together that say the same, up to `most` of such groups, or each by itself, and each in a line if that is asked
-    for. Then which fields differ how often, and which were left out."""
-    groups = [[finding] for finding in compared.findings] if most is None else folded(compared.findings)
+    """The findings, those together that say the same, up to `most` of such groups, or each by
+    itself, and each in a line if that is asked for. Then which fields differ how often, and which
+    were left out."""
+    groups = [[finding]
+              for finding in compared.findings] if most is None else folded(compared.findings)
     for group in groups[:most]:
         yield from [brief_of(group, first, second)] if is_brief else of_group(group, first, second)
     if most is not None and len(groups) > most:

@@ -4,6 +4,8 @@ A regular file is written beside its name, where its owner alone may open it, an
 A device, a pipe and the tool's own standard output, which is also called `-`, are written as they are. Inputs, recordings and captures are
 never replaced.
 """
+from __future__ import annotations
+
 import contextlib
 import errno
 import os
@@ -13,7 +15,7 @@ import stat
 import sys
 import typing
 
-from ..recordings.kinds import MAGICS, PACKED_BY, PCAP, SECTION
+from .kinds import MAGICS, PACKED_BY, PCAP, SECTION
 from .printed import escaped
 
 STANDARD_OUTPUT = '-'
@@ -31,8 +33,10 @@ class Refused(Exception):
     """A file is not to be written; its text is the message for the user."""
 
 
-def write_file(path: str, blocks: typing.Iterable[bytes], inputs: typing.Iterable[str] = (), replaces: tuple[str, ...] = ()) -> None:
-    """Writes a file. `replaces` has what it may replace although it would be refused: of RECORDING, CAPTURE and COMPRESSED.
+def write_file(path: str, blocks: typing.Iterable[bytes], inputs: typing.Iterable[str] = (),
+               replaces: tuple[str, ...] = ()) -> None:
+    """Writes a file. `replaces` has what it may replace although it would be refused: of RECORDING,
+    CAPTURE and COMPRESSED.
 
     Raises `Refused`, and `OSError`; then what has the name is as it was.
     """
@@ -60,13 +64,16 @@ def named(path: str) -> typing.Iterator[None]:
     except OSError as failed:
         is_own = failed.filename in (None, os.path.realpath(path)) or PART in str(failed.filename)
         own = 'standard output' if path == STANDARD_OUTPUT else path
-        raise OSError(failed.errno, failed.strerror or str(failed), own if is_own else failed.filename) from failed
+        raise OSError(failed.errno, failed.strerror or str(failed),
+                      own if is_own else failed.filename) from failed
 
 
-def check_output(path: str, inputs: typing.Iterable[str] = (), replaces: tuple[str, ...] = ()) -> os.stat_result | None:
+def check_output(path: str, inputs: typing.Iterable[str] = (),
+                 replaces: tuple[str, ...] = ()) -> os.stat_result | None:
     """Returns what has the name of an output, or `None` for a new name. Makes nothing.
 
-    Raises `Refused` if it is an input, or begins as what is not to be replaced, and `OSError`, also for a link that leads to nothing.
+    Raises `Refused` if it is an input, or begins as what is not to be replaced, and `OSError`, also
+    for a link that leads to nothing.
     """
     try:
         found = os.fstat(1) if path == STANDARD_OUTPUT else os.stat(path)
@@ -83,9 +90,11 @@ def check_output(path: str, inputs: typing.Iterable[str] = (), replaces: tuple[s
     return found
 
 
-def try_outputs(paths: typing.Iterable[str | None], inputs: typing.Iterable[str] = (), replaces: tuple[str, ...] = ()) -> None:
-    """Tries before the work whether outputs can be written, as far as that can be known: each is checked, a new file is made in its folder
-    and removed again, and no two outputs are one file. None stands for an output that is not wanted.
+def try_outputs(paths: typing.Iterable[str | None], inputs: typing.Iterable[str] = (),
+                replaces: tuple[str, ...] = ()) -> None:
+    """Tries before the work whether outputs can be written, as far as that can be known: each is
+    checked, a new file is made in its folder and removed again, and no two outputs are one file.
+    None stands for an output that is not wanted.
 
     Raises what `write_file` does.
     """
@@ -100,7 +109,8 @@ def try_outputs(paths: typing.Iterable[str | None], inputs: typing.Iterable[str]
 
 
 def identity_of(path: str, found: os.stat_result | None) -> object:
-    """Returns what is equal for two outputs that are one file. Devices swallow any number of them, but standard output does not."""
+    """Returns what is equal for two outputs that are one file. Devices swallow any number of them,
+    but standard output does not."""
     if found is None:
         return os.path.realpath(path)
     if path != STANDARD_OUTPUT and stat.S_ISCHR(found.st_mode):
@@ -121,7 +131,8 @@ def try_output(path: str, found: os.stat_result | None) -> None:
 
 @contextlib.contextmanager
 def printed_beside(outputs: typing.Iterable[str | None]) -> typing.Iterator[None]:
-    """What is printed goes to standard error if an output is standard output, which then has that alone."""
+    """What is printed goes to standard error if an output is standard output, which then has that
+    alone."""
     with contextlib.redirect_stdout(sys.stderr) if STANDARD_OUTPUT in outputs else contextlib.nullcontext():
         yield
 
@@ -136,7 +147,8 @@ def is_there(path: str) -> bool:
 
 
 def is_read_from(given: str, found: os.stat_result) -> bool:
-    """Whether an input, `-` for standard input, is this file. One of which nothing can be known is not read either."""
+    """Whether an input, `-` for standard input, is this file. One of which nothing can be known is
+    not read either."""
     try:
         return os.path.samestat(os.fstat(0) if given == '-' else os.stat(given), found)
     except (OSError, ValueError):
@@ -175,8 +187,8 @@ def opened(path: str, found: os.stat_result, flags: int) -> typing.Iterator[int]
 
 
 def is_the_same(now: os.stat_result, found: os.stat_result) -> bool:
-    """Whether a file that was opened is the one that was found. overlayfs gives a file of its lower layer that has several links another
-    number once it is opened for writing."""
+    """Whether a file that was opened is the one that was found. overlayfs gives a file of its lower
+    layer that has several links another number once it is opened for writing."""
     kept = ('st_mode', 'st_uid', 'st_gid', 'st_size', 'st_mtime_ns')
     return os.path.samestat(now, found) or found.st_nlink > 1 and all(getattr(now, name) == getattr(found, name) for name in kept)
 
@@ -186,7 +198,8 @@ def another(path: str) -> OSError:
 
 
 def write_all(number: int, blocks: typing.Iterable[bytes]) -> None:
-    """Writes many small blocks at once. After a failure or a signal nothing is left that waits to be written."""
+    """Writes many small blocks at once. After a failure or a signal nothing is left that waits to
+    be written."""
     gathered = bytearray()
     for block in blocks:
         gathered += block
@@ -216,7 +229,8 @@ class Part(typing.NamedTuple):
         os.fsync(self.number)
 
     def remove(self) -> None:
-        """Removes what has not got another name. If that fails it stays, as after a signal that nothing can hold."""
+        """Removes what has not got another name. If that fails it stays, as after a signal that
+        nothing can hold."""
         with contextlib.suppress(OSError):
             os.unlink(self.path)
 
@@ -234,7 +248,8 @@ def held() -> typing.Iterator[None]:
 
 @contextlib.contextmanager
 def part_of(path: str, mode: int = OWNER_ALONE) -> typing.Iterator[Part]:
-    """A new file beside a path. In the end its name is removed, whatever fails and whichever signals come."""
+    """A new file beside a path. In the end its name is removed, whatever fails and whichever
+    signals come."""
     made: list[Part] = []
     try:
         with held():
@@ -283,14 +298,15 @@ def appear(part: Part, path: str) -> None:
 
 
 def mode_of_new(path: str) -> int:
-    """Returns the permissions that a new file gets in the folder of a path. Only a file tells them, since a folder may have rules of its
-    own beside the umask."""
+    """Returns the permissions that a new file gets in the folder of a path. Only a file tells them,
+    since a folder may have rules of its own beside the umask."""
     with part_of(path, EVERYBODY) as probe:
         return os.fstat(probe.number).st_mode & PERMISSIONS
 
 
 def replace(path: str, found: os.stat_result, blocks: typing.Iterable[bytes]) -> None:
-    """Replaces the regular file that was found under a name. It stays open meanwhile, so that no other file gets its number."""
+    """Replaces the regular file that was found under a name. It stays open meanwhile, so that no
+    other file gets its number."""
     if not found.st_mode & WRITERS:
         raise PermissionError(errno.EACCES, os.strerror(errno.EACCES), path)
     target = os.path.realpath(path)
@@ -307,19 +323,22 @@ def replace(path: str, found: os.stat_result, blocks: typing.Iterable[bytes]) ->
 
 
 def look_again(target: str, found: os.stat_result) -> None:
-    """Another file that has got the name meanwhile, or to which the text of a link leads that is none, is left alone."""
+    """Another file that has got the name meanwhile, or to which the text of a link leads that is
+    none, is left alone."""
     if not os.path.samestat(os.lstat(target), found):
         raise another(target)
 
 
 def mode_of_replaced(part: Part, number: int, new: int) -> int:
-    """Gives a file the owner, the group and the access control list of the old one, which is open, as far as that can be, and returns its
-    permissions: nobody gets more than the old one gave, of whichever group they are."""
+    """Gives a file the owner, the group and the access control list of the old one, which is open,
+    as far as that can be, and returns its permissions: nobody gets more than the old one gave, of
+    whichever group they are."""
     old = os.fstat(number)
     owner, group, others = (old.st_mode >> shift & 7 for shift in (6, 3, 0))
     is_kept = is_given(part, old.st_uid, old.st_gid)
     if not has_list_of(part, number, is_kept):
-        # (with a list, the group's bits are those of the list's mask, and the others' may be more than somebody in the list has)
+        # (with a list, the group's bits are those of the list's mask, and the others' may be more
+        # than somebody in the list has)
         return owner << 6 if is_kept or is_given(part, old.st_uid, -1) else new & OWNER_ALONE
     if is_kept:
         return old.st_mode & PERMISSIONS
@@ -330,8 +349,9 @@ def mode_of_replaced(part: Part, number: int, new: int) -> int:
 
 
 def has_list_of(part: Part, number: int, is_kept: bool) -> bool:
-    """Gives a file the access control list of another that is open, if owner and group are kept, and else none: its folder may have given it
-    one. Returns whether it has that list now, or the other had none."""
+    """Gives a file the access control list of another that is open, if owner and group are kept,
+    and else none: its folder may have given it one. Returns whether it has that list now, or the
+    other had none."""
     try:
         wanted = list_of(number)
         if wanted is not None and is_kept:
@@ -345,7 +365,8 @@ def has_list_of(part: Part, number: int, is_kept: bool) -> bool:
 
 
 def list_of(number: int) -> bytes | None:
-    """Returns the access control list of an open file, if it has one. Raises `OSError` if that cannot be known."""
+    """Returns the access control list of an open file, if it has one. Raises `OSError` if that
+    cannot be known."""
     try:
         return os.getxattr(number, ACCESS_LIST)
     except OSError as failed:

@@ -1,4 +1,6 @@
 """Positions of a capture, as the program prints them."""
+from __future__ import annotations
+
 import re
 import typing
 
@@ -30,6 +32,15 @@ class FilePlace(typing.NamedTuple):
         return f'file {self.byte}'
 
 
+class FramePlace(typing.NamedTuple):
+    """A frame of a recording, numbered from 1 as Wireshark counts. It stands for the records whose
+    bytes it carries."""
+    frame: int
+
+    def __str__(self) -> str:
+        return f'frame {self.frame}'
+
+
 class Fault(typing.NamedTuple):
     """What `check` prints of a capture that it refuses."""
     place: Place | FilePlace
@@ -39,23 +50,35 @@ class Fault(typing.NamedTuple):
         return f'{self.place}: {self.reason}'
 
 
-PLACE = re.compile(r'(?:connection (\d{1,18}) (client|server) record (\d{1,18})(?: byte (\d{1,18}))?|file (\d{1,18}))(?:: (\w+))?\s*$')
-LISTED = re.compile(r'(\d{1,18}) (client|server) (\d{1,18})(?= |\s*$)')
+PLACE = re.compile(r'(?:first: |second: |differ at )?'
+                   r'(?:connection (\d{1,18}) (client|server) record (\d{1,18})'
+                   r'(?: byte (\d{1,18}))?|file (\d{1,18}))(?:: (\w+))?')
+LISTED = re.compile(r'(\d{1,18}) (client|server) (\d{1,18})(?: xid=.*)?')
+FRAME = re.compile(r'frame (\d{1,18})')
+EXAMPLE = "as in 'connection 1 server record 7 byte 24'"
 
 
-def parse_place(text: str) -> Place | FilePlace:
-    """Reads a position from a line of `check`, of `same`, or of `show`.
+def parse_place(text: str) -> Place | FilePlace | FramePlace:
+    """Reads a position from a line of `check`, of `same`, or of `show`, or a frame. Of several
+    lines the first that is one counts.
 
     A line of `check` or `same` may have `first: `, `second: ` or `differ at ` before the position, and a reason after it. A
-    line of `show` begins with the numbers of its connection and record.
+    line of `show` begins with the numbers of its connection and record. Nothing else may be before or after a position.
 
     Raises `NoPlace` if there is none.
     """
-    listed, found = LISTED.match(text), PLACE.search(text)
-    if listed:
-        return Place(int(listed[1]), side_of(listed[2]), int(listed[3]))
-    if not found:
-        raise NoPlace('no position: ' + text.strip()[:200])
+    for line in map(str.strip, text.splitlines()):
+        listed, found, frame = LISTED.fullmatch(line), PLACE.fullmatch(line), FRAME.fullmatch(line)
+        if listed:
+            return Place(int(listed[1]), side_of(listed[2]), int(listed[3]))
+        if found:
+            return place_of(found)
+        if frame:
+            return FramePlace(int(frame[1]))
+    raise NoPlace(f'no position: {text.strip()[:200]} ({EXAMPLE})')
+
+
+def place_of(found: re.Match[str]) -> Place | FilePlace:
     if found[5] is not None:
         return FilePlace(int(found[5]))
     return Place(int(found[1]), side_of(found[2]), int(found[3]), None if found[4] is None else int(found[4]))
@@ -63,8 +86,8 @@ def parse_place(text: str) -> Place | FilePlace:
 
 def parse_fault(text: str) -> Fault | None:
     """Reads a line of `check` that refuses a capture; returns `None` for any other line."""
-    found = PLACE.search(text)
-    return Fault(parse_place(text), found[6]) if found and found[6] else None
+    lines = (PLACE.fullmatch(line.strip()) for line in text.splitlines())
+    return next((Fault(place_of(found), found[6]) for found in lines if found and found[6]), None)
 
 
 def side_of(word: str) -> Side:

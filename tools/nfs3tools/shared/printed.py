@@ -1,15 +1,19 @@
 """How names and foreign texts are printed: without what a terminal or a page would take for its own."""
+from __future__ import annotations
+
 from collections.abc import Container, Iterator, Sequence
 
 
 def escaped(name: str) -> str:
-    """Returns the name of a file as nfs3canon prints it: a control character, a backslash, and a byte that is no text, is `\\x` and two
-    digits."""
-    return ''.join(letter if letter != '\\' and letter.isprintable() else hexadecimal(letter) for letter in name)
+    """Returns the name of a file as nfs3canon prints it: a control character, a backslash, and a
+    byte that is no text, is `\\x` and two digits."""
+    return ''.join(letter if letter != '\\' and letter.isprintable() else hexadecimal(letter)
+                   for letter in name)
 
 
 def printable(text: str) -> str:
-    """Returns a text in which names are escaped already, and nothing else is a control character."""
+    """Returns a text in which names are escaped already, and nothing else is a control
+    character."""
     return ''.join(letter if letter.isprintable() else hexadecimal(letter) for letter in text)
 
 
@@ -18,9 +22,10 @@ def hexadecimal(letter: str) -> str:
 
 
 def columns(rows: Sequence[Sequence[str]], right: Container[int] = ()) -> Iterator[str]:
-    """Returns the lines of a table, whose first row has the heads. The columns of these numbers are set to the right, the last one is left
-    as it is."""
+    """Returns the lines of a table, whose first row has the heads. The columns of these numbers are
+    set to the right, the last one is left as it is."""
     widths = [max(map(len, column)) for column in zip(*rows)][:-1]
     for row in rows:
-        cells = (cell.rjust(width) if number in right else cell.ljust(width) for number, (cell, width) in enumerate(zip(row, widths)))
+        cells = (cell.rjust(width) if number in right else cell.ljust(width)
+                 for number, (cell, width) in enumerate(zip(row, widths)))
         yield '  '.join([*cells, row[-1]])

@@ -1,4 +1,6 @@
 """Running the built programs, and tshark. Each is asked how it ended."""
+from __future__ import annotations
+
 import contextlib
 import functools
 import io
@@ -17,8 +19,9 @@ TOP = pathlib.Path(__file__).resolve().parents[3]
 CHECKED, COMPARED, MASKED = {0: 'ok ', 2: ''}, {0: 'same\n', 1: 'differ at '}, {0: 'ok '}
 COMMANDS = ('check', 'same', 'show')
 PIPE_SIZE = 1 << 16  # of Linux
-Stream = typing.IO[bytes] | int
-MOST_STATUS = 125  # of a program itself; a shell and a loader have those above for one that cannot run
+Stream = typing.Union[typing.IO[bytes], int]
+# Of a program itself; a shell and a loader have those above for one that cannot run
+MOST_STATUS = 125
 
 
 class Missing(Exception):
@@ -37,12 +40,13 @@ class Answer(typing.NamedTuple):
 
 
 def program_path(named: str | None = None) -> str:
-    """The program: the one that is named, else the one built here, else the launcher that builds it, else the one beside which
-    the tools are installed, else the one on the PATH.
+    """The program: the one that is named, else the one built here, else the launcher that builds
+    it, else the one beside which the tools are installed, else the one on the PATH.
 
     Raises `Missing`.
     """
-    here = [TOP / 'crates/nfs3canon/out/nfs3canon', TOP / 'nfs3canon', TOP.parent.parent / 'libexec/nfs3canon/nfs3canon']
+    here = [TOP / 'crates/nfs3canon/out/nfs3canon', TOP / 'nfs3canon',
+            TOP.parent.parent / 'libexec/nfs3canon/nfs3canon']
     for name in [named] if named else [*map(str, here), 'nfs3canon']:
         found = shutil.which(name)
         if found:
@@ -52,7 +56,8 @@ def program_path(named: str | None = None) -> str:
 
 @functools.cache
 def program_beside(program: str, name: str) -> str:
-    """Another program: what is beside the given one, or in its own crate's folder or under its own launcher, else on the PATH.
+    """Another program: what is beside the given one, or in its own crate's folder or under its own
+    launcher, else on the PATH.
 
     Raises `Missing`.
     """
@@ -66,7 +71,8 @@ def program_beside(program: str, name: str) -> str:
 
 
 def made_programs(names: typing.Iterable[str]) -> None:
-    """Has the launchers make the programs of this repository that are not there: they unpack or build them.
+    """Has the launchers make the programs of this repository that are not there: they unpack or
+    build them.
 
     Raises `Missing`.
     """
@@ -75,14 +81,17 @@ def made_programs(names: typing.Iterable[str]) -> None:
         launcher = shutil.which(TOP / name)
         if launcher is None:
             raise Missing(f'{name} is missing')
-        done = subprocess.run([launcher], stdin=subprocess.DEVNULL, stdout=subprocess.DEVNULL, stderr=subprocess.PIPE, check=False)
+        done = subprocess.run([launcher], stdin=subprocess.DEVNULL, stdout=subprocess.DEVNULL,
+                              stderr=subprocess.PIPE, check=False)
         if not (TOP / f'crates/{name}/out/{name}').exists():
-            raise Missing(f'{name} cannot be made: ' + done.stderr.decode(errors='replace').strip().rpartition('\n')[2])
+            raise Missing(f'{name} cannot be made: '
+                          + done.stderr.decode(errors='replace').strip().rpartition('\n')[2])
 
 
-def run_program(program: str, words: list[str], expected: typing.Mapping[int, str], content: typing.Iterable[bytes] = ()) -> Answer:
-    """Runs the program with the content as its standard input, which it may leave unread. `expected` has each status that is an answer,
-    and how its standard output begins then.
+def run_program(program: str, words: list[str], expected: typing.Mapping[int, str],
+                content: typing.Iterable[bytes] = ()) -> Answer:
+    """Runs the program with the content as its standard input, which it may leave unread.
+    `expected` has each status that is an answer, and how its standard output begins then.
 
     Raises `Died` if it ends in another way.
     """
@@ -116,12 +125,15 @@ def lines_of_program(program: str, words: list[str], expected: int = 0,
             raise died([program, *words], process.returncode, text_of(error))
 
 
-def begun(command: list[str], stdin: Stream, stdout: Stream, stderr: Stream) -> 'subprocess.Popen[bytes]':
+def begun(command: list[str], stdin: Stream, stdout: Stream,
+          stderr: Stream) -> 'subprocess.Popen[bytes]':
     """Raises `Died` if the program cannot be started, as when memory is short."""
     try:
-        return subprocess.Popen(command, bufsize=PIPE_SIZE, stdin=stdin, stdout=stdout, stderr=stderr)
+        return subprocess.Popen(command, bufsize=PIPE_SIZE, stdin=stdin, stdout=stdout,
+                                stderr=stderr)
     except OSError as failed:
-        raise Died(f'{escaped(command[0])} cannot be started: {failed.strerror or failed}') from failed
+        raise Died(
+            f'{escaped(command[0])} cannot be started: {failed.strerror or failed}') from failed
 
 
 def text_of(file: typing.IO[bytes]) -> str:
@@ -131,9 +143,11 @@ def text_of(file: typing.IO[bytes]) -> str:
 
 def died(command: list[str], status: int, error: str) -> Died:
     """Says which program ended how, and what it said last."""
-    name = ' '.join([pathlib.Path(command[0]).name, *(word for word in command[1:2] if word in COMMANDS)])
+    name = ' '.join([pathlib.Path(command[0]).name,
+                     *(word for word in command[1:2] if word in COMMANDS)])
     how = f'was killed by signal {-status} ({signal.strsignal(-status)})' if status < 0 else f'ended with status {status}'
-    return Died(f'{escaped(name)} {how}' + ''.join(f': {printable(line)}' for line in error.splitlines()[-1:]))
+    return Died(f'{escaped(name)} {how}'
+                + ''.join(f': {printable(line)}' for line in error.splitlines()[-1:]))
 
 
 def chosen_frames(recording: str, display_filter: str) -> set[int]:
@@ -143,14 +157,18 @@ def chosen_frames(recording: str, display_filter: str) -> set[int]:
     """
     if not shutil.which('tshark'):
         raise Missing('tshark is missing, which --filter needs')
-    words = ['tshark', '-n', '-r', recording, '-Y', f'tcp && ({display_filter})', '-T', 'fields', '-e', 'frame.number']
-    with begun(words, stdin=subprocess.DEVNULL, stdout=subprocess.PIPE, stderr=subprocess.PIPE) as process:
+    words = ['tshark', '-n', '-r', recording, '-Y', f'tcp && ({display_filter})', '-T', 'fields',
+             '-e', 'frame.number']
+    with begun(words, stdin=subprocess.DEVNULL, stdout=subprocess.PIPE,
+               stderr=subprocess.PIPE) as process:
         out, error = (piece.decode(errors='replace') for piece in process.communicate())
-    complaints = [line for line in error.splitlines() if line and not line.startswith('Running as user "root"')]
+    complaints = [line for line in error.splitlines() if line
+                  and not line.startswith('Running as user "root"')]
     if process.returncode < 0 or process.returncode > MOST_STATUS:
         raise died(words[:1], process.returncode, error)
     if process.returncode not in (0, 2) or process.returncode and not out:
-        raise FilterRefused('; '.join(map(printable, complaints)) or f'tshark ended with status {process.returncode}')
+        raise FilterRefused('; '.join(map(printable, complaints))
+                            or f'tshark ended with status {process.returncode}')
     return set(map(int, out.split()))
 
 

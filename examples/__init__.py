@@ -1,0 +1,1 @@
+"""Captures and recordings to try, and what builds their parts."""

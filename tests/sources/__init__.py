@@ -1,0 +1,1 @@
+"""Rules for sources and pages."""

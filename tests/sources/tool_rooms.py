@@ -1,0 +1,74 @@
+"""The rooms of tools/nfs3tools in their order: a module imports from its own room and from those below it, modules do not import each
+other in a circle, and tools/DESIGN.md has each in the table of its room."""
+import ast
+import pathlib
+import re
+from collections.abc import Iterator, Mapping, Set
+
+TOP = pathlib.Path(__file__).resolve().parents[2]
+PACKAGE = TOP / 'tools/nfs3tools'
+HEADING = re.compile(r'^### `([\w.]+)`$(.*?)(?=^#)', re.M | re.S)  # of a room
+ROW = re.compile(r'^\| `(\w+)` \|', re.M)
+# From the lowest to the highest.
+ROOMS = ('shared', 'recordings', 'captures', 'comparison.values', 'comparison.exchanges', 'comparison.verdict', 'comparison.parts',
+         'reporting', 'judgement', 'commands')
+
+
+def modules(package: pathlib.Path) -> dict[str, pathlib.Path]:
+    """Returns the modules of a package with their files, each by its name below the package, as `shared.places`."""
+    paths = sorted(path for path in package.rglob('*.py') if path.name != '__init__.py')
+    return {'.'.join(path.relative_to(package).with_suffix('').parts): path for path in paths}
+
+
+def imported(module: str, text: str, known: Set[str]) -> Iterator[str]:
+    """Yields the modules of the package that a module imports."""
+    for node in ast.walk(ast.parse(text)):
+        if isinstance(node, ast.ImportFrom) and node.level:
+            target = [*module.split('.')[:-node.level], *(node.module or '').split('.')]
+            name = '.'.join(filter(None, target))
+            yield from [name] if name in known else (f'{name}.{alias.name}' for alias in node.names)
+
+
+def imports_of(texts: Mapping[str, str]) -> dict[str, list[str]]:
+    """Returns for each module what it imports of the others."""
+    return {module: sorted(set(imported(module, text, texts.keys()))) for module, text in texts.items()}
+
+
+def room_of(module: str) -> int | None:
+    """Returns the number of a module's room, or None if it is in none."""
+    return next((at for at, room in enumerate(ROOMS) if module.startswith(f'{room}.')), None)
+
+
+def is_against_the_order(module: str, other: str) -> bool:
+    """Returns whether a module may not import another one."""
+    own, others = room_of(module), room_of(other)
+    return own is None or others is None or others > own
+
+
+def in_a_circle(imports: Mapping[str, list[str]]) -> list[str]:
+    """Returns the modules that import each other in a circle, and those that import them."""
+    left = dict(imports)
+    while done := [module for module, others in left.items() if not any(other in left for other in others)]:
+        left = {module: others for module, others in left.items() if module not in done}
+    return sorted(left)
+
+
+def wrong_imports(texts: Mapping[str, str]) -> list[str]:
+    """Returns what is against the order of the rooms, in words."""
+    imports = imports_of(texts)
+    found = [f'{module} imports {other}' for module, others in imports.items() for other in others
+             if is_against_the_order(module, other)]
+    return found + [f'{module} is imported in a circle' for module in in_a_circle(imports)]
+
+
+def against_the_order() -> list[str]:
+    """Returns what of the tools is against the order of their rooms."""
+    return wrong_imports({module: path.read_text() for module, path in modules(PACKAGE).items()})
+
+
+def not_in_the_design() -> list[str]:
+    """Returns the modules that have no row in the table of their room in tools/DESIGN.md, the rows of no module, and rooms out of order."""
+    rooms = HEADING.findall((TOP / 'tools/DESIGN.md').read_text())
+    rows = {f'{room}.{module}' for room, table in rooms for module in ROW.findall(table)}
+    out_of_order = [] if [room for room, _ in rooms] == [*ROOMS] else ['the rooms of tools/DESIGN.md are in another order']
+    return sorted(rows ^ modules(PACKAGE).keys()) + out_of_order

@@ -1,0 +1,174 @@
+"""What a call asks and what a reply says, in a few words, by their lines of a listing.
+
+    asked_in('NFSPROC3_WRITE', said).words        # '0+4096 UNSTABLE'
+    answer_in('NFSPROC3_WRITE', reply_said)       # 'OK 4096 UNSTABLE' and no error
+
+`said` is what the listing has after the name of the procedure.
+"""
+from __future__ import annotations
+
+import functools
+import re
+from collections.abc import Iterable, Iterator, Mapping
+from typing import NamedTuple
+
+from ..shared.layouts import RAW, VALUES, meaning_of
+from .answering import error_in
+from .listings import ITEM
+
+LONGEST = 1_000  # characters of a name or a text
+KEPT_AT_MOST = 1_024  # texts that are made once
+WIDTH = 7  # of GETATTR and SETATTR, and of names that are shorter
+HEAD = re.compile(r'mtype=0 rpcvers=2 prog=\d+ vers=\d+ proc=\d+ cred_flavor=\d+ '
+                  r'(?:cred_body=\w*|cred_length=\d+ stamp=\d+ machinename="[^"]*" uid=(\d+) '
+                  r'gid=\d+ gids=\d+(?: group=\d+)*) verf_flavor=0 verf_body=\w*')
+# The arguments besides handles and names, by procedures. Some names stand for several items.
+ARGUMENTS = {'NFSPROC3_SETATTR': '{sattr}{guard}', 'NFSPROC3_ACCESS': '{access}',
+             'NFSPROC3_READ': '{offset}+{count}',
+             'NFSPROC3_WRITE': '{offset}+{count} {stable}',
+             'NFSPROC3_CREATE': '{how}{sattr}', 'NFSPROC3_MKDIR': '{sattr}',
+             'NFSPROC3_SYMLINK': '-> {target}{sattr}',
+             'NFSPROC3_MKNOD': '{type}{device}{sattr}',
+             'NFSPROC3_READDIR': 'cookie {cookie} count {count}',
+             'NFSPROC3_READDIRPLUS': 'cookie {cookie} count {dircount}/{maxcount}',
+             'NFSPROC3_COMMIT': '{offset}+{count}'}
+# What a success says, by procedures: what is searched for in the items, and how it is told.
+RESULTS = {'NFSPROC3_GETATTR': (re.compile(r' (type)=(\d+) (mode)=(\d+) nlink=\d+ uid=\d+ gid=\d+ '
+                                           r'(size)=(\d+)'), '{type} {mode} size {size}'),
+           'NFSPROC3_ACCESS': (re.compile(r' (access)=(\d+)'), '{access}'),
+           'NFSPROC3_READLINK': (re.compile(r' (path)=("[^"]*")'), '{target}'),
+           'NFSPROC3_READ': (re.compile(r' (count)=(\d+) (eof)=(\d)'), '{count}{end}'),
+           'NFSPROC3_WRITE': (re.compile(r' (count)=(\d+) (committed)=(\d)'),
+                              '{count} {committed}')}
+OF_TWO = ('NFSPROC3_RENAME', 'NFSPROC3_LINK')
+LISTING = ('NFSPROC3_READDIR', 'NFSPROC3_READDIRPLUS')
+SPLIT = re.compile(r'\\(?:x[0-9a-f]?)?$')  # the beginning of a byte that is spelled by its digits
+NAMED = ('access', 'committed', 'how', 'mode', 'stable', 'type')  # items whose numbers have names
+NOT_READ = 'accepted'  # what is said of results that are not read
+
+
+class Asked(NamedTuple):
+    """What a call asks.
+
+    user: the uid of AUTH_SYS
+    handle, entry: the object, or the folder and the name in it; of MNT and UMNT `entry` is the
+        whole path
+    other, other_entry: the same of a second one, of RENAME and LINK
+    words: the other arguments
+    """
+    user: int | None = None
+    handle: str | None = None
+    entry: str | None = None
+    other: str | None = None
+    other_entry: str | None = None
+    words: str = ''
+
+
+def asked_in(procedure: str, said: str) -> Asked:
+    """Returns what a call asks. Of a raw call that is nothing but its user."""
+    head = HEAD.match(said)
+    assert head, said[:200]
+    user = int(head[1]) if head[1] else None
+    if procedure == RAW.name:
+        return Asked(user)
+    items = ITEM.findall(said, head.end())
+    template = ARGUMENTS.get(procedure)
+    words = '' if template is None else template.format_map(Told(items)).strip()
+    handle, entry = object_in(items)
+    if procedure not in OF_TWO:
+        return Asked(user, handle, entry, None, None, words)
+    return Asked(user, handle, entry, *object_in(items[1 if entry is None else 2:]), words)
+
+
+def object_in(items: list[tuple[str, str]]) -> tuple[str | None, str | None]:
+    """The handle with which some arguments begin, and the name that follows it; or a whole path."""
+    if not items or items[0][0] != 'fh':
+        return None, text_of(items[0][1]) if items and items[0][0] == 'dirpath' else None
+    has_name = len(items) > 1 and items[1][0] == 'name'
+    return items[0][1], text_of(items[1][1]) if has_name else None
+
+
+class Told(dict[str, str]):
+    """The items of a call or of a reply, as they are told."""
+
+    def __init__(self, items: Iterable[tuple[str, str]]) -> None:
+        super().__init__(items)
+        for name in NAMED:
+            if name in self:
+                self[name] = number_named(name, self[name])
+
+    def __missing__(self, name: str) -> str:
+        if name == 'sattr':
+            return ''.join(f' {word}' for word in settings_in(self))
+        if name == 'guard':
+            return ' guarded' if self['check'] == '1' else ''
+        if name == 'device':
+            return ' {spec1}:{spec2}'.format_map(self) if 'spec1' in self else ''
+        if name == 'end':
+            return ' eof' if self['eof'] == '1' else ''
+        if name == 'target':
+            return text_of(self['path'])
+        raise KeyError(name)
+
+
+@functools.lru_cache(KEPT_AT_MOST)
+def number_named(name: str, value: str) -> str:
+    """The name of an item's number."""
+    return meaning_of(name, value, VALUES.get(name)).removeprefix('NF3')
+
+
+def text_of(value: str) -> str:
+    """The text of a value in quotes, of a long one the beginning."""
+    text = value.strip('"')
+    return text if len(text) <= LONGEST else SPLIT.sub('', text[:LONGEST]) + '..'
+
+
+def settings_in(items: Mapping[str, str]) -> Iterator[str]:
+    """The attributes that a call sets."""
+    if items.get('set_mode') == '1':
+        yield items['mode']
+    for name in ('uid', 'gid', 'size'):
+        if items.get('set_' + name) == '1':
+            yield f'{name} {items[name]}'
+    for name in ('atime', 'mtime'):
+        if items.get('set_' + name) == '1':
+            yield f'{name} of the server'
+        elif items.get('set_' + name) == '2':
+            yield f'{name} {items[name + "_sec"]}.{int(items[name + "_nsec"]):09}'
+
+
+def answer_in(procedure: str, said: str) -> tuple[str, str]:
+    """Returns what a reply says, and the name of its error, or nothing for success."""
+    error = error_in(procedure, said)
+    if error:
+        return error, error
+    if procedure == RAW.name:
+        return NOT_READ, ''
+    if procedure in LISTING:
+        return f'OK {entries_in(said)}', ''
+    pattern, template = RESULTS.get(procedure, (None, ''))
+    read = pattern.search(said) if pattern else None
+    if read is None:
+        return 'OK', ''
+    return result_of(template, read.groups()), ''
+
+
+@functools.lru_cache(KEPT_AT_MOST)
+def result_of(template: str, values: tuple[str, ...]) -> str:
+    """What a success says, by names of items each with its value."""
+    return 'OK ' + template.format_map(Told(zip(values[::2], values[1::2])))
+
+
+def entries_in(said: str) -> str:
+    """How many entries a folder's listing has, and whether it is at its end."""
+    number = sum(name == 'name' for name, _ in ITEM.findall(said))
+    is_end = said.endswith((' eof=1', ' eof=1\n'))
+    return f'{number:,} {"entry" if number == 1 else "entries"}' + ' eof' * is_end
+
+
+@functools.lru_cache(KEPT_AT_MOST)
+def short_name(procedure: str) -> str:
+    """The name of a procedure without that of its version: `WRITE` of NFS, `MOUNT MNT` of MOUNT. A
+    short one is as wide as most are."""
+    name = procedure.removeprefix('NFSPROC3_').replace('MOUNTPROC3_', 'MOUNT ')
+    return name.ljust(WIDTH)

@@ -1,0 +1,368 @@
+"""Lists each call with its answer: which failed, which took long, and in which frame they are.
+
+    tools/calls --errors RECORDING|CAPTURE ..
+    tools/calls --slow 100ms --procedure WRITE,COMMIT --path '/d*' RECORDING ..
+
+A line is printed for each exchange, in the order of time. An exchange is a call, with its
+retransmissions and its replies. The columns are
+
+    time    the seconds from the first frame of the recording, as Wireshark prints them
+    ms      the latency in milliseconds: from the call to its first reply, as in tools/procedures
+    frame   the frame that completed the call
+    conn    CONNECTION:RECORD, for the other tools `connection CONNECTION client record RECORD`
+    call    the procedure, its path and its other arguments, as OFFSET+COUNT of a READ
+    answer  what the reply says
+
+A path is that under which an object was made, or else first reached. A folder whose path is not
+known is `?`. Of calls of other programs than NFS and MOUNT version 3 only the name is known. Their
+answer is `accepted`, or the error of RPC.
+
+A call without a reply has one of three answers:
+
+    no reply           the end of the connection is recorded, and no byte is missing
+    no reply recorded  one may have been sent: bytes are missing, or the recording ends first
+    not judged         the connection is refused, and its listing ends before a reply to this call
+
+An exchange is listed if all conditions hold that are given. An error of --errors is a reply that is
+no success, or `no reply`.
+
+The last line has the counts of tools/verdicts, and the line before it how many exchanges are
+listed. Connections that are not judged whole are told on standard error, with the reasons. --json
+and --csv print the same for programs.
+
+The recordings are taken as by tools/from_pcap (--port, --no-midstream, --whole-records, --filter,
+patterns in quotes for the parts of one recording); `-` is standard input. The status is 0 if that
+of tools/verdicts is, whatever is listed. It is 1 to 3 as there; --allow-losses and
+--allow-not-checked are the same.
+"""
+from __future__ import annotations
+
+import argparse
+import contextlib
+import csv
+import fnmatch
+import ipaddress
+import json
+import os
+import re
+import sys
+import typing
+from collections.abc import Callable, Iterator, Sequence
+from functools import partial
+
+from ..captures.in_words import short_name
+from ..comparison.values.long_values import bytes_of
+from ..judgement.exchanges import Exchange, Kept
+from ..judgement.verdict import Verdict, counts_after, is_row, named, status_of, sums_of, tell_notes
+from ..recordings.coverage import PROCEDURES
+from ..recordings.selection import count, plural
+from ..recordings.taken import Taken
+from ..reporting.messages import add_judging, allowed_of, options_of, parser_of, run
+from ..shared.layouts import BY_NAME, RAW
+from ..shared.printed import escaped, printable
+from ..shared.programs import program_path
+from .procedures import milliseconds
+from .verdicts import CONNECTIONS_AT_ONCE, VERSION, Judge, objects_of
+
+HEADS = ('time', 'ms', 'frame', 'conn', 'call', 'answer')
+RIGHT = 4  # columns that are set to the right
+WIDEST = 72  # of the calls
+AT_ONCE = 1_000  # lines whose columns are set together
+NANOSECONDS = {'us': 1_000, 'ms': 1_000_000, 's': 1_000_000_000}
+COLUMNS = ('recording', 'connection', 'record', 'client', 'server', 'frame', 'time_ns',
+           'latency_ns', 'user', 'procedure', 'path', 'second_path', 'arguments',
+           'sent_again', 'answer', 'is_error', 'replies')
+Wanted = Callable[[Exchange], bool]
+
+
+class Listed(typing.NamedTuple):
+    """A recording whose exchanges are listed: its name, when it begins, and the numbers of those
+    that are wanted."""
+    recording: str
+    begun: int
+    kept: Kept
+    wanted: Sequence[int]
+
+    def exchanges(self) -> Iterator[Exchange]:
+        return map(self.kept.exchange, self.wanted)
+
+
+# --- What is listed ---
+
+def wanted_by(chosen: argparse.Namespace) -> list[Wanted]:
+    """The conditions of the options, each of which has to hold."""
+    conditions = list[Wanted]()
+    if chosen.errors:
+        conditions.append(lambda one: one.is_error)
+    if chosen.slow is not None:
+        conditions.append(lambda one: one.latency is not None and bool(one.latency >= chosen.slow))
+    if chosen.procedure:
+        conditions.append(lambda one: bool(last_name(one.procedure) in chosen.procedure))
+    if chosen.user is not None:
+        conditions.append(lambda one: bool(one.asked.user == chosen.user))
+    if chosen.client:
+        conditions.append(lambda one: bool(host_of(one.part.client) == chosen.client))
+    if chosen.path is not None:
+        fits = re.compile(fnmatch.translate(chosen.path)).match
+        conditions.append(lambda one: any(path is not None and fits(as_named(path))
+                                          for path in (one.path, one.other_path)))
+    return conditions
+
+
+def last_name(procedure: str) -> str:
+    """The name of a procedure without that of its program."""
+    return re.split('[ _]', procedure)[-1] if procedure in BY_NAME else procedure.rpartition(' ')[2]
+
+
+def host_of(end: str) -> str:
+    """The address of an end."""
+    return end.rpartition(':')[0].strip('[]')
+
+
+def as_named(path: str) -> str:
+    """A path as its files are named, without the spelling of the listing."""
+    return os.fsdecode(bytes_of(f'"{path}"')) if '\\' in path else path
+
+
+def listed(judge: Judge, recording: str, conditions: list[Wanted], by_latency: bool,
+           verdicts: list[Verdict]) -> Listed:
+    """Judges a recording or capture, adds its verdicts, and returns the exchanges of the
+    connections that were judged."""
+    kept, begun = Kept(), list[int]()
+
+    def look(taken: Taken, judged: list[Verdict]) -> None:
+        begun.append(taken.begun)
+        states = {verdict.connection: verdict.state for verdict in judged}
+        for connection in taken.connections:
+            if states.get(connection.number, 'error') != 'error':
+                kept.take(judge.program, connection, states[connection.number] == 'refused')
+    verdicts += judge.verdicts(recording, look)
+    order = kept.in_order(by_latency)
+    if conditions:
+        order = [at for at in order if holds_all(conditions, kept.exchange(at))]
+    return Listed(recording, sum(begun), kept, order)
+
+
+def holds_all(conditions: list[Wanted], one: Exchange) -> bool:
+    return all(holds(one) for holds in conditions)
+
+
+# --- What is printed ---
+
+def cells_of(one: Exchange, begun: int) -> tuple[str, ...]:
+    """The cells of a line."""
+    return (f'{(one.time - begun) / 1_000_000_000:.6f}' if one.time else '-',
+            milliseconds(one.latency), str(one.frame or '-'),
+            f'{one.part.number}:{one.record}', call_of(one), one.answer)
+
+
+def call_of(one: Exchange) -> str:
+    """A call with its paths and its other arguments."""
+    words, path = [short_name(one.procedure)], one.path
+    if path is not None:
+        words.append(path)
+    if one.asked.other is not None:
+        words.append(f'-> {one.other_path}')
+    if one.asked.words:
+        words.append(one.asked.words)
+    if one.again:
+        words.append(f'(sent {one.again + 1} times)')
+    return ' '.join(words)
+
+
+class Lines:
+    """Lines of cells. Each block of them is as wide as its cells are, and at least as the block
+    before. A long call moves its answer."""
+
+    def __init__(self) -> None:
+        self.widths = [0] * (len(HEADS) - 1)
+        self.rows: list[tuple[str, ...]] = [HEADS]
+
+    def add(self, row: tuple[str, ...]) -> None:
+        self.rows.append(row)
+        if len(self.rows) > AT_ONCE:
+            self.print()
+
+    def print(self) -> None:
+        columns = zip(self.widths, zip(*self.rows))
+        self.widths = [max(width, *map(len, column)) for width, column in columns]
+        self.widths[RIGHT] = min(self.widths[RIGHT], WIDEST)
+        right = (f'{{:>{width}}}' for width in self.widths[:RIGHT])
+        line = '  '.join([*right, f'{{:<{self.widths[RIGHT]}}}', '{}'])
+        sys.stdout.writelines(line.format(*row) + '\n' for row in self.rows)
+        self.rows = []
+
+
+def print_lines(found: Listed) -> None:
+    """Prints the lines of a recording."""
+    lines = Lines()
+    for one in found.exchanges():
+        lines.add(cells_of(one, found.begun))
+    lines.print()
+
+
+def tell_verdicts(verdicts: list[Verdict]) -> None:
+    """Prints on standard error which connections are not judged whole, with all notes."""
+    tell_notes(verdicts)
+    for verdict in verdicts:
+        if is_row(verdict) and verdict.state != 'ok':
+            print(printable(f'{named(verdict)}: {verdict.message}'), file=sys.stderr)
+
+
+def tell_of_times(found: Listed, chosen: argparse.Namespace) -> None:
+    """Prints on standard error what is to know of latencies and addresses, if an option asks for
+    what is not there."""
+    kept, number = found.kept, found.kept.backward
+    lines = list[str]()
+    if number:
+        are = plural(number, 'latency is', 'latencies are')
+        lines.append(f'the clock went back: {number:,} {are} negative')
+    if chosen.slow is not None and len(kept) and not kept.has_latencies:
+        lines.append('no latency is known, so --slow lists nothing')
+    if chosen.client and any(not part.client for part in kept.parts):
+        lines.append('a capture has no addresses, so --client lists nothing')
+    for line in lines:
+        print(printable(f'{escaped(found.recording)}: {line}'), file=sys.stderr)
+
+
+# --- For programs ---
+
+def values_of(one: Exchange, recording: str) -> tuple[object, ...]:
+    """The values of COLUMNS; of the replies an object for each."""
+    part = one.part
+    replies = [{'record': reply.record, 'frame': reply.frame or None, 'answer': reply.words}
+               for reply in one.replies]
+    return (escaped(recording), part.number, one.record, part.client, part.server,
+            one.frame or None, one.time or None, one.latency, one.asked.user, one.procedure,
+            one.path, one.other_path, one.asked.words, one.again, one.answer, one.is_error, replies)
+
+
+class Json:
+    """An object with the exchanges, and at its end what tools/verdicts has."""
+
+    def __init__(self) -> None:
+        self.before = ''
+        sys.stdout.write(f'{{"version": {VERSION}, "calls": [')
+
+    def add(self, found: Listed) -> None:
+        for one in found.exchanges():
+            values = dict(zip(COLUMNS, values_of(one, found.recording)))
+            sys.stdout.write(f'{self.before}\n{json.dumps(values)}')
+            self.before = ','
+
+    def end(self, verdicts: list[Verdict]) -> None:
+        rest = json.dumps({'counts': counts_after(verdicts).members(),
+                           'verdicts': objects_of(verdicts)}, indent=1)
+        sys.stdout.write(f'\n],{rest[1:]}\n')
+
+
+class Csv:
+    """A line for each exchange, in which the number of the replies stands for them; the counts go
+    to standard error."""
+
+    def __init__(self) -> None:
+        self.writer = csv.writer(sys.stdout, lineterminator='\n')
+        self.writer.writerow(COLUMNS)
+
+    def add(self, found: Listed) -> None:
+        for one in found.exchanges():
+            *values, replies = values_of(one, found.recording)
+            self.writer.writerow([*values, len(typing.cast(list[object], replies))])
+
+    def end(self, verdicts: list[Verdict]) -> None:
+        print(sums_of(verdicts), file=sys.stderr)
+
+
+class Text:
+    """Lines for a reader. Those of several recordings come after their names."""
+
+    def __init__(self, is_one: bool) -> None:
+        self.is_one, self.number, self.all = is_one, 0, 0
+
+    def add(self, found: Listed) -> None:
+        if not self.is_one:
+            print(f'{escaped(found.recording)}:')
+        print_lines(found)
+        self.number, self.all = self.number + len(found.wanted), self.all + len(found.kept)
+
+    def end(self, verdicts: list[Verdict]) -> None:
+        print(count(self.all, 'exchange') if self.number == self.all
+              else f'{self.number:,} of {count(self.all, "exchange")}')
+        print(sums_of(verdicts))
+
+
+# --- The command ---
+
+def duration(word: str) -> int:
+    """The nanoseconds of a time, as `100ms`."""
+    found = re.fullmatch(r'(\d{1,9}(?:\.\d{1,9})?)(us|ms|s)', word)
+    if not found:
+        raise argparse.ArgumentTypeError(f'no time: {word} (as in 100ms, 1.5s or 250us)')
+    return round(float(found[1]) * NANOSECONDS[found[2]])
+
+
+def procedure_names(word: str) -> frozenset[str]:
+    """The names of procedures, as `WRITE,COMMIT`."""
+    known = {last_name(name) for name in BY_NAME if name != RAW.name}.union(*PROCEDURES.values())
+    names = frozenset(last_name(name.strip()) for name in word.upper().split(','))
+    for name in names - known:
+        raise argparse.ArgumentTypeError(f'no procedure: {name}')
+    return names
+
+
+def address(word: str) -> str:
+    """An address of IPv4 or IPv6, as the ends of connections have it."""
+    try:
+        return str(ipaddress.ip_address(word.strip('[]')))
+    except ValueError:
+        raise argparse.ArgumentTypeError(f'no address: {word}') from None
+
+
+def user_id(word: str) -> int:
+    if not (word.isascii() and word.isdigit()):
+        raise argparse.ArgumentTypeError(f'no uid: {word}')
+    return int(word)
+
+
+def words_of(words: list[str]) -> argparse.Namespace:
+    parser = parser_of(__doc__, 'calls')
+    parser.add_argument('recordings', metavar='RECORDING|CAPTURE', nargs='+')
+    parser.add_argument('--errors', action='store_true',
+                        help='lists calls whose reply is no success, or that got none')
+    parser.add_argument('--slow', metavar='TIME', type=duration,
+                        help='lists calls with at least this latency, as 100ms')
+    parser.add_argument('--procedure', metavar='NAME,..', type=procedure_names,
+                        help='lists calls of these procedures')
+    parser.add_argument('--path', metavar='PATTERN', help='lists calls whose path fits a pattern')
+    parser.add_argument('--user', metavar='UID', type=user_id,
+                        help='lists calls of this user by AUTH_SYS')
+    parser.add_argument('--client', metavar='ADDRESS', type=address,
+                        help='lists calls of the client with this address')
+    parser.add_argument('--sort', choices=['time', 'latency'], default='time',
+                        help='the order of the lines; by latency the longest is first')
+    form = parser.add_mutually_exclusive_group()
+    form.add_argument('--json', action='store_true', help='prints JSON')
+    form.add_argument('--csv', action='store_true', help='prints comma-separated values')
+    add_judging(parser)
+    return parser.parse_args(words)
+
+
+def main(words: list[str]) -> int:
+    chosen, verdicts = words_of(words), list[Verdict]()
+    judge = Judge(program_path(chosen.program), options_of(chosen), CONNECTIONS_AT_ONCE, True)
+    form: Json | Csv | Text
+    form = Json() if chosen.json else Csv() if chosen.csv else Text(len(chosen.recordings) == 1)
+    for recording in chosen.recordings:
+        found = listed(judge, recording, wanted_by(chosen), chosen.sort == 'latency', verdicts)
+        with contextlib.closing(found.kept):
+            form.add(found)
+            tell_of_times(found, chosen)
+    tell_verdicts(verdicts)
+    form.end(verdicts)
+    return status_of(verdicts, allowed_of(chosen))
+
+
+command = partial(run, 'calls', main)
+
+if __name__ == '__main__':
+    sys.exit(command())

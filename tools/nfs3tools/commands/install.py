@@ -1,0 +1,169 @@
+"""Puts the programs, the tools, manual pages and completions under a prefix.
+
+Under the prefix there are
+
+    libexec/nfs3canon/{nfs3canon,nfs3mask}       the programs
+    bin/nfs3canon, bin/nfs3mask                  a launcher of each, which knows the version
+    bin/nfs3-NAME                                a link to each tool, with hyphens in its name
+    share/nfs3canon/tools/                       the tools
+    share/nfs3canon/{CHANGELOG.md,LICENSE-*}     the version, and the licences
+    share/nfs3canon/installed                    what was put there, which `--remove` takes away again
+    share/man/man1/                              the manual pages
+    share/bash-completion/completions/, share/zsh/site-functions/, share/fish/vendor_completions.d/
+                                                 completions; bash and fish look for them under the name of each tool
+
+The manual pages have the names under which the tools are installed. Files and folders have the same permissions under every umask.
+"""
+from __future__ import annotations
+
+import argparse
+import re
+import sys
+from collections.abc import Iterator
+from functools import partial
+from pathlib import Path
+
+from ..reporting.messages import parser_of, run
+from ..shared.installed import Installed, Made
+from ..shared.names import installed_name
+from ..shared.outputs import Refused
+from ..shared.printed import escaped
+from ..shared.programs import Missing, made_programs, program_beside
+from ..shared.version import TOP, version
+
+PROGRAM = TOP / 'crates/nfs3canon/out/nfs3canon'
+PROGRAMS = ('nfs3canon', 'nfs3mask')
+TOOLS = ('from_pcap', 'where', 'verdicts', 'calls', 'procedures', 'compare', 'explain', 'cut')
+COMPLETIONS = {file.format(name): place.format(name) for name in PROGRAMS for file, place in (
+    ('{}.bash', 'share/bash-completion/completions/{}'), ('_{}', 'share/zsh/site-functions/_{}'),
+    ('{}.fish', 'share/fish/vendor_completions.d/{}.fish'))}
+HOME = 'share/nfs3canon'
+PROGRAMS_HOME = 'libexec/nfs3canon'
+# The command lines of the programs are proved, and none of them asks for the version.
+LAUNCHER = '''#!/bin/sh
+# Prints the version of the program that has the name of this script, or runs it.
+own=$(readlink -f "$0")
+if [ $# = 1 ] && [ "$1" = --version ]; then
+  echo "${{own##*/}} {version}"
+  exit
+fi
+exec "${{own%/*}}/../{home}/${{own##*/}}" "$@"
+'''
+LIST = f'{HOME}/installed'
+EXECUTABLE = 0o100
+FOR_ALL_TO_RUN, FOR_ALL_TO_READ, OF_A_LINK = 0o755, 0o644, 0o777  # permissions
+# The names of tools in manual pages: after these macros, and in examples at the beginning of a command.
+ONE_OF_TOOLS = f'(?P<tool>{"|".join(TOOLS)})'
+IN_TEXT = rf'(?P<before>^(?:\.TH |\.BR? |(?:\.I )?tools/)?)(?i:{ONE_OF_TOOLS})(?= 1 | \(1\)| \\-|\n)'
+IN_EXAMPLES = rf'(?P<before>^|\| |tools/){ONE_OF_TOOLS}(?= )'
+
+
+def files(program: Path) -> Iterator[tuple[Path, str]]:
+    """Returns each file that is copied, and where it goes under the prefix."""
+    for name in PROGRAMS:
+        yield program if name == 'nfs3canon' else Path(program_beside(str(program), name)), f'{PROGRAMS_HOME}/{name}'
+        yield TOP / 'man' / f'{name}.1', f'share/man/man1/{name}.1'
+    for tool in TOOLS:
+        yield TOP / 'tools' / tool, f'{HOME}/tools/{tool}'
+        yield TOP / 'tools/man' / f'{tool}.1', f'share/man/man1/{installed_name(tool)}.1'
+    for module in sorted((TOP / 'tools/nfs3tools').rglob('*.py')):
+        yield module, f'{HOME}/{module.relative_to(TOP)}'
+    for name in ('CHANGELOG.md', 'tools/CHANGELOG.md', 'LICENSE-MIT', 'LICENSE-APACHE'):
+        yield TOP / name, f'{HOME}/{name}'
+    for name, place in COMPLETIONS.items():
+        yield TOP / 'completions' / name, place
+
+
+def links() -> Iterator[tuple[str, str]]:
+    """Returns each link under the prefix, and where it leads from its folder."""
+    for tool in TOOLS:
+        yield f'bin/{installed_name(tool)}', f'../{HOME}/tools/{tool}'
+        yield f'share/bash-completion/completions/{installed_name(tool)}', 'nfs3canon'
+        yield f'share/fish/vendor_completions.d/{installed_name(tool)}.fish', 'nfs3canon.fish'
+
+
+def content_of(source: Path, place: str) -> bytes:
+    """Returns what a file has that is installed."""
+    return page_of(source.read_text()).encode() if place.startswith('share/man/') else source.read_bytes()
+
+
+def page_of(text: str) -> str:
+    """Returns a manual page with the names under which the tools are installed: in its head, where it is about the tool itself, where it
+    names other pages, and in the commands of examples."""
+    pieces = re.split(r'(^\.EX\n.*?^\.EE$)', text, flags=re.MULTILINE | re.DOTALL)
+    patterns = (IN_EXAMPLES if piece.startswith('.EX') else IN_TEXT for piece in pieces)
+    return ''.join(re.sub(pattern, named_in_page, piece, flags=re.MULTILINE) for pattern, piece in zip(patterns, pieces))
+
+
+def named_in_page(found: re.Match[str]) -> str:
+    """Returns the name of a tool as roff has it, in capitals if it was found so."""
+    name = installed_name(found['tool'].lower()).replace('-', r'\-')
+    return found['before'].removesuffix('tools/') + (name.upper() if found['tool'].isupper() else name)
+
+
+def install(prefix: Path, program: Path, is_listed: bool = True) -> None:
+    """Copies all files under a prefix. Each is made beside its name, and they get their names once all are whole; so nothing has
+    changed if that fails, and a program that runs goes on.
+
+    Raises `Missing` if a program is not there, `Refused` for a prefix that no program takes, and `OSError`.
+    """
+    if not is_utf8(prefix):
+        raise Refused(f'{escaped(str(prefix))} is not UTF-8, and no program runs under such a name')
+    if not program.is_file() or not program.stat().st_mode & EXECUTABLE:
+        raise Missing(f'{escaped(str(program))} is missing, or cannot be run')
+    with Made(prefix) as made:
+        for source, place in files(program):
+            is_run = source.stat().st_mode & EXECUTABLE
+            made.write(place, content_of(source, place), FOR_ALL_TO_RUN if is_run else FOR_ALL_TO_READ)
+        for name in PROGRAMS:
+            made.write(f'bin/{name}', LAUNCHER.format(version=version(), home=PROGRAMS_HOME).encode(), FOR_ALL_TO_RUN)
+        for place, target in links():
+            made.link(place, target)
+        if is_listed:
+            made.list_in(Installed(prefix, LIST))
+        made.give_names()
+
+
+def is_utf8(path: Path) -> bool:
+    """Whether the programs can be run below a path: they refuse a command line with another word, also if that is their own name."""
+    try:
+        str(path.absolute()).encode()
+    except UnicodeEncodeError:
+        return False
+    return True
+
+
+def parser_for(name: str, what: str, target: str, default: str) -> argparse.ArgumentParser:
+    parser = parser_of(what, name)
+    parser.add_argument('--program', type=Path, help='nfs3canon, if it is not the one of this repository; nfs3mask is looked for beside it')
+    parser.add_argument('target', nargs='?', type=Path, default=Path(default), metavar=target)
+    return parser
+
+
+def program_of(asked: argparse.Namespace) -> Path:
+    """Returns the program that is named, else that of this repository, which its launcher makes if it is not there."""
+    if asked.program is None:
+        made_programs(PROGRAMS)
+    return asked.program or PROGRAM
+
+
+def main(words: list[str]) -> int:
+    parser = parser_for('install', 'Puts the programs, the tools, manual pages and completions under PREFIX. If that fails, nothing is '
+                        'changed there.', 'PREFIX', str(Path.home() / '.local'))
+    parser.add_argument('--remove', action='store_true', help='takes away what was put under PREFIX, and leaves what was changed since')
+    asked = parser.parse_args(words)
+    named = escaped(str(asked.target))
+    if asked.remove:
+        for place in Installed(asked.target, LIST).remove():
+            print(f'left, since it is not as it was installed: {escaped(str(asked.target / place))}')
+        print(f'removed nfs3canon from {named}')
+        return 0
+    install(asked.target, program_of(asked))
+    print(f'installed nfs3canon {version()} under {named}')
+    return 0
+
+
+command = partial(run, 'install', main)
+
+if __name__ == '__main__':
+    sys.exit(command())

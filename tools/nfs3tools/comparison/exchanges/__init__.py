@@ -1,0 +1,1 @@
+"""Calls with their replies: what is known of each, which of two runs belong together, and their order."""

@@ -1,0 +1,331 @@
+"""What is kept of a run in place of its texts: a few numbers for each call.
+
+They come from the listing of the masked capture in canonical form. A call with its replies is an exchange. Exchanges of two runs are
+equal if their texts are, without the values that each run has its own of, and if their handles lead to the same objects.
+"""
+from __future__ import annotations
+
+import re
+from array import array
+from bisect import bisect_left, bisect_right
+from collections import defaultdict, deque
+from collections.abc import Callable, Iterable, Iterator
+
+from ...captures.paths import MAKING
+from ..values.bindings import RENAMED
+from ..values.classes import CLASSES, Mask, Way
+
+HANDLE = re.compile(r' fh=([0-9a-f]{1,8})(?=\s)')
+NAME = re.compile(r' (?:name|dirpath)="([^"]*)"')
+NAME_OR_HANDLE = re.compile(r' name="([^"]*)"| fh=([0-9a-f]{1,8})(?=\s)')
+ALIKE = re.compile(r' (?:prog|vers|proc|name|dirpath|offset)=("[^"]*"|\S+)')
+# Calls that change what others are answered.
+CHANGING = frozenset(f'NFSPROC3_{name}' for name in (
+    'SETATTR', 'WRITE', 'CREATE', 'MKDIR', 'SYMLINK', 'MKNOD', 'REMOVE', 'RMDIR', 'RENAME', 'LINK'))
+# Calls whose first handle is that of a folder.
+OF_FOLDERS = MAKING | {f'NFSPROC3_{name}'
+                       for name in ('REMOVE', 'RMDIR', 'RENAME', 'READDIR', 'READDIRPLUS')}
+MOUNT, LISTING = 'MOUNTPROC3_MNT', 'NFSPROC3_READDIRPLUS'
+DOTS = hash('.'), hash('..')  # the folder itself, and the one above it
+UNKNOWN, SEEN, MADE = range(3)  # how well it is known where an object is
+
+
+def classes_of_items(mask: Mask) -> dict[str, str]:
+    """Returns the class in which an item's values are renamed, for each item that is."""
+    return RENAMED | {item: one.name for one in CLASSES if mask.get(one.name) is Way.NUMBER
+                      for item in one.items}
+
+
+def renamed_values(mask: Mask) -> re.Pattern[str]:
+    """Returns what finds the names and values of renamed items in a line."""
+    return re.compile(f' ({"|".join(sorted(classes_of_items(mask)))})=([^\\s"]+)')
+
+
+class Waiting:
+    """The calls of a connection that may be answered yet: by xid the first of them, counted from 1,
+    or all if they are several."""
+
+    def __init__(self) -> None:
+        self.first_of = array('I')
+        self.several: dict[int, deque[int]] = {}
+
+    def add(self, xid: int, at: int) -> None:
+        if xid >= len(self.first_of):
+            self.first_of.extend([0] * (xid + 1 - len(self.first_of)))
+        if self.first_of[xid]:
+            self.several.setdefault(xid, deque([self.first_of[xid] - 1])).append(at)
+        else:
+            self.first_of[xid] = at + 1
+
+    def answered(self, xid: int) -> int:
+        """Returns which call a reply belongs to. If several calls have one xid, its replies are
+        given to them in their order, and what is left to the last of them."""
+        several = self.several.get(xid)
+        at = several[0] if several else self.first_of[xid] - 1
+        if several and len(several) > 1:
+            several.popleft()
+        return at
+
+
+# When a call was sent, by its connection and record: a number that grows
+When = Callable[[int, int], int]
+
+
+class Objects:
+    """What file handles stand for: the folder and the name by which each was made, or else reached
+    first."""
+
+    def __init__(self) -> None:
+        self.folders, self.names, self.known, self.origins = array('I'), array('q'), bytearray(), array('I')
+        # Other folders and names, with their exchanges
+        self.rivals: dict[int, list[tuple[int, int, int]]] = {}
+
+    def learn(self, handle: int, folder: int, name: int, known: int, exchange: int) -> None:
+        """Learns where an object is from an exchange, unless it is known better."""
+        if name in DOTS:
+            return
+        if handle >= len(self.folders):
+            more = handle + 1 - len(self.folders)
+            for values in (self.folders, self.names, self.origins):
+                values.extend([0] * more)
+            self.known.extend([UNKNOWN] * more)
+        if known > self.known[handle]:
+            self.rivals.pop(handle, None)
+            self.place(handle, exchange, folder, name)
+            self.known[handle] = known
+        elif known == self.known[handle] and (folder, name) != (self.folders[handle], self.names[handle]):
+            self.rivals.setdefault(handle, []).append((exchange, folder, name))
+
+    def place(self, handle: int, exchange: int, folder: int, name: int) -> None:
+        self.origins[handle], self.folders[handle], self.names[handle] = exchange, folder, name
+
+    def origin_of(self, handle: int) -> int | None:
+        """Returns the exchange that says where an object is."""
+        return self.origins[handle] if handle < len(self.known) and self.known[handle] else None
+
+    def folder_of(self, handle: int) -> int:
+        """Returns the folder in which an object is, or 0 if that is not known."""
+        return self.folders[handle] if handle < len(self.known) and self.known[handle] else 0
+
+    def settle(self, when: Callable[[int], int]) -> None:
+        """Of several places of an object the one counts that was told first."""
+        for handle, rivals in self.rivals.items():
+            own = self.origins[handle], self.folders[handle], self.names[handle]
+            self.place(handle, *min((own, *rivals), key=lambda rival: when(rival[0])))
+        self.rivals = {}
+
+    def identities(self, when: Callable[[int], int]) -> 'array[int]':
+        """Returns a number for each object that is the same in all runs: of its path, and of how
+        many were made there before. It is 0 if the path is not known."""
+        self.settle(when)
+        below = defaultdict[int, dict[int, list[int]]](dict)
+        for handle, known in enumerate(self.known):
+            if known:
+                below[self.folders[handle]].setdefault(self.names[handle], []).append(handle)
+        out = array('q', bytes(8 * max([len(self.known), *(folder + 1 for folder in below)])))
+        tops = [folder for folder in below if folder >= len(self.known) or not self.known[folder]]
+        # (what is below itself, as no file system has it, has no top)
+        for top in (*tops, *below.copy()):
+            waiting = [top]
+            while waiting:
+                folder = waiting.pop()
+                for name, handles in below.pop(folder, {}).items():
+                    if len(handles) > 1:
+                        handles.sort(key=lambda handle: when(self.origins[handle]))
+                    for before, handle in enumerate(handles):
+                        out[handle] = hash((out[folder], name, before))
+                    waiting += handles
+        return out
+
+
+class Outlines:
+    """The exchanges of a run, numbered through all its connections, each in the order of its calls.
+    When calls were sent need not be known; then each connection comes after the one before."""
+
+    def __init__(self, lines: Iterable[str], mask: Mask, when: When | None = None) -> None:
+        # Their numbers, and the first exchange of each
+        self.connections, self.starts = list[int](), list[int]()
+        # What a call asks, and what it and its replies say
+        self.asked, self.said = array('q'), array('q')
+        # The first handle of a call and of its reply, or 0
+        self.folders, self.found = array('I'), array('I')
+        self.seconds: dict[int, int] = {}  # the second handle of a call
+        # The procedure of a call, by its number among those that there are
+        self.kinds, self.procedures = array('B'), dict[str, int]()
+        self.replies = array('I')  # the record of the first reply, or 0
+        self.further: dict[int, list[int]] = {}  # the records of further replies
+        self.unmade = set[int]()  # calls that would have changed something, and failed
+        self.objects = Objects()
+        self.take(lines, renamed_values(mask))
+        self.names = list(self.procedures)
+        self.ask_of_objects(lambda at: when(*self.record_of(at)) if when else at)
+
+    def __len__(self) -> int:
+        return len(self.asked)
+
+    def take(self, lines: Iterable[str], pattern: re.Pattern[str]) -> None:
+        waiting, named, start, connection, at = Waiting(), array('q'), 0, '', 0
+        for line in lines:
+            number, side, record, xid, rest = line.split(' ', 4)
+            if number != connection:
+                waiting, named, start, connection = Waiting(), array('q'), at, number
+                self.connections.append(int(number))
+                self.starts.append(start)
+            procedure, said = rest[:rest.find(' ')], hash(pattern.sub('', rest))
+            if side == 'client':
+                waiting.add(int(xid[4:]), at)
+                name = NAME.search(rest) if procedure in MAKING or procedure == MOUNT else None
+                named.append(hash(name[1]) if name else 0)
+                self.add_call(at, procedure, said, HANDLE.findall(rest))
+                at += 1
+            else:
+                call = waiting.answered(int(xid[4:]))
+                self.add_reply(call, int(record), said)
+                if procedure in CHANGING and ' status=0' not in rest:
+                    self.unmade.add(call)
+                self.learn(call, procedure, rest, named[call - start])
+
+    def add_call(self, at: int, procedure: str, said: int, handles: list[str]) -> None:
+        if len(handles) > 1:
+            self.seconds[at] = int(handles[1], 16)
+        self.kinds.append(self.procedures.setdefault(procedure, len(self.procedures)))
+        self.folders.append(int(handles[0], 16) if handles else 0)
+        self.found.append(0)
+        self.replies.append(0)
+        self.said.append(said)
+        self.asked.append(said)
+
+    def add_reply(self, at: int, record: int, said: int) -> None:
+        self.said[at] = hash((self.said[at], said))
+        if self.replies[at]:
+            self.further.setdefault(at, []).append(record)
+        else:
+            self.replies[at] = record
+
+    def learn(self, at: int, procedure: str, rest: str, name: int) -> None:
+        """Learns from a reply which objects its call has reached."""
+        folder = self.folders[at]
+        if procedure in MAKING or procedure == MOUNT:
+            found = HANDLE.search(rest)
+            if found:
+                self.found[at] = int(found[1], 16)
+                known = SEEN if procedure == 'NFSPROC3_LOOKUP' else MADE
+                self.objects.learn(self.found[at], folder, name, known, at)
+        elif procedure == LISTING:
+            for found in NAME_OR_HANDLE.finditer(rest):
+                if found[2] is None:
+                    name = hash(found[1])
+                else:
+                    self.objects.learn(int(found[2], 16), folder, name, SEEN, at)
+
+    def ask_of_objects(self, when: Callable[[int], int]) -> None:
+        """Handles have another number in each run. So what a call asks has the objects in their
+        place."""
+        identities = self.objects.identities(when)
+        identities.extend([0] * (1 + max(max(self.folders, default=0), max(self.seconds.values(), default=0),
+                                         max(self.found, default=0)) - len(identities)))
+        for at, (asked, said, folder, found) in enumerate(zip(self.asked, self.said, self.folders, self.found)):
+            second = identities[self.seconds[at]] if at in self.seconds else 0
+            self.asked[at] = asked = hash((asked, identities[folder], second))
+            self.said[at] = hash((said, asked, identities[found]))
+        self.identities = identities
+
+    def procedure_of(self, at: int) -> str:
+        return self.names[self.kinds[at]]
+
+    def folders_asked(self) -> set[int]:
+        """Returns the handles that are folders: those in which something has a name, and those that
+        are listed."""
+        kinds = {number for name, number in self.procedures.items() if name in OF_FOLDERS}
+        return {folder for kind, folder in zip(self.kinds, self.folders) if kind in kinds}
+
+    def about(self, at: int) -> tuple[str, int]:
+        """Returns the procedure of a call, and the object that it is about: the folder of a
+        name."""
+        return self.procedure_of(at), self.identities[self.folders[at]]
+
+    def connection_of(self, at: int) -> int:
+        """Returns the place of an exchange's connection among all."""
+        return bisect_right(self.starts, at) - 1
+
+    def place_of(self, connection: int) -> int:
+        """Returns the place of a connection, by its number."""
+        return bisect_left(self.connections, connection)
+
+    def exchanges_of(self, place: int) -> range:
+        """Returns the exchanges of a connection, by its place among all."""
+        return range(self.starts[place],
+                     self.starts[place + 1] if place + 1 < len(self.starts) else len(self))
+
+    def first_asked(self, place: int, number: int) -> tuple[int, ...]:
+        """Returns what the first calls of a connection ask, so many of them."""
+        return tuple(self.asked[at] for at in self.exchanges_of(place)[:number])
+
+    def first_procedures(self, place: int, number: int) -> tuple[str, ...]:
+        """Returns their procedures."""
+        return tuple(map(self.procedure_of, self.exchanges_of(place)[:number]))
+
+    def record_of(self, at: int) -> tuple[int, int]:
+        """Returns the number of a call's connection, and the call's record."""
+        place = self.connection_of(at)
+        return self.connections[place], at - self.starts[place] + 1
+
+    def replies_of(self, at: int) -> list[int]:
+        """Returns the records of a call's replies."""
+        return [self.replies[at], *self.further.get(at, ())] if self.replies[at] else []
+
+    def last_reply(self, place: int) -> int:
+        """Returns the largest record of a reply of a connection, or 0."""
+        return max((self.replies_of(at)[-1] for at in self.exchanges_of(place)
+                    if self.replies[at]), default=0)
+
+    def exchanges_of_replies(self, place: int) -> 'array[int]':
+        """Returns the exchange of each reply of a connection, by its record."""
+        out = array('I', [0]) * (1 + self.last_reply(place))
+        for at in self.exchanges_of(place):
+            for record in self.replies_of(at):
+                out[record] = at
+        return out
+
+    def objects_of(self, at: int) -> list[int]:
+        """Returns the handles of a call."""
+        return [handle for handle in (self.folders[at], self.seconds.get(at, 0)) if handle]
+
+    def calls_alike(self, lines: Iterable[str], wanted: set[int]) -> dict[int, tuple[object, ...]]:
+        """Returns of some exchanges what alike calls have in common: procedure, objects, names and
+        offset. The lines are those of the listing."""
+        return {at: (self.procedure_of(at), tuple(ALIKE.findall(line)),
+                     *map(self.identities.__getitem__, self.objects_of(at)))
+                for at, line in self.calls_of(lines) if at in wanted}
+
+    def calls_of(self, lines: Iterable[str]) -> Iterator[tuple[int, str]]:
+        """Returns the exchanges with the lines of their calls."""
+        return enumerate(line for line in lines if ' client ' in line[:24])
+
+    def said_again(self, lines: Iterable[str], wanted: set[int],
+                   mask: Mask) -> dict[int, tuple[int, ...]]:
+        """Returns what is said in some exchanges, by the listing under another mask."""
+        out, pattern = {at: [self.asked[at], self.identities[self.found[at]]]
+                        for at in wanted}, renamed_values(mask)
+        place, replies = -1, array('I')
+        for line in lines:
+            number, side, record, _, rest = line.split(' ', 4)
+            if place < 0 or self.connections[place] != int(number):
+                place = self.place_of(int(number))
+                replies = self.exchanges_of_replies(place)
+            at = self.starts[place] + int(record) - 1 if side == 'client' else replies[int(record)]
+            if at in wanted:
+                out[at].append(hash(pattern.sub('', rest)))
+        return {at: tuple(said) for at, said in out.items()}
+
+    def with_origins(self, exchanges: Iterable[int]) -> set[int]:
+        """Returns these exchanges, and all that say where their objects are."""
+        out = set(exchanges)
+        waiting = list(out)
+        while waiting:
+            for handle in self.objects_of(waiting.pop()):
+                origin = self.objects.origin_of(handle)
+                if origin is not None and origin not in out:
+                    out.add(origin)
+                    waiting.append(origin)
+        return out

@@ -1,0 +1,116 @@
+"""Which exchanges of two captures in one order differ, by their listings."""
+from __future__ import annotations
+
+from array import array
+from collections.abc import Callable, Iterable, Iterator
+from itertools import chain, groupby, zip_longest
+
+from ..values.classes import Mask
+from .outlines import Outlines, classes_of_items, renamed_values
+
+Listing = Callable[[], Iterable[str]]
+Key = tuple[bool, int]
+Said = tuple[Key, list[str]]
+END: Said = (True, 1 << 62), []
+
+
+class Listed:
+    """Two captures in canonical form, in one order and one connection: call N of both has the xid
+    N. A call may have any number of replies. The turns of exchanges are numbered from 0."""
+
+    def __init__(self, first: Listing, second: Listing, mask: Mask) -> None:
+        self.first, self.second = first, second
+        self.classes, self.pattern = classes_of_items(mask), renamed_values(mask)
+        # The renamed values of what differs in the first run, and raw bytes
+        self.values, self.has_rest = set[tuple[str, str]](), False
+
+    def note(self, lines: Iterable[str]) -> None:
+        """Notes which renamed values lines have that differ."""
+        for line in lines:
+            self.has_rest |= ' rest=' in line
+            self.values.update((self.classes[name], value)
+                               for name, value in self.pattern.findall(line))
+
+    def turn_of(self, line: str) -> int:
+        begin = line.index(' xid=') + 5
+        return int(line[begin:line.index(' ', begin)]) - 1
+
+    def key_of(self, line: str) -> Key:
+        """Returns whether a line is of a reply, and the turn of its exchange."""
+        return ' server ' in line[:line.index(' xid=')], self.turn_of(line)
+
+    def messages(self, lines: Iterable[str]) -> Iterator[Said]:
+        """Returns the calls, and then the replies to each call, without their records' numbers."""
+        for key, some in groupby(lines, self.key_of):
+            yield key, [line[line.index(' xid='):] for line in some]
+
+    def unequal(self) -> set[int]:
+        """Returns the turns of the exchanges that are listed in another way."""
+        ones, others = iter(self.first()), iter(self.second())
+        for one in ones:
+            other = next(others, None)
+            if one != other:
+                return self.of_messages(self.messages(chain([one], ones)),
+                                        self.messages(
+                                            chain([] if other is None else [other], others)))
+        return self.of_messages(iter(()), self.messages(others))
+
+    def of_messages(self, ones: Iterator[Said], others: Iterator[Said]) -> set[int]:
+        """Returns the turns at which something else is said."""
+        out = set[int]()
+        (key, said), (other_key, other_said) = next(ones, END), next(others, END)
+        while (key, other_key) != (END[0], END[0]):
+            least = min(key, other_key)
+            if key != other_key or said != other_said:
+                out.add(least[1])
+                self.note(said if key == least else ())
+            if key == least:
+                key, said = next(ones, END)
+            if other_key == least:
+                other_key, other_said = next(others, END)
+        return out
+
+    def turns_of_values(self, unequal: set[int]) -> set[int]:
+        """Returns the turns of exchanges that are equal, and are the first ones with what the
+        unequal ones have: their handles, and other renamed values."""
+        out, seen = set[int](), set[str]()
+        for line in self.first() if self.values or self.has_rest else ():
+            # (raw bytes may have any handle)
+            some = [(name, value) for name, value in self.pattern.findall(line)
+                    if (self.classes[name], value) in self.values or self.has_rest and name == 'fh'
+                    and value not in seen]
+            if some and self.turn_of(line) not in unequal:
+                out.add(self.turn_of(line))
+                self.values.difference_update((self.classes[name], value) for name, value in some)
+                seen.update(value for _, value in some)
+            if not self.values and not self.has_rest:
+                break
+        return out
+
+
+class ListedInPlace(Listed):
+    """Two captures in canonical form whose exchanges stand in the same places: the turns are the
+    numbers of the exchanges."""
+
+    def __init__(self, first: Listing, second: Listing, mask: Mask, outlines: Outlines) -> None:
+        super().__init__(first, second, mask)
+        self.outlines = outlines
+        # By connections: the exchange of each reply, by its record
+        self.exchanges: dict[int, array[int]] = {}
+
+    def turn_of(self, line: str) -> int:
+        connection, side, record, _ = line.split(' ', 3)
+        place = self.outlines.place_of(int(connection))
+        if side == 'client':
+            return self.outlines.starts[place] + int(record) - 1
+        if place not in self.exchanges:
+            self.exchanges[place] = self.outlines.exchanges_of_replies(place)
+        return self.exchanges[place][int(record)]
+
+    def unequal(self) -> set[int]:
+        out = set[int]()
+        for one, other in zip_longest(self.first(), self.second(), fillvalue=''):
+            if one != other:
+                out.add(self.turn_of(one or other))
+                self.note([one])
+        return out

@@ -1,0 +1,1 @@
+"""Parts of runs that begin at marks, each compared as a run of its own."""

@@ -1,0 +1,132 @@
+"""Parts of two runs that are listed at once, as one capture with the connections of all.
+
+The lines of a part are those that it has alone, but for its connections and for the numbers of renamed values, which are given anew.
+"""
+from __future__ import annotations
+
+import re
+from bisect import bisect_left
+from collections import defaultdict
+from collections.abc import Iterable, Iterator, Sequence
+from functools import cached_property
+from itertools import accumulate, groupby
+
+from ...recordings.container import capture_of
+from ...recordings.taken import Taken
+from ..exchanges.outlines import classes_of_items, renamed_values
+from ..exchanges.pairing import Listing
+from ..values.classes import Mask, told
+from ..values.masking import write_masked
+from ..verdict.trial import Trial
+from .marks import Both
+
+# Of a run in parts that are listed at once. The lines are kept, in which each byte has two digits
+# or more.
+BYTES_AT_MOST, CONNECTIONS_AT_MOST = 1 << 20, 4_000
+Lines = tuple[list[str], ...]  # of a part in both runs
+
+
+def listed_at_once(pairs: Iterable[Both]) -> Iterator[list[Both]]:
+    """Iterates over parts, as many at once as may be listed together. A larger one is by itself."""
+    some, share = list[Both](), 0.0
+    for pair in pairs:
+        share += share_of(pair)
+        if some and share > 1:
+            yield some
+            some, share = [], share_of(pair)
+        some.append(pair)
+    if some:
+        yield some
+
+
+def share_of(pair: Both) -> float:
+    """Returns how much of what may be listed at once a part has."""
+    return max(max(part.bytes() / BYTES_AT_MOST, part.size().connections / CONNECTIONS_AT_MOST)
+               for part in pair)
+
+
+class ListedParts:
+    """The lines of the parts of a trial: those of the captures, and by masks those of their
+    canonical forms."""
+
+    def __init__(self, trial: Trial, pairs: Sequence[Both]) -> None:
+        self.trial = trial
+        self.connections = [[part.size().connections for part in parts] for parts in zip(*pairs)]
+        self.forms = dict[str, list[Lines]]()
+
+    @cached_property
+    def recorded(self) -> list[Lines]:
+        return self.parts_of(map(self.trial.listing, self.trial.captures))
+
+    def canonical(self, mask: Mask) -> list[Lines]:
+        if told(mask) not in self.forms:
+            self.forms[told(mask)] = self.parts_of(self.trial.canonical(self.trial.captures, mask))
+        return self.forms[told(mask)]
+
+    def parts_of(self, listings: Iterable[Listing]) -> list[Lines]:
+        return list(zip(*(parts_of(listing(), some)
+                          for listing, some in zip(listings, self.connections))))
+
+
+class PartTrial(Trial):
+    """A trial of one of these parts. Its captures are not written: they are read from a pipe to be
+    masked."""
+
+    def __init__(self, listed: ListedParts, at: int, runs: Sequence[Taken]) -> None:
+        self.listed, self.at, self.forms = listed, at, dict[str, list[list[str]]]()
+        super().__init__(listed.trial.program, listed.trial.folder, runs)
+
+    def write(self) -> None:
+        pass
+
+    def named(self) -> list[str]:
+        return self.listed.trial.named()
+
+    def mask(self, capture: str, name: str, mask: Mask) -> None:
+        if capture in self.captures:
+            content = capture_of(self.runs[self.captures.index(capture)].pairs())
+            write_masked(self.program, '/dev/stdin', name, mask, content)
+        else:
+            super().mask(capture, name, mask)
+
+    def listing(self, capture: str) -> Listing:
+        if capture not in self.captures:
+            return super().listing(capture)
+        return self.listed.recorded[self.at][self.captures.index(capture)].__iter__
+
+    def canonical(self, captures: Sequence[str],
+                  mask: Mask | None = None) -> tuple[Listing, Listing]:
+        if captures is not self.captures or mask is None:
+            return super().canonical(captures, mask)
+        if told(mask) not in self.forms:
+            self.forms[told(mask)] = [renumbered(lines, mask)
+                                      for lines in self.listed.canonical(mask)[self.at]]
+        first, second = self.forms[told(mask)]
+        return first.__iter__, second.__iter__
+
+
+def parts_of(lines: Iterable[str], connections: Sequence[int]) -> list[list[str]]:
+    """Returns the lines of each part, by how many connections it has, whose numbers begin with
+    1."""
+    out, ends = [list[str]() for _ in connections], list(accumulate(connections, initial=0))
+    for number, some in groupby(lines, lambda line: line[:line.index(' ')]):
+        part = bisect_left(ends, int(number)) - 1
+        own = str(int(number) - ends[part])
+        out[part].extend(own + line[len(number):] for line in some)
+    return out
+
+
+def renumbered(lines: Iterable[str], mask: Mask) -> list[str]:
+    """Returns lines in which renamed values have numbers by their first appearance in these. Zeros
+    stay."""
+    classes, numbers = classes_of_items(mask), defaultdict[str, dict[str, int]](dict)
+
+    def number(found: re.Match[str]) -> str:
+        name, value = found.groups()
+        if not value or not value.strip('0'):
+            return found[0]
+        known = numbers[classes[name]]
+        return f' {name}={known.setdefault(value, len(known) + 1):x}'
+    # (a string is no item, whatever is in it)
+    pattern = re.compile(f'"[^"]*"|{renamed_values(mask).pattern}')
+    return [pattern.sub(number, line) for line in lines]

@@ -1,0 +1,227 @@
+"""A run cut at marks: calls of LOOKUP, CREATE and MKDIR whose names say which test begins.
+
+Each part has the calls that were sent from its mark on and before the next one, over all connections, and the replies to them. Connections
+keep their calls in order. Frames say when a call was sent. If they are not noted, as of a capture, each connection comes after the one
+before.
+"""
+from __future__ import annotations
+
+import fnmatch
+import os
+import re
+from array import array
+from bisect import bisect_right
+from collections import Counter, defaultdict, deque
+from collections.abc import Iterable, Iterator, Sequence
+from dataclasses import dataclass, field, replace
+from itertools import accumulate, chain, count, groupby, repeat
+from operator import itemgetter
+from typing import NamedTuple
+
+from ...captures.listings import Message, message_of
+from ...recordings.records import Window, extents
+from ...recordings.taken import Taken, TakenConnection, TakenStream
+from ...shared.places import SIDES, Side
+from ...shared.programs import Died
+from ..exchanges.outlines import Outlines, Waiting
+from ..exchanges.pairing import Listing
+from ..values.long_values import bytes_of
+from ..verdict.cover import Size
+from ..verdict.trial import when_of
+
+MARKING = frozenset(('NFSPROC3_LOOKUP', 'NFSPROC3_CREATE', 'NFSPROC3_MKDIR'))
+# When a call was sent: its frame or 0, its connection, and its record
+Moment = tuple[int, int, int]
+
+
+class NoMark(Exception):
+    """No call of either run is a mark; its text is the message for the user."""
+
+
+class Name(NamedTuple):
+    """What a part is called: the name of its mark as the listing spells it, None of the part before
+    the first mark, and how often parts had that name so far, from 1."""
+    name: str | None
+    number: int
+
+    def __str__(self) -> str:
+        if self.name is None:
+            return 'before the first mark'
+        return self.name if self.number == 1 else f'{self.name} ({self.number})'
+
+
+class Mark(NamedTuple):
+    """A call at which a part begins."""
+    moment: Moment
+    name: str
+
+
+class Piece(NamedTuple):
+    """Records that follow one another in a stream and are of one part: the number of the first, how
+    many, and where their bytes begin and end."""
+    first: int
+    number: int
+    begin: int
+    end: int
+
+
+@dataclass
+class Part:
+    """A part of a run: of each of its connections, by their numbers, the pieces of both sides."""
+    name: Name
+    pieces: dict[int, dict[Side, list[Piece]]] = field(default_factory=dict)
+
+    def size(self) -> Size:
+        return Size(sum(piece.number for sides in self.pieces.values()
+                        for piece in sides['client']), len(self.pieces))
+
+    def bytes(self) -> int:
+        """Returns how many bytes of streams there are."""
+        return sum(piece.end - piece.begin for sides in self.pieces.values()
+                   for some in sides.values() for piece in some)
+
+    def sides_of(self, connection: int) -> dict[Side, list[Piece]]:
+        return self.pieces.setdefault(connection, {'client': [], 'server': []})
+
+    def has_messages_of(self, other: 'Part') -> bool:
+        """Whether both parts have the same messages, by their connections and numbers."""
+        return self.numbers() == other.numbers()
+
+    def numbers(self) -> list[tuple[int, list[tuple[int, int]]]]:
+        """Returns of each connection, by its number, the number of the first record of each piece,
+        and of how many there are."""
+        return [(number, [piece[:2] for some in sides.values() for piece in some])
+                for number, sides in self.pieces.items()]
+
+    def in_the_whole(self, message: Message) -> Message:
+        """Returns a message of this part with the place that it has in the run."""
+        connection, left = list(self.pieces)[message.connection - 1], message.record
+        for piece in self.pieces[connection]['client' if message.is_call else 'server']:
+            if left <= piece.number:
+                break
+            left -= piece.number
+        return replace(message, connection=connection, record=piece.first + left - 1)
+
+
+Both = tuple[Part, Part]  # a part in both runs
+
+
+class Answered:
+    """The calls of a connection: how many there are, and which of them each reply belongs to,
+    counted from 0."""
+
+    def __init__(self) -> None:
+        self.calls, self.owners, self.waiting = 0, array('I'), Waiting()
+
+    def add_call(self, xid: int) -> None:
+        self.waiting.add(xid, self.calls)
+        self.calls += 1
+
+    def add_reply(self, xid: int) -> None:
+        self.owners.append(self.waiting.answered(xid))
+
+
+class MarkedRun:
+    """A run and its parts, in their order. The listing is that of the run in canonical form."""
+
+    def __init__(self, taken: Taken, listing: Listing, pattern: str) -> None:
+        self.taken, self.listing = taken, listing
+        self.connections = {connection.number: connection for connection in taken.connections}
+        # (of frames that came out of order, those count that let a call be read)
+        self.sent = {connection.number: array('Q',
+                                              accumulate(connection.client.first_frames(), max))
+                     for connection in taken.connections if taken.has_frames}
+        self.answered = defaultdict[int, Answered](Answered)
+        marks = begun_by(sorted(self.marks(re.compile(fnmatch.translate(pattern)))))
+        self.parts = named(marks)
+        for connection in taken.connections:
+            self.cut(connection, [mark.moment for mark in marks])
+        self.parts = [part for part in self.parts if part.pieces]
+
+    def has_marks(self) -> bool:
+        return any(part.name.name is not None for part in self.parts)
+
+    def has_silly_names(self) -> bool:
+        """Whether a part may have a name that a mask changes."""
+        return any('.nfs' in (part.name.name or '') for part in self.parts)
+
+    def outlines(self) -> Outlines:
+        return Outlines(self.listing(), {}, when_of(self.taken))
+
+    def marks(self, pattern: re.Pattern[str]) -> Iterator[Mark]:
+        """Reads the listing, and iterates over the calls that are marks."""
+        for line in self.listing():
+            number, side, _, xid, procedure, _ = line.split(' ', 5)
+            connection = self.answered[int(number)]
+            if side == 'server':
+                connection.add_reply(int(xid[4:]))
+                continue
+            connection.add_call(int(xid[4:]))
+            name = message_of(line.rstrip('\n')).value_of('name') if procedure in MARKING else None
+            if name is not None and pattern.match(os.fsdecode(bytes_of(name))):
+                frame = self.sent[int(number)][connection.calls - 1] if self.sent else 0
+                yield Mark((frame, int(number), connection.calls), name)
+
+    def cut(self, connection: TakenConnection, begins: Sequence[Moment]) -> None:
+        """Gives the parts, which begin at these moments, their pieces of a connection. One without
+        calls is of the first part."""
+        answered = self.answered[connection.number]
+        sent = self.sent[connection.number] if self.sent else repeat(0, answered.calls)
+        calls = array('I',
+                      (bisect_right(begins, (frame, connection.number, record))
+                       for record, frame in enumerate(sent, 1)))
+        for side, parts in zip(SIDES, (calls, map(calls.__getitem__, answered.owners))):
+            for part, piece in pieces_of(connection.stream(side), parts):
+                self.parts[part].sides_of(connection.number)[side].append(piece)
+        if not calls:
+            self.parts[0].sides_of(connection.number)
+
+    def taken_of(self, parts: Iterable[Part]) -> Taken:
+        """Returns what is taken of some parts, one after the other. It ends with what is taken of
+        the run."""
+        out = Taken(self.taken.spool, self.taken.is_recording, self.taken.has_frames)
+        pieces = chain.from_iterable(part.pieces.items() for part in parts)
+        for number, (own, sides) in enumerate(pieces, 1):
+            connection = self.connections[own]
+            client, server = (connection.stream(side).part(piece[2:] for piece in some)
+                              for side, some in sides.items())
+            out.connections.append(connection._replace(number=number, client=client, server=server,
+                                                       notes=[], missing=0))
+        return out
+
+
+def is_cut_by_records(taken: Taken) -> bool:
+    """Whether the parts of a run follow from its messages alone: it has no frames, or one
+    connection, of which frames are in order."""
+    return not taken.has_frames or len(taken.connections) == 1
+
+
+def begun_by(marks: Iterable[Mark]) -> list[Mark]:
+    """Returns the marks that begin a part. One of the name of the part that goes on does not: a
+    client looks a name up before it makes it, and again later."""
+    return [next(some) for _, some in groupby(marks, lambda mark: mark.name)]
+
+
+def named(marks: Iterable[Mark]) -> list[Part]:
+    """Returns the parts that begin with these marks, after the one before them."""
+    parts, numbers = [Part(Name(None, 1))], Counter[str]()
+    for mark in marks:
+        numbers[mark.name] += 1
+        parts.append(Part(Name(mark.name, numbers[mark.name])))
+    return parts
+
+
+def pieces_of(stream: TakenStream, owners: Iterable[int]) -> Iterator[tuple[int, Piece]]:
+    """Iterates over the pieces of a stream, of each of whose records the part is known, with their
+    parts.
+
+    Raises `Died` after them if a record is in none.
+    """
+    records, end = zip(owners, count(1), extents(Window(stream), 0, stream.size)), 0
+    for part, some in groupby(records, itemgetter(0)):
+        _, first, extent = next(some)
+        last = deque(some, maxlen=1)
+        _, number, (_, end, *_) = last[0] if last else (part, first, extent)
+        yield part, Piece(first, number - first + 1, extent.begin, end)
+    if end != stream.size:
+        raise Died('a message of a run is in no part')

@@ -1,0 +1,200 @@
+"""Two runs compared part by part, each part as a run of its own.
+
+Parts of one name belong together. The program judges each under a renaming of its own, so which objects were reached before a part does not
+matter. Many parts are judged at once, as one capture with the connections of all: if these are the same under one renaming, each part is.
+Those that are not are listed at once, and then each is judged by itself.
+"""
+from __future__ import annotations
+
+import tempfile
+from collections import Counter
+from collections.abc import Iterator, Sequence
+from contextlib import contextmanager
+from dataclasses import replace
+from functools import cache
+from pathlib import Path
+
+from ...captures.listings import Message
+from ...recordings.taken import Taken
+from ...shared.printed import escaped
+from ..exchanges.outlines import Outlines
+from ..verdict.decision import Judged, judged, run_of, same_of
+from ..verdict.findings import Apart, Compared, Finding, Run, Silent
+from ..verdict.ignored import Ignored, without
+from ..verdict.orders import Choices, NothingToCompare
+from ..verdict.report import PartReport
+from ..verdict.trial import Trial
+from .listed_parts import ListedParts, PartTrial, listed_at_once
+from .marks import Both, MarkedRun, Name, NoMark, Part, is_cut_by_records
+
+# How many parts are judged at once, and by what that is divided if they are not the same
+AT_ONCE, FEWER = 64, 8
+CONNECTIONS_AT_MOST = 4_000  # of a run in parts that are judged at once
+
+
+class Places:
+    """The paths of what is found in the parts of a run, by the whole run."""
+
+    def __init__(self, run: Run, marked: MarkedRun, messages: Sequence[Message]) -> None:
+        outlines = marked.outlines() if messages else Outlines((), {})
+        replies = cache(outlines.exchanges_of_replies)
+        self.exchanges = dict[str, int]()
+        for message in messages:
+            place = outlines.place_of(message.connection)
+            self.exchanges[message.place] = (outlines.starts[place] + message.record - 1
+                                             if message.is_call
+                                             else replies(place)[message.record])
+        self.apart = Apart(run, outlines, set(self.exchanges.values()))
+
+    def path(self, message: Message) -> str | None:
+        return self.apart.path(self.exchanges[message.place])
+
+
+class PartByPart:
+    """Two runs that are cut at marks, and their parts. Raises `NoMark` if neither has one: then
+    nothing would be compared by parts, though the user asked for that."""
+
+    def __init__(self, whole: Trial, names: Sequence[str], runs: Sequence[Run], pattern: str,
+                 choices: Choices) -> None:
+        self.whole, self.names, self.runs, self.choices = whole, names, runs, choices
+        self.are_wholes_same = whole.same(whole.captures, choices.masks[0]) == 'same'
+        listings = whole.canonical(whole.captures)
+        first = MarkedRun(whole.runs[0], listings[0], pattern)
+        is_cut_alike = self.are_wholes_same and not first.has_silly_names() and all(map(is_cut_by_records, whole.runs))
+        self.marked = first, first if is_cut_alike else MarkedRun(whole.runs[1], listings[1],
+                                                                  pattern)
+        if not any(marked.has_marks() for marked in self.marked):
+            raise NoMark(
+                f'no call of LOOKUP, CREATE or MKDIR has a name that fits {escaped(pattern)!r}')
+
+    def reports(self, ignored: Sequence[Ignored]) -> list[PartReport]:
+        """Judges all parts. Returns what is said of each: in the order of the first run, and then
+        those that only the second run has."""
+        first, second = ({part.name: part for part in marked.parts} for marked in self.marked)
+        both = [(part, second[name]) for name, part in first.items() if name in second]
+        found = {pair[0].name: one for pair, one in self.judged(both)}
+        compared = dict(zip(found, self.with_paths([one.found.compared for one in found.values()])))
+        return [self.report(first.get(name), second.get(name), found.get(name),
+                            *without(compared.get(name, Compared()), ignored))
+                for name in (*first, *(name for name in second if name not in first))]
+
+    def report(self, one: Part | None, other: Part | None, said: Judged | None, compared: Compared,
+               left_out: Counter[tuple[str, str]]) -> PartReport:
+        part = one or other
+        assert part
+        name = part.name.name and part.name.name[1:-1]
+        if one is None or other is None or said is None:
+            only = 'first' if one else 'second'
+            line = f'{part.name}: only in the {only} run: {part.size()}'
+            return PartReport(str(part.name), name, part.name.number, line, False, only, None,
+                              compared, left_out)
+        report = said.report(self.choices, self.names, [one.size(), other.size()])
+        line = f'{part.name}: {said.line(self.choices, part.size())}'
+        return PartReport(str(part.name), name, part.name.number, line, said.is_same, None, report,
+                          compared, left_out)
+
+    def judged(self, pairs: Sequence[Both]) -> Iterator[tuple[Both, Judged]]:
+        """Judges parts: first those that are the same, and then each of the others."""
+        same = set[Name]()
+        for pair in self.same(pairs):
+            same.add(pair[0].name)
+            yield pair, same_of([part.size() for part in pair], self.choices.order)
+        for some in listed_at_once(pair for pair in pairs if pair[0].name not in same):
+            yield from self.each(some)
+
+    def same(self, pairs: Sequence[Both]) -> Iterator[Both]:
+        """Iterates over parts that are the same. If the runs are, a part of the same messages in
+        both is: one renaming of the runs renames each part."""
+        if self.are_wholes_same and all(one.has_messages_of(other) for one, other in pairs):
+            return iter(pairs)
+        return self.same_at_once(pairs, AT_ONCE)
+
+    def same_at_once(self, pairs: Sequence[Both], at_once: int) -> Iterator[Both]:
+        """Judges parts, so many at once, and by fewer if these are not the same. Those that are not
+        the same as a few are left."""
+        for some in (pairs[at:at + at_once] for at in range(0, len(pairs), at_once)):
+            if self.are_same(some):
+                yield from some
+            elif at_once > FEWER:
+                yield from self.same_at_once(some, at_once // FEWER)
+
+    def are_same(self, pairs: Sequence[Both]) -> bool:
+        """Returns whether all these parts are the same. False if one is not, or if it is not known:
+        if one has not as many connections in both runs, so that a connection could stand for one of
+        another part, or if all have too many."""
+        connections = [[part.size().connections for part in parts] for parts in zip(*pairs)]
+        if connections[0] != connections[1] or sum(connections[0]) > CONNECTIONS_AT_MOST:
+            return False
+        with self.trial(pairs) as trial:
+            return trial.same(trial.captures, self.choices.masks[0]) == 'same'
+
+    def each(self, pairs: Sequence[Both]) -> Iterator[tuple[Both, Judged]]:
+        """Judges each of some parts. They are listed at once, unless it is one, which may be
+        large."""
+        if len(pairs) == 1:
+            with self.trial(pairs) as trial:
+                yield pairs[0], self.alone(trial, *pairs[0])
+            return
+        with self.trial(pairs) as trial:
+            listed = ListedParts(trial, pairs)
+            for at, pair in enumerate(pairs):
+                yield pair, self.alone(PartTrial(listed, at, self.taken([pair])), *pair)
+
+    def alone(self, trial: Trial, one: Part, other: Part) -> Judged:
+        """Judges a part. The places of what is found are those in the whole runs."""
+        runs = [run_of(trial, *each) for each in zip(trial.runs, trial.captures, self.names)]
+        sizes = [one.size(), other.size()]
+        try:
+            said = judged(trial, runs, sizes, self.choices)
+        except NothingToCompare:  # (then what one run alone has is all that there is)
+            said = judged(trial, runs, sizes, replace(self.choices, leaves_out=frozenset()))
+        compared = said.found.compared
+        findings = [replace(finding, first=finding.first and one.in_the_whole(finding.first),
+                            second=finding.second and other.in_the_whole(finding.second))
+                            for finding in compared.findings]
+        silent = [replace(call, first=call.first and one.in_the_whole(call.first),
+                          second=call.second and other.in_the_whole(call.second))
+                  for call in compared.silent]
+        found = replace(said.found, compared=replace(compared, findings=findings, silent=silent))
+        return said._replace(verdict=said.verdict.partition(' at ')[0], found=found)
+
+    @contextmanager
+    def trial(self, pairs: Sequence[Both]) -> Iterator[Trial]:
+        """A trial of some parts of both runs. Its captures are removed in the end."""
+        with tempfile.TemporaryDirectory(dir=self.whole.folder) as folder:
+            yield Trial(self.whole.program, Path(folder), self.taken(pairs))
+
+    def taken(self, pairs: Sequence[Both]) -> list[Taken]:
+        """Returns what is taken of some parts of both runs."""
+        return [marked.taken_of(parts) for marked, parts in zip(self.marked, zip(*pairs))]
+
+    def with_paths(self, compared: Sequence[Compared]) -> list[Compared]:
+        """Returns what was found in the parts, and what is left out, with the paths that are known
+        from the whole runs."""
+        messages: tuple[list[Message], list[Message]] = ([], [])
+        found: list[Finding | Silent] = []
+        for one in compared:
+            found += one.findings
+            found += one.silent
+        for message, is_second in map(named_by, found):
+            messages[is_second].append(message)
+        places = [Places(run, marked, some)
+                  for run, marked, some in zip(self.runs, self.marked, messages)]
+
+        def path_of(finding: Finding | Silent) -> str | None:
+            message, is_second = named_by(finding)
+            return places[is_second].path(message)
+
+        def with_path(finding: Finding) -> Finding:
+            return finding if finding.kind in ('order', 'connection') else replace(finding, path=path_of(finding))
+        return [replace(one, findings=list(map(with_path, one.findings)),
+                        silent=[replace(call, path=path_of(call)) for call in one.silent])
+                for one in compared]
+
+
+def named_by(finding: Finding | Silent) -> tuple[Message, bool]:
+    """Returns the message by which a finding or a call that is left out is named, and whether it is
+    of the second run."""
+    message = finding.first or finding.second
+    assert message
+    return message, finding.first is None

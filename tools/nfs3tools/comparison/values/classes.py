@@ -1,0 +1,167 @@
+"""Classes of values that two ordinary runs never share, and how each is masked."""
+from __future__ import annotations
+
+import argparse
+import enum
+import re
+from dataclasses import dataclass
+
+
+class Way(enum.Enum):
+    """How the values of a class are masked: all become zero, or each becomes its number by first
+    appearance."""
+    ZERO = 'zero'
+    NUMBER = 'number'
+
+
+@dataclass(frozen=True)
+class ValueClass:
+    """A class of values: the names of its items in a listing, how it is masked, and whether it is
+    by default."""
+    name: str
+    items: frozenset[str]
+    way: Way
+    is_default: bool
+    meaning: str
+    # Whether a zero has a meaning of its own (RFC 1813, section 3.3.16), and so stays zero.
+    keeps_zero: bool = False
+    # Whether its items count in calls only: a name may mean something else in a reply.
+    only_in_calls: frozenset[str] = frozenset()
+    # Whether its items count only in replies, in the attributes of wcc_data and in those of
+    # directories.
+    is_of_changes: bool = False
+    # The form of its values, if not all values of its items are of the class.
+    form: re.Pattern[str] | None = None
+    # Whether its values are names, which have no numbers: they become empty, or have 0 for each
+    # digit.
+    has_names: bool = False
+    # Whether its values are bytes of any number, which stays: each becomes 0, and none has a
+    # number.
+    is_raw: bool = False
+
+    def has(self, name: str, is_call: bool) -> bool:
+        """Returns whether an item of this name in a call, or in a reply, may be one of the
+        class."""
+        return name in self.items and (is_call
+                                       or name not in self.only_in_calls) and not (is_call and self.is_of_changes)
+
+    def has_value(self, value: str) -> bool:
+        """Returns whether a value, as the listing spells it, may be one of the class."""
+        return self.form is None or self.form.fullmatch(value) is not None
+
+
+def names(text: str) -> frozenset[str]:
+    return frozenset(text.split())
+
+
+CLASSES = (
+    ValueClass('times', names('atime_sec atime_nsec mtime_sec mtime_nsec ctime_sec ctime_nsec'),
+               Way.ZERO, True,
+               'times of files, in attributes, guards and settings'),
+    ValueClass('stamps', names('stamp'), Way.ZERO, True, 'stamps of AUTH_SYS credentials'),
+    ValueClass('machines', names('machinename hostname'), Way.ZERO, True,
+               'names of machines in AUTH_SYS credentials, and of hosts in replies to DUMP',
+               has_names=True),
+    ValueClass('space', names('tbytes fbytes abytes tfiles ffiles afiles invarsec used'), Way.ZERO,
+               True,
+               'counts of free space, and the space that a file uses'),
+    ValueClass('ids', names('fileid'), Way.NUMBER, True, 'file ids'),
+    ValueClass('fsids', names('fsid'), Way.NUMBER, True, 'file system ids'),
+    ValueClass('cookies', names('cookie'), Way.NUMBER, True, 'cookies of directories',
+               keeps_zero=True),
+    ValueClass('cookieverfs', names('cookieverf'), Way.NUMBER, True, 'cookie verifiers',
+               keeps_zero=True),
+    ValueClass('createverfs', names('createverf'), Way.NUMBER, True,
+               'verifiers of exclusive creates'),
+    ValueClass('owners', names('uid gid group'), Way.NUMBER, False,
+               'users and groups, in credentials and attributes',
+               only_in_calls=names('group')),
+    ValueClass('wcc', names('size nlink'), Way.ZERO, False,
+               'sizes and counts of links, in replies, that others may change meanwhile',
+               is_of_changes=True),
+    ValueClass('sillynames', names('name'), Way.ZERO, True,
+               'names that Linux clients give to removed files that are open: .nfs and 24 digits',
+               form=re.compile(r'"\.nfs[0-9a-f]{24}"'), has_names=True),
+    ValueClass('raw', names('rest'), Way.ZERO, False,
+               'bodies of messages of other programs and versions, whose lengths stay',
+               is_raw=True),
+)
+BY_NAME = {one.name: one for one in CLASSES}
+
+Mask = dict[str, Way]
+
+
+def default_mask() -> Mask:
+    """Returns how each class is masked that is masked by default."""
+    return {one.name: one.way for one in CLASSES if one.is_default}
+
+
+def changed(mask: Mask, word: str) -> Mask:
+    """Returns a mask with one class added (`+NAME`), removed (`-NAME`) or masked in the way that is
+    named (`NAME=zero`)."""
+    name, _, way = word.lstrip('+-').partition('=')
+    if name not in BY_NAME:
+        raise argparse.ArgumentTypeError(
+            f'no class of values: {name} (there are {", ".join(BY_NAME)})')
+    if way and way not in ('zero', 'number'):
+        raise argparse.ArgumentTypeError(f'{name} is masked as zero or number, not as {way}')
+    if word.startswith('-'):
+        return {kept: how for kept, how in mask.items() if kept != name}
+    one = BY_NAME[name]
+    if way == 'number' and one.is_raw:
+        raise argparse.ArgumentTypeError(f'{name} is masked as zero, not as number')
+    return {**mask, name: Way(way) if way and not one.has_names else one.way}
+
+
+def mask_of(text: str) -> Mask:
+    """Reads the word of `--mask`. Words that begin with `+` or `-` change the default mask; any
+    others are the whole mask."""
+    words = [word for word in text.split(',') if word and word != 'none']
+    mask = default_mask() if words and all(word[0] in '+-' for word in words) else {}
+    for word in words:
+        mask = changed(mask, word)
+    return mask
+
+
+def mask_word(text: str) -> str:
+    """Returns the word of `--mask` if it is one."""
+    mask_of(text)
+    return text
+
+
+# Classes that are zero in any order if that is needed, in this order. File ids are given out in the
+# order of creation, and again after a removal; verifiers of exclusive creates and cookies may
+# repeat by chance, and then stand for two; others' changes are seen half done. Bodies of other
+# programs have such values anywhere.
+RELAXED = ('ids', 'createverfs', 'cookies', 'wcc', 'raw')
+
+
+def in_any_order(text: str | None, has_raw: bool = False) -> list[Mask]:
+    """Returns the masks under which runs are compared in another order, each with more than the one
+    before: that of `--mask`, and then one relaxed class after another as zero. A class that
+    `--mask` names stays as it is, and so does a mask that is given as a whole. Raw bodies are
+    masked only if there are some."""
+    words = [] if text is None else [word for word in text.split(',') if word]
+    masks, named = [default_mask() if text is None
+                    else mask_of(text)], {word.lstrip('+-').partition('=')[0] for word in words}
+    for name in RELAXED if has_raw else RELAXED[:-1]:
+        if name not in named and all(word[0] in '+-' for word in words):
+            masks.append({**masks[-1], name: Way.ZERO})
+    return masks
+
+
+def besides(mask: Mask, before: Mask) -> Mask:
+    """Returns the classes that one mask masks in another way than the one before."""
+    return {name: way for name, way in mask.items() if before.get(name) is not way}
+
+
+def with_class_of(mask: Mask, other: Mask, name: str) -> Mask:
+    """Returns a mask in which a class is masked as in another, or not at all."""
+    if name in other:
+        return {**mask, name: other[name]}
+    return {kept: way for kept, way in mask.items() if kept != name}
+
+
+def told(mask: Mask) -> str:
+    """Returns the mask as `--mask` takes it."""
+    return ','.join(f'{name}={way.value}' for name, way in mask.items()) or 'none'

@@ -1,0 +1,110 @@
+"""Where two long values part: data, names and other runs of bytes, of which nobody reads the whole."""
+from __future__ import annotations
+
+import re
+from typing import NamedTuple
+
+from ...captures.stored import Stored
+
+LONG = 60  # characters of a value, as the listing spells it
+SHOWN = 16  # bytes of each value, round the first that differs
+AT_ONCE = 1 << 16  # bytes that are compared
+ESCAPED = re.compile(r'\\x([0-9a-f]{2})')
+
+
+class Apart(NamedTuple):
+    """Two values that differ.
+
+    at: the first byte that differs, or the size of a value with which the other begins; bytes are
+        numbered from 0
+    offset: the place of this byte in the file, of data of a file
+    differing: how many bytes differ, of those that both values have
+    sizes: how many bytes each of them has
+    shown: some bytes of each, round the first that differs, as they are printed
+    """
+    at: int
+    offset: int | None
+    differing: int
+    sizes: tuple[int, int]
+    shown: tuple[str, str]
+
+
+class Content:
+    """The bytes of a value of a listing: of a string in quotes, or of hexadecimal digits."""
+
+    def __init__(self, value: str) -> None:
+        self.stored = value if isinstance(value, Stored) else None
+        self.bytes = b'' if self.stored is not None else bytes_of(value)
+        self.size = len(self.bytes) if self.stored is None else self.stored.size
+
+    def read(self, begin: int, end: int) -> bytes:
+        return self.bytes[begin:end] if self.stored is None else bytes.fromhex(self.stored.digits(begin, end))
+
+
+def is_long(value: str) -> bool:
+    return len(value) > LONG
+
+
+def bytes_of(value: str) -> bytes:
+    """Returns the bytes of a value that is not stored."""
+    if value.startswith('"'):
+        return ESCAPED.sub(lambda found: chr(int(found[1], 16)), value[1:-1]).encode('latin-1')
+    return bytes.fromhex(value)
+
+
+def apart(first: str, second: str, offset: int | None = None) -> Apart:
+    """Returns where two values of a listing part that differ. The offset is that of the first byte
+    in its file."""
+    one, other = Content(first), Content(second)
+    size = min(one.size, other.size)
+    at, differing = size, 0
+    for begin in range(0, size, AT_ONCE):
+        first_of_piece, number = parting(one.read(begin, min(size, begin + AT_ONCE)),
+                                         other.read(begin, min(size, begin + AT_ONCE)))
+        at = min(at, begin + first_of_piece) if number else at
+        differing += number
+    is_text = first.startswith('"')
+    return Apart(at, None if offset is None else offset + at, differing, (one.size, other.size),
+                 (shown(one, at, is_text), shown(other, at, is_text)))
+
+
+def parting(one: bytes, other: bytes) -> tuple[int, int]:
+    """Returns the first byte in which two pieces of one size differ, and how many bytes do."""
+    if one == other:
+        return len(one), 0
+    bits = (int.from_bytes(one, 'big') ^ int.from_bytes(other, 'big')).to_bytes(len(one), 'big')
+    return len(one) - len(bits.lstrip(b'\0')), len(one) - bits.count(0)
+
+
+def shown(content: Content, at: int, is_text: bool) -> str:
+    """Returns the bytes round a place: of a name as the listing spells it, of others in
+    hexadecimal, with a space before the place."""
+    begin = max(0, at - SHOWN // 2)
+    piece, before, after = content.read(begin, begin + SHOWN), '..' * (begin > 0), '..' * (begin + SHOWN < content.size)
+    if is_text:
+        return f'{before}"{spelled(piece)}"{after}'
+    gap = ' ' if begin < at < begin + len(piece) else ''
+    return f'{before}{piece[:at - begin].hex()}{gap}{piece[at - begin:].hex()}{after}'
+
+
+def spelled(content: bytes) -> str:
+    """Returns bytes as a string of the listing has them."""
+    return ''.join(chr(byte) if 0x20 <= byte < 0x7f and byte not in b'"\\' else f'\\x{byte:02x}'
+                   for byte in content)
+
+
+def told(parting: Apart) -> str:
+    """Returns where two values part and how much differs, in words."""
+    same, (first, second) = min(parting.sizes), parting.sizes
+    where = f'byte {parting.at}' if parting.offset is None else f'offset {parting.offset} of the file (byte {parting.at} of the data)'
+    lengths = '' if first == second else f'their lengths are {first:,} and {second:,}'
+    if not same:
+        return lengths
+    of_which = f'the first {same:,} bytes' if lengths else f'{same:,} bytes'
+    if not parting.differing:
+        said = f'one is the beginning of the other, up to {where}'
+    elif parting.differing == 1:
+        said = f'1 of {of_which} differs, at {where}'
+    else:
+        said = f'{parting.differing:,} of {of_which} differ, the first at {where}'
+    return '; '.join(filter(None, [said, lengths]))

@@ -1,0 +1,80 @@
+"""What is said of two runs, whole ones or a part of each."""
+from __future__ import annotations
+
+from collections.abc import Sequence
+from dataclasses import replace
+from typing import NamedTuple
+
+from ...captures.listings import Message
+from ...recordings.taken import Taken
+from ...shared.places import Place
+from ...shared.printed import escaped
+from . import summary
+from .cover import Cover, Size
+from .findings import Compared, Run
+from .orders import Choices, Found, Order, Orders
+from .report import Report
+from .trial import Trial
+
+
+class Judged(NamedTuple):
+    """What is said of two runs: the program's verdict, what was found, and whether the order
+    counts."""
+    verdict: str
+    found: Found
+    order: Order
+
+    @property
+    def is_turned(self) -> bool:
+        """Whether the runs are the same in another order, and in no other way."""
+        return self.found.same_under is not None
+
+    @property
+    def is_same(self) -> bool:
+        """Whether the runs are the same, if the order counts as was asked for."""
+        return self.verdict == 'same' or self.is_turned and self.order == 'any'
+
+    def report(self, choices: Choices, names: Sequence[str], sizes: Sequence[Size],
+               covers: Sequence[Cover] = ()) -> Report:
+        both = (covers[0], covers[1]) if covers else None
+        return Report(self.verdict, choices.masks[0], (names[0], names[1]), (sizes[0], sizes[1]),
+                      self.found.same_under, both)
+
+    def line(self, choices: Choices, size: Size, losses: str = '') -> str:
+        """What is printed of the verdict: how much was compared, and in which part."""
+        if self.is_turned:
+            return line_of(summary.IN_ANOTHER_ORDER, summary.of_same(self.found, choices.masks[0]),
+                           losses)
+        is_in_any = self.verdict != 'same' and self.order == 'any'
+        return line_of('differ in any order' if is_in_any else self.verdict, size, losses)
+
+
+def line_of(verdict: str, compared: Size | str, losses: str) -> str:
+    if verdict.startswith('differ'):
+        return f'{verdict}\ncompared in part: {losses}' if losses else verdict
+    return f'{verdict} in part: {compared}, {losses}' if losses else f'{verdict}: {compared}'
+
+
+def run_of(trial: Trial, taken: Taken, capture: str, name: str) -> Run:
+    def frames(message: Message) -> list[int]:
+        place = Place(message.connection, 'client' if message.is_call else 'server', message.record)
+        return [frame.number for frame in taken.frames(place)] if taken.has_frames else []
+    return Run(escaped(name), trial.listing(capture), frames)
+
+
+def same_of(sizes: Sequence[Size], order: Order) -> Judged:
+    """Returns what is said of two runs of these sizes that the program calls the same."""
+    first, second = (size.calls for size in sizes)
+    return Judged('same', Found(Compared(exchanges=first, calls=(first, second))), order)
+
+
+def judged(trial: Trial, runs: Sequence[Run], sizes: Sequence[Size], choices: Choices) -> Judged:
+    """Compares both runs of a trial. They are brought together only if they differ, or are to be
+    shown side by side."""
+    verdict = trial.placed(trial.same(trial.captures, choices.masks[0]))
+    if verdict == 'same' and choices.around is None:
+        return same_of(sizes, choices.order)
+    order: Order = 'strict' if verdict == 'same' else choices.order
+    first, second = runs
+    return Judged(verdict, Orders(trial, first, second, replace(choices, order=order)).found(),
+                  choices.order)

@@ -1,0 +1,262 @@
+"""How two messages that belong together differ, item by item."""
+from __future__ import annotations
+
+from collections import Counter
+from collections.abc import Iterable, Iterator, Sequence
+from dataclasses import dataclass
+
+from ...captures.listings import Item, Message
+from ...captures.stored import text_of
+from ...captures.whose import Labels
+from ..values.bindings import RENAMED, Bindings
+from ..values.classes import CLASSES, Mask, ValueClass, Way
+from ..values.long_values import Apart, Content, apart, is_long
+
+# After one of these the rest of a reply has another layout.
+DECIDING = ('reply_stat', 'reject_stat', 'accept_stat', 'status')
+# Calls and replies whose data is of a file, from the offset of the call on.
+WRITE, READ = 'NFSPROC3_WRITE', 'NFSPROC3_READ'
+
+
+@dataclass(frozen=True)
+class Difference:
+    """One item that differs: its name, its values in both runs (None if it is in one run alone),
+    and a remark.
+
+    label, field: its name with whose it is (`whose`)
+    meanings: the names of the values, of numbers that have some
+    apart: where two long values part
+    alike: what differences of renamed values have in common, of which each has values of its own
+    """
+    name: str
+    first: str | None
+    second: str | None
+    remark: str = ''
+    label: str = ''
+    field: str = ''
+    meanings: tuple[str, str] = ('', '')
+    apart: Apart | None = None
+    alike: str = ''
+
+    @property
+    def is_equal(self) -> bool:
+        """Whether both runs have one value here, which stands for others elsewhere: the remark says
+        for which."""
+        return self.first == self.second and self.apart is None
+
+
+class Side:
+    """A message of one run, with the call to which it belongs if it is a reply."""
+
+    def __init__(self, message: Message, call: Message | None) -> None:
+        self.items, self.is_call, self.labels = message.items, message.is_call, Labels(message)
+        self.asking = message if message.is_call else call
+
+    def offset(self) -> int | None:
+        """Returns where in the file the data of the message is, if that is known."""
+        if self.asking is None or self.asking.procedure != (WRITE if self.is_call else READ):
+            return None
+        offset = self.asking.value_of('offset')
+        return None if offset is None else int(offset)
+
+
+class Comparison:
+    """Compares messages under a mask. What is bound by one pair of messages holds for all that are
+    compared after it."""
+
+    def __init__(self, mask: Mask) -> None:
+        self.mask, self.bindings = mask, Bindings()
+        self.owners: dict[tuple[str, bool], ValueClass | None] = {}
+
+    def class_of(self, name: str, is_call: bool) -> ValueClass | None:
+        """Returns the masked class to which items of a name may belong."""
+        key = name, is_call
+        if key not in self.owners:
+            self.owners[key] = next((one for one in CLASSES if one.name in self.mask
+                                     and one.has(name, is_call)), None)
+        return self.owners[key]
+
+    def owner_of(self, side: Side, at: int) -> ValueClass | None:
+        """Returns the masked class of an item."""
+        owner = self.class_of(side.items[at].name, side.is_call)
+        return owner if owner is not None and is_of(owner, side, at) else None
+
+    def is_length_of_a_machine(self, item: Item) -> bool:
+        """A machine's name has a length, which is left out with it."""
+        return item.name == 'cred_length' and 'machines' in self.mask
+
+    def of_values(self, here: Side, at: int, there: Side, to: int) -> Difference | None:
+        """Returns how two items of one name differ, and binds renamed values."""
+        (name, first), (_, second) = here.items[at], there.items[to]
+        owner = self.class_of(name, here.is_call)
+        if owner is not None and not (is_of(owner, here, at) and is_of(owner, there, to)):
+            owner = None
+        if first == second == '':
+            return None
+        if owner is not None and self.mask[owner.name] is Way.ZERO:
+            return self.of_lengths(here, at, there, to) if owner.is_raw else None
+        renaming = owner.name if owner is not None else RENAMED.get(name)
+        if renaming is not None:
+            return self.of_renamed(renaming, owner, here, at, there, to)
+        if name == 'rest':
+            return self.of_raw(here, at, there, to)
+        return None if first == second or self.is_length_of_a_machine(here.items[at]) else difference_of(here, at, there, to)
+
+    def of_lengths(self, here: Side, at: int, there: Side, to: int) -> Difference | None:
+        """Raw bytes that are masked differ only in their number."""
+        sizes = [Content(side.items[place].value).size for side, place in ((here, at), (there, to))]
+        return None if sizes[0] == sizes[1] else difference_of(here, at, there, to, remark='only the lengths count')
+
+    def of_raw(self, here: Side, at: int, there: Side, to: int) -> Difference | None:
+        """Handles in raw bytes are those of the other run where they are known."""
+        first, second = text_of(here.items[at].value), text_of(there.items[to].value)
+        renamed = self.bindings.renamed(first)
+        if renamed == second:
+            return None
+        remark = '' if renamed == first else 'the file handles of the first are written as those of the second'
+        return difference_of(here, at, there, to, remark=remark, first=renamed)
+
+    def of_renamed(self, name: str, owner: ValueClass | None, here: Side, at: int, there: Side,
+                   to: int) -> Difference | None:
+        first, second = here.items[at].value, there.items[to].value
+        zeros = [not value.strip('0') for value in (first, second)]
+        if any(zeros) and (owner is not None and owner.keeps_zero or '' in (first, second)):
+            # A zero cookie, a verifier of zeros and the empty handle stand for themselves alone.
+            return None if first == second else difference_of(here, at, there, to, is_renamed=True)
+        is_first = (name, first) in self.bindings.forth
+        why = self.bindings.bind(name, first, second)
+        return difference_of(here, at, there, to, why, alike=f'{name}, {is_first}',
+                             is_renamed=True) if why else None
+
+    def of_items(self, here: Side, first: range, there: Side, second: range) -> list[Difference]:
+        """Returns how two runs of items differ, up to where they have another layout."""
+        found: list[Difference] = []
+        for at, to in zip(first, second):
+            if here.items[at].name != there.items[to].name:
+                return [*found, of_one_run(here, at, 0, 'the layouts part'),
+                        of_one_run(there, to, 1)]
+            difference = self.of_values(here, at, there, to)
+            if difference:
+                found.append(difference)
+                if difference.name in DECIDING:
+                    return found
+        found += [of_one_run(here, at, 0) for at in first[len(second):]]
+        return found + [of_one_run(there, to, 1) for to in second[len(first):]]
+
+    def of_messages(self, first: Message, second: Message, call: Message | None = None,
+                    other: Message | None = None) -> list[Difference]:
+        """Returns how two messages differ. The calls of two replies say where in a file their data
+        is. Entries of a directory are brought together by their names, and those of one name by
+        turn."""
+        here, there = Side(first, call), Side(second, other)
+        if first.is_call or first.procedure not in ('NFSPROC3_READDIR', 'NFSPROC3_READDIRPLUS'):
+            return self.of_items(here, range(len(first.items)), there, range(len(second.items)))
+        head, entries, tail = parts_of(first.items)
+        other_head, other_entries, other_tail = parts_of(second.items)
+        found = self.of_items(here, head, there, other_head)
+        if any(difference.name in DECIDING for difference in found):
+            return found
+        return [*found, *self.of_entries(here, entries, there, other_entries),
+                *self.of_items(here, tail, there, other_tail)]
+
+    def of_entries(self, here: Side, first: list[range], there: Side,
+                   second: list[range]) -> Iterator[Difference]:
+        """Yields how the entries of two directories differ, and whether they come in another
+        order."""
+        ours = by_name((self.key_of_entry(here, entry), entry) for entry in first)
+        theirs = by_name((self.key_of_entry(there, entry), entry) for entry in second)
+        yield from (of_entry(name_of(here, entry), None) for key, entry in ours.items()
+                    if key not in theirs)
+        yield from (of_entry(None, name_of(there, entry)) for key, entry in theirs.items()
+                    if key not in ours)
+        for key, entry in ours.items():
+            if key in theirs:
+                yield from self.of_items(here, entry, there, theirs[key])
+        common = [key for key in ours if key in theirs]
+        others = [key for key in theirs if key in ours]
+        turns = next(((ours[key], theirs[other]) for key, other in zip(common, others)
+                      if key[0] != other[0]), None)
+        if turns:
+            yield of_entry(name_of(here, turns[0]), name_of(there, turns[1]),
+                           'the entries come in another order')
+
+    def key_of_entry(self, side: Side, entry: range) -> str:
+        """Returns the name of an entry, in quotes, or the class of its name if that is masked."""
+        at = at_name(side, entry)
+        owner = None if at is None else self.owner_of(side, at)
+        return name_of(side, entry) if owner is None else owner.name
+
+
+def is_of(owner: ValueClass, side: Side, at: int) -> bool:
+    """Returns whether an item with a name of a class is of the class. The parts that it is in may
+    decide, or its value."""
+    if owner.is_of_changes:
+        return side.labels.is_of_a_change(at) or side.labels.is_of_a_directory(at)
+    return owner.has_value(side.items[at].value)
+
+
+# Entries by their keys, and by how many of a key are before. A broken directory may have several of
+# a name.
+Entries = dict[tuple[str, int], range]
+
+
+def by_name(entries: Iterable[tuple[str, range]]) -> Entries:
+    counts = Counter[str]()
+    out: Entries = {}
+    for key, entry in entries:
+        out[key, counts[key]] = entry
+        counts[key] += 1
+    return out
+
+
+def at_name(side: Side, entry: range) -> int | None:
+    return next((at for at in entry if side.items[at].name == 'name'), None)
+
+
+def name_of(side: Side, entry: range) -> str:
+    at = at_name(side, entry)
+    return '' if at is None else side.items[at].value
+
+
+def parts_of(items: Sequence[Item]) -> tuple[range, list[range], range]:
+    """Returns the items of a READDIR or READDIRPLUS reply before its entries, those of each entry,
+    and those after them."""
+    begins = [at for at, item in enumerate(items) if item.name == 'entry']
+    if not begins:
+        return range(len(items)), [], range(0)
+    return range(begins[0]), [range(at, end)
+                              for at, end in zip(begins, begins[1:])], range(begins[-1], len(items))
+
+
+# --- What is said of a difference ---
+
+def difference_of(here: Side, at: int, there: Side, to: int, remark: str = '', *,
+                  first: str | None = None, alike: str = '',
+                  is_renamed: bool = False) -> Difference:
+    """Two items of one name whose values differ. `first` is what is compared with the second value,
+    if it is not the first."""
+    one, other = here.items[at], there.items[to]
+    parting = None
+    if not is_renamed and (is_long(one.value) or is_long(other.value)
+                           or first not in (None, one.value)):
+        offset = here.offset() if one.name == 'data' and here.offset() == there.offset() else None
+        parting = apart(one.value if first is None else first, other.value, offset)
+    return Difference(one.name, one.value, other.value, remark, here.labels.label(at),
+                      here.labels.field(at),
+                      (here.labels.meaning(at), there.labels.meaning(to)), parting, alike)
+
+
+def of_one_run(side: Side, at: int, number: int, remark: str = '') -> Difference:
+    """An item that one run alone has: the first, of number 0, or the second."""
+    item, meaning = side.items[at], side.labels.meaning(at)
+    values, meanings = ((item.value, None),
+                        (meaning, '')) if number == 0 else ((None, item.value), ('', meaning))
+    return Difference(item.name, *values, remark, side.labels.label(at), side.labels.field(at),
+                      meanings)
+
+
+def of_entry(first: str | None, second: str | None, remark: str = '') -> Difference:
+    """Entries of a directory that come in another order, or one that is in one run alone."""
+    name = 'entry' if remark else 'name'
+    field = 'entry' if remark else 'entry.name'
+    return Difference(name, first, second, remark, field, field)

@@ -1,0 +1,175 @@
+"""Which exchanges of two runs are shown side by side: those that differ, some pairs before and after each of them, and how many calls
+are between these."""
+from __future__ import annotations
+
+from array import array
+from bisect import bisect_left
+from collections.abc import Callable, Iterable, Iterator, Sequence
+from dataclasses import dataclass, field
+from functools import cached_property
+from itertools import accumulate, groupby
+from typing import NamedTuple
+
+from ...captures.listings import Exchange
+from ..exchanges.matching import Pair
+from ..exchanges.pairing import NOBODY, Pairing
+
+
+class Around(NamedTuple):
+    """How much is shown: how many pairs before and after an exchange that differs, and how many of
+    those that differ."""
+    pairs: int
+    most: int
+
+
+class Row(NamedTuple):
+    """An exchange of each run, None if the run does not have it, the path of what it is about, and
+    whether it is told."""
+    first: Exchange | None
+    second: Exchange | None
+    path: str | None
+    is_told: bool
+
+
+class Gap(NamedTuple):
+    """Calls of the first run that are not shown: how many are equal to those of the second run, how
+    many are among what is told, and how many are in the first run alone and left out."""
+    equal: int = 0
+    told: int = 0
+    left_out: int = 0
+
+
+@dataclass
+class Connection:
+    """The numbers that a connection has in both runs, None if one does not have it, and its rows
+    and gaps in order."""
+    first: int | None
+    second: int | None
+    rows: list[Row | Gap]
+
+
+@dataclass
+class Beside:
+    """The connections of which something is shown, in the order of the first run.
+
+    others, rest: how many connections the first run has besides, and what is in them
+    cut: how many exchanges that the second run alone has are not shown, although they are told
+    """
+    connections: list[Connection] = field(default_factory=list)
+    others: int = 0
+    rest: Gap = Gap()
+    cut: int = 0
+
+
+class Shown:
+    """What is shown of two runs. A pair has NOBODY in place of an exchange that one of them does
+    not have."""
+
+    def __init__(self, pairing: Pairing, told: Iterable[Pair], besides: Iterable[int],
+                 around: Around) -> None:
+        """Chooses among the pairs that are told, and what is near them. `besides` are more
+        exchanges of the first run that are told."""
+        self.pairing, self.here, self.there = pairing, pairing.here, pairing.there
+        self.told = set(told)
+        self.told_of_first = sorted({*(at for at, _ in self.told if at != NOBODY), *besides})
+        chosen = sorted(self.told, key=self.key_of)[:around.most]
+        self.pairs = {*chosen, *(pair for one in chosen for pair in self.near(one, around.pairs))}
+
+    @cached_property
+    def partners(self) -> 'array[int]':
+        """For each exchange of the second run that of the first, or NOBODY."""
+        out = array('i', [NOBODY]) * len(self.there)
+        for at, to in self.pairing.pairs():
+            out[to] = at
+        return out
+
+    @cached_property
+    def followed(self) -> dict[int, 'array[int]']:
+        """By connections of the second run: after which exchange of the first run each of its
+        exchanges comes."""
+        return {}
+
+    def comes_after(self, to: int) -> int:
+        """Returns which exchange of the first run is before one of the second, in connections that
+        belong together."""
+        place = self.there.connection_of(to)
+        own, home = self.there.exchanges_of(place), self.here.exchanges_of(self.place_of((NOBODY, to)))
+        if place not in self.followed:
+            self.followed[place] = array('i', accumulate(
+                self.partners[own.start:own.stop], lambda last, at: at if at in home else last,
+                initial=home.start - 1))
+        return self.followed[place][to - own.start]
+
+    def place_of(self, pair: Pair) -> int:
+        """Returns the place of the connection of the first run where a pair is shown, or one behind
+        all."""
+        at, to = pair
+        if at != NOBODY:
+            return self.here.connection_of(at)
+        return self.pairing.places_of_homes.get(self.there.connection_of(to),
+                                                len(self.pairing.homes))
+
+    def key_of(self, pair: Pair) -> tuple[int, int, int]:
+        """The order in which pairs are shown: that of the first run. What the second run alone has
+        comes after what is before it."""
+        at, to = pair
+        place = self.place_of(pair)
+        if at != NOBODY:
+            return place, at, NOBODY
+        return place, self.comes_after(to) if place < len(self.pairing.homes) else NOBODY, to
+
+    def near(self, pair: Pair, number: int) -> Iterator[Pair]:
+        """Returns the pairs of the same connection that are at most so many before or after one."""
+        at, to = pair
+        outlines, middle, partners = (self.here, at,
+                                      self.pairing.partners) if at != NOBODY else (self.there, to, self.partners)
+        own = outlines.exchanges_of(outlines.connection_of(middle))
+        some = range(max(own.start, middle - number), min(own.stop, middle + number + 1))
+        return ((one, partners[one]) if at != NOBODY else (partners[one], one) for one in some
+                if partners[one] != NOBODY)
+
+    def beside(self, row: Callable[[Pair, bool], Row]) -> Beside:
+        """Returns what is shown. `row` returns a pair taken apart, and is given whether it is
+        told."""
+        groups = groupby(sorted(self.pairs, key=self.key_of), self.connections_of)
+        connections = {both: list(self.rows(both[0], list(pairs), row)) for both, pairs in groups}
+        others = [place for place in range(len(self.pairing.homes))
+                  if (place, self.pairing.homes[place]) not in connections]
+        gaps = [self.gap(own.start, own.stop) for own in map(self.here.exchanges_of, others)]
+        shown = [Connection(number_of(self.here.connections, place),
+                            number_of(self.there.connections, other), rows)
+                 for (place, other), rows in connections.items()]
+        return Beside(shown, len(others), Gap(*map(sum, zip(Gap(), *gaps))),
+                      sum(at == NOBODY for at, _ in self.told - self.pairs))
+
+    def connections_of(self, pair: Pair) -> Pair:
+        """Returns the places of the connections of both runs where a pair is shown."""
+        place = self.place_of(pair)
+        if place < len(self.pairing.homes):
+            return place, self.pairing.homes[place]
+        return NOBODY, self.there.connection_of(pair[1])
+
+    def rows(self, place: int, pairs: Sequence[Pair],
+             row: Callable[[Pair, bool], Row]) -> Iterator[Row | Gap]:
+        """Returns the rows of a connection of the first run, and what is between them."""
+        own = self.here.exchanges_of(place) if place != NOBODY else range(0)
+        begin = own.start
+        for pair in pairs:
+            if pair[0] > begin:
+                yield self.gap(begin, pair[0])
+            yield row(pair, pair in self.told)
+            begin = max(begin, pair[0] + 1)
+        if begin < own.stop:
+            yield self.gap(begin, own.stop)
+
+    def gap(self, begin: int, end: int) -> Gap:
+        """Returns what some exchanges of the first run are that follow one another."""
+        told = self.told_of_first[
+            bisect_left(self.told_of_first, begin):bisect_left(self.told_of_first, end)]
+        alone = self.pairing.partners[begin:end].count(NOBODY)
+        told_alone = sum(self.pairing.partners[at] == NOBODY for at in told)
+        return Gap(end - begin - alone - (len(told) - told_alone), len(told), alone - told_alone)
+
+
+def number_of(connections: Sequence[int], place: int) -> int | None:
+    return connections[place] if place != NOBODY else None

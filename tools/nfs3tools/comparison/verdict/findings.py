@@ -1,0 +1,318 @@
+"""Two runs compared: which exchanges belong together, and what differs."""
+from __future__ import annotations
+
+import functools
+import itertools
+from collections import Counter
+from collections.abc import Callable, Iterable, Iterator, Sequence
+from dataclasses import dataclass, field
+
+from ...captures.listings import Exchange, Message, exchanges_of, messages_of
+from ...captures.paths import Paths, below
+from ...captures.stored import Storage
+from ..exchanges.matching import Pair
+from ..exchanges.outlines import Outlines
+from ..exchanges.pairing import NOBODY, Listing, Pairing
+from ..values.classes import Mask
+from .arguments import Argument, arguments_of
+from .differences import Comparison, Difference
+from .excerpt import Around, Beside, Row, Shown
+
+Framing = Callable[[Message], Sequence[int]]
+
+
+@dataclass
+class Run:
+    """One of two runs: its name, its listing, which begins anew if it is called, and the frames
+    that carry a message (none of a capture)."""
+    name: str
+    listing: Listing
+    frames: Framing
+
+
+@dataclass(frozen=True)
+class Finding:
+    """What is told of one place: the messages of both runs (None if it has none there), and how
+    they differ. A call of one run alone has its arguments."""
+    kind: str  # 'changed', 'only', 'moved', 'replies', 'order' or 'connection'
+    first: Message | None
+    second: Message | None
+    path: str | None = None
+    differences: tuple[Difference, ...] = ()
+    remark: str = ''
+    arguments: tuple[Argument, ...] = ()
+
+
+@dataclass(frozen=True)
+class Silent:
+    """A call that is left out: that of the run that alone has it, or those of both if others
+    overtook the question; and its path."""
+    first: Message | None
+    second: Message | None
+    path: str | None = None
+
+    @property
+    def call(self) -> Message:
+        call = self.first or self.second
+        assert call
+        return call
+
+
+@dataclass
+class Compared:
+    """All findings, in the order of the first run, and what belongs together.
+
+    exchanges: how many exchanges were brought together
+    calls: how many each run has
+    moved, elsewhere: how many of those have another turn, or are on another connection
+    late: how many replies come in another order
+    late_connections: how many connections do
+    lonely: how many calls the first and the second run have alone, which are told
+    left_out: how often a procedure was left out of the first and of the second run, that one run
+        alone has
+    silent: all calls that are left out
+    beside: what differs with some pairs before and after it, for those who show both runs side by
+        side
+    mask: that under which they were compared
+    """
+    findings: list[Finding] = field(default_factory=list)
+    exchanges: int = 0
+    calls: tuple[int, int] = (0, 0)
+    moved: int = 0
+    elsewhere: int = 0
+    late: int = 0
+    late_connections: int = 0
+    lonely: tuple[int, int] = (0, 0)
+    left_out: tuple[Counter[str], Counter[str]] = field(
+        default_factory=lambda: (Counter[str](), Counter[str]()))
+    silent: list[Silent] = field(default_factory=list)
+    beside: Beside = field(default_factory=Beside)
+    mask: Mask = field(default_factory=dict)
+
+    def fields(self) -> Counter[tuple[str, str]]:
+        """Returns how often each field of each procedure differs."""
+        return Counter((message.procedure, difference.field) for finding in self.findings
+                       if (message := finding.first or finding.second)
+                       for difference in finding.differences)
+
+
+class Apart:
+    """Exchanges of a run that are taken apart, with the paths of their files. Long values are in a
+    temporary file."""
+
+    def __init__(self, run: Run, outlines: Outlines, wanted: Iterable[int]) -> None:
+        kept = sorted(outlines.with_origins(wanted))
+        found = exchanges_of(messages_of(chosen(run.listing() if kept else (), outlines, kept),
+                                         Storage().kept))
+        self.exchanges = dict(zip(kept,
+                                  itertools.chain.from_iterable(
+                                      some for _, some in sorted(found.items()))))
+        self.paths = Paths()
+        for exchange in self.exchanges.values():
+            self.paths.take(exchange)
+
+    def path(self, at: int) -> str | None:
+        """Returns the path of what a call is about. A folder whose path is not known is `?`."""
+        call = self.exchanges[at].call
+        path, name = self.paths.of(call.value_of('fh') or ''), call.value_of('name')
+        return path if name is None else below(path or '?', name.strip('"'))
+
+
+def chosen(lines: Iterable[str], outlines: Outlines, some: Iterable[int]) -> Iterator[str]:
+    """Returns the lines of some calls, and of their replies."""
+    wanted = set[str]()
+    for at in some:
+        connection, record = outlines.record_of(at)
+        wanted.add(f'{connection} client {record}')
+        wanted.update(f'{connection} server {reply}' for reply in outlines.replies_of(at))
+    return (line for line in lines if line[:line.find(' xid=')] in wanted)
+
+
+@dataclass
+class Lonely:
+    """The exchanges of a run that have no partner: those that are told, the connections of which
+    there are no others (the first exchange of each, and how many it has), those that are left out,
+    and how often a procedure is."""
+    told: list[int] = field(default_factory=list)
+    silent: list[int] = field(default_factory=list)
+    connections: dict[int, int] = field(default_factory=dict)
+    left_out: Counter[str] = field(default_factory=Counter)
+
+    @classmethod
+    def of(cls, outlines: Outlines, only: Iterable[int], leaves_out: frozenset[str]) -> 'Lonely':
+        out = cls()
+        for place, group in itertools.groupby(only, outlines.connection_of):
+            some, all_of_it = list(group), outlines.exchanges_of(place)
+            told = [at for at in some if outlines.procedure_of(at) not in leaves_out]
+            if told and len(some) == len(all_of_it):
+                out.connections[some[0]] = len(some)
+            else:
+                out.told += told
+                out.silent += [at for at in some if outlines.procedure_of(at) in leaves_out]
+        out.left_out.update(map(outlines.procedure_of, out.silent))
+        return out
+
+    def number(self) -> int:
+        """Returns how many exchanges are told."""
+        return len(self.told) + sum(self.connections.values())
+
+
+class Explaining:
+    """Tells what differs between two runs whose exchanges are brought together. What is in one run
+    alone is told, unless its procedure is one of those that are left out."""
+
+    def __init__(self, first: Run, second: Run, pairing: Pairing, leaves_out: frozenset[str],
+                 overtaken: Sequence[Pair] = ()) -> None:
+        """`overtaken` are pairs that were taken apart again, and are left out."""
+        self.first, self.second, self.pairing, self.overtaken = first, second, pairing, overtaken
+        self.firsts, self.seconds = pairing.order_of_first(), pairing.order_of_second()
+        here, there = ({pair[side] for pair in overtaken} for side in (0, 1))
+        self.lonely = Lonely.of(pairing.here,
+                                (at for at in pairing.only_first() if at not in here), leaves_out)
+        self.others = Lonely.of(pairing.there,
+                                (to for to in pairing.only_second() if to not in there), leaves_out)
+
+    def explained(self, unequal: set[int], named: set[int], mask: Mask, tells_order: bool,
+                  around: Around | None) -> Compared:
+        """Returns what differs in the pairs of the unequal turns, and besides.
+
+        named: the turns of equal pairs that say what stands for what
+        around: how much is shown of both runs side by side, if that is asked for
+        """
+        pairing, moved = self.pairing, [*self.pairing.moved,
+                                        *self.pairing.elsewhere] if tells_order else []
+        changed = list(self.of_turns(unequal, self.take_apart(unequal | named, moved),
+                                     Comparison(mask)))
+        findings = [*(finding for _, finding in changed), *self.of_the_lonely(mask)]
+        if tells_order:
+            findings += [*self.of_moved(), *self.of_late()]
+        return Compared(sorted(findings,
+                               key=lambda finding: self.place_of(finding.first, finding.second)),
+                        len(self.firsts), (len(pairing.here), len(pairing.there)),
+                        len(pairing.moved), len(pairing.elsewhere),
+                        sum(number for _, number, _ in pairing.late_replies),
+                        pairing.late_connections,
+                        (self.lonely.number(), self.others.number()),
+                        (self.lonely.left_out, self.others.left_out),
+                        list(self.of_the_silent()),
+                        self.beside([*(pair for pair, _ in changed), *moved], around) if around
+                        else Beside(), mask)
+
+    def has_another_order(self) -> bool:
+        """Returns whether it makes a difference that the order does not count."""
+        pairing = self.pairing
+        return bool(self.overtaken or self.lonely.silent or self.others.silent or pairing.moved
+                    or pairing.elsewhere or pairing.late_replies
+                    or pairing.late_connections)
+
+    def tells_lonely(self) -> bool:
+        """Returns whether something is told that one run alone has."""
+        return any(some.told or some.connections for some in (self.lonely, self.others))
+
+    def take_apart(self, turns: set[int], moved: Iterable[Pair]) -> set[int]:
+        """Takes the exchanges of some turns apart, and all that are told. Returns the turns, with
+        those of the exchanges that say where the files are."""
+        pairs = [*((self.firsts[turn], self.seconds[turn]) for turn in turns), *moved]
+        here = self.pairing.here.with_origins({*(at for at, _ in pairs), *self.lonely.told,
+                                               *self.lonely.connections})
+        there = self.pairing.there.with_origins({*(to for _, to in pairs), *self.others.told,
+                                                 *self.others.connections})
+        silent = {*self.lonely.silent,
+                  *(at for at, _ in self.overtaken)}, {*self.others.silent,
+                                                       *(to for _, to in self.overtaken)}
+        turns = {turn for turn, (at, to) in enumerate(zip(self.firsts, self.seconds)) if at in here
+                 or to in there}
+        self.here = Apart(self.first, self.pairing.here,
+                          here.union(silent[0], (self.firsts[turn] for turn in turns)))
+        self.there = Apart(self.second, self.pairing.there,
+                           there.union(silent[1], (self.seconds[turn] for turn in turns)))
+        return turns
+
+    def of_turns(self, unequal: set[int], turns: set[int],
+                 comparison: Comparison) -> Iterator[tuple[Pair, Finding]]:
+        """The differences between exchanges that belong together. Those of equal ones bind what
+        stands for what."""
+        for turn in (*sorted(turns - unequal), *sorted(unequal)):
+            at, to = self.firsts[turn], self.seconds[turn]
+            found = list(of_pair(self.here.exchanges[at], self.there.exchanges[to],
+                                 self.here.path(at), comparison))
+            if turn in unequal:
+                yield from (((at, to), finding) for finding in found)
+
+    def of_moved(self) -> Iterator[Finding]:
+        for pairs, remark in ((self.pairing.moved, 'the call has changed its turn'),
+                              (self.pairing.elsewhere, 'the call is on another connection')):
+            for at, to in pairs:
+                yield Finding('moved', self.here.exchanges[at].call, self.there.exchanges[to].call,
+                              self.here.path(at), remark=remark)
+
+    def of_late(self) -> Iterator[Finding]:
+        for connection, number, among in self.pairing.late_replies:
+            yield Finding('order', Message(connection, 'server', 1, 0, '', ()), None,
+                          remark=f'{number} of {among} replies of the connection come in another order')
+
+    def of_the_lonely(self, mask: Mask) -> Iterator[Finding]:
+        for at in self.lonely.told:
+            call = self.here.exchanges[at].call
+            yield Finding('only', call, None, self.here.path(at),
+                          arguments=tuple(arguments_of(call, mask)))
+        for to in self.others.told:
+            call = self.there.exchanges[to].call
+            yield Finding('only', None, call, self.there.path(to),
+                          arguments=tuple(arguments_of(call, mask)))
+        remark = 'a connection of %d calls that the other run does not have'
+        for at, number in self.lonely.connections.items():
+            yield Finding('connection', self.here.exchanges[at].call, None, remark=remark % number)
+        for to, number in self.others.connections.items():
+            yield Finding('connection', None, self.there.exchanges[to].call, remark=remark % number)
+
+    def of_the_silent(self) -> Iterator[Silent]:
+        for at, to in self.overtaken:
+            yield Silent(self.here.exchanges[at].call, self.there.exchanges[to].call,
+                         self.here.path(at))
+        for at in self.lonely.silent:
+            yield Silent(self.here.exchanges[at].call, None, self.here.path(at))
+        for to in self.others.silent:
+            yield Silent(None, self.there.exchanges[to].call, self.there.path(to))
+
+    def place_of(self, first: Message | None, second: Message | None) -> tuple[int, int, bool]:
+        """Where a finding stands: in the order of the first run; what the second run alone has
+        comes at its own place."""
+        message, outlines = first or second, (self.pairing.here if first else self.pairing.there)
+        assert message
+        place = outlines.place_of(message.connection)
+        if first is None:
+            place = self.pairing.places_of_homes.get(place, len(self.pairing.homes))
+        return place, message.record, first is None
+
+    def beside(self, changed: Iterable[Pair], around: Around) -> Beside:
+        """Returns some pairs that are told, what one run alone has, and pairs around that. Of a
+        connection that one run alone has it is the first exchange."""
+        told = [*changed, *((at, NOBODY) for at in (*self.lonely.told, *self.lonely.connections)),
+                *((NOBODY, to) for to in (*self.others.told, *self.others.connections))]
+        besides = itertools.chain.from_iterable(range(at, at + number)
+                                                for at, number in self.lonely.connections.items())
+        shown = Shown(self.pairing, told, besides, around)
+        here = Apart(self.first, self.pairing.here, (at for at, _ in shown.pairs if at != NOBODY))
+        there = Apart(self.second, self.pairing.there,
+                      (to for _, to in shown.pairs if to != NOBODY))
+        return shown.beside(functools.partial(row_of, here, there))
+
+
+def row_of(here: Apart, there: Apart, pair: Pair, is_told: bool) -> Row:
+    at, to = pair
+    return Row(here.exchanges[at] if at != NOBODY else None,
+               there.exchanges[to] if to != NOBODY else None,
+               here.path(at) if at != NOBODY else there.path(to), is_told)
+
+
+def of_pair(one: Exchange, other: Exchange, path: str | None,
+            comparison: Comparison) -> Iterator[Finding]:
+    """How two exchanges differ: their calls, and then their replies, in their order."""
+    for message, its in ((one.call, other.call), *zip(one.replies, other.replies)):
+        found = comparison.of_messages(message, its, one.call, other.call)
+        if found:
+            yield Finding('changed', message, its, path, tuple(found))
+    if len(one.replies) != len(other.replies):
+        yield Finding('replies', one.call, other.call, path,
+                      remark=f'{len(one.replies)} replies in the first run, {len(other.replies)} in the second')

@@ -1,0 +1,59 @@
+"""What is said of two runs, whole ones or parts, for all forms of output."""
+from __future__ import annotations
+
+from collections import Counter
+from typing import NamedTuple
+
+from ...recordings.coverage import Allowed
+from ..values.classes import Mask
+from .cover import Cover, Size
+from .findings import Compared
+from .summary import IN_ANOTHER_ORDER
+
+
+class Report(NamedTuple):
+    """What is said of two runs as a whole: what `same` says of them, what is masked, and of both
+    their names and how much they have; the mask under which they are the same in another order, if
+    they are; and how much of both is compared, unless they are parts."""
+    verdict: str
+    mask: Mask
+    names: tuple[str, str]
+    sizes: tuple[Size, Size]
+    same_under: Mask | None = None
+    covers: tuple[Cover, Cover] | None = None
+
+    @property
+    def is_in_part(self) -> bool:
+        """Whether something of a run is not compared."""
+        return self.covers is not None and not all(cover.is_good(Allowed())
+                                                   for cover in self.covers)
+
+    def word(self) -> str:
+        """Returns the verdict as a word."""
+        verdict = IN_ANOTHER_ORDER if self.same_under is not None else self.verdict.partition(' at ')[0]
+        return f'{verdict} in part' if verdict.startswith('same') and self.is_in_part else verdict
+
+
+class PartReport(NamedTuple):
+    """What is said of a part of two runs.
+
+    label: its name as it is printed
+    name, number: the name of its mark, None before the first mark, and how often parts had that
+        name so far
+    line: what is printed of it
+    is_good: whether it is the same, if the order counts as was asked for
+    only: 'first' or 'second' if one run alone has it
+    report, compared, left_out: if both runs have it, as of whole runs
+    """
+    label: str
+    name: str | None
+    number: int
+    line: str
+    is_good: bool
+    only: str | None
+    report: Report | None
+    compared: Compared
+    left_out: Counter[tuple[str, str]]
+
+    def word(self) -> str:
+        return self.report.word() if self.report else f'only in the {self.only} run'

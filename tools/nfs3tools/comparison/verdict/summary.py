@@ -1,0 +1,96 @@
+"""What is said of a comparison as a whole."""
+from __future__ import annotations
+
+from collections import Counter, defaultdict
+from collections.abc import Iterator, Sequence
+
+from ...recordings.selection import count, plural
+from ..values.classes import Mask, besides, told
+from .findings import Compared
+from .orders import Found
+
+FIELDS_AT_MOST = 4
+RUNS = ('first', 'second')
+IN_ANOTHER_ORDER = 'same in another order'
+# On a part
+VERDICTS = ('same', IN_ANOTHER_ORDER, 'differ', 'only in the first run', 'only in the second run')
+
+
+def short(procedure: str) -> str:
+    """Returns a procedure's name without its program's."""
+    return procedure.removeprefix('NFSPROC3_').replace('MOUNTPROC3_', 'MOUNT ')
+
+
+def replies(number: int) -> str:
+    return f'{number:,} {plural(number, "reply", "replies")}'
+
+
+def turns(compared: Compared) -> list[str]:
+    """What stands elsewhere in the second run, or nothing."""
+    some = ((f'{compared.moved:,}', compared.moved), (replies(compared.late), compared.late),
+            (count(compared.late_connections, 'connection'), compared.late_connections))
+    out = [f'{what} in another turn' for what, number in some if number]
+    return [*out, f'{compared.elsewhere:,} on another connection'] if compared.elsewhere else out
+
+
+def left_out(compared: Compared) -> Iterator[tuple[str, str]]:
+    """The calls that are left out of each run, and the run's name."""
+    for name, procedures in zip(RUNS, compared.left_out):
+        for procedure, number in sorted(procedures.items()):
+            yield f'{number:,} {short(procedure)}', name
+
+
+def overtaken(compared: Compared) -> Iterator[str]:
+    """The questions that others overtook, by procedures, with their folder if it is one."""
+    paths = defaultdict[str, list[str]](list)
+    for call in compared.silent:
+        if call.first and call.second:
+            paths[call.call.procedure].append(call.path or '?')
+    for procedure, some in sorted(paths.items()):
+        where = some[0] if len(set(some)) == 1 else f'{len(set(some)):,} paths'
+        yield f'{len(some):,} {short(procedure)} of {where}, in which others worked'
+
+
+def of_same(found: Found, mask: Mask) -> str:
+    """What stands after `same in another order`: how the order differs, and all that does not count
+    besides."""
+    words = [f'{count(found.compared.exchanges, "call")}', *turns(found.compared)]
+    some = [*(f'{what} of the {name} run' for what, name in left_out(found.compared)),
+            *overtaken(found.compared)]
+    if some:
+        words.append('left out: ' + ', '.join(some))
+    if found.same_under is not None and besides(found.same_under, mask):
+        words.append('masked besides: ' + told(besides(found.same_under, mask)))
+    return '; '.join(words)
+
+
+def fields_of(compared: Compared) -> Iterator[str]:
+    """The fields that differ most often, over all procedures."""
+    fields = Counter[tuple[str, bool]]()
+    for finding in compared.findings:
+        message = finding.first or finding.second
+        fields.update((difference.field, message is not None and message.is_call)
+                      for difference in finding.differences)
+    for (name, is_call), number in fields.most_common(FIELDS_AT_MOST):
+        yield f'{name} in ' + (count(number, 'call') if is_call else replies(number))
+    if len(fields) > FIELDS_AT_MOST:
+        yield '..'
+
+
+def of_compared(compared: Compared) -> str:
+    """The verdict in words: what belongs together, and what does not."""
+    words = [f'{compared.exchanges:,} of {count(max(compared.calls), "call")} belong together',
+             *turns(compared)]
+    words += [f'{what} more in the {name} run' for what, name in left_out(compared)]
+    words += [f'left out: {what}' for what in overtaken(compared)]
+    words += [f'{number:,} more in the {name} run' for name, number in zip(RUNS, compared.lonely)
+              if number]
+    return '; '.join([*words, *fields_of(compared)])
+
+
+def of_parts(verdicts: Sequence[str]) -> str:
+    """The verdicts of all parts in words: how many have each."""
+    counts = Counter(verdicts)
+    words = [f'{number:,} {plural(number, "differs", "differ") if verdict == "differ" else verdict}'
+             for verdict, number in sorted(counts.items(), key=lambda one: VERDICTS.index(one[0]))]
+    return f'{count(len(verdicts), "part")}: {", ".join(words) or "nothing to compare"}'

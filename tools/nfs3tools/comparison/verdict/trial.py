@@ -1,0 +1,129 @@
+"""Both runs as captures in a folder, and what the programs say of them."""
+from __future__ import annotations
+
+import re
+from collections.abc import Callable, Iterator, Sequence
+from functools import partial
+from pathlib import Path
+
+from ...recordings.taken import Taken
+from ...shared.places import Place
+from ...shared.programs import CHECKED, COMPARED, lines_of_program, run_program
+from ..exchanges.outlines import Outlines, When
+from ..exchanges.pairing import InOrder, Listing, Pairing, Relaxed, paired
+from ..exchanges.reordered import write_in_order
+from ..values.classes import Mask, told
+from ..values.masking import write_masked
+
+RUNS = 'ab'  # begin the names of captures
+CONNECTION = re.compile(r'(?<=differ at )connection (\d+)')
+
+
+def when_of(taken: Taken) -> When | None:
+    """Returns what tells the first frame of a call, if frames are noted."""
+    def when(connection: int, record: int) -> int:
+        return min((frame.number for frame in taken.frames(Place(connection, 'client', record))),
+                   default=0)
+    return when if taken.has_frames else None
+
+
+class Trial:
+    """Two runs, which are written as captures. What is made of them is written beside them, each
+    once and under a new name."""
+
+    def __init__(self, program: str, folder: Path, runs: Sequence[Taken]) -> None:
+        self.program, self.folder, self.runs, self.number = program, folder, runs, 0
+        self.made = dict[tuple[str, ...], list[str]]()  # by how it was made, and of which captures
+        self.captures = self.named()
+        self.write()
+
+    def write(self) -> None:
+        for taken, capture in zip(self.runs, self.captures):
+            taken.write_capture(capture)
+
+    def named(self) -> list[str]:
+        """Returns two new names."""
+        self.number += 1
+        return [str(self.folder / f'{letter}{self.number}') for letter in RUNS]
+
+    def made_of(self, captures: Sequence[str], how: str,
+                make: Callable[[str, str], object]) -> list[str]:
+        """Returns the names of what is made of two captures in one way."""
+        key = how, *captures
+        if key not in self.made:
+            names = self.named()
+            for capture, name in zip(captures, names):
+                make(capture, name)
+            self.made[key] = names
+        return self.made[key]
+
+    def masked(self, captures: Sequence[str], mask: Mask) -> list[str]:
+        return self.made_of(captures, told(mask), lambda capture,
+                            name: self.mask(capture, name, mask))
+
+    def mask(self, capture: str, name: str, mask: Mask) -> None:
+        write_masked(self.program, capture, name, mask)
+
+    def same(self, captures: Sequence[str], mask: Mask) -> str:
+        """Returns what the program says of two captures under a mask: `same`, or where they
+        differ."""
+        return run_program(self.program, ['same', *self.masked(captures, mask)],
+                           COMPARED).out.strip()
+
+    def listing(self, capture: str) -> Listing:
+        """Returns the lines of a capture. Connections have the numbers that they have in the run,
+        of which some may be left out."""
+        numbers = self.numbers_of(self.runs[RUNS.index(Path(capture).name[0])])
+        if numbers is None:
+            return lambda: lines_of_program(self.program, ['show', capture])
+        return partial(self.numbered, capture, numbers)
+
+    def numbered(self, capture: str, numbers: Sequence[int]) -> Iterator[str]:
+        """Yields the lines of a capture, whose connections get these numbers."""
+        for line in lines_of_program(self.program, ['show', capture]):
+            number, _, rest = line.partition(' ')
+            yield f'{numbers[int(number) - 1]} {rest}'
+
+    def numbers_of(self, taken: Taken) -> list[int] | None:
+        """Returns the numbers of the connections of a run, or None if none is left out."""
+        numbers = [connection.number for connection in taken.connections]
+        return None if numbers == list(range(1, len(numbers) + 1)) else numbers
+
+    def placed(self, verdict: str) -> str:
+        """Returns what `same` says of both captures with the number that the connection has in the
+        first run, or else in the second."""
+        found = CONNECTION.search(verdict)
+        some = [numbers for taken in self.runs
+                if (numbers := [one.number for one in taken.connections]) and found
+                and int(found[1]) <= len(numbers)]
+        return CONNECTION.sub(f'connection {some[0][int(found[1]) - 1]}', verdict,
+                              1) if found and some else verdict
+
+    def canonical(self, captures: Sequence[str],
+                  mask: Mask | None = None) -> tuple[Listing, Listing]:
+        """Returns the listings of two captures in canonical form, under a mask if there is one."""
+        masked = captures if mask is None else self.masked(captures, mask)
+        names = self.made_of(masked, 'canon', lambda capture,
+                             name: run_program(self.program, ['canon', capture, name], CHECKED))
+        return self.listing(names[0]), self.listing(names[1])
+
+    def paired(self, masks: Sequence[Mask], lonely: frozenset[str]) -> Pairing:
+        """Brings the exchanges of both runs together, by what they have in common under the first
+        mask, or else under the second."""
+        mask, *more = masks
+        listings = self.canonical(self.captures, mask)
+        here, there = (Outlines(listing(), mask, when_of(taken))
+                       for listing, taken in zip(listings, self.runs))
+        relaxed = (lambda: Relaxed(more[0],
+                                   self.canonical(self.captures, more[0]))) if more else None
+        return paired(here, there, listings, lonely, relaxed)
+
+    def in_one_order(self, pairing: Pairing) -> list[str]:
+        """Writes both runs in the order of the first one, without the exchanges that have no
+        partner. Returns the captures' names."""
+        names = self.named()
+        sides = ((pairing.here, pairing.order_of_first(), pairing.only_first()),
+                 (pairing.there, pairing.order_of_second(), pairing.only_second()))
+        for taken, name, (outlines, order, only) in zip(self.runs, names, sides):
+            write_in_order(taken, InOrder(outlines, order), InOrder(outlines, only), name)
+        return names

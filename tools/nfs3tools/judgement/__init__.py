@@ -1,0 +1,1 @@
+"""Verdicts on connections, also while a recording is made, and counts by procedure."""

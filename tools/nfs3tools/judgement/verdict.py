@@ -1,0 +1,181 @@
+"""Verdicts on connections: what the program's answer says of one, and the row that is printed of it."""
+from __future__ import annotations
+
+import re
+import sys
+import typing
+from collections.abc import Iterable, Mapping
+
+from ..recordings.coverage import (
+    Allowed, Called, Counts, Covered, Word, called_in, counts_of, of_connection)
+from ..recordings.selection import count
+from ..recordings.taken import FrameRef, Taken, TakenConnection
+from ..shared.places import FilePlace, parse_fault
+from ..shared.printed import escaped, printable
+from ..shared.programs import Answer
+
+NOT_ALL_OK = 1
+HEADS = ('recording', 'connection', 'client', 'server', 'calls', 'replies', 'verdict')
+State = typing.Literal['ok', 'refused', 'in part', 'left out', 'not checked', 'error', 'note']
+COUNTS = re.compile(r'ok connections=1 calls=(\d+) replies=(\d+) handles=\d+\n')
+
+
+class Verdict(typing.NamedTuple):
+    """What is said of a connection, or of a recording or capture as a whole (then the connection is
+    None). A note is no verdict.
+
+    position: where its first fault is, without the connection; reason: that of the program;
+        message: all of it in words
+    missing: how many of its bytes the recording lacks
+    lacks: why it is in part, other than for these bytes
+    raw: the calls of other programs, by name
+    shows_calls: whether calls may be in it; a connection that is left out and shows none changes no
+        status
+    """
+    recording: str
+    connection: int | None = None
+    tcp_stream: int | None = None
+    client: str = ''
+    server: str = ''
+    calls: int | None = None
+    replies: int | None = None
+    state: State = 'ok'
+    message: str = 'ok'
+    position: str | None = None
+    reason: str | None = None
+    missing: int = 0
+    lacks: tuple[str, ...] = ()
+    raw: Mapping[str, int] = {}
+    shows_calls: bool = True
+    frames: list[FrameRef] = []
+    notes: list[str] = []
+    seconds: float = 0.0
+
+    def is_good(self, allowed: Allowed) -> bool:
+        """Whether the status may be 0 beside it."""
+        if self.state in ('in part', 'left out', 'not checked'):
+            return Covered(typing.cast(Word, self.state), missing=self.missing, lacks=self.lacks,
+                           shows_calls=self.shows_calls).is_good(allowed)
+        return self.state in ('ok', 'note')
+
+
+class Before(typing.NamedTuple):
+    """What was judged of a connection before the streams that are taken: its calls and replies, the
+    bytes missing among them, why it is in part besides, and its calls by kind. `carried` is how
+    many of the calls are put before the client's stream again, since their replies are not
+    there."""
+    calls: int = 0
+    replies: int = 0
+    missing: int = 0
+    carried: int = 0
+    lacks: tuple[str, ...] = ()
+    called: Called = Called()
+
+
+def verdict_of(recording: str, taken: Taken, connection: TakenConnection, answer: Answer,
+               before: Before = Before()) -> Verdict:
+    """What the program's answer on a connection's capture says."""
+    verdict = Verdict(recording, connection.number, connection.stream_number,
+                      connection.client_end, connection.server_end)
+    counts, fault = COUNTS.fullmatch(answer.out), parse_fault(answer.error)
+    covered = covered_of(taken, connection, before)
+    verdict = verdict._replace(missing=covered.missing, lacks=covered.lacks, raw=covered.called.raw)
+    if answer.status == 0 and counts:
+        calls = before.calls + int(counts[1]) - before.carried
+        return with_word(verdict._replace(calls=calls, replies=before.replies + int(counts[2])),
+                         covered)
+    calls, replies = before.calls + connection.client.count_records(), before.replies + connection.server.count_records()
+    verdict = verdict._replace(calls=calls, replies=replies)
+    if answer.status != 2 or fault is None or isinstance(fault.place, FilePlace):
+        return verdict._replace(state='error', message=told(answer))
+    is_call = fault.place.side == 'client'
+    there = fault.place._replace(connection=connection.number,
+                                 record=fault.place.record - before.carried * is_call)
+    frames = taken.frames(there)
+    position = str(there._replace(connection=1,
+                                  record=there.record
+                                  + (before.calls if is_call else before.replies)))
+    position = position.removeprefix('connection 1 ')
+    message = f'{position}: {fault.reason}' + ''.join(f', frame {frame.number}' for frame in frames)
+    return verdict._replace(state='refused', message=message, position=position,
+                            reason=fault.reason, frames=frames)
+
+
+def covered_of(taken: Taken, connection: TakenConnection, before: Before) -> Covered:
+    """Returns the word of a connection with what was judged of it before."""
+    lacks = tuple(dict.fromkeys((*before.lacks, *connection.lacks)))
+    return of_connection(before.called + called_in(connection.client), connection.server_port,
+                         taken.ports,
+                         before.missing + connection.missing, lacks)
+
+
+def with_word(verdict: Verdict, covered: Covered) -> Verdict:
+    """The verdict on a connection in which the program finds no fault."""
+    if covered.word == 'judged':
+        return verdict
+    message = f'not checked: {covered.reason}'
+    if covered.word == 'in part':
+        message = f'ok in part: {count(verdict.calls or 0, "call")}, {covered.reason}'
+    return verdict._replace(state=typing.cast(State, covered.word), message=message)
+
+
+def of_covered(recording: str, covered: Covered) -> Verdict:
+    """What is said of a connection that is left out, or of what no connection stands for."""
+    ends = f'{covered.ends}: ' if covered.ends else ''
+    return Verdict(recording, state=typing.cast(State, covered.word),
+                   message=f'{covered.word}: {ends}{covered.reason}', missing=covered.missing,
+                   shows_calls=covered.shows_calls)
+
+
+def error_of(recording: str, message: str) -> Verdict:
+    return Verdict(recording, state='error', message=message)
+
+
+def told(answer: Answer) -> str:
+    """What the program said last."""
+    return (answer.error or answer.out).strip() or f'the program ended with status {answer.status}'
+
+
+def status_of(verdicts: Iterable[Verdict], allowed: Allowed) -> int:
+    """The status of a tool after these verdicts."""
+    return 0 if all(verdict.is_good(allowed) for verdict in verdicts) else NOT_ALL_OK
+
+
+def counts_after(verdicts: Iterable[Verdict]) -> Counts:
+    """How many of the verdicts are under each word."""
+    return counts_of((verdict.state, verdict.shows_calls, verdict.raw) for verdict in verdicts)
+
+
+# --- What is printed ---
+
+def tell_notes(verdicts: Iterable[Verdict]) -> None:
+    """Prints on standard error what is missing from recordings, and which connections are left out
+    that show no call."""
+    for verdict in verdicts:
+        for line in [*verdict.notes, *([] if is_row(verdict) else [verdict.message])]:
+            print(printable(f'{named(verdict)}: {line}'), file=sys.stderr)
+
+
+def named(verdict: Verdict) -> str:
+    """The recording of a verdict, and its connection if it is on one."""
+    name = escaped(verdict.recording)
+    return name if verdict.connection is None else f'{name}: connection {verdict.connection}'
+
+
+def is_row(verdict: Verdict, is_quiet: bool = False) -> bool:
+    """Whether a verdict has a row: notes have none, nor have connections that show no call. If it
+    is to be quiet, what is ok has none either."""
+    is_printed = verdict.state != 'ok' or not is_quiet
+    return verdict.state != 'note' and verdict.shows_calls and is_printed
+
+
+def sums_of(verdicts: Iterable[Verdict]) -> str:
+    return counts_after(verdicts).words()
+
+
+def row_of(verdict: Verdict) -> tuple[str, ...]:
+    numbers = (verdict.connection, verdict.calls, verdict.replies)
+    connection, calls, replies = ('-' if number is None else str(number) for number in numbers)
+    return (escaped(verdict.recording), connection, verdict.client or '-', verdict.server or '-',
+            calls, replies,
+            printable(verdict.message))

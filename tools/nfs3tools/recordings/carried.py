@@ -1,0 +1,45 @@
+"""Which records a frame of a recording carries."""
+from __future__ import annotations
+
+from collections.abc import Iterator
+
+from ..shared.places import SIDES, FilePlace, FramePlace, NoPlace, Place
+from .records import Window, extents
+from .taken import Taken, TakenStream
+
+
+def places_at(taken: Taken, place: Place | FilePlace | FramePlace) -> list[Place | FilePlace]:
+    """Returns the records that a frame carries, or any other place by itself.
+
+    Raises `NoPlace` if a frame carries none.
+    """
+    if not isinstance(place, FramePlace):
+        return [place]
+    found: list[Place | FilePlace] = [
+        Place(connection.number, side, record) for connection in taken.connections for side in SIDES
+        for record in records_in(connection.stream(side), place.frame)]
+    if not found:
+        raise NoPlace(f'{place} carries no bytes of a record, or only bytes that another frame had '
+                      'brought before')
+    return found
+
+
+def records_in(stream: TakenStream, frame: int) -> Iterator[int]:
+    """Iterates over the numbers of the records of which a frame brought bytes."""
+    runs = list(runs_of(stream, frame))
+    if runs:
+        for number, extent in enumerate(extents(Window(stream), 0, stream.size), 1):
+            if any(begin < extent.end and extent.begin < end for begin, end in runs):
+                yield number
+
+
+def runs_of(stream: TakenStream, frame: int) -> Iterator[tuple[int, int]]:
+    """Iterates over the runs of bytes of a stream that a frame brought."""
+    if stream.noted is None:
+        return
+    for (low, high), at in zip(stream.ranges, stream.begins):
+        begins = [(max(brought.begin, low), brought.number)
+                  for brought in stream.noted.between(low, high)]
+        for (begin, number), (end, _) in zip(begins, [*begins[1:], (high, 0)]):
+            if number == frame:
+                yield begin - low + at, end - low + at

@@ -1,0 +1,232 @@
+"""How the tools speak and end: messages on standard error, a status, and never a traceback."""
+from __future__ import annotations
+
+import argparse
+import os
+import re
+import signal
+import sys
+import typing
+
+from ..recordings.coverage import Allowed
+from ..recordings.selection import Options
+from ..recordings.taken import NotTaken, Taken
+from ..shared.names import as_called, called
+from ..shared.outputs import ENDING, Refused
+from ..shared.places import NoPlace
+from ..shared.printed import escaped, printable
+from ..shared.programs import Died, FilterRefused, Missing
+from ..shared.version import version
+
+ABSENT, REFUSED, FAILED, INTERRUPTED = 1, 2, 3, 130  # ABSENT: no such position
+# How a tool reads a recording from standard input.
+READING = {'from_pcap': '- OUT', 'where': '- POSITION', 'explain': '- POSITION',
+           'verdicts': '-', 'procedures': '-', 'calls': '-', 'cut': '- POSITION OUT'}
+OPTION = re.compile(r' \[-[^]]*\]')  # in a usage
+
+
+def run(name: str, main: typing.Callable[[list[str]], int]) -> int:
+    """Runs a tool with the words of its command line, and returns its status: 2 if an input or an output is refused, 3 if a file, a
+    device, a program or memory fails, also one of the standard streams."""
+    try:
+        end_by_signals()
+        status = status_of(name, main)
+        ignore_signals()
+    except KeyboardInterrupt:
+        status = INTERRUPTED
+    drop_unwritten()
+    return status
+
+
+def status_of(name: str, main: typing.Callable[[list[str]], int]) -> int:
+    closed = [named for named, stream in (('standard output', sys.stdout), ('standard error', sys.stderr)) if stream is None]
+    occupy_closed_streams()
+    if closed:
+        return ended(name, f'{closed[0]} is closed', FAILED)
+    try:
+        status = exit_status(main)
+        flush_all()
+        return status
+    except NotTaken as refused:
+        return ended(name, advice_on(refused, name), REFUSED)
+    except (NoPlace, Missing, FilterRefused, Refused) as refused:
+        return ended(name, str(refused), REFUSED)
+    except BrokenPipeError:
+        return FAILED
+    except OSError as failed:
+        return ended(name, words_of(failed), FAILED)
+    except Died as died:
+        return ended(name, str(died), FAILED)
+    except MemoryError:
+        return ended(name, 'out of memory', FAILED)
+
+
+def exit_status(main: typing.Callable[[list[str]], int]) -> int:
+    """The status of a tool, which may end while its command line is read."""
+    try:
+        return main(sys.argv[1:])
+    except SystemExit as end:
+        return end.code if isinstance(end.code, int) else 0
+
+
+# --- The standard streams ---
+
+def occupy_closed_streams() -> None:
+    """Makes sure that no other file gets the number of a standard stream. Standard input that is closed cannot be read."""
+    while (number := os.open(os.devnull, os.O_WRONLY)) <= 2:
+        pass
+    os.close(number)
+    for stream, number in (('stdin', 0), ('stdout', 1), ('stderr', 2)):
+        if getattr(sys, stream) is None:
+            setattr(sys, stream, open(number, 'w' if number else 'r', closefd=False))
+
+
+def flush_all() -> None:
+    """Raises `OSError`, with the name of the stream, if what was printed cannot be written."""
+    for stream, named in ((sys.stdout, 'standard output'), (sys.stderr, 'standard error')):
+        try:
+            stream.flush()
+        except BrokenPipeError:
+            raise
+        except OSError as failed:
+            raise OSError(failed.errno, failed.strerror, named) from failed
+
+
+def drop_unwritten() -> None:
+    """Leaves nothing that Python would try to write at its end, and then tell of in its own way."""
+    for stream in (sys.stdout, sys.stderr):
+        try:
+            stream.flush()
+        except OSError:
+            os.dup2(os.open(os.devnull, os.O_WRONLY), stream.fileno())
+
+
+def end_by_signals() -> None:
+    """The tool ends by these signals as after a failure, unless whoever started it has them ignored."""
+    for number in ENDING:
+        if signal.getsignal(number) is not signal.SIG_IGN:
+            signal.signal(number, interrupted)
+
+
+def advice_on(refused: NotTaken, name: str) -> str:
+    """Why a file is not taken, and what to type if it is compressed: for the tool that was called, by the name by which it was."""
+    if not refused.packed_by:
+        return str(refused)
+    tool, unpack = as_called(f'tools/{name}'), f'{refused.packed_by} -dc'
+    line = f'{unpack} FILE | {tool} {READING[name]}' if name in READING else f'{tool} <({unpack} A) <({unpack} B)'
+    return f'{refused}: decompress it first, as in `{line}`'
+
+
+def interrupted(*_: object) -> None:
+    ignore_signals()
+    raise KeyboardInterrupt
+
+
+def ignore_signals() -> None:
+    """Those that come while the tool ends change nothing."""
+    for number in ENDING:
+        signal.signal(number, signal.SIG_IGN)
+
+
+# --- Messages ---
+
+def words_of(failed: OSError) -> str:
+    """What failed, with the name of the file if there is one."""
+    words = failed.strerror or str(failed)
+    return f'{escaped(os.fsdecode(failed.filename))}: {words}' if isinstance(failed.filename, (str, bytes)) and failed.filename else words
+
+
+def ended(name: str, message: str, status: int) -> int:
+    """Prints how a tool ends, and returns its status, which is another if that cannot be printed."""
+    try:
+        print(f'{called(name)}: {printable(message)}', file=sys.stderr, flush=True)
+    except OSError:
+        return FAILED
+    return status
+
+
+class Parser(argparse.ArgumentParser):
+    """A parser of command lines that repeats no control characters, and fails if it cannot print."""
+
+    def error(self, message: str) -> typing.NoReturn:
+        """Prints the usage as one line, which leaves the options to the help, and what is wrong."""
+        operands = OPTION.sub('', ' '.join(self.format_usage().split()))
+        usage = operands.replace(self.prog, f'{self.prog} [OPTION ..]', 1)
+        self.exit(REFUSED, f'{usage}\n{self.prog}: error: {printable(message)}\n')
+
+    def _print_message(self, message: str, file: typing.IO[str] | None = None) -> None:
+        (file or sys.stderr).write(message)
+
+
+def parser_of(text: str | None, name: str) -> argparse.ArgumentParser:
+    """A parser of command lines, whose help is the text of a module."""
+    parser = Parser(prog=called(name), description=as_called(text or ''), formatter_class=argparse.RawDescriptionHelpFormatter)
+    parser.add_argument('--version', action='version', version=f'{called(name)} {version()}')
+    return parser
+
+
+def add_options(parser: argparse.ArgumentParser) -> None:
+    """The options of how a recording is taken."""
+    parser.add_argument('--filter', metavar='FILTER', help='takes the connections for which a display filter of Wireshark is true')
+    parser.add_argument('--port', metavar='PORT,..', type=ports_of, default=frozenset(),
+                        help='takes the connections that have one of these ports')
+    parser.add_argument('--midstream', action='store_true', default=True, help=argparse.SUPPRESS)  # is the default; scripts may have it still
+    parser.add_argument('--no-midstream', action='store_false', dest='midstream',
+                        help='leaves out connections whose beginning was not recorded, and ends streams before missing bytes')
+    parser.add_argument('--whole-records', action='store_true', help='ends each stream after its last whole record')
+
+
+def ports_of(word: str) -> frozenset[int]:
+    """The ports that a word names, as `2049,20048`."""
+    ports = frozenset(int(port) for port in word.split(',') if port.isascii() and port.isdigit())
+    if len(word.split(',')) != len(ports) or not all(0 < port < 1 << 16 for port in ports):
+        raise argparse.ArgumentTypeError(f'no ports: {word}')
+    return ports
+
+
+def add_program(parser: argparse.ArgumentParser) -> None:
+    """The option that names the program."""
+    parser.add_argument('--program', metavar='PROGRAM', help='the nfs3canon to run, if it is not the one of this folder')
+
+
+def add_judging(parser: argparse.ArgumentParser) -> None:
+    """The options of a tool that judges recordings: the program, how they are taken, and what
+    counts as good."""
+    add_program(parser)
+    add_options(parser)
+    parser.add_argument('--allow-losses', action='store_true',
+                        help='takes `in part` and `left out` as the status 0')
+    parser.add_argument('--allow-not-checked', action='store_true',
+                        help='takes `not checked` as the status 0')
+
+
+def allowed_of(chosen: argparse.Namespace) -> Allowed:
+    return Allowed(chosen.allow_losses, chosen.allow_not_checked)
+
+
+def position_text(word: str | None, file: str, what: str) -> str:
+    """The text of a position: an argument, or else what standard input has. Raises `NoPlace` if that
+    is the file as well."""
+    if word is None and file == '-':
+        raise NoPlace(f'POSITION has to be an argument if {what} is standard input')
+    return word if word is not None else sys.stdin.buffer.read().decode(errors='replace')
+
+
+def options_of(chosen: argparse.Namespace) -> Options:
+    return Options(chosen.midstream, chosen.whole_records, chosen.filter, chosen.port)
+
+
+def lines_of(taken: Taken) -> list[str]:
+    """What is told of a recording: a line for each connection that is taken or left out, and for what is missing."""
+    lines = [*taken.notes]
+    for connection in taken.connections:
+        sizes = f'{connection.client.size} and {connection.server.size} bytes'
+        lines.append(f'connection {connection.number}: {connection.ends}: client {connection.client_end} {connection.why}, {sizes}')
+        lines += [f'connection {connection.number} {note}' for note in connection.notes]
+    return lines + [f'left out: {line}' for line in taken.left_out] + [f'{remark.word}: {remark.reason}' for remark in taken.remarks]
+
+
+def tell(taken: Taken) -> None:
+    """Prints that on standard error."""
+    for line in lines_of(taken):
+        print(line, file=sys.stderr)

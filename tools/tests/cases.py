@@ -1,0 +1,44 @@
+"""Tests that are functions, as methods of a `unittest.TestCase`.
+
+Each is called with the runs of a new folder, and notes there what is wrong. The program is the one built, or the one that the variable
+NFS3CANON names.
+"""
+import os
+import typing
+import unittest
+from collections.abc import Callable, Iterable
+
+from tests.shared.running import BUILT, Runs, tried
+
+PROGRAM = os.environ.get('NFS3CANON', str(BUILT))
+R = typing.TypeVar('R', bound=Runs)
+
+
+class FolderTest(unittest.TestCase):
+    """Has a method `test_NAME` for each function NAME that a subclass is given."""
+
+    def __init_subclass__(cls, make: Callable[[str, str], R], tests: Iterable[Callable[[R], object]]) -> None:
+        super().__init_subclass__()
+        for test in tests:
+            setattr(cls, f'test_{test.__name__}', method_of(make, test))
+
+
+def method_of(make: Callable[[str, str], R], test: Callable[[R], object]) -> Callable[[unittest.TestCase], None]:
+    """Returns a method that fails with what is wrong in a test."""
+    def method(case: unittest.TestCase) -> None:
+        wrong = tried(PROGRAM, make, test)
+        if wrong:
+            case.fail('\n'.join(wrong))
+    method.__doc__ = test.__doc__
+    return method
+
+
+def seeds(count: int) -> range:
+    """Returns so many seeds from 0 on, or those that the variables SEED (the first) and COUNT say."""
+    first = int(os.environ.get('SEED', 0))
+    return range(first, first + int(os.environ.get('COUNT', count)))
+
+
+def in_steps(chosen: range, size: int = 50) -> list[range]:
+    """Returns seeds in ranges, for processes that work side by side."""
+    return [chosen[at:at + size] for at in range(0, len(chosen), size)]

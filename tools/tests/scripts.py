@@ -1,0 +1,171 @@
+"""Runs of the scripts in tools/, and what their tests make recordings of."""
+import contextlib
+import io
+import os
+import pathlib
+import sys
+import typing
+
+from examples.messages import NFS, call, fragment, success, version_1
+from examples.packets import Talk, pcap
+from tests.shared.containers import in_one
+from tests.shared.running import Answer, RunOptions, Runs, ended
+
+from ..nfs3tools.commands.verdicts import Judge
+from ..nfs3tools.judgement import following
+from ..nfs3tools.judgement.verdict import Verdict
+from ..nfs3tools.recordings.container import capture_of
+from ..nfs3tools.recordings.frames import Source
+from ..nfs3tools.recordings.selection import Options
+from ..nfs3tools.recordings.taken import NotTaken, Progress, Taken, take_from
+from ..nfs3tools.reporting.messages import add_options, lines_of, options_of, parser_of
+
+TOP = pathlib.Path(__file__).resolve().parents[2]
+
+# For a process that imports the tools itself.
+WITH_TOOLS = {**os.environ, 'PYTHONPATH': str(TOP / 'tools')}
+# Runs a tool, and then prints the seconds of processor time and the bytes of memory that it took itself, without the programs that it ran.
+# (ru_maxrss has the memory of the tests, too, which were this process before.)
+MEASURED = """import resource, runpy, sys
+sys.argv = sys.argv[1:]
+try:
+    runpy.run_path(sys.argv[0], run_name='__main__')
+finally:
+    taken = resource.getrusage(resource.RUSAGE_SELF)
+    most = next(line.split()[1] for line in open('/proc/self/status') if line.startswith('VmHWM'))
+    print(taken.ru_utime + taken.ru_stime, int(most) * 1024, file=sys.stderr)
+"""
+
+CALLS = [call(number, NFS, 3, 0) for number in range(1, 40)]
+REPLIES = [success(number) for number in range(1, 40)]
+Streams = tuple[bytes, bytes]
+
+
+def stream(bodies: typing.Iterable[bytes]) -> bytes:
+    """A stream with these bodies, a record each."""
+    return b''.join(map(fragment, bodies))
+
+
+def in_fragments(body: bytes, size: int) -> bytes:
+    """A record of fragments of so many bytes, and a last one."""
+    whole = range(0, len(body) - size, size)
+    return b''.join(fragment(body[at:at + size], is_last=False) for at in whole) + fragment(body[len(whole) * size:])
+
+
+ALL = (stream(CALLS), stream(REPLIES))
+
+
+def packed(*connections: Streams) -> bytes:
+    """What `pack` writes of connections with short streams."""
+    return b''.join(version_1((in_one(client), in_one(server)) for client, server in connections))
+
+
+def exchange(talk: Talk, pieces: int = 1, calls: list[bytes] = CALLS, replies: list[bytes] = REPLIES) -> list[bytes]:
+    """The segments of some calls and their replies, each side's stream in pieces."""
+    frames = []
+    for side, bodies in enumerate((calls, replies)):
+        content = stream(bodies)
+        size = max(1, -(-len(content) // pieces))
+        frames += [talk.sent(side, content[at:at + size]) for at in range(0, len(content), size)]
+    return frames
+
+
+def whole(**options: typing.Any) -> list[bytes]:
+    """The frames of a connection from its SYN to its FIN: three, five of the calls, five of the replies, two."""
+    talk = Talk(**options)
+    return [*talk.opened(), *exchange(talk, 5), *talk.closed()]
+
+
+def taken_of(recording: bytes, **options: typing.Any) -> Taken:
+    """What is taken of a recording, as `tools/from_pcap` does it."""
+    return take_from(Source(io.BytesIO(recording)), None, Options(**options), True, Progress(False))
+
+
+def sums(ok: int = 0, in_part: int = 0, refused: int = 0, errors: int = 0, left_out: int = 0, not_checked: int = 0, bare: int = 0,
+         raw: str = '') -> str:
+    """The line of sums of `tools/verdicts`; `bare` is how many of those that are left out show no call."""
+    without = f' ({bare} without a call)' if bare else ''
+    return (f'{ok + refused} judged ({ok} ok, {refused} refused), {in_part} in part, {left_out} left out{without}, '
+            f'{not_checked} not checked, {errors} errors' + (f'; {raw} raw' if raw else ''))
+
+
+class Measured(typing.NamedTuple):
+    """What a tool ended with, the lines that it printed, and the processor time and the memory that it took itself."""
+    status: int
+    lines: list[str]
+    seconds: float
+    memory: int
+
+
+def measured(runs: Runs, tool: str, *words: str) -> Measured:
+    """A run of a tool in the folder of other runs."""
+    command = [sys.executable, '-c', MEASURED, str(TOP / 'tools' / tool), *words]
+    status, out, error = ended(command, runs.folder, limit=None, env=WITH_TOOLS).text()
+    seconds, memory = error.split()[-2:]
+    return Measured(status, out.splitlines(), float(seconds), int(memory))
+
+
+class Tools(Runs):
+    """A folder, and runs of the scripts there."""
+
+    def tool(self, name: str, *words: str, **options: typing.Unpack[RunOptions]) -> Answer:
+        """What a script ended with. Its standard output may be no text."""
+        return ended([str(TOP / 'tools' / name), *words], self.folder, **options).text('replace')
+
+    def taken(self, what: str, recording: bytes, wanted: list[Streams], **options: typing.Any) -> list[str]:
+        """The recording gives just these connections. Returns what is told of it."""
+        try:
+            taken = taken_of(recording, **options)
+        except NotTaken as refused:
+            self.want(what, str(refused), wanted)
+            return []
+        self.want(what, b''.join(capture_of(taken.pairs())), packed(*wanted))
+        return lines_of(taken)
+
+    def told(self, what: str, recording: bytes, wanted: list[Streams], lines: list[str], **options: typing.Any) -> None:
+        """The recording gives just these connections, and this is told besides a line for each."""
+        told = self.taken(what, recording, wanted, **options)
+        self.want('told: ' + what, [line for line in told if ': client ' not in line], lines)
+
+    def refused(self, what: str, recording: bytes, message: str) -> None:
+        """The recording is refused with a message that has this text."""
+        try:
+            taken_of(recording)
+        except NotTaken as refused:
+            self.want(what, message in str(refused) or str(refused), True)
+        else:
+            self.want(what, 'taken', message)
+
+    def exists(self, name: str) -> bool:
+        """Whether a file is in the folder."""
+        return os.path.exists(self.path(name))
+
+
+def both_ways(tools: Tools, recording: bytes, words: list[str]) -> list[list[Verdict]]:
+    """The verdicts on a recording, plain and with --follow, as the tool has them with these words."""
+    parser = parser_of('', 'verdicts')
+    add_options(parser)
+    options, said = options_of(parser.parse_args(words)), list[Verdict]()
+    tools.write('a.pcap', recording)
+    path = tools.path('a.pcap')
+    one = following.Following(path, tools.program, options, said.append)
+    with contextlib.closing(one.connections.spool):
+        following.take_all(one, typing.cast(following.Growing, io.BytesIO(recording)))
+    return [Judge(tools.program, options, 1, False).verdicts(path), said]
+
+
+def write_faulty(tools: Tools) -> list[str]:
+    """Writes recordings and a capture that are not judged as whole and valid, and returns their names."""
+    contents = {
+        'lost.pcap': pcap(whole()[:4] + whole()[5:]),
+        'cut.pcap': pcap(whole())[:-3],
+        'damaged.pcap': pcap(whole()) + b'\xff' * 16,
+        'none.pcap': pcap([]),
+        'text': b'no recording',
+        'bad.pcap': (TOP / 'examples/bad_server_record.pcap').read_bytes(),
+        'worse.pcap': (TOP / 'examples/bad_client_record.pcap').read_bytes(),
+        'cut.nfs3cap': (TOP / 'examples/two_connections.nfs3cap').read_bytes()[:-1],
+    }
+    for name, content in contents.items():
+        tools.write(name, content)
+    return [*contents]

@@ -1,0 +1,549 @@
+"""Tests of `tools/calls`.
+
+What needs tshark is skipped, with a word, if tshark is not there.
+"""
+import csv
+import io
+import json
+import random
+import re
+import shutil
+import unittest
+from collections.abc import Sequence
+from typing import Any, NamedTuple
+
+from examples import messages
+from examples.messages import (
+    AUTH_NONE, MOUNT, NFS, NFSACL, SET_TO_SERVER_TIME, array, auth_sys, call, dirop, entries, entry,
+    entryplus, failed, fattr, fh, fragment, guard, how, hyper, made, nfstime, ok, opaque,
+    post_op_attr, sattr, set_to_client_time, success, wcc, word)
+from examples.packets import ACK, FIN, RST, Talk, pcap
+from tests.shared.running import ended
+from tests.shared.traffic import Names, Traffic
+
+from .cases import FolderTest
+from .recordings import interface, section, simple
+from .scripts import TOP, Tools, in_fragments, measured, sums as sum_line, whole, write_faulty
+
+HEADS = ['time', 'ms', 'frame', 'conn', 'call', 'answer']
+ROOT, FOLDER, FILE = b'root', b'folder', b'file'
+USER = auth_sys(1, b'client', 1000, 100, [4])
+# RFC 1813, section 3
+NAMES = ('NULL', 'GETATTR', 'SETATTR', 'LOOKUP', 'ACCESS', 'READLINK', 'READ', 'WRITE', 'CREATE',
+         'MKDIR', 'SYMLINK', 'MKNOD', 'REMOVE', 'RMDIR', 'RENAME', 'LINK', 'READDIR',
+         'READDIRPLUS', 'FSSTAT', 'FSINFO', 'PATHCONF', 'COMMIT')
+(NULL, GETATTR, SETATTR, LOOKUP, ACCESS, READLINK, READ, WRITE, CREATE, MKDIR, SYMLINK, MKNOD,
+ REMOVE, RMDIR, RENAME, LINK, READDIR, READDIRPLUS, FSSTAT, FSINFO, PATHCONF, COMMIT) = range(22)
+MANY, MOST_MEMORY = 100_000, 64 << 20
+# With segments in their order, and calls to ports that TLS might have.
+TSHARK = ['tshark', '-n', '-o', 'tcp.reassemble_out_of_order:TRUE', '--disable-protocol',
+          'tls', '-r']
+
+
+Answer = tuple[int, list[list[str]], str]
+
+
+def calls(tools: Tools, *words: str, stdin: bytes | None = None) -> Answer:
+    """The status of a run, the cells of its lines, and what is told on standard error."""
+    status, out, error = tools.tool('calls', '--program', tools.program, *words, stdin=stdin)
+    return status, [re.split('  +', line.strip()) for line in out.splitlines()], error
+
+
+def objects(tools: Tools, *words: str) -> list[dict[str, Any]]:
+    """The exchanges that a run prints as JSON."""
+    out = tools.tool('calls', '--program', tools.program, '--json', *words)[1]
+    found: list[dict[str, Any]] = json.loads(out)['calls']
+    return found
+
+
+def asked(xid: int, procedure: int, arguments: bytes = b'', credential: bytes = USER) -> bytes:
+    return call(xid, NFS, 3, procedure, arguments, credential=credential)
+
+
+def mounted(talk: Talk) -> list[bytes]:
+    """The frames of a connection on which /x was mounted."""
+    return [*talk.opened(), talk.sent(0, fragment(call(1, MOUNT, 3, 1, opaque(b'/x')))),
+            talk.sent(1, fragment(success(1, ok(fh(ROOT), array([word(1)]))))), *talk.closed()]
+
+
+def talked(talk: Talk, order: list[tuple[int, bytes]]) -> list[bytes]:
+    """A frame for each message."""
+    return [talk.sent(side, fragment(body)) for side, body in order]
+
+
+class Told(NamedTuple):
+    """A call and its reply, and what should be told of them."""
+    procedure: int
+    arguments: bytes
+    results: bytes
+    path: str
+    words: str
+    answer: str
+
+
+ATTRIBUTES, NO_WCC = fattr(1, 5, size=12, mode=0o640), wcc()
+DIRECTORY = fattr(2, 6, size=4096, mode=0o1777)
+SETTING = sattr(size=3, atime=SET_TO_SERVER_TIME, mtime=set_to_client_time(nfstime(9, 500)))
+EXCHANGES = [Told(NULL, b'', b'', '', '', 'OK'),
+             Told(GETATTR, fh(ROOT), ok(DIRECTORY), '/x', '', 'OK DIR 1777 size 4096'),
+             Told(MKDIR, dirop(ROOT, b'd') + sattr(mode=0o755),
+                  ok(made(FOLDER, None, NO_WCC)), '/x/d', '0755', 'OK'),
+             Told(CREATE, dirop(FOLDER, b'f') + how(1, sattr(mode=0o644, uid=7, gid=8, size=0)),
+                  ok(made(FILE, None, NO_WCC)), '/x/d/f', 'GUARDED 0644 uid 7 gid 8 size 0',
+                  'OK'), Told(CREATE, dirop(FOLDER, b'f') + how(2, bytes(8)),
+                              failed(17, NO_WCC), '/x/d/f', 'EXCLUSIVE', 'NFS3ERR_EXIST'),
+             Told(CREATE, dirop(FOLDER, b'f') + how(0, sattr()), failed(13, NO_WCC),
+                  '/x/d/f', 'UNCHECKED', 'NFS3ERR_ACCES'),
+             Told(SETATTR, fh(FILE) + SETTING + guard(nfstime(1)), ok(NO_WCC), '/x/d/f',
+                  'size 3 atime of the server mtime 9.000000500 guarded', 'OK'),
+             Told(SETATTR, fh(FILE) + sattr() + guard(), failed(10002, NO_WCC), '/x/d/f', '',
+                  'NFS3ERR_NOT_SYNC'),
+             Told(LOOKUP, dirop(FOLDER, b'none'), failed(2, post_op_attr()), '/x/d/none',
+                  '', 'NFS3ERR_NOENT'),
+             Told(ACCESS, fh(FILE) + word(0x15), ok(post_op_attr(ATTRIBUTES), word(5)),
+                  '/x/d/f', 'READ|MODIFY|DELETE', 'OK READ|MODIFY'),
+             Told(READLINK, fh(FILE), ok(post_op_attr(), opaque(b'to it')), '/x/d/f', '',
+                  'OK to it'), Told(READ, fh(FILE) + hyper(8192) + word(4096),
+                                    ok(post_op_attr(ATTRIBUTES), word(3), word(1),
+                                       opaque(b'abc')), '/x/d/f', '8192+4096', 'OK 3 eof'),
+             Told(READ, fh(FILE) + hyper(0) + word(3),
+                  ok(post_op_attr(), word(3), word(0), opaque(b'abc')), '/x/d/f', '0+3',
+                  'OK 3'),
+             Told(WRITE, fh(FILE) + hyper(1 << 40) + word(4) + word(0) + opaque(b'abcd'),
+                  ok(NO_WCC, word(4), word(2), bytes(8)), '/x/d/f',
+                  '1099511627776+4 UNSTABLE', 'OK 4 FILE_SYNC'),
+             Told(SYMLINK, dirop(ROOT, b'l') + sattr(mode=0o777) + opaque(b'../to'),
+                  ok(made(b'link', None, NO_WCC)), '/x/l', '-> ../to 0777', 'OK'),
+             Told(MKNOD, dirop(ROOT, b'n') + word(4) + sattr(mode=0o600) + word(1) + word(3),
+                  failed(1, NO_WCC), '/x/n', 'CHR 1:3 0600', 'NFS3ERR_PERM'),
+             Told(MKNOD, dirop(ROOT, b'n') + word(7) + sattr(), failed(10004, NO_WCC),
+                  '/x/n', 'FIFO', 'NFS3ERR_NOTSUPP'),
+             Told(REMOVE, dirop(FOLDER, b'f'), ok(NO_WCC), '/x/d/f', '', 'OK'),
+             Told(RMDIR, dirop(ROOT, b'd'), failed(66, NO_WCC), '/x/d', '',
+                  'NFS3ERR_NOTEMPTY'), Told(RENAME, dirop(FOLDER, b'f') + dirop(ROOT, b'g'),
+                                            ok(NO_WCC, NO_WCC), '/x/d/f -> /x/g', '', 'OK'),
+             Told(LINK, fh(FILE) + dirop(ROOT, b'h'), ok(post_op_attr(), NO_WCC),
+                  '/x/d/f -> /x/h', '', 'OK'),
+             Told(READDIR, fh(FOLDER) + hyper(7) + bytes(8) + word(512),
+                  ok(entries(None, bytes(8), [entry(1, b'.', 1), entry(2, b'..', 2)], True)),
+                  '/x/d', 'cookie 7 count 512', 'OK 2 entries eof'),
+             Told(READDIRPLUS, fh(FOLDER) + hyper(0) + bytes(8) + word(512) + word(4096),
+                  ok(entries(None, bytes(8), [entryplus(1, b'seen', 1, None, b'seen')],
+                             False)), '/x/d', 'cookie 0 count 512/4096', 'OK 1 entry'),
+             Told(GETATTR, fh(b'seen'), failed(70), '/x/d/seen', '', 'NFS3ERR_STALE'),
+             Told(GETATTR, fh(b'other'), failed(10001), '?', '', 'NFS3ERR_BADHANDLE'),
+             Told(LOOKUP, dirop(b'other', b'\xc3\xa4 "'),
+                  failed(2, post_op_attr()), '?/\\xc3\\xa4 \\x22', '', 'NFS3ERR_NOENT'),
+             Told(FSSTAT, fh(ROOT), failed(5, post_op_attr()), '/x', '', 'NFS3ERR_IO'),
+             Told(FSINFO, fh(ROOT), failed(10006, post_op_attr()), '/x', '',
+                  'NFS3ERR_SERVERFAULT'),
+             Told(PATHCONF, fh(ROOT), failed(10008, post_op_attr()), '/x', '',
+                  'NFS3ERR_JUKEBOX'),
+             Told(COMMIT, fh(FILE) + hyper(0) + word(5), ok(NO_WCC, bytes(8)), '/x/d/f', '0+5',
+                  'OK')]
+
+
+def every_procedure(tools: Tools) -> None:
+    """Calls and answers in words, with the paths that MNT, CREATE, MKDIR and READDIRPLUS gave, over
+    two connections."""
+    talk = Talk(701)
+    order = [(side, body) for xid, told in enumerate(EXCHANGES, 1) for side,
+             body in ((0, asked(xid, told.procedure, told.arguments)),
+                      (1, success(xid, told.results)))]
+    tools.write('a.pcap',
+                pcap([*mounted(Talk(service=20048)), *talk.opened(), *talked(talk, order),
+                      *talk.closed()]))
+    status, out, error = tools.tool('calls', '--program', tools.program, 'a.pcap')
+    lines = out.splitlines()
+    tools.want('heads and sums', (status, lines[0].split(), lines[-2:], error),
+               (0, HEADS, [f'{len(EXCHANGES) + 1} exchanges', sum_line(2)], ''))
+    # MNT is in frame 4, its reply in frame 5, and the calls are in the frames 11, 13 ..
+    tools.want('MNT', lines[1].split(), '0.000003 0.001 4 1:1 MOUNT MNT /x OK'.split())
+    for number, (told, line) in enumerate(zip(EXCHANGES, lines[2:-2])):
+        frame = 11 + 2 * number
+        wanted = [f'{(frame - 1) / 1e6:.6f}', '0.001', str(frame), f'2:{number + 1}',
+                  NAMES[told.procedure], *told.path.split(), *told.words.split(),
+                  *told.answer.split()]
+        tools.want(NAMES[told.procedure], line.split(), wanted)
+    columns = {line.rindex(told.answer) for told, line in zip(EXCHANGES, lines[2:-2])}
+    tools.want('the column of the answers', columns, {lines[0].index('answer')})
+
+
+def replies_of_each_kind(tools: Tools) -> None:
+    """Errors of RPC, other programs, calls that were sent again, and replies that came twice."""
+    talk = Talk()
+    rejected = b''.join(map(word, (2, 1, 1, 1, 1)))
+    unavailable = b''.join((word(1), word(1), word(0), AUTH_NONE, word(3)))
+    order = [(0, call(1, 100000, 2, 3, bytes(16))), (1, unavailable),
+             (0, asked(2, GETATTR, fh(b'a'))), (1, rejected),
+             (0, call(3, NFSACL, 3, 1, fh(b'a') + word(1))), (1, success(3, word(70))),
+             (0, asked(4, REMOVE, dirop(b'a', b'b'))), (0, asked(4, REMOVE, dirop(b'a', b'b'))),
+             (1, success(4, ok(NO_WCC))), (1, success(4, failed(2, NO_WCC))),
+             (0, asked(5, NULL)), (1, success(5)), (1, success(5)),
+             # another call with the same xid is another exchange, and has the next reply
+             (0, asked(6, GETATTR, fh(b'a'))), (0, asked(6, GETATTR, fh(b'b'))),
+             (1, success(6, failed(70))), (1, success(6, failed(5)))]
+    tools.write('a.pcap', pcap([*talk.opened(), *talked(talk, order)]))
+    status, lines, error = calls(tools, 'a.pcap')
+    # The first frame of a message is 4, a frame each microsecond.
+    tools.want('lines', (status, lines[1:-2], error),
+               (0, [['0.000003', '0.001', '4', '1:1', 'PORTMAP GETPORT', 'PROC_UNAVAIL'],
+                    ['0.000005', '0.001', '6', '1:2', 'GETATTR ?', 'AUTH_BADCRED'],
+                    ['0.000007', '0.001', '8', '1:3', 'NFSACL GETACL', 'accepted'],
+                    ['0.000009', '0.002', '10', '1:4', 'REMOVE',
+                     '?/b (sent 2 times)', 'OK, then NFS3ERR_NOENT'],
+                    ['0.000013', '0.001', '14', '1:6', 'NULL', 'OK (2 replies)'],
+                    ['0.000016', '0.002', '17', '1:7', 'GETATTR ?', 'NFS3ERR_STALE'],
+                    ['0.000017', '0.002', '18', '1:8', 'GETATTR ?', 'NFS3ERR_IO']], ''))
+    tools.want('sums', lines[-2:],
+               [['7 exchanges'], [sum_line(1, raw='1 NFSACL GETACL, 1 PORTMAP GETPORT')]])
+    tools.want('errors', [line[3] for line in calls(tools, '--errors', 'a.pcap')[1][1:-2]],
+               ['1:1', '1:2', '1:4', '1:7', '1:8'])
+    found = objects(tools, 'a.pcap')
+    tools.want('JSON',
+               [(one['record'], one['sent_again'],
+                 [reply['record'] for reply in one['replies']]) for one in found],
+               [(1, 0, [1]), (2, 0, [2]), (3, 0, [3]), (4, 1, [4, 5]), (6, 0, [6, 7]),
+                (7, 0, [8]), (8, 0, [9])])
+
+
+def without_a_reply(tools: Tools) -> None:
+    """`no reply` is said, and is an error, if the connection's end is recorded and no byte is
+    missing. Otherwise a reply may have been sent."""
+    def frames(last: list[bytes], skips: range = range(0), begins: int = 0) -> bytes:
+        talk = Talk()
+        order = [(0, asked(1, NULL)), (1, success(1)), (0, asked(2, NULL)), (0, asked(3, NULL)),
+                 (1, success(3))]
+        sent = [*talk.opened(), *talked(talk, order)]
+        ending = {b'fin': lambda: talk.closed(), b'rst': lambda: [talk.frame(1, RST | ACK)],
+                  b'half': lambda: [talk.frame(1, FIN | ACK)]}
+        sent += [frame for one in last for frame in ending[one]()]
+        return pcap([frame for number, frame in enumerate(sent) if number not in skips
+                     and number >= begins])
+    rows = [('open', frames([]), 'no reply recorded', 0),
+            ('closed', frames([b'fin']), 'no reply', 0),
+            ('reset', frames([b'rst']), 'no reply', 0),
+            ('closed by the server', frames([b'half']), 'no reply', 0),
+            ('begun before', frames([b'fin'], begins=3), 'no reply', 1),
+            ('a reply is missing', frames([b'fin'], range(4, 5)), None, 1)]
+    for what, content, answer, status in rows:
+        tools.write('a.pcap', content)
+        found = [one['answer'] for one in objects(tools, 'a.pcap')]
+        tools.want(what, found, ['OK', answer, 'OK'] if answer
+                   else ['no reply recorded'] * 2 + ['OK'])
+        one = calls(tools, '--errors', 'a.pcap')
+        tools.want(f'--errors, {what}', (one[0], [line[-1] for line in one[1][1:-2]]),
+                   (status, ['no reply'] if answer == 'no reply' else []))
+    # A capture shows no end; a reply that is refused, and those after it, are not judged.
+    tools.write('a.nfs3cap', messages.capture(([asked(1, NULL)], [])))
+    tools.want('a capture', [one['answer'] for one in objects(tools, 'a.nfs3cap')],
+               ['no reply recorded'])
+    talk = Talk()
+    order = [(0, asked(1, NULL)), (1, success(1)), (0, asked(2, GETATTR, fh(b'a'))),
+             (1, success(2, word(3))), (0, asked(3, NULL)), (1, success(3))]
+    tools.write('a.pcap', pcap([*talk.opened(), *talked(talk, order), *talk.closed()]))
+    status, lines, error = calls(tools, 'a.pcap')
+    tools.want('refused', (status, [line[-1] for line in lines[1:-2]], lines[-1], error),
+               (1, ['OK', 'not judged', 'not judged'],
+                [sum_line(refused=1)],
+                'a.pcap: connection 1: server record 2 byte 24: BadEnum, frame 7\n'))
+
+
+def what_is_chosen(tools: Tools) -> None:
+    """Each option by itself, and several together; the status and the counts are those of all."""
+    root = auth_sys(1, b'client', 0, 0, [])
+    first, second = Talk(), Talk(701, hosts=('2001:db8::7', '2001:db8::1'))
+    frames = [*mounted(Talk(702, service=20048)), *first.opened(), *second.opened()]
+    frames += talked(first,
+                     [(0, asked(1, GETATTR, fh(ROOT))),
+                      (0, asked(2, LOOKUP, dirop(ROOT, b'a'), root)),
+                      (0, asked(3, RENAME, dirop(ROOT, b'a') + dirop(ROOT, b'b\xc3\xa4'))),
+                      (1, success(3, failed(18, NO_WCC, NO_WCC))),
+                      (1, success(2, failed(2, post_op_attr()))), (1, success(1, ok(DIRECTORY)))])
+    frames += talked(second, [(0, asked(1, GETATTR, fh(ROOT))), (1, success(1, ok(DIRECTORY))),
+                              (0, asked(2, NULL, b'', AUTH_NONE)), (1, success(2)),
+                              (0, call(3, NFSACL, 3, 0)), (1, success(3))])
+    tools.write('a.pcap', pcap(frames))
+    # Latencies of the first: 5, 3 and 1 microseconds; of all others 1. MNT is on connection 1.
+    rows: list[tuple[list[str], list[str]]] = [([],
+                                                ['1:1', '2:1', '2:2', '2:3', '3:1', '3:2',
+                                                 '3:3']), (['--errors'], ['2:2', '2:3']),
+                                               (['--slow', '3us'], ['2:1', '2:2']),
+                                               (['--slow', '0.003ms'], ['2:1', '2:2']),
+                                               (['--slow', '1s'], []),
+                                               (['--slow', '5us', '--errors'], []),
+                                               (['--procedure', 'GETATTR,mnt'],
+                                                ['1:1', '2:1', '3:1']),
+                                               (['--procedure', 'NULL'], ['3:2', '3:3']),
+                                               (['--procedure', 'NFSPROC3_RENAME'], ['2:3']),
+                                               (['--procedure', 'GETACL'], []),
+                                               (['--path', '/x'], ['1:1', '2:1']),
+                                               (['--path', '/*'], ['1:1', '2:1', '2:2', '2:3']),
+                                               (['--path', '*/bä'], ['2:3']),
+                                               (['--path', '?'], ['3:1']),
+                                               (['--path', '[?]'], ['3:1']),
+                                               (['--path', '/x/[ab]'], ['2:2', '2:3']),
+                                               (['--user', '0'], ['2:2']),
+                                               (['--user', '1000'], ['2:1', '2:3', '3:1']),
+                                               (['--client', '192.0.2.7'],
+                                                ['1:1', '2:1', '2:2', '2:3']),
+                                               (['--client', '2001:DB8:0::7'],
+                                                ['3:1', '3:2', '3:3']),
+                                               (['--client', '[2001:db8::7]', '--procedure',
+                                                 'NULL'], ['3:2', '3:3']),
+                                               (['--client', '192.0.2.1'], []),
+                                               (['--sort', 'latency'],
+                                                ['2:1', '2:2', '1:1', '2:3', '3:1', '3:2', '3:3'])]
+    for words, wanted in rows:
+        status, lines, error = calls(tools, *words, 'a.pcap')
+        number = '7 exchanges' if len(wanted) == 7 else f'{len(wanted)} of 7 exchanges'
+        tools.want(' '.join(words), (status, [line[3] for line in lines[1:-2]], lines[-2:], error),
+                   (0, wanted, [[number], [sum_line(3, raw='1 NFSACL NULL')]], ''))
+        tools.want('JSON of ' + ' '.join(words),
+                   [f'{one["connection"]}:{one["record"]}'
+                    for one in objects(tools, *words, 'a.pcap')], wanted)
+
+
+def words_that_are_refused(tools: Tools) -> None:
+    """A name, a time, an address or a number that is none is refused, so that a slip does not list
+    nothing."""
+    for words, told in ((['--procedure', 'WRIET'], 'no procedure: WRIET'),
+                        (['--procedure', 'WRITE,'], 'no procedure: '),
+                        (['--slow', '100'], 'no time: 100 (as in 100ms, 1.5s or 250us)'),
+                        (['--slow', '-1s'], 'expected one argument'),
+                        (['--slow', '1h'], 'no time: 1h'),
+                        (['--client', 'host'], 'no address: host'),
+                        (['--user', '-1'], 'no uid: -1'), (['--user', 'root'], 'no uid: root'),
+                        (['--sort', 'frame'], 'invalid choice'),
+                        (['--json', '--csv'], 'not allowed with')):
+        status, out, error = tools.tool('calls', *words, 'a.pcap')
+        tools.want(' '.join(words), (status, out, told in error or error), (2, '', True))
+    tools.want('no recording', tools.tool('calls')[0], 2)
+    tools.want('no program', tools.tool('calls', '--program', './absent', 'a.pcap'),
+               (2, '', 'calls: ./absent is missing\n'))
+
+
+def times_and_frames(tools: Tools) -> None:
+    """A call is at the frame that completed it, be it in the middle of its bytes; time counts from
+    the first frame, whatever that is."""
+    talk, answer = Talk(), fragment(success(1, ok(DIRECTORY)))
+    arp = bytes(12) + b'\x08\x06' + bytes(28)
+    frames, sent = [arp, *talk.opened()], in_fragments(asked(1, GETATTR, fh(ROOT)), 30)
+    pieces = [talk.frame(0, ACK, sent[at:end], ahead=at) for at,
+              end in ((0, 20), (60, 999), (20, 60))]
+    frames += [*pieces, talk.frame(1, ACK, answer)]
+    tools.write('a.pcap', pcap(frames))
+    tools.want('frames', calls(tools, 'a.pcap')[1][1],
+               ['0.000006', '0.001', '7', '1:1', 'GETATTR ?', 'OK DIR 1777 size 4096'])
+    one = objects(tools, 'a.pcap')[0]
+    tools.want('JSON', (one['time_ns'], one['latency_ns'], one['frame'], one['replies']), (
+        1_000_006_000, 1_000, 7, [{'record': 1, 'frame': 8, 'answer': 'OK DIR 1777 size 4096'}]))
+    tools.write('b.pcap', section() + interface() + b''.join(map(simple, frames)))
+    tools.want('frames without times', calls(tools, 'b.pcap')[1][1][:3], ['-', '-', '7'])
+    recording = pcap(frames)
+    at = len(recording) - len(frames[-1]) - 12  # where the microseconds of the last frame are
+    tools.write('c.pcap', recording[:at] + bytes(4) + recording[at + 4:])
+    status, lines, error = calls(tools, 'c.pcap')
+    tools.want('a clock that goes back', (status, lines[1][:3], error), (
+        0, ['0.000006', '-0.006', '7'], 'c.pcap: the clock went back: 1 latency is negative\n'))
+
+
+def captures_have_no_times(tools: Tools) -> None:
+    """The lines of a capture are those of its recording without times, frames and addresses; and an
+    option that asks for them says so."""
+    for name in ('ganesha_a', 'concurrent_a'):
+        recording = str(TOP / f'examples/{name}.pcap')
+        tools.want('from_pcap', tools.tool('from_pcap', recording, 'a.nfs3cap')[0], 0)
+        lines = sorted(line[3:] for line in calls(tools, recording)[1][1:-2])
+        found = calls(tools, 'a.nfs3cap')[1]
+        tools.want(name, sorted(line[3:] for line in found[1:-2]), lines)
+        tools.want('dashes', {cell for line in found[1:-2] for cell in line[:3]}, {'-'})
+    for words, told in ((['--slow', '1s'], 'no latency is known, so --slow lists nothing'),
+                        (['--client',
+                          '192.0.2.7'], 'a capture has no addresses, so --client lists nothing')):
+        status, lines, error = calls(tools, *words, 'a.nfs3cap')
+        tools.want(words[0], (status, len(lines), error), (0, 3, f'a.nfs3cap: {told}\n'))
+
+
+def as_verdicts_judges(tools: Tools) -> None:
+    """The status, the counts, and what is told are those of tools/verdicts, in each form."""
+    faulty = write_faulty(tools)
+    version_4 = Talk()
+    tools.write('four.pcap',
+                pcap([*version_4.opened(),
+                      *talked(version_4,
+                              [(0, call(1, NFS, 4, 1, bytes(8))), (1, success(1, bytes(8)))])]))
+    for name in (*faulty, 'four.pcap', 'absent'):
+        for options in ([], ['--allow-losses', '--allow-not-checked']):
+            judged, out, told = tools.tool('verdicts', '--program', tools.program,
+                                           *options, '--json', 'x.json', name)
+            rows = [verdict for line in out.splitlines()[1:-1]
+                    if (verdict := line.split('  ')[-1].strip()) != 'ok']
+            status, found, error = tools.tool('calls', '--program', tools.program, *options, name)
+            tools.want(name, (status, found.splitlines()[-1]), (judged, out.splitlines()[-1]))
+            tools.want('reasons of ' + name,
+                       (error.startswith(told), [row for row in rows if row not in error]),
+                       (True, []))
+            status, found, _ = tools.tool('calls', '--program', tools.program, *options,
+                                          '--json', name)
+            tools.want('JSON of ' + name, (status, json.loads(found)['counts']),
+                       (judged, json.loads(tools.read('x.json') or b'{}')['counts']))
+            status, _, error = tools.tool('calls', '--program', tools.program, *options,
+                                          '--csv', name)
+            tools.want('CSV of ' + name, (status, error.splitlines()[-1]),
+                       (judged, out.splitlines()[-1]))
+
+
+def forms_for_programs(tools: Tools) -> None:
+    """CSV has the values of JSON, in the same order, of several recordings, and names that are no
+    text in none of them."""
+    tools.write('a,\n.pcap', pcap(mounted(Talk(service=20048))))
+    words = ['--errors', 'a,\n.pcap', str(TOP / 'examples/ganesha_a.pcap')]
+    for chosen in (words, words[1:]):
+        status, out, error = tools.tool('calls', '--program', tools.program, '--csv', *chosen)
+        tools.want('CSV', (status, error), (0, sum_line(4) + '\n'))
+        rows = list(csv.DictReader(io.StringIO(out)))
+        tools.want('rows', len(rows), 1 if '--errors' in chosen else 104)
+        as_text = [{key: '' if value is None else str(len(value)) if key == 'replies'
+                    else str(value) for key, value in one.items()}
+                   for one in objects(tools, *chosen)]
+        tools.want('JSON', rows, as_text)
+    tools.want('a row',
+               {key: rows[0][key] for key in ('recording', 'connection', 'record',
+                                              'client', 'procedure', 'path', 'answer',
+                                              'is_error')},
+               {'recording': 'a,\\x0a.pcap', 'connection': '1', 'record': '1',
+                'client': '192.0.2.7:700', 'procedure': 'MOUNTPROC3_MNT', 'path': '/x',
+                'answer': 'OK', 'is_error': 'False'})
+    status, lines, _ = calls(tools, 'a,\n.pcap', '-', stdin=pcap(whole()))
+    tools.want('several', (status, [line[0] for line in lines[::2]][:1], ['-:'] in lines,
+                           lines[-2]), (0, ['a,\\x0a.pcap:'], True, ['40 exchanges']))
+
+
+def long_names(tools: Tools) -> None:
+    """Of a long name the first 1,000 characters are told, and no byte that is spelled is cut."""
+    names = {b'a' + b'\xff' * 400: 'a' + '\\xff' * 249 + '..', b'b' * 1_000: 'b' * 1_000,
+             b'c' * 1_001: 'c' * 1_000 + '..'}
+    sent = [asked(xid, LOOKUP, dirop(b'other', name)) for xid, name in enumerate(names)]
+    tools.write('a', messages.capture((sent, [])))
+    tools.want('paths', [one['path'] for one in objects(tools, 'a')],
+               [f'?/{name}' for name in names.values()])
+    tools.want('--path', [one['path'][:3] for one in objects(tools, '--path', '?/[ac]*', 'a')],
+               ['?/a', '?/c'])
+
+
+def random_traffic(tools: Tools) -> None:
+    """Each call and each reply of random captures is in one exchange, and a reply is an error if
+    its words are one by RFC 5531, section 9, and RFC 1813, sections 2.6 and 5.1."""
+    made = {f'{seed}.nfs3cap': Traffic(seed, Names.drawn(random.Random(seed)))
+            for seed in range(60)}
+    for name, traffic in made.items():
+        tools.write(name, messages.capture(*traffic.connections))
+    found = objects(tools, *made)
+    for name, traffic in made.items():
+        own = [one for one in found if one['recording'] == name]
+        number = sum(len(sent) for sent, _ in traffic.connections)
+        tools.want(f'calls of {name}', sum(1 + one['sent_again'] for one in own), number)
+        wanted = [(connection, record, is_error(sent, body))
+                  for connection, (sent, replies) in enumerate(traffic.connections, 1)
+                  for record, body in enumerate(replies, 1)]
+        told = sorted((one['connection'], reply['record'], not is_success(reply['answer']))
+                      for one in own for reply in one['replies'])
+        tools.want(f'replies of {name}', told, wanted)
+
+
+def is_success(answer: str) -> bool:
+    return answer.split()[0] in ('OK', 'accepted')
+
+
+def is_error(sent: Sequence[bytes], reply: bytes) -> bool:
+    """Whether a reply to one of these calls is no success."""
+    words = [int.from_bytes(reply[at:at + 4], 'big') for at in range(0, 28, 4)]
+    head = next(body[12:24] for body in sent if body[:4] == reply[:4])
+    program, version, procedure = (int.from_bytes(head[at:at + 4], 'big') for at in (0, 4, 8))
+    statuses = {NFS: range(1, 22), MOUNT: range(1, 2)}.get(program, ()) if version == 3 else ()
+    # reply_stat; then after a verifier of two words accept_stat, and the status
+    return words[2] != 0 or words[5] != 0 or procedure in statuses and words[6] != 0
+
+
+def servers_with_equal_handles(tools: Tools) -> None:
+    """A handle of one server says nothing of the same handle of another."""
+    other = ('192.0.2.7', '192.0.2.2')
+    first, second = Talk(), Talk(701, hosts=other)
+    frames = [*mounted(Talk(702, service=20048)), *first.opened(), *second.opened()]
+    frames += talked(first, [(0, asked(1, GETATTR, fh(ROOT))), (1, success(1, ok(DIRECTORY)))])
+    frames += talked(second, [(0, asked(1, GETATTR, fh(ROOT))), (1, success(1, ok(DIRECTORY)))])
+    tools.write('a.pcap', pcap(frames))
+    tools.want('paths', [one['path'] for one in objects(tools, 'a.pcap')], ['/x', '/x', '?'])
+
+
+def of_tshark(tools: Tools, recording: str, choice: list[str],
+              *fields: str) -> list[list[list[str]]]:
+    """Of each frame the values of these fields."""
+    done = ended([*TSHARK, recording, *choice, '-T', 'fields',
+                  *(word for field in fields for word in ('-e', field))], tools.folder)
+    return [[cell.split(',') for cell in line.split('\t')]
+            for line in done.out.decode().splitlines()]
+
+
+@unittest.skipUnless(shutil.which('tshark'), 'tshark is not there')
+def as_tshark_has_them(tools: Tools) -> None:
+    """Frames of calls and replies, times since the first frame, latencies and statuses of real
+    recordings."""
+    for name in ('ganesha_a', 'ganesha_changed', 'concurrent_a', 'concurrent_b'):
+        recording = str(TOP / f'examples/{name}.pcap')
+        # (of a reply, tshark has the frame of its call in one of the first two fields, by its
+        # version)
+        replies = of_tshark(tools, recording, ['-Y', 'rpc.msgtyp == 1'],
+                            'rpc.reqframe', 'rpc.repframe', 'frame.number',
+                            'rpc.time', 'nfs.status3')
+        wanted = [(int(frame), int(reply), round(float(time) * 1_000_000)) for first, second,
+                  [reply], times, _ in replies for frame,
+                  time in zip(first if first != [''] else second, times)]
+        found = objects(tools, recording)
+        tools.want(name,
+                   sorted((one['frame'], one['replies'][0]['frame'],
+                           round(one['latency_ns'] / 1_000)) for one in found), sorted(wanted))
+        relative = {number: time for [number],
+                    [time] in of_tshark(tools, recording, [], 'frame.number',
+                                        'frame.time_relative')}
+        lines = calls(tools, recording)[1][1:-2]
+        tools.want('times', [line[0] for line in lines],
+                   [f'{float(relative[line[2]]):.6f}' for line in lines])
+        failures = sum(state not in ('', '0') for *_, states in replies for state in states)
+        tools.want('errors',
+                   len([one for one in found if one['is_error']
+                        and one['procedure'][0] == 'N']), failures)
+
+
+def many_calls(tools: Tools) -> None:
+    """100,000 calls take less than 64 MB, and at most 8 times the processor time that
+    tools/verdicts takes, in both orders."""
+    talk = Talk()
+    frames = talk.opened()
+    for xid in range(MANY):
+        one = asked(xid, READ, fh(b'%032d' % (xid % 5_000)) + hyper(xid << 12) + word(4096))
+        frames += talked(talk,
+                         [(0, one),
+                          (1,
+                           success(xid, ok(post_op_attr(ATTRIBUTES), word(3), word(1),
+                                           opaque(b'abc'))))])
+    tools.write('a.pcap', pcap(frames))
+    spent = list[float]()
+    for name, *words in (['verdicts'], ['calls'], ['calls', '--sort', 'latency']):
+        status, lines, seconds, memory = measured(tools, name, '--program', tools.program, *words,
+                                                  'a.pcap')
+        spent.append(seconds)
+        tools.want(name, (status, memory <= MOST_MEMORY or memory), (0, True))
+    tools.want('what it printed', (lines[-2], len(lines)), ('100,000 exchanges', MANY + 3))
+    tools.want('processor time', max(spent) <= 8 * spent[0] or spent, True)
+
+
+TESTS = [every_procedure, replies_of_each_kind, without_a_reply,
+         what_is_chosen, words_that_are_refused, times_and_frames,
+         captures_have_no_times, as_verdicts_judges, forms_for_programs, long_names,
+         random_traffic, servers_with_equal_handles, as_tshark_has_them, many_calls]
+
+
+class CallsTest(FolderTest, make=Tools, tests=TESTS):
+    """Each test has a folder of its own."""

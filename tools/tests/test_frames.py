@@ -1,0 +1,341 @@
+"""Tests of frames: as positions of `tools/where`, `tools/explain` and `tools/cut`, and as the
+recording that `tools/cut` writes.
+
+What needs tshark is skipped, with a word, if tshark is not there.
+"""
+import json
+import os
+import shutil
+import struct
+import unittest
+from collections.abc import Sequence
+from typing import Any
+
+from examples.messages import fragment
+from examples.packets import ACK, Talk, ethernet, pcap
+from tests.shared.running import ended
+
+from ..nfs3tools.commands import cut
+from ..nfs3tools.recordings.extract import frames_of
+from ..nfs3tools.shared.places import Place
+from .cases import FolderTest
+from .recordings import cooked, enhanced, fragments, fragments_6, interface, section
+from .scripts import ALL, CALLS, REPLIES, TOP, Tools, packed, stream, sums, taken_of, whole
+
+EXAMPLE = "(as in 'connection 1 server record 7 byte 24')"
+# In `whole` the calls are in the frames 4 to 8, each with a fifth of the bytes: 344 of records of
+# 44. The replies are in the frames 9 to 13: 219 bytes of records of 28. So frame 5 has the end of
+# record 8, the records 9 to 15, and the beginning of record 16.
+OF_FRAME_5 = range(8, 17)
+
+
+def tool(tools: Tools, name: str, *words: str) -> tuple[int, list[str], str]:
+    """The status of a run, its lines, and what is told on standard error."""
+    program = ['--program', tools.program] if name == 'cut' else []
+    status, out, error = tools.tool(name, *program, *words)
+    return status, out.splitlines(), error
+
+
+def extract(frames: Sequence[bytes], numbers: Sequence[int], link: int = 1,
+            unit: int = 1_000) -> bytes:
+    """A recording of some frames of those that `pcap` writes one each microsecond or nanosecond,
+    numbered from 1."""
+    header = struct.pack('<IHHiIII', 0xa1b2c3d4 if unit == 1_000 else 0xa1b23c4d, 2, 4, 0, 0,
+                         1 << 18, link)
+    return header + b''.join(struct.pack('<IIII', 1, number - 1, len(frames[number - 1]),
+                                         len(frames[number - 1])) + frames[number - 1]
+                             for number in numbers)
+
+
+# --- As positions ---
+
+def records_of_a_frame(tools: Tools) -> None:
+    """All records of which a frame brought bytes, in order, each with all its frames."""
+    tools.write('a.pcap', pcap([*whole(port=699), *whole()]))
+    places = [f'connection 1 client record {record}' for record in OF_FRAME_5]
+    status, lines, error = tool(tools, 'where', 'a.pcap', 'frame 5')
+    tools.want('where',
+               (status,
+                [line.partition(': ')[0] for line in lines if line.startswith('connection')],
+                error), (0, places, ''))
+    filters = ['frame.number in {4..5}', *['frame.number == 5'] * 7, 'frame.number in {5..6}']
+    tools.want('filters', [line for line in lines if line.startswith('frame.number')], filters)
+    status, lines, error = tool(tools, 'explain', 'a.pcap', 'frame 5')
+    tools.want('explain',
+               (status, [line.partition(': call')[0] for line in lines if ': call' in line],
+                error), (0, places, ''))
+    # The last fifth of the replies begins at byte 876, in record 32.
+    lines = tool(tools, 'where', 'a.pcap', 'frame 28')[1]
+    tools.want('of the second',
+               [line.partition(': ')[0] for line in lines if line.startswith('connection')],
+               [f'connection 2 server record {record}' for record in range(32, 40)])
+    status, lines, error = tool(tools, 'cut', 'a.pcap', 'frame 5', 'out')
+    tools.want('cut', (status, lines[-1], error),
+               (0, 'ok connections=1 calls=9 replies=9 handles=0', ''))
+    tools.want('OUT', tools.read('out'), packed((stream(CALLS[7:16]), stream(REPLIES[7:16]))))
+    answer = tools.tool('where', 'a.pcap', stdin=b'frame 5\n')
+    tools.want('standard input', answer[0], 0)
+
+
+def frames_without_a_record(tools: Tools) -> None:
+    """A frame of the handshake, a retransmission, one that is not there, and those of a capture."""
+    talk = Talk()
+    frames = [*talk.opened(), talk.sent(0, ALL[0]),
+              talk.frame(0, ACK, ALL[0], ahead=-len(ALL[0])), talk.sent(1, ALL[1])]
+    tools.write('a.pcap', pcap(frames))
+    shutil.copy(TOP / 'examples/null.nfs3cap', tools.path('b'))
+    for number in (0, 1, 5, 7, 10 ** 17):
+        for name, *out in (('where',), ('explain',), ('cut', 'out'), ('cut', 'out.pcap')):
+            told = (f'{name}: frame {number} carries no bytes of a record, or only bytes that '
+                    'another frame had brought before\n')
+            tools.want(f'{name} frame {number}',
+                       tool(tools, name, 'a.pcap', f'frame {number}', *out), (1, [], told))
+    for name, *out in (('where',), ('explain',), ('cut', 'out')):
+        tools.want(name + ' of a capture', tool(tools, name, 'b', 'frame 1', *out),
+                   (2, [], f'{name}: b is a capture, which has no frames\n'))
+    tools.want('OUT', (tools.exists('out'), tools.exists('out.pcap')), (False, False))
+
+
+def words_of_a_position(tools: Tools) -> None:
+    """An unfinished or a superfluous word is refused, and an example is told."""
+    tools.write('a.pcap', pcap(whole()))
+    good = ('connection 1 client record 2', ' 1 client 2 ',
+            '1 client 2 xid=2 NFSPROC3_NULL mtype=0',
+            'connection 1 client record 2 byte 3: BadEnum',
+            'first: connection 1 client record 2',
+            'second: connection 1 client record 2: Short',
+            'differ at connection 1 client record 2',
+            'frame 5', 'nfs3canon: a word before\nconnection 1 client record 2: Short\n')
+    for text in good:
+        tools.want(repr(text), tool(tools, 'where', 'a.pcap', text)[0], 0)
+    for text in ('1 client 2 byte 3', '1 client 2 byte',
+                 '1 client', 'connection 1 client record 2 byte',
+                 'connection 1 client record',
+                 '1 client 2: x y',
+                 'connection 1 client record 2 byte 3 4',
+                 'x connection 1 client record 2', 'third: connection 1 client record 2',
+                 'frame', 'frame 5 6', 'frame five', 'file',
+                 'file 12 13',
+                 'connection 1 client record 2 BadEnum',
+                 'connection 1 client record 2: BadEnum, frame 5', ''):
+        for name, *out in (('where',), ('explain',), ('cut', 'out')):
+            tools.want(repr(text), tool(tools, name, 'a.pcap', text, *out),
+                       (2, [], f'{name}: no position: {text} {EXAMPLE}\n'))
+
+
+# --- As a recording ---
+
+def frames_as_they_were(tools: Tools) -> None:
+    """OUT.pcap has the frames of the call and of its reply, and those of SYN, with their bytes and
+    times, in both units of time."""
+    frames = [*whole(port=699), *whole()]
+    for magic, unit in ((0xa1b2c3d4, 1_000), (0xa1b23c4d, 1)):
+        for order in '<>':
+            tools.write('a.pcap', pcap(frames, magic=magic, order=order))
+            # The second connection begins in frame 16. Record 9 of its calls is in frame 20, and
+            # record 9 of its replies in frame 25.
+            # The replies acknowledge all 1,716 bytes of the calls, of which 344 are there. Of the
+            # replies 219 bytes come before.
+            wanted = extract(frames, [16, 17, 20, 25], unit=unit)
+            status, lines, error = tool(tools, 'cut', 'a.pcap',
+                                        'connection 2 client record 9', 'out.pcap')
+            tools.want('lines', (status, lines, error), (0, [
+                'connection 1 client record 1: connection 2 client record 9, frame 20',
+                'connection 1 server record 1: connection 2 server record 9, frame 25',
+                'connection 1: ok in part: 7 calls, 1,591 bytes missing, '
+                'the recording ends inside a record', sums(in_part=1)], ''))
+            tools.want('OUT', tools.read('out.pcap') == wanted, True)
+            os.remove(tools.path('out.pcap'))
+    tools.write('a.pcap', pcap(frames))
+    with open(tools.path('a.pcap'), 'rb') as source:
+        tools.want('standard input', tools.tool('cut', '--program', tools.program, '-',
+                                                'frame 20', 'out.pcap', stdin=source)[0], 0)
+    tools.want('OUT of it',
+               tools.read('out.pcap') == extract(frames, [16, 17, 19, 20, 21, 24, 25, 26]), True)
+    one = Talk()
+    short = [*one.opened(), one.sent(0, fragment(CALLS[0])), one.sent(1, fragment(REPLIES[0]))]
+    tools.write('b.pcap', pcap(short))
+    tools.want('all that is there', tool(tools, 'cut', 'b.pcap', 'frame 5', 'b2.pcap'),
+               (0,
+                ['connection 1 client record 1: connection 1 client record 1, frame 4',
+                 'connection 1 server record 1: connection 1 server record 1, frame 5',
+                 'connection 1: ok', sums(1)], ''))
+
+
+def parts_and_pcapng(tools: Tools) -> None:
+    """Frames are numbered through all parts; pcapng has units of its own, and may have frames of
+    several link types."""
+    frames = whole()
+    tools.write('run.pcap0', pcap(frames[:6]))
+    tools.write('run.pcap1', pcap(frames)[:24] + pcap(frames)[len(pcap(frames[:6])):])
+    tools.want('parts', tool(tools, 'cut', 'run.pcap*', 'connection 1 client record 20',
+                             'out.pcap')[0], 0)
+    # Record 20 begins at byte 836 of the calls and 532 of the replies: the third frame of each
+    # side, 6 and 11.
+    tools.want('OUT of parts', tools.read('out.pcap') == extract(frames, [1, 2, 6, 11]), True)
+    nano = section() + interface(unit=9) + b''.join(enhanced(frame, 10 ** 9 + number)
+                                                    for number, frame in enumerate(frames))
+    tools.write('a.pcapng', nano)
+    tools.want('pcapng', tool(tools, 'cut', 'a.pcapng', 'connection 1 client record 20',
+                              'a.pcap')[0], 0)
+    tools.want('OUT of pcapng', tools.read('a.pcap') == extract(frames, [1, 2, 6, 11], unit=1),
+               True)
+    second = Talk(701)
+    others = [frame[14:] for frame in (*second.opened(), second.sent(0, fragment(CALLS[0])),
+                                       second.sent(1, fragment(REPLIES[0])))]
+    blocks = [*map(enhanced, frames), *(enhanced(cooked(frame), index=1) for frame in others[::2]),
+              *(enhanced(ethernet(frame)) for frame in others[1::2])]
+    tools.write('b.pcapng', section() + interface() + interface(113) + b''.join(blocks))
+    status, lines, error = tool(tools, 'cut', 'b.pcapng', 'connection 2 client record 1', 'b.pcap')
+    tools.want('two link types', (status, lines, error),
+               (2, [], 'cut: the frames have the link types 1, 113, and a pcap has one\n'))
+    tools.want('no OUT', tools.exists('b.pcap'), False)
+    tools.want('one of them',
+               tool(tools, 'cut', 'b.pcapng', 'connection 1 client record 1', 'b.pcap')[0], 0)
+
+
+def datagrams_in_fragments(tools: Tools) -> None:
+    """Of a datagram that came in fragments all frames are taken, though the last alone completed
+    it, and none of another one."""
+    for cut_up, hosts in ((fragments, ('192.0.2.7', '192.0.2.1')),
+                          (fragments_6, ('2001:db8::7', '2001:db8::1'))):
+        talk = Talk(hosts=hosts)
+        opened = talk.opened()
+        call_pieces = [ethernet(piece) for piece in cut_up(talk.datagram(0, ACK, ALL[0]), 400)]
+        other = [ethernet(piece)
+                 for piece in cut_up(Talk(701, hosts=hosts).datagram(0, ACK, bytes(900)), 400, 78)]
+        reply = talk.frame(1, ACK, ALL[1])
+        frames = [*opened, other[0], *call_pieces[:2], other[1], *call_pieces[2:], other[2], reply]
+        tools.write('a.pcap', pcap(frames))
+        status, lines, _ = tool(tools, 'cut', 'a.pcap', 'connection 1 client record 39', 'out.pcap')
+        numbers = [frames.index(frame) + 1 for frame in call_pieces]
+        place = 'connection 1 client record 39'
+        tools.want('lines', (status, lines[0]), (0, f'{place}: {place}, frame {numbers[-1]}'))
+        tools.want('OUT',
+                   tools.read('out.pcap') == extract(frames, [1, 2, *numbers, len(frames)]), True)
+        os.remove(tools.path('out.pcap'))
+
+
+def exchanges_in_the_extract(tools: Tools) -> None:
+    """What `calls` says of an exchange of a real recording it says of OUT, but for paths that are
+    not there; and `verdicts` judges OUT."""
+    for name in ('ganesha_a', 'concurrent_a'):
+        recording = str(TOP / f'examples/{name}.pcap')
+        known = listed(tools, recording)
+        for one in known[::len(known) // 8]:
+            place = f'connection {one["connection"]} client record {one["record"]}'
+            status, lines, error = tool(tools, 'cut', recording, place, 'out.pcap')
+            tools.want(place, (status, lines[0].endswith(f': {place}, frame {one["frame"]}'),
+                               error), (0, True, ''))
+            found = [other for other in listed(tools, 'out.pcap')
+                     if comparable(other) == comparable(one)]
+            tools.want('calls of ' + place, len(found), 1)
+            judged = tools.tool('verdicts', '--program', tools.program,
+                                'out.pcap')[1].splitlines()[-1]
+            tools.want('verdicts of ' + place, (judged, judged.endswith(', 0 errors')),
+                       (lines[-1], True))
+            os.remove(tools.path('out.pcap'))
+
+
+def listed(tools: Tools, name: str) -> list[dict[str, Any]]:
+    out = tools.tool('calls', '--program', tools.program, '--json', name)[1]
+    found: list[dict[str, Any]] = json.loads(out)['calls']
+    return found
+
+
+def comparable(one: dict[str, Any]) -> list[object]:
+    return [one[key] for key in ('client', 'server', 'procedure', 'time_ns', 'latency_ns',
+                                 'user', 'arguments', 'answer')]
+
+
+def with_origins(tools: Tools) -> None:
+    """The frames of the exchanges that gave the handles are there, too, so that OUT has the whole
+    path."""
+    recording = str(TOP / 'examples/ganesha_a.pcap')
+    one = next(one for one in listed(tools, recording) if one['procedure'] == 'NFSPROC3_READ')
+    status, lines, _ = tool(tools, 'cut', '--origins', recording,
+                            f'frame {one["frame"]}', 'out.pcap')
+    found = [other for other in listed(tools, 'out.pcap') if comparable(other) == comparable(one)]
+    tools.want('path', (status, [other['path'] for other in found]), (0, [one['path']]))
+
+
+def records_at_fault(tools: Tools) -> None:
+    """A message that is refused is so in OUT."""
+    for name, frame, fault in (('bad_bool', 5, 'server record 1 byte 28: BadBool, frame 4'),
+                               ('bad_client_record', 4,
+                                'client record 1 byte 4: BadEnum, frame 3'),
+                               ('bad_length', 4, 'client record 1 byte 40: TooLong, frame 3')):
+        status, lines, _ = tool(tools, 'cut', str(TOP / f'examples/{name}.pcap'),
+                                f'frame {frame}', name + '.pcap')
+        tools.want(name, (status, lines[-2:]), (0, ['connection 1: ' + fault, sums(refused=1)]))
+
+
+def openings_that_do_not_fit(tools: Tools) -> None:
+    """If the records are so far from SYN that they can be read only without it, its frames are left
+    out."""
+    talk = Talk()
+    opened = talk.opened()
+    talk.next = [1_000 - 90_000, 5_000 - 90_000]  # as 4 GiB later, but for 90 kB
+    frames = [*opened, talk.sent(0, ALL[0]), talk.sent(1, ALL[1])]
+    tools.write('a.pcap', pcap(frames))
+    tools.write('late.pcap', pcap(frames[3:]))
+    taken = taken_of(pcap(frames[3:]))
+    connection = taken.connections[0]
+    for opened_by, numbers in (((), [4, 5]), ((1, 2), [4, 5])):
+        one = cut.cut_of(connection._replace(opened_by=opened_by),
+                         cut.wanted_at(taken, [Place(1, 'client', 9)])[1])
+        wanted = {4, 5}.union(opened_by)
+        found = [cut.extract_of(tools.program, frames_of(tools.path('a.pcap'), some), [one],
+                                'a') for some in (wanted, {4, 5})]
+        tools.want(f'records with {opened_by}', [extract_of.number for extract_of in found],
+                   [0 if opened_by else 2, 2])
+        tools.want('frames', found[1].content == extract(frames, numbers), True)
+
+
+def outputs_that_are_refused(tools: Tools) -> None:
+    """A recording is never replaced, a capture has no frames, and OUT is no pcapng."""
+    tools.write('a.pcap', pcap(whole()))
+    shutil.copy(TOP / 'examples/null.nfs3cap', tools.path('b'))
+    shutil.copy(TOP / 'examples/null.nfs3cap', tools.path('c.pcap'))
+    tools.write('old.pcap', pcap([]))
+    place = 'connection 1 client record 1'
+    for words, status, told in ((('a.pcap', place, 'a.pcap'),
+                                 2, 'a.pcap is an input, and is not replaced'),
+                                (('a.pcap', place, 'old.pcap'),
+                                 2, 'old.pcap is a recording, and is not replaced'),
+                                (('a.pcap', place, 'c.pcap'),
+                                 2, 'c.pcap is a capture, and is not replaced'),
+                                (('b', place, 'new.pcap'), 2,
+                                 'b is a capture, which has no frames'),
+                                (('a.pcap', place, 'new.pcapng'),
+                                 2, 'new.pcapng: OUT may be a .pcap, and no .pcapng'),
+                                (('a.pcap', 'connection 9 client record 1', 'new.pcap'),
+                                 1, 'there is no connection 9'),
+                                (('absent', place, 'new.pcap'),
+                                 3, 'absent: No such file or directory')):
+        tools.want(told, tool(tools, 'cut', *words), (status, [], f'cut: {told}\n'))
+    tools.want('what is there', tools.names(), ['a.pcap', 'b', 'c.pcap', 'old.pcap'])
+
+
+@unittest.skipUnless(shutil.which('tshark'), 'tshark is not there')
+def as_tshark_reads_it(tools: Tools) -> None:
+    """tshark finds the call and its reply in OUT, with their times."""
+    recording = str(TOP / 'examples/ganesha_a.pcap')
+    tools.want('cut', tool(tools, 'cut', recording, 'frame 176', 'out.pcap')[0], 0)
+    fields = ['-T', 'fields', '-e', 'rpc.msgtyp', '-e', 'rpc.xid', '-e', 'frame.time_epoch',
+              '-e', 'nfs.status3']
+    there, here = (ended(['tshark', '-n', '-r', name, '-Y', choice, *fields],
+                         tools.folder).out.decode() for name,
+                   choice in (('out.pcap', 'rpc'),
+                              (recording, 'rpc && (frame.number == 176 || frame.number == 177)')))
+    tools.want('messages', (there, len(there.splitlines())), (here, 2))
+
+
+TESTS = [records_of_a_frame, frames_without_a_record, words_of_a_position,
+         frames_as_they_were, parts_and_pcapng, datagrams_in_fragments,
+         exchanges_in_the_extract, with_origins, records_at_fault,
+         openings_that_do_not_fit, outputs_that_are_refused, as_tshark_reads_it]
+
+
+class FramesTest(FolderTest, make=Tools, tests=TESTS):
+    """Each test has a folder of its own."""

@@ -1,0 +1,325 @@
+"""Tests of tools/install and tools/release.
+
+What is installed is run from a folder elsewhere.
+"""
+import hashlib
+import os
+import pathlib
+import re
+import shutil
+import sys
+import tarfile
+import tomllib
+from collections.abc import Callable
+
+from tests.shared.running import Answer, Runs, ended, program_named
+from ..nfs3tools.comparison.values.classes import BY_NAME
+from .cases import FolderTest
+from .scripts import TOP
+
+PROGRAMS = ('nfs3canon', 'nfs3mask')
+TOOLS = ('from-pcap', 'where', 'verdicts', 'calls', 'procedures', 'compare', 'explain', 'cut')
+
+
+class Place(Runs):
+    """A folder, and runs of commands there."""
+
+    def command(self, *words: str) -> Answer:
+        """What a command ended with."""
+        return ended(words, self.folder, limit=None).text()
+
+    def tool(self, name: str, *words: str) -> Answer:
+        """What a script of tools/ ended with, on the program of the tests."""
+        return self.command(str(TOP / 'tools' / name), '--program', self.program, *words)
+
+
+def version() -> str:
+    """The version on top of the change log."""
+    found = re.search(r'^## (\S+)', (TOP / 'CHANGELOG.md').read_text(), re.MULTILINE)
+    assert found
+    return found[1]
+
+
+def works(place: Place, prefix: pathlib.Path) -> None:
+    """What is under a prefix is all that is needed to compare the examples."""
+    place.want('the program', place.command(str(prefix / 'bin/nfs3canon'), 'check', str(TOP / 'examples/null.nfs3cap'))[0], 0)
+    form = str(pathlib.Path(place.folder, 'masked'))
+    place.want('nfs3mask', place.command(str(prefix / 'bin/nfs3mask'), str(TOP / 'examples/null.nfs3cap'), form)[0], 0)
+    for name in PROGRAMS:
+        path, words = str(prefix / 'bin' / name), ('--version', '--help')
+        place.want('version of ' + name, place.command(path, words[0]), (0, f'{name} {version()}\n', ''))
+        place.want('usage of ' + name, place.command(path, *words), place.command(program_named(name, place.program), *words))
+    for tool in TOOLS:
+        own = str(prefix / 'bin' / ('nfs3-' + tool))
+        place.want('version of ' + tool, place.command(own, '--version')[1].split()[1:], [version()])
+        page = prefix / 'share/man/man1' / ('nfs3-%s.1' % tool)
+        place.want('page of ' + tool, page.is_file(), True)
+    runs = [str(TOP / ('examples/ganesha_%s.pcap' % name)) for name in 'ab']
+    sums = '3 judged (3 ok, 0 refused), 0 in part, 0 left out, 0 not checked, 0 errors'
+    place.want('compare', place.command(str(prefix / 'bin/nfs3-compare'), *runs)[1].splitlines()[1:],
+               ['same: 103 calls in 3 connections', f'both runs: {sums}'])
+    place.want('verdicts', place.command(str(prefix / 'bin/nfs3-verdicts'), runs[0])[1].splitlines()[-1], sums)
+    for name in PROGRAMS:
+        for path in ('bash-completion/completions/' + name, 'zsh/site-functions/_' + name, 'fish/vendor_completions.d/%s.fish' % name,
+                     'man/man1/%s.1' % name):
+            place.want(path, (prefix / 'share' / path).is_file(), True)
+    for path in ('nfs3canon/LICENSE-MIT', 'nfs3canon/LICENSE-APACHE'):
+        place.want(path, (prefix / 'share' / path).is_file(), True)
+
+
+OTHER_NAMES = r'tools/|(?<!nfs3-)\b(?:from_pcap|where|verdicts|calls|procedures|compare|explain|cut)(?: - |\(1\))|\bfrom_pcap\b'
+
+
+def named_as_installed(place: Place) -> None:
+    """The help and the manual page of each tool have the names under which the tools are installed, and no others."""
+    prefix = pathlib.Path(place.folder, 'prefix')
+    place.want('install', place.tool('install', 'prefix')[0], 0)
+    for tool in TOOLS:
+        name = 'nfs3-' + tool
+        status, out, _ = place.command(str(prefix / 'bin' / name), '--help')
+        place.want('usage of ' + tool, (status, out.splitlines()[0].split()[:2], re.findall(OTHER_NAMES, out)), (0, ['usage:', name], []))
+        page = (prefix / f'share/man/man1/{name}.1').read_text().replace('\\-', '-')
+        place.want('page of ' + tool, re.findall(r'^\.SH NAME\n(\S+) - ', page, re.M), [name])
+        place.want('heading of ' + tool, page.split()[:2], ['.TH', name.upper()])
+        told = re.sub(r'^\.\w+ |\.(?:EX|EE)$', '', page, flags=re.M).replace(' (1)', '(1)')
+        own = 'tools/' + tool.replace('-', '_')
+        place.want('both names of ' + tool, (f'.BR {own} ;' in page, f'.BR {name} .' in page), (True, True))
+        place.want('other names of ' + tool, re.findall(OTHER_NAMES, told.replace(own, '', 1)), [])
+        place.want('errors of ' + tool, place.command(str(prefix / 'bin' / name), '--none')[2].splitlines()[-1].split(':')[0], name)
+        examples = re.findall(r'^\.EX\n(.*?)^\.EE', page, re.M | re.S)
+        place.want('examples of ' + tool, [name in example for example in examples], [True] * len(examples))
+        plain = place.command(str(TOP / 'tools' / tool.replace('-', '_')), '--help')[1]
+        place.want('in the repository', plain.split()[1], tool.replace('-', '_'))
+    page = (prefix / 'share/man/man1/nfs3canon.1').read_text()
+    place.want('nfs3canon.1', ('tools/' in page, 'nfs3\\-from\\-pcap before.pcap' in page), (False, True))
+
+
+def commands_of_the_package(place: Place) -> None:
+    """pyproject.toml has each tool under the name under which it is installed."""
+    scripts = tomllib.loads((TOP / 'tools/pyproject.toml').read_text())['project']['scripts']
+    modules = {f'nfs3-{tool}': tool.replace('-', '_') for tool in TOOLS}
+    place.want('entry points', scripts, {name: f'nfs3tools.commands.{module}:command' for name, module in modules.items()})
+    for module in modules.values():
+        by_module = ('env', f'PYTHONPATH={TOP / "tools"}', sys.executable, '-m', f'nfs3tools.commands.{module}', '--version')
+        place.want(f'version of {module}', place.command(*by_module), (0, f'{module} {version()}\n', ''))
+
+
+# What each completion offers: an option of its own, or for the programs a word that only the launcher knows.
+OFFERED = {'nfs3canon': '--version', 'nfs3mask': '--version', 'nfs3-from-pcap': '--no-midstream', 'nfs3-where': '--filter',
+           'nfs3-verdicts': '--junit', 'nfs3-calls': '--slow', 'nfs3-procedures': '--beside', 'nfs3-compare': '--brief', 'nfs3-explain': '--no-midstream',
+           'nfs3-cut': '--origins'}
+# What is offered for the last of these words; shells offer files where this is nothing.
+OFFERED_WORDS: dict[str, list[str]] = {
+    'nfs3-compare --mask ti': ['times'], 'nfs3-compare --mask times,cookie': ['times,cookies', 'times,cookieverfs'],
+    'nfs3-compare --mask ': ['none', *BY_NAME], 'nfs3-compare --order ': ['any', 'strict'],
+    'nfs3-calls --sort ': ['latency', 'time'], 'nfs3-calls --sl': ['--slow'], 'nfs3-compare ': [], 'nfs3-where ': []}
+# Each script prints what a shell offers. The words are the name and the file or folder of completions, and in bash then the words of the
+# line; in fish they are the line alone.
+IN_BASH = r'''. "$2"; [[ $(complete -p "$1") =~ ' -F '([^ ]+) ]]; COMP_WORDS=("$1" "${@:3}"); COMP_CWORD=$(($# - 2)); compopt() { :; }
+"${BASH_REMATCH[1]}" "$1" "${COMP_WORDS[COMP_CWORD]}" "${COMP_WORDS[COMP_CWORD - 1]}"; printf '%s\n' "${COMPREPLY[@]}"'''
+IN_ZSH = """fpath=("$2" $fpath); autoload -Uz compinit; compinit -u -D; service=$1; words=("$1" --); CURRENT=2
+_arguments() { print -l -- $@ }; _describe() { print -l -- ${(P)2} }; autoload -Uz $_comps[$1]; $_comps[$1]"""
+IN_FISH = 'complete -C "$argv"'
+
+
+def completions_load(place: Place) -> None:
+    """Each shell that is there finds the completion of each program and tool by its name, and offers an option of its own."""
+    place.want('install', place.tool('install', 'prefix')[0], 0)
+    share = pathlib.Path(place.folder, 'prefix/share')
+    path = f'PATH={share.parent / "bin"}:{os.environ["PATH"]}'
+    fish = ('env', path, f'XDG_DATA_DIRS={share}', f'HOME={place.folder}', 'fish', '-c', IN_FISH)
+    for name, option in OFFERED.items():
+        file, folder = str(share / 'bash-completion/completions' / name), str(share / 'zsh/site-functions')
+        for shell, words in (('bash', ('bash', '--norc', '-c', IN_BASH, 'bash', name, file, '--')),
+                             ('zsh', ('zsh', '-f', '-c', IN_ZSH, 'zsh', name, folder)), ('fish', (*fish, name, '--'))):
+            if shutil.which(shell):
+                status, out, _ = place.command(*words)
+                offered = re.findall(r'(?<![\w-])--[a-z][a-z-]*', out)
+                place.want(f'{shell}: {name}', (status, option in offered or out), (0, True))
+    for line, offer in OFFERED_WORDS.items():
+        name, *given = line.split(' ')
+        bash = ('bash', '--norc', '-c', IN_BASH, 'bash', name, str(share / 'bash-completion/completions' / name), *given)
+        for shell, command in (('bash', bash), ('fish', (*fish, line))):
+            if shutil.which(shell) and (offer or shell == 'bash'):
+                offered = [row.split('\t')[0] for row in place.command(*command)[1].split('\n') if row]
+                place.want(f'{shell}: {line}', sorted(offered), sorted(offer))
+    for shell in filter(shutil.which, ('bash', 'zsh', 'fish')):
+        place.want('syntax: ' + shell, syntax_of(place, shell, share), [(0, '')] * 2)
+    texts = [(TOP / 'completions' / file).read_text() for file in ('nfs3canon.bash', '_nfs3canon', 'nfs3canon.fish')]
+    place.want('classes in all three', [' '.join(['none', *BY_NAME]) in text for text in texts], [True] * 3)
+    for tool in TOOLS:
+        place.want('in all three: ' + tool, [f'nfs3-{tool}' in text for text in texts], [True] * 3)
+
+
+def syntax_of(place: Place, shell: str, share: pathlib.Path) -> list[tuple[int, str]]:
+    """What a shell says of the files of both programs when it only reads them: the status and standard error of each."""
+    files = {'bash': 'bash-completion/completions/%s', 'zsh': 'zsh/site-functions/_%s', 'fish': 'fish/vendor_completions.d/%s.fish'}
+    answers = (place.command('env', f'HOME={place.folder}', shell, '-n', str(share / (files[shell] % name))) for name in PROGRAMS)
+    return [(status, error) for status, _, error in answers]
+
+
+def under_a_prefix(place: Place) -> None:
+    """Twice, since an older version is replaced."""
+    for _ in range(2):
+        status, out, error = place.tool('install', 'prefix')
+        place.want('install', (status, out, error), (0, 'installed nfs3canon %s under prefix\n' % version(), ''))
+    works(place, pathlib.Path(place.folder, 'prefix'))
+
+
+def where_nothing_can_be_written(place: Place) -> None:
+    place.write('file', b'')
+    status, out, error = place.tool('install', 'file')
+    place.want('install', (status, out, 'Traceback' in error, error.count('\n')), (3, '', False, 1))
+
+
+def found_under(folder: str) -> dict[str, tuple[int, bytes | str | None]]:
+    """Each name under a folder, with the number of its file and what it has."""
+    found = dict[str, tuple[int, bytes | str | None]]()
+    for path in sorted(pathlib.Path(folder).rglob('*')):
+        content = os.readlink(path) if path.is_symlink() else path.read_bytes() if path.is_file() else None
+        found[str(path.relative_to(folder))] = path.lstat().st_ino, content
+    return found
+
+
+def nothing_changes(place: Place, status: int, *words: str) -> None:
+    """A command ends with this status and one line, and leaves all as it was."""
+    before = found_under(place.folder)
+    found, out, error = place.command(*words)
+    place.want(' '.join(words), (found, out, error.count('\n'), 'Traceback' in error), (status, '', 1, False))
+    after = found_under(place.folder)
+    place.want('what is there', sorted(after), sorted(before))
+    place.want('what changed', [name for name in before if after.get(name) != before[name]], [])
+
+
+def without_a_program(place: Place) -> None:
+    """Where no launcher can make the programs, with a program that is mistyped, and with one that cannot be run."""
+    clone = pathlib.Path(place.folder, 'clone')
+    for name in ('tools', 'man', 'completions'):
+        shutil.copytree(TOP / name, clone / name)
+    for name in ('CHANGELOG.md', 'LICENSE-MIT', 'LICENSE-APACHE'):
+        shutil.copy(TOP / name, clone)
+    install, env = str(TOP / 'tools/install'), 'PYTHONDONTWRITEBYTECODE=1'
+    place.want('the older one', place.tool('install', 'prefix')[0], 0)
+    for prefix in ('prefix', 'new/prefix'):
+        nothing_changes(place, 2, 'env', env, str(clone / 'tools/install'), prefix)
+        nothing_changes(place, 2, install, '--program', place.program + 'n', prefix)
+        nothing_changes(place, 2, install, '--program', str(TOP / 'CHANGELOG.md'), prefix)
+
+
+def on_a_full_disk(place: Place) -> None:
+    """The old files stay whole, and no new ones are left; also if a folder has one of the names."""
+    bin_folder = pathlib.Path(place.folder, 'prefix/bin')
+    bin_folder.mkdir(parents=True)
+    for name in ('nfs3canon', 'nfs3mask', 'nfs3-where'):
+        (bin_folder / name).write_bytes(b'old')
+    install = [str(TOP / 'tools/install'), '--program', place.program]
+    for blocks, prefix in ((8, 'prefix'), (8, 'new'), (100, 'prefix')):
+        nothing_changes(place, 3, 'bash', '-c', 'ulimit -f %d; exec "$@"' % blocks, 'bash', *install, prefix)
+    (bin_folder / 'nfs3-where').unlink()
+    (bin_folder / 'nfs3-where').mkdir()
+    nothing_changes(place, 3, *install, 'prefix')
+
+
+def removed_again(place: Place) -> None:
+    """What was put under a prefix is taken away, and what was there before or was changed since is left."""
+    place.write('other', b'')
+    place.command('mkdir', '-p', 'prefix/share/man')
+    prefix = pathlib.Path(place.folder, 'prefix')
+    for _ in range(2):
+        place.want('install', place.tool('install', 'prefix')[0], 0)
+    works(place, prefix)
+    (prefix / 'bin/mine').write_bytes(b'mine')
+    changed = prefix / 'share/fish/vendor_completions.d/nfs3mask.fish'
+    changed.write_bytes(b'changed')
+    os.remove(prefix / 'share/man/man1/nfs3-where.1')
+    answer = place.command(str(TOP / 'tools/install'), '--remove', 'prefix')
+    told = 'left, since it is not as it was installed: prefix/share/fish/vendor_completions.d/nfs3mask.fish\nremoved nfs3canon from prefix\n'
+    place.want('remove', answer, (0, told, ''))
+    left = ['bin', 'bin/mine', 'share', 'share/fish', 'share/fish/vendor_completions.d', 'share/fish/vendor_completions.d/nfs3mask.fish',
+            'share/man']
+    place.want('what is left', sorted(found_under(str(prefix))), left)
+    place.want('again', place.command(str(TOP / 'tools/install'), '--remove', 'prefix'),
+               (3, '', 'install: prefix/share/nfs3canon/installed: No such file or directory\n'))
+    place.want('a new prefix', (place.tool('install', 'far/new')[0], place.command(str(TOP / 'tools/install'), '--remove', 'far/new')[0]), (0, 0))
+    place.want('its folders', os.path.exists(place.path('far')), False)
+
+
+def removed_from_elsewhere(place: Place) -> None:
+    """A list that leads out of the prefix is refused, and nothing is removed."""
+    place.write('mine', b'mine')
+    place.command('mkdir', '-p', 'prefix/share/nfs3canon')
+    for line in ('link ../mine x', 'file ../mine %s' % hashlib.sha256(b'mine').hexdigest(), 'folder ../other', 'nonsense'):
+        place.write('prefix/share/nfs3canon/installed', b'folder bin\n' + line.encode() + b'\n')
+        nothing_changes(place, 2, str(TOP / 'tools/install'), '--remove', 'prefix')
+
+
+def as_a_release(place: Place) -> None:
+    """The tar file has the layout of a prefix below one folder, its checksum is right, and it is the same when it is made again."""
+    name = 'nfs3canon-%s-linux-x86_64' % version()
+    archive = pathlib.Path(place.folder, name + '.tar.xz')
+    contents = []
+    for _ in range(2):
+        status, out, _ = place.tool('release', '.')
+        place.want('release', (status, out), (0, name + '.tar.xz\n'))
+        contents.append(archive.read_bytes())
+    place.want('made again', contents[0] == contents[1], True)
+    place.want('checksum', place.command('sha256sum', '-c', archive.name + '.sha256')[0], 0)
+    with tarfile.open(archive) as tar:
+        place.want('owners', {(member.uid, member.gid, member.mtime) for member in tar.getmembers()}, {(0, 0, 0)})
+        tar.extractall(place.folder, filter='data')
+    works(place, pathlib.Path(place.folder, name))
+
+
+UMASKS = (0o000, 0o002, 0o022, 0o027, 0o077)
+
+
+def modes_under(folder: pathlib.Path) -> set[tuple[bool, int]]:
+    """The permissions of the folders and files under a folder, and which are of folders. A link has none of its own."""
+    return {(path.is_dir(), path.stat().st_mode & 0o7777) for path in folder.rglob('*') if not path.is_symlink()}
+
+
+def under_every_umask(place: Place) -> None:
+    """A release has the same bytes, and what is installed the same permissions: folders and programs are for all, and nobody else writes."""
+    contents = set()
+    for umask in UMASKS:
+        run = ['bash', '-c', 'umask %03o; exec "$@"' % umask, 'bash']
+        for name in ('release', 'install'):
+            folder = '%s%03o' % (name, umask)
+            os.mkdir(place.path(folder))
+            status = place.command(*run, str(TOP / 'tools' / name), '--program', place.program, folder + ('/new' if name == 'install' else ''))
+            place.want(folder, (status[0], status[2]), (0, ''))
+        archive = next(pathlib.Path(place.path('release%03o' % umask)).glob('*.xz'))
+        contents.add(hashlib.sha256(archive.read_bytes()).hexdigest())
+        place.want('%03o: installed' % umask, modes_under(pathlib.Path(place.path('install%03o' % umask))),
+                   {(True, 0o755), (False, 0o755), (False, 0o644)})
+        with tarfile.open(archive) as tar:
+            members = tar.getmembers()
+        place.want('%03o: in the release' % umask, (
+            {member.mode for member in members if member.isdir()}, {member.mode for member in members if member.isfile()},
+            {member.mode for member in members if member.issym()}), ({0o755}, {0o755, 0o644}, {0o777}))
+        place.want('%03o: programs' % umask, {member.mode for member in members if '/libexec/' in member.name and member.isfile()}, {0o755})
+    place.want('bytes of a release', len(contents), 1)
+
+
+def under_a_name_that_is_no_text(place: Place) -> None:
+    """The programs refuse to run under a name that is not UTF-8, so nothing is installed there."""
+    for name in (b'\xff', b'a/\xfe/b'):
+        command = [os.fsencode(word) for word in (str(TOP / 'tools/install'), '--program', place.program)]
+        done = ended([*command, name], place.folder)
+        place.want(repr(name), (done.status, done.error.startswith(b'install: '), done.error.count(b'\n')), (2, True, 1))
+    place.want('what is there', os.listdir(place.folder), [])
+
+
+def version_of_the_launcher(place: Place) -> None:
+    for name in PROGRAMS:
+        place.want('version', place.command(str(TOP / name), '--version'), (0, '%s %s\n' % (name, version()), ''))
+
+
+TESTS: list[Callable[[Place], None]] = [under_a_prefix, named_as_installed, commands_of_the_package, completions_load, where_nothing_can_be_written,
+                                        without_a_program, on_a_full_disk, removed_again, removed_from_elsewhere, as_a_release,
+                                        under_every_umask, under_a_name_that_is_no_text,
+                                        version_of_the_launcher]
+
+
+class InstallingTest(FolderTest, make=Place, tests=TESTS):
+    """Each test has a folder of its own."""

@@ -1,0 +1,402 @@
+"""Random recordings against a small model of TCP streams: no byte is dropped without being counted,
+plain and with --follow.
+
+Of each seed some connections are made, and of each segment it is known which bytes of which stream
+it carries. Segments are lost, come late, twice or again with other boundaries, are cut or in
+fragments; ports are used again; flags, numbers and bytes that belong to nothing stand between. The
+model has, for each stream, which bytes were recorded and up to where frames show that bytes were
+sent. It knows nothing of the tools. If it has all bytes, both ways are to say `ok` and have just
+these bytes; if some are missing, or bytes were recorded that belong to nothing, neither may.
+"""
+import collections
+import concurrent.futures
+import contextlib
+import dataclasses
+import functools
+import io
+import random
+import re
+import struct
+import tempfile
+import typing
+import unittest
+
+from examples.messages import NFS, call, success
+from examples.packets import ACK, CLIENT, FIN, RST, SERVER, SYN, datagram, ethernet, segment
+
+from ..nfs3tools.commands.verdicts import Judge
+from ..nfs3tools.judgement import following
+from ..nfs3tools.judgement.verdict import Verdict, is_row
+from ..nfs3tools.recordings.selection import Options
+from ..nfs3tools.shared.places import SIDES
+from .cases import PROGRAM, in_steps, seeds
+from .recordings import fragments
+from .scripts import stream, taken_of
+
+FAR = 1 << 30
+CALL, REPLY = 44, 28  # bytes of a record of each
+LATER = ' it was judged'
+
+
+# --- What is sent ---
+
+@dataclasses.dataclass
+class Sent:
+    """A segment of a connection: which end sends which bytes of its stream, and what it says that it received.
+
+    extra: whether it belongs to nothing: its bytes are not those of the stream, or its numbers are wrong
+    lacks: how many of its last bytes are not recorded
+    """
+    side: int
+    flags: int
+    begin: int
+    content: bytes
+    acknowledged: int
+    extra: bool = False
+    lacks: int = 0
+
+    @property
+    def end(self) -> int:
+        return self.begin + len(self.content)
+
+
+@dataclasses.dataclass
+class Connection:
+    """A connection with both of its streams, and its segments as they were sent."""
+    port: int
+    first: tuple[int, int]
+    streams: tuple[bytes, bytes]
+    segments: list[Sent] = dataclasses.field(default_factory=list)
+
+    def datagram(self, sent: Sent) -> bytes:
+        """A datagram of a segment. The position -1 of a stream is that of SYN."""
+        ports = (self.port, 2049) if sent.side == 0 else (2049, self.port)
+        own, other = self.first[sent.side] + 1, self.first[1 - sent.side] + 1
+        content = segment(ports, own + sent.begin, other + sent.acknowledged if sent.flags & ACK else 0, sent.flags, sent.content)
+        return datagram(*((CLIENT, SERVER) if sent.side == 0 else (SERVER, CLIENT)), content)
+
+
+def exchanged(chance: random.Random, made: Connection) -> None:
+    """The segments of a connection, from its SYN to its end."""
+    sent, add = [0, 0], made.segments.append
+    add(Sent(0, SYN, -1, b'', 0))
+    add(Sent(1, SYN | ACK, -1, b'', 0))
+    add(Sent(0, ACK, 0, b'', 0))
+    ends = [len(content) for content in made.streams]
+    while sent != ends:
+        answered = sent[0] // CALL * REPLY  # the replies of all calls that were sent
+        side = chance.randrange(2) if sent[1] < answered and sent[0] < ends[0] else int(sent[1] < answered)
+        size = chance.choice((1, 7, 28, 44, 60, 200))
+        content = made.streams[side][sent[side]:min(sent[side] + size, (ends[0], answered)[side])]
+        add(Sent(side, ACK, sent[side], content, sent[1 - side]))
+        sent[side] += len(content)
+        if chance.random() < 0.2:
+            add(Sent(1 - side, ACK, sent[1 - side], b'', sent[side]))
+        if chance.random() < 0.1:
+            add(sent_again(chance, made, side, sent))
+    add_end(chance, made, sent)
+
+
+def sent_again(chance: random.Random, made: Connection, side: int, sent: list[int]) -> Sent:
+    """Bytes that were sent before, with other boundaries."""
+    begin = chance.randrange(max(0, sent[side] - 300), sent[side])
+    return Sent(side, ACK, begin, made.streams[side][begin:min(sent[side], begin + chance.randrange(1, 300))], sent[1 - side])
+
+
+def add_end(chance: random.Random, made: Connection, sent: list[int]) -> None:
+    """FIN of both ends, RST of one, FIN of one, or nothing."""
+    how, add = chance.choice(('fin', 'fin', 'fin', 'rst', 'half', 'open')), made.segments.append
+    first = chance.randrange(2)
+    if how in ('fin', 'half'):
+        add(Sent(first, FIN | ACK, sent[first], b'', sent[1 - first]))
+        add(Sent(1 - first, ACK, sent[1 - first], b'', sent[first] + 1))
+    if how == 'fin':
+        add(Sent(1 - first, FIN | ACK, sent[1 - first], b'', sent[first] + 1))
+        add(Sent(first, ACK, sent[first] + 1, b'', sent[1 - first] + 1))
+    if how == 'rst':
+        add(Sent(first, RST | ACK, sent[first], chance.choice((b'', b'a reason in words')), sent[1 - first]))
+
+
+# --- What is recorded ---
+
+class Recorded(typing.NamedTuple):
+    """A frame: its bytes on the wire, how many of them are kept, and of which segment it is which fragment of how many."""
+    frame: bytes
+    kept: int
+    connection: Connection
+    sent: Sent
+    part: int
+    parts: int
+
+
+class Make:
+    """Makes a recording by chance."""
+
+    def __init__(self, seed: int) -> None:
+        self.chance = random.Random(seed)
+        chance = self.chance
+        self.lost, self.late, self.twice, self.cut, self.split, self.odd = (
+            chance.choice(rates) for rates in ((0, 0, 0, 0.01, 0.05), (0, 0, 0.02, 0.2), (0, 0, 0.1), (0, 0, 0, 0.01), (0, 0, 0.1),
+                                               (0, 0, 0.005, 0.02)))
+        self.connections: list[Connection] = []
+
+    def streams(self, first_xid: int) -> tuple[bytes, bytes]:
+        """The streams of some calls and their replies."""
+        xids = range(first_xid, first_xid + self.chance.choice((1, 2, 5, 20)))
+        return stream(call(xid, NFS, 3, 0) for xid in xids), stream(success(xid) for xid in xids)
+
+    def connection(self, port: int) -> Connection:
+        """A connection with what belongs to nothing among its segments."""
+        chance = self.chance
+        first = self.numbers()
+        while any(abs(first[0] - other.first[0]) < FAR // 2 for other in self.connections if other.port == port):
+            first = self.numbers()
+        made = Connection(port, first, self.streams(1_000 * len(self.connections) + 1))
+        self.connections.append(made)
+        exchanged(chance, made)
+        for at in range(len(made.segments) - 1, 3, -1):
+            if chance.random() < self.odd:
+                made.segments.insert(at, self.odd_one(made, made.segments[at - 1]))
+        return made
+
+    def numbers(self) -> tuple[int, int]:
+        near_the_end = (1 << 32) - self.chance.randrange(400)
+        return self.chance.choice((self.chance.randrange(1 << 32), near_the_end)), self.chance.randrange(1 << 32)
+
+    def odd_one(self, made: Connection, last: Sent) -> Sent:
+        """A segment that belongs to nothing, after another."""
+        chance, side = self.chance, self.chance.randrange(2)
+        end, other = (max((one.end for one in made.segments[:made.segments.index(last)] if one.side == at and one.content and not one.extra),
+                          default=0) for at in (side, 1 - side))
+        match chance.choice(('syn', 'syn-ack', 'rst', 'fin', 'ack', 'far', 'other', 'before')):
+            case 'syn':
+                return Sent(side, SYN, end + chance.choice((FAR, -FAR, 50_000)), b'', 0, True)
+            case 'syn-ack':
+                return Sent(side, SYN | ACK, end + chance.choice((FAR, -FAR, 50_000)), b'', other, True)
+            case 'rst':
+                return Sent(side, RST, end + chance.choice((FAR, -FAR)), b'', 0, True)
+            case 'fin':
+                return Sent(side, FIN | ACK, max(0, end - chance.choice((0, 0, 30))), b'', other, True)
+            case 'ack':
+                return Sent(side, ACK, end, b'', other + FAR, True)
+            case 'far':
+                return Sent(side, ACK, end + chance.randrange(1 << 32), b'belongs to nothing', other, True)
+            case 'other':
+                begin = max(0, end - 20)  # one byte alone may be that of a keep-alive
+                return Sent(side, ACK, begin, bytes(255 - byte for byte in made.streams[side][begin:max(end, begin + 2)]), other, True)
+            case _:
+                return Sent(side, ACK, -30, b'before the first', other, True)
+
+    def recorded(self) -> list[Recorded]:
+        """The frames of all connections, as they are recorded."""
+        chance, turns = self.chance, list[list[Recorded]]()
+        for number in range(chance.choice((1, 1, 2, 3))):
+            made = self.connection(700 + number)
+            turns.append(self.frames_of(made))
+            if chance.random() < 0.2 and made.segments[-1].flags & (FIN | RST):
+                turns[-1] += self.frames_of(self.connection(700 + number))
+        frames = list[Recorded]()
+        while turns := [turn for turn in turns if turn]:
+            turn, size = chance.choice(turns), chance.choice((1, 3, 10))
+            frames += turn[:size]
+            del turn[:size]
+        frames = self.disturbed(frames)
+        if chance.random() < 0.1:
+            return frames[chance.randrange(len(frames)):]
+        return frames[:chance.randrange(1, len(frames) + 1)] if chance.random() < 0.1 else frames
+
+    def frames_of(self, made: Connection) -> list[Recorded]:
+        """The frames of a connection. Some segments are in fragments, and some frames are not kept as wholes."""
+        chance, frames = self.chance, list[Recorded]()
+        for number, sent in enumerate(made.segments):
+            content = made.datagram(sent)
+            pieces = [content]
+            if chance.random() < self.split and len(content) > 40:
+                pieces = fragments(content, chance.choice((24, 32, 64)), chance.randrange(1 << 16))
+            for at, piece in enumerate(pieces):
+                frame, is_cut = ethernet(piece), chance.random() < self.cut and len(sent.content) > 4 and len(pieces) == 1
+                sent.lacks = 4 if is_cut else 0
+                frames.append(Recorded(frame, len(frame) - 4 * is_cut, made, sent, at, len(pieces)))
+        return frames
+
+    def disturbed(self, frames: list[Recorded]) -> list[Recorded]:
+        """Loses frames, and has some come later or twice."""
+        chance, left = self.chance, list[tuple[float, Recorded]]()
+        for number, frame in enumerate(frames):
+            if chance.random() >= self.lost:
+                left.append((number + (chance.choice((1.5, 2.5, 5.5, 30.5)) if chance.random() < self.late else 0), frame))
+                left += [(number + chance.choice((0.5, 1.5, 5.5)), frame)] if chance.random() < self.twice else []
+        return [frame for _, frame in sorted(left, key=lambda one: one[0])]
+
+
+def pcap_of(frames: list[Recorded]) -> bytes:
+    header = struct.pack('<IHHiIII', 0xa1b2c3d4, 2, 4, 0, 0, 65_535, 1)
+    return header + b''.join(struct.pack('<4I', 1, number, one.kept, len(one.frame)) + one.frame[:one.kept]
+                             for number, one in enumerate(frames))
+
+
+# --- The model ---
+
+class Whole(typing.NamedTuple):
+    """What the model says of the connections of one pair of ends: whether all bytes are there, `None` if that cannot be told from the
+    frames alone; and how many connections have bytes."""
+    is_whole: bool | None
+    with_bytes: int
+
+
+class Side:
+    """One stream: which bytes were recorded, and up to where frames show that bytes were sent."""
+
+    def __init__(self, size: int) -> None:
+        self.there, self.shown = bytearray(size), 0
+
+    def add(self, begin: int, size: int) -> None:
+        self.there[begin:begin + size] = b'\1' * size
+        self.shown = max(self.shown, begin + size)
+
+    @property
+    def is_whole(self) -> bool:
+        return all(self.there[:self.shown])
+
+
+class Model:
+    """Takes the frames of one connection."""
+
+    def __init__(self, connection: Connection, counts: dict[int, int]) -> None:
+        self.connection, self.counts = connection, counts  # how many fragments each segment has
+        self.sides = [Side(len(content)) for content in connection.streams]
+        self.parts: dict[int, set[int]] = collections.defaultdict(set)
+        self.seen = set[str]()
+        self.closed = [False, False]  # by FIN or RST of its own
+        self.is_odd = self.is_unsure = self.begins_inside = False
+
+    def take(self, one: Recorded) -> None:
+        sent, parts = one.sent, self.parts[id(one.sent)]
+        if one.part in parts:
+            return
+        parts.add(one.part)
+        if len(parts) < one.parts:
+            return
+        if sent.extra:
+            is_far, is_known = sent.acknowledged >= FAR, bool(self.seen or self.sides[1 - sent.side].shown)
+            self.is_odd |= bool(sent.content) or is_far and is_known
+            self.is_unsure |= bool(sent.flags & FIN) or is_far
+            return
+        own, other = self.sides[sent.side], self.sides[1 - sent.side]
+        self.begins_inside |= not self.seen and not sent.flags & SYN
+        if sent.flags & SYN:
+            self.seen.add('syn-ack' if sent.flags & ACK else 'syn')
+        if sent.content and not sent.flags & RST:
+            self.is_unsure |= not self.seen and sent.begin > 0 and not any(own.there)  # SYN and the first bytes may come late
+            own.add(sent.begin, len(sent.content) - sent.lacks)
+        own.shown = max(own.shown, min(sent.end if not sent.flags & RST else sent.begin, len(own.there)))
+        if sent.flags & ACK:
+            other.shown = max(other.shown, min(sent.acknowledged, len(other.there)))
+        self.closed[sent.side] |= bool(sent.flags & (FIN | RST))
+
+    def whole(self) -> bool | None:
+        """Whether all bytes are there. A record that is not whole at the end of a recording is missing, too."""
+        if not any(side.shown for side in self.sides):
+            return None if self.is_odd else True
+        if self.is_odd or not all(side.is_whole for side in self.sides):
+            return False
+        if any(side.shown % size for side, size in zip(self.sides, (CALL, REPLY))) or not self.seen:
+            return False
+        if any(len(parts) < self.counts[number] for number, parts in self.parts.items()):
+            return None
+        return None if self.is_unsure or 'syn-ack' not in self.seen else True
+
+
+
+def modelled(connections: list[Connection], frames: list[Recorded]) -> dict[int, Whole]:
+    """What the model says, by the client's port."""
+    counts = {id(one.sent): one.parts for one in frames}
+    models = {id(connection): Model(connection, counts) for connection in connections}
+    for one in frames:
+        models[id(one.connection)].take(one)
+    found = dict[int, Whole]()
+    for port in {connection.port for connection in connections}:
+        several = [models[id(connection)] for connection in connections if connection.port == port]
+        said = [model.whole() for model in several]
+        said += [None] * any(model.begins_inside for model in several[1:])
+        is_whole = False if False in said else None if None in said else True
+        found[port] = Whole(is_whole, sum(any(side.shown for side in model.sides) for model in several))
+    return found
+
+
+# --- What the tools say ---
+
+def followed(program: str, recording: bytes) -> list[Verdict]:
+    said = list[Verdict]()
+    one = following.Following('-', program, Options(), said.append)
+    with contextlib.closing(one.connections.spool):
+        following.take_all(one, typing.cast(following.Growing, io.BytesIO(recording)))
+    return said
+
+
+def plain(program: str, recording: bytes) -> list[Verdict]:
+    with tempfile.NamedTemporaryFile(prefix='nfs3canon') as file:
+        file.write(recording)
+        file.flush()
+        return Judge(program, Options(), 1, False).verdicts(file.name)
+
+
+def rows_of(verdicts: list[Verdict], port: int) -> list[Verdict]:
+    """The rows of the connections of a port."""
+    return [verdict for verdict in verdicts if is_row(verdict) and verdict.state != 'error'
+            and (re.search(fr':{port}\b', verdict.message) or verdict.client.endswith(f':{port}') or verdict.server.endswith(f':{port}'))]
+
+
+def contents(recording: bytes, port: int) -> list[tuple[bytes, bytes]]:
+    """The streams that are taken of the connections of a port."""
+    with taken_of(recording) as taken:
+        client, server = SIDES
+        return [(one.stream(client).read(0, 1 << 20), one.stream(server).read(0, 1 << 20)) for one in taken.connections
+                if one.client_end.endswith(f':{port}')]
+
+
+def wrong_of_port(port: int, whole: Whole, made: Make, recording: bytes, said: dict[str, list[Verdict]]) -> list[str]:
+    """What is wrong with what is said of the connections of a port."""
+    wrong = []
+    for how, verdicts in said.items():
+        rows = rows_of(verdicts, port)
+        is_good = all(row.state == 'ok' for row in rows) and len(rows) == whole.with_bytes
+        is_part = any(row.state == 'in part' and not row.client and 'fragments' in row.message for row in verdicts)
+        if whole.is_whole is not None and is_good is not whole.is_whole and not (is_part and not whole.is_whole):
+            wrong.append(f'{how}, port {port}: {whole}, but {[(row.state, row.message) for row in rows]}')
+        if is_good and how == 'plain':
+            wanted = [one.streams for one in made.connections if one.port == port]
+            found = contents(recording, port)
+            if not all(any(client.startswith(one) and server.startswith(two) for client, server in wanted) for one, two in found):
+                wrong.append(f'{how}, port {port}: other bytes')
+    rows = [sorted((row.state, row.message) for row in rows_of(verdicts, port)) for verdicts in said.values()]
+    is_early = any(row.message.endswith(LATER) for row in rows_of(said['followed'], port)) or any(
+        row.state == 'refused' for verdicts in said.values() for row in rows_of(verdicts, port))
+    if rows[0] != rows[1] and not is_early:
+        wrong.append(f'port {port}: plain {rows[0]}, followed {rows[1]}')
+    return wrong
+
+
+def wrong_of_seed(program: str, seed: int) -> list[str]:
+    made = Make(seed)
+    frames = made.recorded()
+    recording = pcap_of(frames)
+    said = {'plain': plain(program, recording), 'followed': followed(program, recording)}
+    return [f'seed {seed}: {wrong}' for port, whole in modelled(made.connections, frames).items()
+            for wrong in wrong_of_port(port, whole, made, recording, said)]
+
+
+def of_seeds(program: str, seeds: range) -> list[str]:
+    return [wrong for seed in seeds for wrong in wrong_of_seed(program, seed)]
+
+
+class ShuffledTest(unittest.TestCase):
+    """Processes side by side each have some of the seeds."""
+
+    def test_seeds(self) -> None:
+        """Both ways say what the model says."""
+        steps = in_steps(seeds(5_000))
+        with concurrent.futures.ProcessPoolExecutor() as pool:
+            for step, wrong in zip(steps, pool.map(functools.partial(of_seeds, PROGRAM), steps)):
+                with self.subTest(seeds=step):
+                    self.assertEqual(wrong, [])
