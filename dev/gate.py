@@ -5,13 +5,13 @@
 
 Three things go on side by side:
 
-- `rt ci` over a copy of the crates that has no edits and not the crates that only test;
-- the tests of those crates by `rt try --test`, which builds them with checks and proves nothing;
+- `rt ci` over a copy of the crates that has no edits and not the crate of tests;
+- the tests of that crate by `rt try --test`, which builds it with checks and proves nothing;
 - the edits of each crate (dev/edits.py), once the libraries below it are proved.
 
 Once the programs are proved they are compared with those in dist/, and the tests run on them, side by side.
 
---anew takes nothing from earlier runs. --alone has `rt ci` try the tree as it is: it proves the crates that only test as
+--anew takes nothing from earlier runs. --alone has `rt ci` try the tree as it is: it proves the crate of tests as
 well, and tries each edit in a check of its own. That takes about twice as long. The last line is 'N passed, M failed'.
 """
 import argparse
@@ -31,9 +31,9 @@ import edits
 import kit
 
 TOP = Path(__file__).resolve().parent.parent
-# Crates of tests, whose proofs say only that a test is safe and ends. memory_tests is proved, since
+# The crate of tests, whose proofs say only that a test is safe and ends. memory_tests is proved, since
 # tests/faults/memory.py runs what is built of it.
-TRIED = ('message_tests', 'capture_tests', 'command_tests', 'mask_tests', 'program_tests')
+TRIED = 'tests'
 # What the tests of tests/ run, by crates.
 BUILT = {'nfs3canon': 'nfs3canon', 'nfs3mask': 'nfs3mask', 'memory_tests': 'memory_tests_tests'}
 # The scripts of tests/ by their rooms, in the order in which they begin.
@@ -109,14 +109,19 @@ def say(text: str) -> None:
     print(f'{time.strftime("%H:%M:%S")} {text}', flush=True)
 
 
+def not_copied(folder: str, names: list[str]) -> set[str]:
+    """Returns which names of a folder are not copied. A folder below a crate may have the name of the crate of tests."""
+    return {'must-fail', 'out', *([TRIED] if Path(folder) == TOP / 'crates' else [])} & set(names)
+
+
 def copied(room: Path) -> Path:
     """Copies the crates that are proved, without edits. `rt ci` wants the top of a repository."""
     top = room / 'repository'
     (top / '.git').mkdir(parents=True)
     shutil.copy(TOP / 'HANDLES', top)
     lines = (TOP / 'crates.txt').read_text().splitlines(keepends=True)
-    (top / 'crates.txt').write_text(''.join(line for line in lines if line.split(':')[0].split(' ')[0] not in TRIED))
-    shutil.copytree(TOP / 'crates', top / 'crates', ignore=shutil.ignore_patterns('must-fail', 'out', *TRIED))
+    (top / 'crates.txt').write_text(''.join(line for line in lines if line.split(':')[0].split(' ')[0] != TRIED))
+    shutil.copytree(TOP / 'crates', top / 'crates', ignore=not_copied)
     return top
 
 
@@ -140,15 +145,15 @@ def counted(words: list[str], folder: Path, count: Count, look: Callable[[str], 
     return failed == 0
 
 
-def tries_of_tests(name: str, count: Count, memory: Memory) -> None:
-    """Runs the tests of a crate that only tests, with checks and no proof."""
+def tries_of_tests(count: Count, memory: Memory) -> None:
+    """Runs the tests of the crate of tests, with checks and no proof."""
     memory.wait()
-    said = ''.join(lines_of(['rt', 'try', name, '--test'], TOP / 'crates' / name, dict(os.environ)))
+    said = ''.join(lines_of(['rt', 'try', TRIED, '--test'], TOP / 'crates' / TRIED, dict(os.environ)))
     found = TRIED_COUNTS.search(said)
     passed, failed = (int(found[1]), int(found[2])) if found else (0, 1)
     if failed or not passed:
         print(said, flush=True)
-    say(f'{name}: {passed} passed, {failed} failed, by rt try')
+    say(f'{TRIED}: {passed} passed, {failed} failed, by rt try')
     count.add(passed, failed or int(not passed))
 
 
@@ -219,12 +224,12 @@ def tested(count: Count) -> bool:
 
 
 def together(is_anew: bool, count: Count) -> bool:
-    """Proves, and beside it tries the edits and the tests of crates. Then tests the programs. Returns whether all was done."""
+    """Proves, and beside it tries the edits and the crate of tests. Then tests the programs. Returns whether all was done."""
     board, memory = Board(), Memory()
     with tempfile.TemporaryDirectory(prefix='nfs3canon-gate') as room, \
             ThreadPoolExecutor(kit.processors(), initializer=os.nice, initargs=(10,)) as pool:
         top = copied(Path(room))
-        tasks: list[Future[None]] = [pool.submit(tries_of_tests, name, count, memory) for name in TRIED]
+        tasks: list[Future[None]] = [pool.submit(tries_of_tests, count, memory)]
         tasks += [pool.submit(tries_of_edits, tries, number, board, count, memory)
                   for tries, number in checks_of_edits(top, is_anew, count)]
         is_well = proved(top, is_anew, board, count)

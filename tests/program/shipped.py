@@ -129,7 +129,7 @@ def a_changed_source(clone: Clone) -> None:
 
 def a_source_that_plays_no_part(clone: Clone) -> None:
     """Test crates and pages are not what the programs are made of."""
-    clone.change('crates/message_tests/src/lib.rt')
+    clone.change('crates/tests/src/lib.rt')
     clone.change('README.md')
     clone.want('check', clone.command('./nfs3canon', 'check', 'examples/null.nfs3cap'), (0, NULL, ''))
 

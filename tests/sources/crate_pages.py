@@ -14,7 +14,7 @@ NAME = re.compile(r'`([\w/.]+)`')
 def libraries() -> list[str]:
     lines = (TOP / 'crates.txt').read_text().splitlines()
     names = [line.partition(':')[0] for line in lines if line and not line.startswith('#')]
-    return [name for name in names if not name.endswith('_tests') and (CRATES / name / 'src/lib.rt').exists()]
+    return [name for name in names if not name.endswith('tests') and (CRATES / name / 'src/lib.rt').exists()]
 
 
 def page(crate: str) -> str:

@@ -56,10 +56,10 @@ def tool() -> ModuleType:
 
 
 def libraries() -> list[str]:
-    """Returns the crates without those of tests, which have no public call."""
+    """Returns the crates without `tests` and `memory_tests`, which have no public call."""
     lines = (TOP / 'crates.txt').read_text().splitlines()
     names = [line.partition(':')[0] for line in lines if line and not line.startswith('#')]
-    return [name for name in names if not name.endswith('_tests')]
+    return [name for name in names if not name.endswith('tests')]
 
 
 def exported_by(crate: str) -> Exported:

@@ -1,0 +1,4 @@
+//! Masked forms, and the command lines that ask for them.
+
+mod forms;
+mod lines;
