@@ -14,7 +14,22 @@ pub(crate) const NULL: [u8; 104] = [
     0, 0,
 ];
 
-/// The same streams in version 2, each one chunk, the client's first.
+/// The client's stream of `NULL`, one record.
+pub(crate) fn client_stream() -> &'static [u8] {
+    &NULL[16..60]
+}
+
+/// The body of its call.
+pub(crate) fn null_call() -> &'static [u8] {
+    &NULL[20..60]
+}
+
+/// The server's stream of `NULL`, one record.
+pub(crate) fn server_stream() -> &'static [u8] {
+    &NULL[68..96]
+}
+
+/// The streams of `NULL` in version 2, each one chunk, the client's first.
 pub(crate) const CLIENT_FIRST: [u8; 108] = [
     0x4e, 0x46, 0x53, 0x33, 0x43, 0x41, 0x50, 0x32, 0, 0, 0, 1, 0, 0, 0, 1, 0, 0, 0, 0x2c, 0x80, 0,
     0, 0x28, 0xde, 0xad, 0xbe, 0xef, 0, 0, 0, 0, 0, 0, 0, 2, 0, 1, 0x86, 0xa3, 0, 0, 0, 3, 0, 0, 0,

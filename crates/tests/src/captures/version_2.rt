@@ -1,4 +1,4 @@
-//! Captures of version 2: the chunks of both sides in one list, and no record of a connection is judged before its side word 0.
+//! Captures of version 2: the chunks of both sides in one list, and no record of a connection is checked before its side word 0.
 
 use crate::asserts::{assert_holds, assert_same, ok};
 use crate::captures::readers::{

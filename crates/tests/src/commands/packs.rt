@@ -4,24 +4,13 @@ ghost use Rattle.std.specs.Prelude.{◌<◌, false, None};
 
 use crate::asserts::{assert_holds, assert_same, ok, some};
 use crate::faults::file_fault;
-use crate::samples::NULL;
+use crate::samples::{NULL, client_stream, server_stream};
 use canon3::{MemSink, Sink};
 use capture3::{DeviceFailed, Error, MemSource, Source};
 use packing3::Packing;
 use std::alloc::{AllocError, Global};
 use std::process::Abort;
 use xdr3::Reason;
-
-// The client stream of a call of NULL, and the server stream of its reply.
-const CALL: [u8; 44] = [
-    0x80, 0, 0, 0x28, 0xde, 0xad, 0xbe, 0xef, 0, 0, 0, 0, 0, 0, 0, 2, 0, 1, 0x86, 0xa3, 0, 0, 0, 3,
-    0, 0, 0, 0, 0, 0, 0, 0, 0, 0, 0, 0, 0, 0, 0, 0, 0, 0, 0, 0,
-];
-
-const REPLY: [u8; 28] = [
-    0x80, 0, 0, 0x18, 0xde, 0xad, 0xbe, 0xef, 0, 0, 0, 1, 0, 0, 0, 0, 0, 0, 0, 0, 0, 0, 0, 0, 0, 0,
-    0, 0,
-];
 
 // Into so much room, where the write or flush with this number fails.
 fn packing(rt: &impl Abort, alloc: Global, room: usize, fail: u64) -> Packing<MemSink> {
@@ -59,7 +48,10 @@ fn two_empty_streams(rt: HostRuntime) {
 fn a_call_and_its_reply(rt: HostRuntime) {
     for block in [1, 3, 99] {
         let mut packing = packing(&rt, rt.alloc(), 999, 0);
-        ok(&rt, add(&mut packing, &CALL, &REPLY, block));
+        ok(
+            &rt,
+            add(&mut packing, client_stream(), server_stream(), block),
+        );
         ok(&rt, packing.finish());
         assert_same!(rt; packing.sink().bytes(), NULL.as_slice());
     }
@@ -106,8 +98,8 @@ fn is_over(
     answer: Result<(), Error>,
 ) {
     let written = ok(rt, packing.sink().bytes().to_vec(alloc));
-    let mut client = MemSource::new(&CALL, 9, 0);
-    let mut server = MemSource::new(&REPLY, 9, 0);
+    let mut client = MemSource::new(client_stream(), 9, 0);
+    let mut server = MemSource::new(server_stream(), 9, 0);
     assert_same!(*rt; packing.add(&mut client, &mut server), answer);
     assert_same!(*rt; packing.finish(), answer);
     assert_same!(*rt; packing.sink().bytes(), written.as_slice());
@@ -119,7 +111,7 @@ fn is_over(
 #[test]
 fn finished(rt: HostRuntime) {
     let mut packing = packing(&rt, rt.alloc(), 999, 0);
-    ok(&rt, add(&mut packing, &CALL, &REPLY, 9));
+    ok(&rt, add(&mut packing, client_stream(), server_stream(), 9));
     ok(&rt, packing.finish());
     assert_same!(rt; packing.sink().bytes(), NULL.as_slice());
     is_over(&rt, rt.alloc(), &mut packing, Ok(()));
@@ -131,8 +123,8 @@ fn finished(rt: HostRuntime) {
 fn a_read_fails_at_each_call(rt: HostRuntime) {
     for fail in 1..8u64 {
         let mut packing = packing(&rt, rt.alloc(), 999, 0);
-        let mut client = MemSource::new(&CALL, 15, fail);
-        let mut server = MemSource::new(&REPLY, 15, fail.saturating_sub(4));
+        let mut client = MemSource::new(client_stream(), 15, fail);
+        let mut server = MemSource::new(server_stream(), 15, fail.saturating_sub(4));
         assert_same!(rt; packing.add(&mut client, &mut server), Err(Error::Read));
         let wanted = if fail < 5 { 12 } else { 64 };
         assert_same!(rt; packing.sink().bytes(), &NULL[..wanted]);
@@ -142,7 +134,7 @@ fn a_read_fails_at_each_call(rt: HostRuntime) {
 
 // One pair, and the end.
 fn packed(packing: &mut Packing<MemSink>) -> Result<(), Error> {
-    add(packing, &CALL, &REPLY, 99)?;
+    add(packing, client_stream(), server_stream(), 99)?;
     packing.finish()
 }
 
@@ -222,7 +214,7 @@ fn one_connection_too_many(rt: HostRuntime) {
         ok(&rt, add(&mut packing, &[], &[], 1));
     }
     let result = Err(file_fault(786_428, Reason::TooManyConnections));
-    assert_same!(rt; add(&mut packing, &CALL, &REPLY, 9), result);
+    assert_same!(rt; add(&mut packing, client_stream(), server_stream(), 9), result);
     assert_same!(rt; packing.sink().bytes().len(), 786_428);
     is_over(&rt, rt.alloc(), &mut packing, result);
 }

@@ -1,4 +1,4 @@
-//! Arguments and results spelled by hand from RFC 1813, sections 3.3 and 5.2: what a visitor is told of them, and why they are refused.
+//! Arguments and results spelled by hand from RFC 1813, sections 3.3 and 5.2: the items passed to a visitor, and refusals.
 
 ghost use Rattle.std.specs.Prelude.{◌≤◌, length};
 
