@@ -103,9 +103,8 @@ def line_of(kept: Kept, begun: int) -> TimeLine:
         return TimeLine((), 0, len(kept), untimed=untimed)
     end = max(kept.times) - begun
     errors = [at for at in timed if kept.exchange(at).is_error]
-    chosen = set(timed)
-    if len(timed) > DOTS_AT_MOST:
-        chosen = {*errors[:ERRORS_AT_MOST], *slowest(kept, timed, begun, end)}
+    chosen = set(timed) if len(timed) <= DOTS_AT_MOST else {
+        *errors[:ERRORS_AT_MOST], *slowest(kept, timed, begun, end)}
     dots = [dot_of(kept.exchange(at), begun) for at in sorted(chosen)]
     return TimeLine(dots, end, len(kept), sum(at not in chosen for at in errors), untimed)
 

@@ -77,12 +77,12 @@ article.here, article:target, .row:target { outline: 2px solid var(--here); outl
 .counts .part { color: var(--part) }
 .counts .minus { color: var(--minus) }
 .wide { overflow-x: auto; margin: 8px 0 }
-.wide td, .wide th { overflow-wrap: normal; white-space: nowrap; padding: 3px 8px }
-.wide td:last-child { white-space: normal; min-width: 24em }
+.wide td, .wide th { overflow-wrap: normal; white-space: nowrap; padding: 3px 6px; font-size: 13px }
+.wide td:last-child { white-space: normal; min-width: 20em }
 .wide td:first-child, .wide th:first-child { position: sticky; left: 0; background: Canvas }
 .cards td { overflow-wrap: anywhere }
 td.minus a { color: var(--minus) }
-pre { overflow-x: auto; font-size: 13px; margin: 6px 0; line-height: 1.4 }
+pre { overflow-x: auto; font-size: 13px; margin: 6px 0; line-height: 1.4; white-space: pre-wrap }
 .line { display: block; width: calc(100% - 84px); margin: 10px 20px 0 64px; overflow: visible; font-size: 12px }
 .line text { fill: var(--quiet) }
 .line line { stroke: var(--line) }
@@ -118,6 +118,7 @@ details ol { margin: 6px 0; padding-left: 3.5em }
   dd { margin-bottom: 6px }
   .fields, .row h4, .row .change, .row .head { margin-left: 4px }
   details ol { padding-left: 2.5em }
+  pre { white-space: pre }
   .cards thead { display: none }
   .cards table, .cards tbody { display: block }
   .cards tr { display: flex; flex-wrap: wrap; gap: 0 14px; border: 1px solid var(--line); border-radius: 6px; margin: 6px 0; padding: 4px 10px }
