@@ -912,14 +912,7 @@ def without_scripts(place: Pages) -> None:
     with place.browser() as browser:
         place.page(*CONCURRENT[::2])
         browser.open(place.path('page.html'), has_scripts=False)
-        root = browser.ask('DOM.getDocument')['root']['nodeId']
-        def is_shown(selector: str) -> bool:
-            node = browser.ask('DOM.querySelector', nodeId=root, selector=selector)['nodeId']
-            try:
-                return bool(browser.ask('DOM.getBoxModel', nodeId=node)['model']['height'])
-            except RuntimeError:
-                return False
-        place.want('shown', [is_shown(one) for one in ('h1', '.about', 'article', '.filter', '.row', '.gap', '.bar', '.copy')],
+        place.want('shown', [browser.is_shown(one) for one in ('h1', '.about', 'article', '.filter', '.row', '.gap', '.bar', '.copy')],
                    [True] * 6 + [False] * 2)
 
 

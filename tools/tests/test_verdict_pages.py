@@ -381,15 +381,7 @@ def without_scripts(tools: Written) -> None:
     with tools.browser() as browser:
         tools.page('verdicts', FIRST, *BAD)
         browser.open(tools.path('page.html'), has_scripts=False)
-        root = browser.ask('DOM.getDocument')['root']['nodeId']
-
-        def is_shown(selector: str) -> bool:
-            node = browser.ask('DOM.querySelector', nodeId=root, selector=selector)['nodeId']
-            try:
-                return bool(browser.ask('DOM.getBoxModel', nodeId=node)['model']['height'])
-            except RuntimeError:
-                return False
-        tools.want('shown', [is_shown(one) for one in ('h1', '.counts', 'table', 'article', 'pre', '.filter', '.line', '.bar', '.copy')],
+        tools.want('shown', [browser.is_shown(one) for one in ('h1', '.counts', 'table', 'article', 'pre', '.filter', '.line', '.bar', '.copy')],
                    [True] * 7 + [False] * 2)
 
 

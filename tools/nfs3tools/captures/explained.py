@@ -17,16 +17,26 @@ LINES_AROUND = 8  # of 16 bytes, before and after the byte of a long record
 SHOWN_AT_MOST = 100  # bytes of an item
 Tell = Callable[[str], object]
 
+# What reasons of the program mean.
 REASONS = {
-    'BadMagic': 'a capture begins with NFS3CAP1 or NFS3CAP2', 'CaptureCut': 'the file ends before it is complete',
-    'BadMark': 'a connection word is 0 or 1, and of version 2 a side word 0, 1 or 2, and a length word at least 1',
+    'BadMagic': 'a capture begins with NFS3CAP1 or NFS3CAP2',
+    'CaptureCut': 'the file ends before it is complete',
+    'BadMark': 'a connection word is 0 or 1, and of version 2 a side word 0, 1 or 2, '
+        'and a length word at least 1',
     'AfterEnd': 'nothing stands after the last word 0',
-    'TooManyConnections': 'there are at most 65,535', 'TooManyBytes': 'all streams together have at most 1,073,741,824 bytes',
-    'RecordCut': 'the stream ends in this record', 'RecordTooLong': 'the body of a record has at most 16,777,216 bytes',
-    'Short': 'the body ends before this item is whole', 'Trailing': 'the message ends before this byte, and the body does not',
-    'BadBool': 'a bool is 0 or 1', 'BadEnum': 'this value is not listed', 'TooLong': 'the length or count is over its maximum',
-    'RpcVersion': 'the RPC version is 2', 'Flavor': 'other flavors are not taken, as that of RPCSEC_GSS, which is 6',
-    'AuthLength': 'the length is not that of the parameters', 'WrongSide': 'calls are the client\'s, and replies the server\'s',
+    'TooManyConnections': 'there are at most 65,535',
+    'TooManyBytes': 'all streams together have at most 1,073,741,824 bytes',
+    'RecordCut': 'the stream ends in this record',
+    'RecordTooLong': 'the body of a record has at most 16,777,216 bytes',
+    'Short': 'the body ends before this item is whole',
+    'Trailing': 'the message ends before this byte, and the body does not',
+    'BadBool': 'a bool is 0 or 1',
+    'BadEnum': 'this value is not listed',
+    'TooLong': 'the length or count is over its maximum',
+    'RpcVersion': 'the RPC version is 2',
+    'Flavor': 'other flavors are not taken, as that of RPCSEC_GSS, which is 6',
+    'AuthLength': 'the length is not that of the parameters',
+    'WrongSide': "calls are the client's, and replies the server's",
     'NoCall': 'no call of the connection has this xid, perhaps since its call was not recorded',
     'XidConflict': 'an earlier call of the connection has this xid and another procedure'}
 
@@ -42,7 +52,8 @@ def tell_record(found: Found, place: Place, reason: str | None, tell: Tell) -> N
     begin, end = tell_item(found.body, is_call, procedure, place.byte, tell)
     earlier = call_of(found.calls, head[:4], place.record) if reason == 'XidConflict' else None
     if earlier:
-        tell('earlier: client record %d, %s' % (earlier.record, procedure_of(*earlier.numbers).name))
+        name = procedure_of(*earlier.numbers).name
+        tell('earlier: client record %d, %s' % (earlier.record, name))
     tell_reason(reason, tell)
     tell_bytes(found.body, begin, end, place.byte, tell)
 
@@ -74,7 +85,8 @@ def tell_items(body: Body, is_call: bool, procedure: Procedure | None, tell: Tel
     if not message.read(is_call, procedure):
         tell('allowed: %s' % last[0].allowed)
     if message.at < len(body):
-        tell('byte %d: %d bytes more, which are not taken apart' % (message.at, len(body) - message.at))
+        more = len(body) - message.at
+        tell('byte %d: %d bytes more, which are not taken apart' % (message.at, more))
 
 
 def tell_item(body: Body, is_call: bool, procedure: Procedure | None, byte: int,
@@ -83,7 +95,8 @@ def tell_item(body: Body, is_call: bool, procedure: Procedure | None, byte: int,
     found = list[Item]()
 
     def look(item: Item) -> None:
-        if not found and (item.begin <= byte < item.end or item.begin == byte and not item.is_whole):
+        is_there = item.begin <= byte < item.end or item.begin == byte and not item.is_whole
+        if not found and is_there:
             found.append(item)
 
     Message(body, look, SHOWN_AT_MOST).read(is_call, procedure)
@@ -91,26 +104,32 @@ def tell_item(body: Body, is_call: bool, procedure: Procedure | None, byte: int,
         tell(line_of(item, byte))
         tell('allowed: %s' % item.allowed)
         return item.begin, item.end
-    tell('byte %d: %s' % (byte, 'after the last item of the message' if byte < len(body) else 'the end of the body'))
+    is_within = byte < len(body)
+    where = 'after the last item of the message' if is_within else 'the end of the body'
+    tell('byte %d: %s' % (byte, where))
     return byte, len(body)
 
 
 def line_of(item: Item, byte: int | None = None) -> str:
     """The line of an item, which is at this byte."""
     value = item.value + '..' if item.end - item.begin > SHOWN_AT_MOST else item.value
-    return 'byte %d: %s = %s%s' % (item.begin if byte is None else byte, item.name, value or 'nothing, since the body ends here',
+    return 'byte %d: %s = %s%s' % (item.begin if byte is None else byte, item.name,
+                                   value or 'nothing, since the body ends here',
                                    ' (%s)' % item.meaning if item.meaning else '')
 
 
 def tell_bytes(data: Body, begin: int, end: int, byte: int, tell: Tell, first: int = 0) -> None:
-    """Tells lines of 16 bytes, of a long run those around a byte, with the bytes from `begin` to `end` in brackets."""
+    """Tells lines of 16 bytes, of a long run those around a byte, with the bytes from `begin` to
+    `end` in brackets."""
     low, high = 0, len(data)
     if high > 32 * LINES_AROUND:
-        low, high = max(0, byte // 16 - LINES_AROUND) * 16, min(high, (min(end, byte + 64) // 16 + LINES_AROUND) * 16)
+        low = max(0, byte // 16 - LINES_AROUND) * 16
+        high = min(high, (min(end, byte + 64) // 16 + LINES_AROUND) * 16)
     for at in range(low - low % 16, high, 16):
         piece = data[at:at + 16]
-        cells = ('%s%02x%s' % ('[' if place == begin else ' ', byte, ']' if place == end - 1 else ' ')
-                 for place, byte in enumerate(piece, at))
+        cells = ('%s%02x%s' % ('[' if place == begin else ' ', value,
+                               ']' if place == end - 1 else ' ')
+                 for place, value in enumerate(piece, at))
         text = ''.join(chr(byte) if 32 <= byte < 127 else '.' for byte in piece)
         tell('%8d %-64s %s' % (first + at, ''.join(cells), text))
 

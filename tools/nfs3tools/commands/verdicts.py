@@ -38,6 +38,7 @@ written or a program died.
 """
 from __future__ import annotations
 
+import argparse
 import concurrent.futures
 import contextlib
 import functools
@@ -164,13 +165,18 @@ def main(words: list[str]) -> int:
                         help='judges one recording while it is made, and prints each verdict at once')
     add_judging(parser)
     chosen = parser.parse_args(words)
+    refused = chosen.j, chosen.junit, chosen.json, chosen.html, chosen.filter
+    if chosen.follow and (len(chosen.recordings) > 1 or any(refused)):
+        parser.error('--follow takes one recording, and none of -j, --junit, --json, --html '
+                     'and --filter')
     if chosen.follow:
-        if len(chosen.recordings) > 1 or any((chosen.j, chosen.junit, chosen.json, chosen.html,
-                                              chosen.filter)):
-            parser.error('--follow takes one recording, and none of -j, --junit, --json, --html '
-                         'and --filter')
         return follow(chosen.recordings[0], program_path(chosen.program), options_of(chosen),
                       allowed_of(chosen), chosen.quiet)
+    return judged_all(chosen)
+
+
+def judged_all(chosen: argparse.Namespace) -> int:
+    """Judges all recordings, and prints and writes what was found."""
     recordings_at_once = chosen.j or os.cpu_count() or 1
     at_once = max(1, min(CONNECTIONS_AT_ONCE, recordings_at_once // len(chosen.recordings)))
     inputs = [file for recording in chosen.recordings for file in files_of(recording)]

@@ -75,14 +75,15 @@ def title_of(counts: Counts) -> tuple[str, str]:
     """Returns how the heading looks, and what it says: that all is valid only if all was judged."""
     lacking = counts.in_part + counts.left_out + counts.not_checked
     if counts.refused:
-        connections = count(counts.judged, 'connection')
-        return 'differ', f'{counts.refused:,} of {connections} {plural(counts.refused, "is", "are")} refused'
+        connections, are = count(counts.judged, 'connection'), plural(counts.refused, 'is', 'are')
+        return 'differ', f'{counts.refused:,} of {connections} {are} refused'
     if counts.errors:
         return 'differ', f'{count(counts.errors, "recording")} could not be read'
     if lacking > counts.without_calls or not counts.ok:
         return 'part', 'Not all was judged'
     if lacking:
-        return '', f'{count(lacking, "connection")} without a call {plural(lacking, "is", "are")} left out'
+        are = plural(lacking, 'is', 'are')
+        return '', f'{count(lacking, "connection")} without a call {are} left out'
     return 'same', 'Every call of NFS and MOUNT version 3 is valid'
 
 
@@ -98,14 +99,22 @@ def of_counts(counts: Counts, status: int, allowed: Allowed) -> Iterator[str]:
                                                ('--allow-not-checked', allowed.not_checked))
                if is_given]
     under = f' under <code>{" ".join(options)}</code>' if options else ''
-    bare = f' {counts.without_calls:,} of those that are left out show no call.' if counts.without_calls else ''
-    raw = f' Calls of other programs, which are taken as they are: {escape(named_calls(counts.raw))}.' if counts.raw else ''
-    yield f'<p>The status is <b>{status}</b>{under}.{bare}{raw}</p>'
+    yield f'<p>The status is <b>{status}</b>{under}.'
+    if counts.without_calls:
+        yield f' {counts.without_calls:,} of those that are left out show no call.'
+    if counts.raw:
+        calls = escape(named_calls(counts.raw))
+        yield f' Calls of other programs, which are taken as they are: {calls}.'
+    yield '</p>'
 
 
 def of_count(number: int, words: str, look: str) -> str:
     """A count. One of nothing has no colour."""
-    return f'<li{f" class={look}" if number and look else ""}><b>{number:,}</b> {escape(words)}</li>'
+    return f'<li{class_of(look) if number else ""}><b>{number:,}</b> {escape(words)}</li>'
+
+
+def class_of(look: str) -> str:
+    return f' class={look}' if look else ''
 
 
 # --- Tables ---
@@ -126,7 +135,7 @@ def row_of_cells(cells: Sequence[str], numbers: range, heads: Sequence[str] = ()
     texts = [escape(cell) for cell in cells]
     texts[-1] = f'<a href={link}>{texts[-1]}</a>' if link else texts[-1]
     looks = [*('count' if at in numbers else '' for at in range(len(texts) - 1)), look]
-    inner = (f'<td{f" class={one}" if one else ""}{f" data-head={head}" if head else ""}>{text}</td>'
+    inner = (f'<td{class_of(one)}{f" data-head={head}" if head else ""}>{text}</td>'
              for text, one, head in zip_longest(texts, looks, heads))
     return f'<tr class=row>{"".join(inner)}</tr>'
 
@@ -189,18 +198,21 @@ def of_faults(seen: Sequence[Seen]) -> Iterator[str]:
 
 
 def of_fault(number: int, fault: Fault, seen: Seen) -> Iterator[str]:
-    verdict = fault.verdict
-    yield f'<article id=f{number}><h3><a href=#f{number}>{number}</a> {escape(printable(named(verdict)))}</h3>'
+    verdict, name = fault.verdict, escape(printable(named(fault.verdict)))
+    yield f'<article id=f{number}><h3><a href=#f{number}>{number}</a> {name}</h3>'
     filters = markup.filters(seen.parts, [frame.number for frame in verdict.frames])
     yield f'<p class=minus>{escape(printable(verdict.message))}{filters}</p>'
     if verdict.client:
         yield f'<p class=quiet>client {escape(verdict.client)}, server {escape(verdict.server)}</p>'
-    if fault.item:
-        yield f'<pre>{escape(chr(10).join(fault.item))}</pre>'
+    yield pre_of(fault.item)
     if fault.message:
-        lines = chr(10).join(fault.message)
-        yield from markup.folded('others', 'all fields of the message', [f'<pre>{escape(lines)}</pre>'])
+        yield from markup.folded('others', 'all fields of the message', [pre_of(fault.message)])
     yield '</article>'
+
+
+def pre_of(lines: Sequence[str]) -> str:
+    text = '\n'.join(lines)
+    return f'<pre>{escape(text)}</pre>' if text else ''
 
 
 # --- Recordings ---

@@ -41,7 +41,8 @@ def phrases(compared: Compared) -> list[Phrase]:
     for finding in compared.findings:
         groups[kind_of(finding)].append(finding)
     # (those of one kind stay in the order of the first run)
-    return [phrase_of(key[0], some) for key, some in sorted(groups.items(), key=lambda one: one[0][0])]
+    order = sorted(groups.items(), key=lambda one: one[0][0])
+    return [phrase_of(key[0], some) for key, some in order]
 
 
 def kind_of(finding: Finding) -> Kind:

@@ -1,4 +1,5 @@
-"""The parts of which all pages are made: their beginning and end, texts, tables, and what is folded."""
+"""The parts of which all pages are made: their beginning and end, tables, filters, and what is
+folded."""
 from __future__ import annotations
 
 from collections.abc import Iterable, Iterator, Sequence
@@ -33,7 +34,8 @@ def bar(found: str, rows: str) -> str:
     """What searches, and goes from one to the next, if scripts run: the words for what it goes
     through, and for the rows that it searches besides."""
     return (f'<div class=bar data-found="{found}" data-rows="{rows}">'
-            '<input id=find type=search placeholder="a path, a value, a frame .." aria-label="search">'
+            '<input id=find type=search aria-label="search" '
+            'placeholder="a path, a value, a frame ..">'
             '<button type=button id=previous>previous (p)</button>'
             '<button type=button id=next>next (n)</button>'
             '<span id=found class=quiet aria-live=polite></span></div>')

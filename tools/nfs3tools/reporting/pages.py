@@ -218,7 +218,8 @@ def kind_of(finding: Finding) -> tuple[str, str]:
 
 
 def keys_of(finding: Finding) -> list[tuple[str, str]]:
-    """Returns the fields of a finding with their procedure, or what is said of it if it has none."""
+    """Returns the fields of a finding with their procedure, or what is said of it if it has
+    none."""
     procedure = telling.procedure_of(finding)
     return [(procedure, one.field) for one in finding.differences] or [kind_of(finding)]
 
@@ -305,19 +306,22 @@ class Body:
             often = f'<a href=#f{first}>{number:,}</a>' if first <= len(self.shown) else f'{number:,}'
             path = code(min(paths)) if len(paths) == 1 else f'{len(paths):,} paths' if paths else ''
             same = '' if procedure == before else escape(summary.short(procedure))
-            yield f'<tr><td>{same}</td><td>{escape(field)}</td><td>{path}</td><td class=count>{often}</td></tr>'
+            yield (f'<tr><td>{same}</td><td>{escape(field)}</td><td>{path}</td>'
+                   f'<td class=count>{often}</td></tr>')
             before = procedure
         yield '</table></section>'
 
     # --- Findings ---
 
     def findings(self) -> Iterator[str]:
-        yield f'<section id=findings><h2>{self.heading()}</h2>{"".join(f"<p>{line}</p>" for line in self.remarks())}'
+        yield f'<section id=findings><h2>{self.heading()}</h2>'
+        yield ''.join(f'<p>{line}</p>' for line in self.remarks())
         for number, group in enumerate(self.shown, 1):
             yield from self.article(number, group)
         more = sum(map(len, self.groups[SHOWN_AT_MOST:]))
         if more:
-            yield f'<p id=more>.. and {count(more, "message")} more. <code>--json FILE</code> writes all.</p>'
+            yield (f'<p id=more>.. and {count(more, "message")} more. <code>--json FILE</code> '
+                   'writes all.</p>')
         yield '</section>'
 
     def heading(self) -> str:
@@ -343,10 +347,12 @@ class Body:
     def article(self, number: int, group: Sequence[Finding]) -> Iterator[str]:
         """A finding, and the places of those that say the same."""
         finding = group[0]
-        yield f'<article id=f{number} data-messages={len(group)}><h3><a href=#f{number}>{number}</a> {self.title(group)}</h3>'
+        yield (f'<article id=f{number} data-messages={len(group)}>'
+               f'<h3><a href=#f{number}>{number}</a> {self.title(group)}</h3>')
         for at, message in zip(BOTH, (finding.first, finding.second)):
             if message and finding.kind != 'order':
-                yield f'<div class=place><span class="sign {SIDES[at]}">{SIGNS[at]}</span><span>{self.place(message, at)}</span></div>'
+                yield (f'<div class=place><span class="sign {SIDES[at]}">{SIGNS[at]}</span>'
+                       f'<span>{self.place(message, at)}</span></div>')
         if finding.remark:
             yield f'<p>{escape(finding.remark)}</p>'
         if is_of_fields(finding):
@@ -458,7 +464,8 @@ class Body:
         """A message of both runs: where it is, and its fields."""
         message = first or second
         assert message
-        places = ' | '.join(f'{one.place}{telling.frames_of(one, run.frames)}'
+        # (the frames of the call are in the line of its row)
+        places = ' | '.join(one.place + ('' if one.is_call else telling.frames_of(one, run.frames))
                             for one, run in zip((first, second), self.runs) if one)
         yield f'<h4>{"call" if message.is_call else "reply"}: {places}</h4>'
         yield from fields.of_messages(first, second, self.changed.get(places_of(first, second)))

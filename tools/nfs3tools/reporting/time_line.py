@@ -71,8 +71,8 @@ def words_of(line: TimeLine) -> Iterator[str]:
         yield f'{count(drawn, "call")} {plural(drawn, "is", "are")} drawn.'
     elif drawn:
         errors = f', {line.errors:,} of them errors' if line.errors else ''
-        yield (f'{drawn:,} of {count(line.calls - line.untimed, "call")} are drawn: errors, and the slowest call '
-               f'of each pixel column. {left:,} are left out{errors}.')
+        yield (f'{drawn:,} of {count(line.calls - line.untimed, "call")} are drawn: errors, and the '
+               f'slowest call of each pixel column. {left:,} are left out{errors}.')
 
 
 # The forms of dots: that of a call that was answered, of an error, and of one of which no reply is
@@ -113,7 +113,8 @@ class Scale:
         yield f'<line x2=100% y1={LANE} y2={LANE} class=lane />'
         for decade in range(self.low, self.high + 1):
             height = self.down(10 ** decade)
-            yield f'<line x2=100% y1={height:g} y2={height:g} />{text_of(-8, height + 4, latency_named(decade), "end")}'
+            yield f'<line x2=100% y1={height:g} y2={height:g} />'
+            yield text_of(-8, height + 4, latency_named(decade), 'end')
         power, unit = unit_of(math.floor(math.log10(self.end)))
         for time in ticks(self.end):
             at = self.across(time)
