@@ -615,6 +615,7 @@ def what_is_not_counted(place: Pages) -> None:
     fold, = page.all('details', 'uncounted')
     place.want('folded', (fold.attributes.get('open'), fold.all('summary')[0].text()), (None, '2 fields that were not counted'))
     place.want('all of them', [[len(node.all(tag)) for tag in ('article', 'section')] for node in (fold, page)], [[2, 3]] * 2)
+    place.want('heading', fold.all('h2')[1].text(), '2 uncounted differences in 2 messages')
     place.want('nothing is said to differ', (page.all('h1')[0].attributes['class'], glance_of(page)), ('same', ''))
     place.put('b', sized(1, 2, 3), gets([1]))
     place.want('what counts', len(place.page().all('details', 'uncounted')), 0)

@@ -21,7 +21,7 @@ from ..nfs3tools.judgement.exchanges import Kept
 from ..nfs3tools.reporting.time_line import COLUMNS, Dot, TimeLine, of_time_line
 from .browser import Browser, chromium
 from .cases import FolderTest
-from .scripts import CALLS, REPLIES, TOP, Tools, exchange, taken_of, whole, write_faulty
+from .scripts import CALLS, REPLIES, TOP, Tools, exchange, measured, taken_of, whole, write_faulty
 from .test_page import (
     HOSTILE, VISIBLE, WIDE, WIDTHS, Node, broken_links, light_of, table_of, tree_of)
 
@@ -29,7 +29,7 @@ GETATTR, LOOKUP = 1, 3
 EXAMPLES = TOP / 'examples'
 FIRST, CONCURRENT = str(EXAMPLES / 'ganesha_a.pcap'), str(EXAMPLES / 'concurrent_a.pcap')
 BAD = tuple(str(EXAMPLES / f'bad_{name}.pcap') for name in ('bool', 'client_record', 'server_record', 'status'))
-MANY = 100_000
+MANY, MOST_MEMORY = 100_000, 64 << 20
 COUNTS = ('judged', 'in part', 'left out', 'not checked', 'errors')
 DOT = re.compile(r'(.*); connection (\d+) client record (\d+), frame (\d+), (no latency|(\d+\.\d{3}) ms)')
 
@@ -78,8 +78,8 @@ def written_kinds(tools: Tools) -> dict[str, str]:
     tools.write('other.pcap', pcap(frames_of([call(at, NFS, 4, 1) for at in range(3)], [success(at) for at in range(3)])))
     tools.write('raw.pcap', pcap(frames_of([call(1, 100000, 2, 3)], [success(1)], port=111)))
     tools.write('ok.pcap', pcap(whole()))
-    return {'ok.pcap': 'same Every call', 'lost.pcap': 'part Not all', 'cut.pcap': 'part Not all', 'damaged.pcap': 'differ 1 recording',
-            'none.pcap': 'differ 1 recording', 'text': 'differ 1 recording', 'bad.pcap': 'differ 1 of 2', 'cut.nfs3cap': 'differ 1 of',
+    return {'ok.pcap': 'same Every call', 'lost.pcap': 'part Not all', 'cut.pcap': 'part Not all', 'damaged.pcap': 'differ Not all could',
+            'none.pcap': 'differ Not all could', 'text': 'differ Not all could', 'bad.pcap': 'differ 1 of 2', 'cut.nfs3cap': 'differ 1 of',
             'other.pcap': 'part Not all'}
 
 
@@ -104,7 +104,7 @@ def kinds_of_recordings(tools: Written) -> None:
             is_all = printed['judged'] and not any(printed[word] for word in COUNTS[1:]) and status == 0
             tools.want(f'{tool} {name}: a green heading', heading.attributes.get('class') == 'same', bool(is_all))
     _, _, page = tools.page('verdicts', 'lost.pcap', 'ok.pcap', 'other.pcap', 'bad.pcap')
-    tools.want('green verdicts', greens_of(page), ['ok'] * 2)
+    tools.want('green verdicts', greens_of(page), ['ok', 'ok', '1 judged (1 valid, 0 refused)'])
     words = [row[-1].partition(':')[0] for row in table_of(page.all('table')[0])[1:]]
     tools.want('verdicts', words, ['in part', 'ok', 'not checked', 'ok', 'server record 2 byte 0'])
     tools.want('not ok', 'ok in part' in page.text(), False)
@@ -119,6 +119,9 @@ def what_shows_no_call(tools: Written) -> None:
     heading, = page.all('h1')
     tools.want('bare', (status, heading.text(), heading.attributes), (0, '1 connection without a call is left out', {}))
     tools.want('green', greens_of(page), ['1 judged (1 valid, 0 refused)', 'ok'])
+    _, _, page = tools.page('procedures', 'raw.pcap', 'lost.pcap')
+    own = [[one.text() for one in counts.all('li')][:2] for counts in page.all('ul', 'counts')]
+    tools.want('of each', own, [[f'{judged} judged ({judged} valid, 0 refused)', f'{in_part} in part'] for judged, in_part in ((1, 1), (1, 0), (0, 1))])
     status, _, page = tools.page('verdicts', 'raw.pcap')
     tools.want('raw', [row[-1] for row in table_of(page.all('table')[0])[1:]], ['1 PORTMAP GETPORT raw'])
     tools.want('green raw', 'ok' in greens_of(page), False)
@@ -233,7 +236,7 @@ def forms_of_a_line(tools: Written) -> None:
 
 def many_calls(tools: Written) -> None:
     """Of 100,000 calls all errors and the slowest of each column of pixels are drawn, and how many are left out is told. The page has
-    at most 3 MB."""
+    at most 3 MB, and the tool takes less than 64 MB of memory."""
     talk = Talk()
     frames = talk.opened()
     for xid in range(MANY):
@@ -241,8 +244,10 @@ def many_calls(tools: Written) -> None:
         result = failed(70) if xid % 500 == 7 else ok(fattr(1, 5))
         frames.append(talk.sent(1, fragment(success(xid, result))))
     tools.write('a.pcap', pcap(frames))
-    _, _, page = tools.page('verdicts', 'a.pcap')
-    size = len(tools.read('page.html') or b'')
+    status, _, _, memory = measured(tools, 'verdicts', '--program', tools.program, '--html', 'page.html', 'a.pcap')
+    tools.want('memory', (status, memory <= MOST_MEMORY or memory), (0, True))
+    content = tools.read('page.html') or b''
+    page, size = tree_of(content.decode()), len(content)
     dots = dots_of(page)
     errors = [dot for dot in dots if dot[0] == 'bad']
     tools.want(f'{size} bytes', size <= 3_000_000, True)
@@ -298,7 +303,7 @@ def outputs(tools: Written) -> None:
     tools.want('follow', tools.tool('verdicts', '--html', 'x', '--follow', 'a.pcap')[0], 2)
     status, _, _ = tools.tool('verdicts', '--html', 'x.html', '-j', '2', 'a.pcap', FIRST, 'absent.pcap')
     page = tree_of((tools.read('x.html') or b'').decode())
-    tools.want('several', (status, len(page.all('svg', 'line')), page.all('h1')[0].text()), (1, 2, '1 recording could not be read'))
+    tools.want('several', (status, len(page.all('svg', 'line')), page.all('h1')[0].text()), (1, 2, 'Not all could be read'))
 
 
 # --- In Chromium ---

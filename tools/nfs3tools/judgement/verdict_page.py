@@ -57,14 +57,16 @@ def page(content: Content) -> Iterator[str]:
     look, words = title_of(counts)
     yield markup.opening(f'{words}: {names[0]}{more}')
     yield markup.heading(look, words)
-    yield from of_counts(counts, status_of(verdicts, content.allowed), content.allowed)
+    yield from of_counts(counts)
+    yield from of_status(counts, status_of(verdicts, content.allowed), content.allowed)
     yield markup.bar('fault', 'row')
     for table in content.tables:
         yield f'<section>{"".join(of_table(table, "h2"))}</section>'
     if content.has_faults:
         yield from of_faults(content.seen)
     for number, one in enumerate(content.seen):
-        yield from of_recording(one, content.of_each[number] if content.of_each else ())
+        yield from of_recording(one, content.of_each[number] if content.of_each else (),
+                                len(names) > 1)
     yield from of_notes(verdicts)
     yield markup.closing()
 
@@ -78,7 +80,7 @@ def title_of(counts: Counts) -> tuple[str, str]:
         connections, are = count(counts.judged, 'connection'), plural(counts.refused, 'is', 'are')
         return 'differ', f'{counts.refused:,} of {connections} {are} refused'
     if counts.errors:
-        return 'differ', f'{count(counts.errors, "recording")} could not be read'
+        return 'differ', 'Not all could be read'
     if lacking > counts.without_calls or not counts.ok:
         return 'part', 'Not all was judged'
     if lacking:
@@ -87,14 +89,18 @@ def title_of(counts: Counts) -> tuple[str, str]:
     return 'same', 'Every call of NFS and MOUNT version 3 is valid'
 
 
-def of_counts(counts: Counts, status: int, allowed: Allowed) -> Iterator[str]:
-    """The counts, each with its word, and the status."""
+def of_counts(counts: Counts) -> Iterator[str]:
+    """The counts, each with its word."""
     look = BAD if counts.refused else GOOD if counts.ok else ''
     detail = f' ({counts.ok:,} valid, {counts.refused:,} refused)'
     yield f'<ul class=counts>{of_count(counts.judged, "judged" + detail, look)}'
     for word, one in COUNTED:
         yield of_count(counts.numbers()[word], word, one)
     yield '</ul>'
+
+
+def of_status(counts: Counts, status: int, allowed: Allowed) -> Iterator[str]:
+    """The status, and what does not change it."""
     options = [option for option, is_given in (('--allow-losses', allowed.losses),
                                                ('--allow-not-checked', allowed.not_checked))
                if is_given]
@@ -217,12 +223,14 @@ def pre_of(lines: Sequence[str]) -> str:
 
 # --- Recordings ---
 
-def of_recording(seen: Seen, tables: Sequence[Table]) -> Iterator[str]:
-    """The time line of a recording, and its tables: that of all its connections, and those of each
-    folded."""
+def of_recording(seen: Seen, tables: Sequence[Table], has_counts: bool) -> Iterator[str]:
+    """The time line of a recording, its own counts if that is asked for, and its tables: that of
+    all its connections, and those of each folded."""
     if seen.line is None and not tables:
         return
     yield f'<section><h2>{escape(escaped(seen.recording))}</h2>'
+    if has_counts:
+        yield from of_counts(counts_after(seen.verdicts))
     if seen.line is not None:
         yield from of_time_line(seen.line)
     for table in tables[:1]:

@@ -85,7 +85,7 @@ def page(content: Content) -> Iterator[str]:
     yield from head(content, word)
     yield from markup.folded('about', 'About these runs', facts(content))
     if body.groups:
-        yield markup.bar('difference', 'call')
+        yield markup.bar(body.word, 'call')
     yield from body.all()
     yield markup.closing()
 
@@ -240,6 +240,11 @@ class Body:
         """Whether what differs counts for the verdict."""
         return self.content.report.same_under is None
 
+    @property
+    def word(self) -> str:
+        """What findings that say the same are called."""
+        return 'difference' if self.is_counted else 'uncounted difference'
+
     def all(self) -> Iterator[str]:
         """All parts. What does not count is folded, and comes last."""
         if self.is_counted or not self.groups:
@@ -329,7 +334,7 @@ class Body:
         total = len(self.compared.findings)
         if not total:
             return 'No differences'
-        return f'{count(len(self.groups), "difference")} in {count(total, "message")}'
+        return f'{count(len(self.groups), self.word)} in {count(total, "message")}'
 
     def remarks(self) -> Iterator[str]:
         """What is to be known of the findings, or of there being none."""

@@ -37,13 +37,13 @@ code, pre, .change, .fields { font-family: var(--mono); font-size: 13px }
 .about { margin: 14px 0 }
 .uncounted > summary { font-size: 17px; margin: 32px 0 8px }
 mark { color: inherit; background: var(--mark); border-radius: 2px; font-weight: 700 }
-.text { color: CanvasText; border: 1px solid var(--line); border-radius: 4px; padding: 0 5px; white-space: pre-wrap }
+.text { color: CanvasText; border: 1px solid var(--line); border-radius: 4px; padding: 0 5px; white-space: pre-wrap; display: inline-block }
 summary { cursor: pointer }
 button { font: inherit; font-size: 13px; padding: 3px 10px; cursor: pointer }
 
 table { border-collapse: collapse }
 td, th { border: 1px solid var(--line); padding: 3px 10px; text-align: left; vertical-align: top; font-weight: normal }
-thead th { background: var(--soft); font-weight: 600 }
+thead th { background: var(--soft); font-weight: 600; overflow-wrap: normal }
 td.count { text-align: right }
 .runs { table-layout: fixed; width: 100%; margin: 14px 0 }
 .runs th:first-child { width: 9.5em }
@@ -79,7 +79,7 @@ article.here, article:target, .row:target { outline: 2px solid var(--here); outl
 .wide { overflow-x: auto; margin: 8px 0 }
 .wide td, .wide th { overflow-wrap: normal; white-space: nowrap; padding: 3px 6px; font-size: 13px }
 .wide td:last-child { white-space: normal; min-width: 20em }
-.wide td:first-child, .wide th:first-child { position: sticky; left: 0; background: Canvas }
+.wide td:first-child, .wide th:first-child { position: sticky; left: -1px; background: Canvas; box-shadow: -2px 0 Canvas }
 .cards td { overflow-wrap: anywhere }
 td.minus a { color: var(--minus) }
 pre { overflow-x: auto; font-size: 13px; margin: 6px 0; line-height: 1.4; white-space: pre-wrap }
@@ -162,7 +162,8 @@ function search() {
     one.open ||= !isAll && !one.hidden;
   }
   const seen = findings.filter(one => !one.hidden), messages = seen.reduce((sum, one) => sum + Number(one.dataset.messages), 0);
-  if (heading) heading.textContent = isAll ? whole : `${counted(seen.length, 'difference')} in ${counted(messages, 'message')}`;
+  const differing = counted(seen.length, find.parentElement.dataset.found);
+  if (heading) heading.textContent = isAll ? whole : `${differing} in ${counted(messages, 'message')}`;
   tell();
 }
 
