@@ -1,7 +1,8 @@
-"""A comparison as one page for a browser, which needs no server: the verdict, which fields differ, what differs and how, and the calls
-around that.
+"""A comparison as one page for a browser, which needs no server: what differs at a glance, which
+fields differ, each difference, and the calls around that.
 
-A page has at most 2,000 findings, those that say the same as one. It is made in pieces, and all that comes from a recording is escaped.
+A page has at most 2,000 findings, those that say the same as one. What does not count for the
+verdict is folded. It is made in pieces, and all that comes from a recording is escaped.
 """
 from __future__ import annotations
 
@@ -92,16 +93,17 @@ def page(content: Content) -> Iterator[str]:
 
 def head(content: Content, word: str) -> Iterator[str]:
     """The verdict in words, what differs, and what is not compared."""
-    report, is_same = content.report, word.startswith('same')
+    report, is_same, said = content.report, word.startswith('same'), ''
     look = 'differ' if not is_same else 'part' if report.is_in_part else 'same'
     yield markup.heading(look, f'The runs {"are the " if is_same else ""}{word}')
     if is_same:
         # (how the order differs is told below)
-        yield f'<p>{code(content.line.partition(";")[0])}</p>'
+        said = content.line.partition(';')[0]
+        yield f'<p>{code(said)}</p>'
     else:
         yield from glance(content)
     losses = losses_of(report.covers, summary.RUNS) if report.covers else ''
-    if losses:
+    if losses not in said:
         yield f'<p class=part>Compared in part: {escape(losses)}.</p>'
 
 
