@@ -540,12 +540,26 @@ def at_a_glance(place: Pages) -> None:
     place.want('heading', page.all('h2')[1].text(), '3 differences in 4 messages')
     place.put('b', worked(SENTENCE[:20], 30, 31))
     place.want('several', glance_of(place.page()), 'bytes of /hold/f2 (1 WRITE, 2 READs) \u00b7 2 SETATTRs more in the second run: /hold/f1'
-               ' \u00b7 count of /hold/f2: 88 \u2192 20 (1 WRITE reply)')
+               ' \u00b7 count of /hold/f2: 88 \u2192 20 (1 WRITE) \u00b7 count of /hold/f2: 88 \u2192 20 (3 replies to WRITE, READ)')
     place.put('a', asked([0o640] * 3), gets([1, 2]), link(b'x'))
     place.put('b', asked([0o640, 0o600, 0o600]), gets([1, 2]), link(b'y', 13))
     place.want('fields', glance_of(place.page()), 'obj.mode of 2 paths, the first /m/f1: 0640 \u2192 0600 (2 GETATTR replies)'
                ' \u00b7 status: NFS3_OK \u2192 NFS3ERR_ACCES (1 READLINK reply)')
+    place.put('a', asked([0o640]), link(b'x'), gets([0o640]))
+    place.put('b', asked([0o600]), link(b'y'), gets([0o600]))
+    place.want('procedures', glance_of(place.page()), 'obj.mode of /m/f0 and others: 0640 \u2192 0600 (2 GETATTR replies) \u00b7 path: "x" \u2192 "y" (1 READLINK reply)')
+    place.put('a', asked([1, 2, 3]))
+    place.put('b', (lambda both: (both[0][:3] + both[0][5:] + both[0][3:5], both[1]))(asked([1, 2, 3])))
+    place.want('order', glance_of(place.page('--order=strict')), '2 calls in another turn')
+    place.want('data and size', 'bytes of /hold/f2 (1 WRITE, 2 READs)' in glance_of(two_texts(place, SENTENCE, SENTENCE[:-1])), True)
     place.want('of the first run', '1 connection more in the first run' in (place.put('b', gets([1, 2])) or glance_of(place.page())), True)
+
+
+def two_texts(place: Pages, first: bytes, second: bytes) -> Node:
+    """The page of two runs that write these texts."""
+    place.put('a', worked(first))
+    place.put('b', worked(second))
+    return place.page()
 
 
 def marked_bytes(place: Pages) -> None:
