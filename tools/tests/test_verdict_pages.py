@@ -155,6 +155,9 @@ def tables_as_printed(tools: Written) -> None:
         found = sorted(row for table in page.all('table') for row in table_of(table))
         printed = sorted(row for row in rows_printed(out) if row[0] == 'procedure' or len(row) > 8)
         tools.want(' '.join(words), found, printed)
+    _, _, page = tools.page('procedures', FIRST, CONCURRENT)
+    names = [node.attributes['id'] for node in page.nodes() if 'id' in node.attributes]
+    tools.want('names of elements', sorted(names), sorted(set(names)))
     _, _, page = tools.page('procedures', '--sort', 'calls', FIRST)
     numbers = [int(row[1]) for row in table_of(page.all('table')[0])[1:-1]]
     tools.want('sorted', numbers, sorted(numbers, reverse=True))
@@ -220,7 +223,7 @@ def without_a_latency(tools: Written) -> None:
         tools.want(name, ([dot[0] for dot in dots], dots[-1][3][4]), (['good', 'good', form], 'no latency'))
         tools.want(f'{name}: above', dots[-1][2] < min(dot[2] for dot in dots[:2]), True)
     _, _, page = tools.page('procedures', str(EXAMPLES / 'every_procedure.nfs3cap'))
-    tools.want('a capture', (len(page.all('svg')), re.findall(r'\d+ calls have no time, and are not drawn\.', page.text()) != []), (0, True))
+    tools.want('a capture', (len(page.all('svg', 'line')), re.findall(r'\d+ calls have no time, and are not drawn\.', page.text()) != []), (0, True))
 
 
 def forms_of_a_line(tools: Written) -> None:

@@ -14,7 +14,7 @@ from typing import NamedTuple
 from ..recordings.coverage import Allowed, Counts, named as named_calls
 from ..recordings.selection import count, plural
 from ..reporting import markup
-from ..reporting.time_line import of_time_line
+from ..reporting.time_line import FORMS, of_time_line
 from ..shared.printed import escaped, printable
 from .seen import Fault, Seen
 from .verdict import (
@@ -55,7 +55,7 @@ def page(content: Content) -> Iterator[str]:
     counts, names = counts_after(verdicts), [escaped(one.recording) for one in content.seen]
     more = f' and {len(names) - 1:,} more' if len(names) > 1 else ''
     look, words = title_of(counts)
-    yield markup.opening(f'{words}: {names[0]}{more}')
+    yield markup.opening(f'{words}: {names[0]}{more}') + FORMS
     yield markup.heading(look, words)
     yield from of_counts(counts)
     yield from of_status(counts, status_of(verdicts, content.allowed), content.allowed)

@@ -84,6 +84,7 @@ article.here, article:target, .row:target { outline: 2px solid var(--here); outl
 td.minus a { color: var(--minus) }
 pre { overflow-x: auto; font-size: 13px; margin: 6px 0; line-height: 1.4; white-space: pre-wrap }
 .line { display: block; width: calc(100% - 84px); margin: 10px 20px 0 64px; overflow: visible; font-size: 12px }
+.forms { position: absolute; width: 0; height: 0 }
 .line text { fill: var(--quiet) }
 .line line { stroke: var(--line) }
 .line .lane { stroke-dasharray: 3 4 }

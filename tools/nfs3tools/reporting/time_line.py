@@ -17,12 +17,17 @@ COLUMNS = 1_000  # of pixels, into which dots are sorted
 HEIGHT, TOP, BOTTOM = 330, 44, 290  # of the line, and of the scale in it
 LANE = 18  # the height of calls without a latency
 TICKS_AT_MOST = 6
-DECADES = (3, 9)  # that are shown at least to the left: of microseconds and of seconds
+NO_LATENCIES = (1_000, 1_000_000)  # nanoseconds, on a scale without any
+# The forms of dots, once for a page: of a call that was answered, of an error, and of a call of
+# which no reply is recorded.
+FORMS = ('<svg class=forms><defs><circle id=good r=3 class=good />'
+         '<path id=bad class=bad d="M0-4.5L4.5 3.5H-4.5Z" />'
+         '<circle id=open r=3.5 class=open /></defs></svg>')
 UNITS = ((9, 's'), (6, 'ms'), (3, '\u00b5s'), (0, 'ns'))
 
 
 class Dot(NamedTuple):
-    """A call: nanoseconds from the begin of the recording, its latency, None if it has none,
+    """A call: nanoseconds from the first frame of the recording, its latency, None if it has none,
     whether it failed, and what is said of it."""
     time: int
     latency: int | None
@@ -48,7 +53,7 @@ def of_time_line(line: TimeLine) -> Iterator[str]:
     """The time line, and below it what its forms mean and how many calls are left out."""
     if line.dots:
         scale = Scale(line)
-        yield f'<svg class=line height={HEIGHT} role=img aria-label="latencies over time">{FORMS}'
+        yield f'<svg class=line height={HEIGHT} role=img aria-label="latencies over time">'
         yield from scale.axes()
         yield from map(scale.dot, line.dots)
         yield '</svg>'
@@ -75,21 +80,15 @@ def words_of(line: TimeLine) -> Iterator[str]:
                f'slowest call of each pixel column. {left:,} are left out{errors}.')
 
 
-# The forms of dots: that of a call that was answered, of an error, and of one of which no reply is
-# recorded.
-FORMS = ('<defs><circle id=good r=3 class=good /><path id=bad class=bad d="M0-4.5L4.5 3.5H-4.5Z" />'
-         '<circle id=open r=3.5 class=open /></defs>')
-
-
 class Scale:
     """Where the dots of a line are."""
 
     def __init__(self, line: TimeLine) -> None:
         self.end = max(1, line.end)
         known = [dot.latency for dot in line.dots if dot.latency is not None and dot.latency > 0]
-        low, high = min(known, default=10 ** DECADES[0]), max(known, default=10 ** 6)
-        self.low = math.floor(math.log10(low))
-        self.high = max(self.low + 1, math.ceil(math.log10(high)))
+        known = known or [*NO_LATENCIES]
+        self.low = math.floor(math.log10(min(known)))
+        self.high = max(self.low + 1, math.ceil(math.log10(max(known))))
 
     def across(self, time: int) -> str:
         # (the clock may have gone back to before the first frame)
