@@ -80,7 +80,8 @@ article.here, article:target, .row:target { outline: 2px solid var(--here); outl
 .wide td, .wide th { overflow-wrap: normal; white-space: nowrap; padding: 3px 6px; font-size: 13px }
 .wide td:last-child { white-space: normal; min-width: 20em }
 .wide td:first-child, .wide th:first-child { position: sticky; left: -1px; background: Canvas; box-shadow: -2px 0 Canvas }
-.cards td { overflow-wrap: anywhere }
+.cards { overflow-x: auto }
+.cards td:not(:first-child):not(:last-child) { overflow-wrap: normal }
 td.minus a { color: var(--minus) }
 pre { overflow-x: auto; font-size: 13px; margin: 6px 0; line-height: 1.4; white-space: pre-wrap }
 .line { display: block; width: calc(100% - 84px); margin: 10px 20px 0 64px; overflow: visible; font-size: 12px }
@@ -123,7 +124,7 @@ details ol { margin: 6px 0; padding-left: 3.5em }
   .cards thead { display: none }
   .cards table, .cards tbody { display: block }
   .cards tr { display: flex; flex-wrap: wrap; gap: 0 14px; border: 1px solid var(--line); border-radius: 6px; margin: 6px 0; padding: 4px 10px }
-  .cards td { border: 0; padding: 0 }
+  .cards td { border: 0; padding: 0; overflow-wrap: anywhere !important }
   .cards td::before { content: attr(data-head) " "; color: var(--quiet) }
   .cards td:last-child { flex-basis: 100%; font-weight: 600 }
 }
