@@ -41,9 +41,9 @@ _nfs3_options() {
   local judging='--allow-losses --allow-not-checked --program'
   echo --port --no-midstream --whole-records --filter --version --help
   case $1 in
-    *verdicts) echo "$judging" --quiet --follow --junit --json -j ;;
+    *verdicts) echo "$judging" --quiet --follow --junit --json --html -j ;;
     *calls) echo "$judging" --errors --slow --procedure --path --user --client --sort --json --csv ;;
-    *procedures) echo "$judging" --beside --total --sort --json --csv ;;
+    *procedures) echo "$judging" --beside --total --sort --json --csv --html ;;
     *compare) echo "$judging" --mask --order --extra --ignore --marks --all --brief --html --json --junit ;;
     *cut) echo --origins --program ;;
   esac

@@ -35,6 +35,7 @@ for tool in verdicts nfs3-verdicts
     complete -c $tool -l follow -d 'Judge one recording while it is made'
     complete -c $tool -l junit -r -d 'Write JUnit XML'
     complete -c $tool -l json -r -d 'Write JSON'
+    complete -c $tool -l html -r -d 'Write a page for a browser'
     complete -c $tool -s j -x -d 'Judge so many recordings at once'
     complete -c $tool -l program -r -d 'nfs3canon'
 end
@@ -56,6 +57,7 @@ for tool in procedures nfs3-procedures
     complete -c $tool -l sort -x -a 'procedure calls again replies no-reply call-bytes reply-bytes median p99 most mean sum errors' -d 'Have the largest of a column first'
     complete -c $tool -l json -r -d 'Write JSON'
     complete -c $tool -l csv -r -d 'Write comma-separated values'
+    complete -c $tool -l html -r -d 'Write a page for a browser'
     complete -c $tool -l program -r -d 'nfs3canon'
 end
 complete -c nfs3-cut -l origins -d 'Take the exchanges too that gave the file handles'

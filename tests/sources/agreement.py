@@ -152,7 +152,7 @@ def pages_agree(tools: Tools) -> None:
     reasons = re.findall(r'^\| \d+ \| `(\w+)` \|', formats, re.M)
     tools.want('reasons', len(reasons), 19)
     tools.want('man page', re.findall(r'^(\w+)\|', (TOP / 'man/nfs3canon.1').read_text(), re.M), reasons)
-    tools.want('explain', re.findall(r"'([A-Z]\w+)': ", (TOP / 'tools/nfs3tools/commands/explain.py').read_text()), reasons)
+    tools.want('explain', re.findall(r"'([A-Z]\w+)': ", (TOP / 'tools/nfs3tools/captures/explained.py').read_text()), reasons)
     told = {row['line'].rpartition(' ')[2] for _, row in rows_of('captures.rows') if not row['line'].startswith('ok ')}
     tools.want('rows', sorted(told), sorted(reasons))
     rows = re.findall(r'^\| (\d+) \| ((?:[0-9a-f]{8} ?)+) \|', formats, re.M)

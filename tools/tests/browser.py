@@ -148,6 +148,15 @@ class Browser:
             raise RuntimeError(f'{expression}: {result["exceptionDetails"]}')
         return result['result'].get('value')
 
+    def is_shown(self, selector: str) -> bool:
+        """Whether the first element of a selector has a box, also without scripts."""
+        root = self.ask('DOM.getDocument')['root']['nodeId']
+        node = self.ask('DOM.querySelector', nodeId=root, selector=selector)['nodeId']
+        try:
+            return bool(self.ask('DOM.getBoxModel', nodeId=node)['model']['height'])
+        except RuntimeError:
+            return False
+
     def press(self, key: str) -> None:
         """Presses a key, which is a letter or the name of one."""
         text = {'text': key} if len(key) == 1 else {}

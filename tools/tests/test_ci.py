@@ -86,7 +86,8 @@ def made_by(tools: Tools, found: Sequence[int], wanted: Sequence[int], differenc
     tools.want('statuses', list(found), list(wanted))
     tools.want('verdicts.xml', [tags for _, tags in cases(tools, 'verdicts.xml')], [[]] * 3)
     tools.want('compare.xml', [tags for _, tags in cases(tools, 'compare.xml')], [['failure']] * (differences + 1) if differences else [[]])
-    tools.want('compare.html', b'<html' in (tools.read('compare.html') or b''), True)
+    for name in ('verdicts.html', 'compare.html'):
+        tools.want(name, b'<html' in (tools.read(name) or b''), True)
 
 
 def the_page(tools: Tools, traffic: str, differences: int) -> None:
@@ -102,12 +103,12 @@ def the_page(tools: Tools, traffic: str, differences: int) -> None:
     os.remove(tools.path('run.pcap'))
     status = 1 if differences else 0
     made_by(tools, [run(tools, step, variables) for step in steps], [0, 0, status], differences)
-    for name in ('run.pcap', 'verdicts.xml', 'compare.xml', 'compare.html'):
+    for name in ('run.pcap', 'verdicts.xml', 'verdicts.html', 'compare.xml', 'compare.html'):
         os.remove(tools.path(name))
     made_by(tools, [run(tools, of_gitlab(gitlab), variables)], [status], differences)
     for text in (github.partition('path: |')[2], gitlab.partition('paths: ')[2]):
         kept = set(re.findall(r'[\w.]+\.(?:pcap|xml|html)', text))
-        tools.want('what is kept', kept, {'compare.html', 'compare.xml', 'run.pcap', 'verdicts.xml'})
+        tools.want('what is kept', kept, {'compare.html', 'compare.xml', 'run.pcap', 'verdicts.html', 'verdicts.xml'})
 
 
 def a_run_that_is_the_same(tools: Tools) -> None:

@@ -225,8 +225,8 @@ def what_is_refused(tools: Tools) -> None:
     """What needs the whole recording, or several; a capture; a file that is not there or is damaged."""
     tools.write('a.pcap', pcap(whole()))
     tools.write('b.pcap', pcap(whole()) + b'\xff' * 16)
-    said = '--follow takes one recording, and none of -j, --junit, --json and --filter'
-    for words in (['a.pcap', 'a.pcap'], ['--json', 'x', '-'], ['--junit', 'x', '-'], ['--filter', 'tcp', '-'], ['-j', '2', '-']):
+    said = '--follow takes one recording, and none of -j, --junit, --json, --html and --filter'
+    for words in (['a.pcap', 'a.pcap'], ['--json', 'x', '-'], ['--junit', 'x', '-'], ['--html', 'x', '-'], ['--filter', 'tcp', '-'], ['-j', '2', '-']):
         status, out, error = tools.tool('verdicts', '--follow', *words)
         tools.want(' '.join(words), (status, out, said in error), (2, '', True))
     tools.want('no file', tools.exists('x'), False)

@@ -74,11 +74,13 @@ def writers(tools: Tools, file: str, *inputs: str) -> list[list[str]]:
     compared = [*inputs, *inputs][:2]
     return [['verdicts', '--program', tools.program, '--junit', file, *inputs],
             ['verdicts', '--program', tools.program, '--json', file, *inputs],
+            ['verdicts', '--program', tools.program, '--html', file, *inputs],
             ['compare', '--program', tools.program, '--html', file, *compared],
             ['compare', '--program', tools.program, '--json', file, *compared],
             ['compare', '--program', tools.program, '--junit', file, *compared],
             ['procedures', '--program', tools.program, '--json', file, *inputs],
-            ['procedures', '--program', tools.program, '--csv', file, *inputs], ['from_pcap', inputs[-1], file]]
+            ['procedures', '--program', tools.program, '--csv', file, *inputs],
+            ['procedures', '--program', tools.program, '--html', file, *inputs], ['from_pcap', inputs[-1], file]]
 
 
 def outputs_that_are_inputs(tools: Tools) -> None:

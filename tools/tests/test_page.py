@@ -14,8 +14,8 @@ from collections.abc import Callable, Iterator, Sequence
 from html.parser import HTMLParser
 
 from examples.messages import (
-    MOUNT, NFS, array, call, dirop, entries, entryplus, failed, fattr, fh, fragment, ok, opaque,
-    post_op_attr, sattr, success, wcc)
+    MOUNT, NFS, array, call, dirop, entries, entryplus, failed, fattr, fh, fragment, guard, hyper, ok,
+    opaque, post_op_attr, sattr, success, wcc, word)
 from examples.packets import Talk, pcap
 from tests.shared.running import ended
 
@@ -31,7 +31,7 @@ from .cases import FolderTest
 from .scripts import TOP, WITH_TOOLS
 from .test_compare import CHANGED, EXAMPLES, FIRST, SECOND, Comparisons, Conversation, many_calls
 
-GETATTR, LOOKUP, READLINK, MKDIR, READDIRPLUS, FSINFO = 1, 3, 5, 9, 17, 19
+GETATTR, SETATTR, LOOKUP, READLINK, READ, WRITE, MKDIR, READDIRPLUS, FSINFO = 1, 2, 3, 5, 6, 7, 9, 17, 19
 VOID = ('meta', 'input')
 WIDTHS = (480, 1300)
 CONCURRENT = tuple(str(EXAMPLES / f'concurrent_{name}.pcap') for name in ('a', 'b', 'changed'))
@@ -192,9 +192,13 @@ def the_top(place: Pages) -> None:
     """The verdict in words and as it is printed, both runs, and what is masked."""
     page = place.page(FIRST, CHANGED)
     place.want('words', [one.text() for one in page.all('h1')], ['The runs differ'])
-    place.want('printed', page.all('code')[0].text(), 'differ at connection 2 server record 2')
+    place.want('at a glance', glance_of(page), 'rtmax, rtpref, wtmax, .. of /mem (1 FSINFO reply)')
+    about, = page.all('details', 'about')
+    place.want('folded', (about.attributes.get('open'), about.all('summary')[0].text()), (None, 'About these runs'))
+    place.want('printed', about.all('code')[0].text(), 'differ at connection 2 server record 2')
     words = '103 of 103 calls belong together; rtmax in 1 reply; rtpref in 1 reply; wtmax in 1 reply; wtpref in 1 reply.'
-    place.want('in words', words in [one.text() for one in page.all('p')], True)
+    place.want('in words', words in [one.text() for one in about.all('p')], True)
+    place.want('all of it', [[len(node.all(tag)) for tag in ('table', 'dl')] for node in (about, page.all('section')[0])], [[1, 1], [1, 0]])
     runs, ends = runs_of(page), [frames_with_payload(path) for path in (FIRST, CHANGED)]
     place.want('name', runs['name'], [FIRST, CHANGED])
     place.want('file', runs['file'], [f'{os.path.getsize(path):,} bytes' for path in (FIRST, CHANGED)])
@@ -276,7 +280,7 @@ def counts_lead_to_findings(place: Pages) -> None:
     page = place.page()
     table = page.all('table')[1]
     place.want('counts', table_of(table)[1:], [
-        ['NFSPROC3_GETATTR', 'obj.mode', '3'], ['NFSPROC3_MKDIR', 'only in the second run', '1'], ['NFSPROC3_READLINK', 'path', '1']])
+        ['GETATTR', 'obj.mode', '2 paths', '3'], ['MKDIR', 'only in the second run', '/m/new1 0', '1'], ['READLINK', 'path', '', '1']])
     articles = {one.attributes['id']: one.text() for one in page.all('article')}
     links = [one.attributes['href'][1:] for one in table.all('a')]
     place.want('links', links, ['f1', 'f3', 'f4'])
@@ -290,7 +294,7 @@ def findings_of_a_page(place: Pages) -> None:
     article, = place.page(FIRST, CHANGED).all('article')
     place.want('heading', article.all('h3')[0].text(), '1 NFSPROC3_FSINFO reply /mem')
     place.want('places', [one.text().strip() for one in article.all('div', 'place')],
-               [f'{sign}connection 2 server record 2 (frame 21)frame.number == 21' for sign in '-+'])
+               [f'{sign}connection 2 server record 2 (frame 21) frame.number == 21' for sign in '-+'])
     place.want('to copy', ([one.text() for one in article.all('code', 'filter')], len(article.all('button', 'copy'))),
                (['frame.number == 21'] * 2, 2))
     values = [[f'- {name}=67108864', f'+ {name}=65536'] for name in ('rtmax', 'rtpref', 'wtmax', 'wtpref')]
@@ -313,7 +317,7 @@ def parts_of_a_recording(place: Pages) -> None:
     article, = place.page(FIRST, 'run.pcap*').all('article')
     where = 'connection 2 server record 2 (frame 21)'
     place.want('places', [one.text().strip() for one in article.all('div', 'place')],
-               [f'-{where}frame.number == 21', f'+{where}run.pcap2: frame.number == 6'])
+               [f'-{where} frame.number == 21', f'+{where} run.pcap2: frame.number == 6'])
 
 
 def findings_that_say_the_same(place: Pages) -> None:
@@ -328,7 +332,7 @@ def findings_that_say_the_same(place: Pages) -> None:
         300, '/m/f1: connection 1 server record 5 | connection 1 server record 5',
         '/m/f300: connection 1 server record 603 | connection 1 server record 603'))
     place.want('more', (article.all('summary')[0].text(), article.all('p')[-1].text()), ('351 positions more', '.. and 51 more'))
-    place.want('how many', page.all('h2')[1].text(), '352 findings, 1 if those that say the same are one')
+    place.want('how many', page.all('h2')[1].text(), '1 difference in 352 messages')
 
 
 def long_messages(place: Pages) -> None:
@@ -342,7 +346,8 @@ def long_messages(place: Pages) -> None:
     values = [one.text() for one in page.all('div', 'change')[0].all('div')]
     place.want('finding', (len(values), values[0], values[-2:]), (
         401, '- entry "000".mode=0640 (416)', ['+ entry "199".mode=0600 (384)', '.. and 100 more fields']))
-    lines, every = fields_of(page)[1], 8 + 300 * 24 + 2
+    # (the head of RPC is by itself, and what the finding tells comes before both)
+    lines, every = fields_of(page)[2], 3 + 300 * 24 + 2 - 300
     more = int(re.sub('[^0-9]', '', lines[-1]))
     place.want('row', (5_000 < sum(map(len, lines)) < 6_100, lines[-1][:7], more + len(lines) - 1), (True, '.. and ', every))
 
@@ -369,7 +374,7 @@ def two_thousand_findings(place: Pages) -> None:
     articles = page.all('article')
     place.want('how many', (len(articles), articles[-1].text()[:5]), (2_000, '2000 '))
     place.want('more', [one.text() for one in page.all('p') if one.attributes.get('id') == 'more'],
-               ['.. and 500 findings more. --json FILE writes all.'])
+               ['.. and 500 messages more. --json FILE writes all.'])
     calls = rows_and_gaps(page)
     place.want('calls', (calls[0], calls[1_999], calls[-1], len(calls)), ('≠ 1 1', '≠ 2000 2000', '497 calls that differ', 2_004))
     place.want('broken links', broken_links(page), [])
@@ -472,19 +477,162 @@ def fields_on_a_click(place: Pages) -> None:
     place.want('rows', [row.all('summary')[0].text().split(' record')[0] for row in rows],
                [f'{mark} NFSPROC3_GETATTR' for mark in '==≠=='])
     place.want('open', [row.attributes.get('open') for row in rows], [None] * 5)
-    asking, reply = fields_of(rows[2])
-    place.want('call', (asking[0], asking[-1]), ('mtype=0 (CALL)', 'fh=66696c65'))
-    place.want('reply', [line for line in reply if line.startswith(('obj.mode', 'obj.size'))],
-               ['obj.mode=0640 (416) | 0600 (384)', 'obj.size=2'])
+    (asking, head), (reply, _) = [fields_of(rows[2])[at:at + 2] for at in (0, 2)]
+    place.want('call', (asking, head[0], head[-1]), (['fh=66696c65'], 'mtype=0 (CALL)', 'verf_body='))
+    place.want('head', [one.attributes.get('open') for one in rows[2].all('details', 'head')], [None] * 2)
+    place.want('reply', [line for line in reply if line.startswith(('obj.mode', 'obj.size'))], ['obj.size=2'])
+    place.want('first', changes_of(rows[2]), ['- obj.mode=0640 (416)', '+ obj.mode=0600 (384)'])
+    parts = [node.attributes.get('class') for node in rows[2].nodes() if node.tag in ('div', 'details') and 'class' in node.attributes]
+    place.want('order', parts, ['fields', 'head', 'fields', 'change', 'minus', 'plus', 'fields', 'head', 'fields'])
     place.want('link', [one.attributes['href'] for one in rows[2].all('a')], ['#f1'])
     place.put('a', link(b'x' * 1_200))
     place.put('b', link(b'x' * 1_100 + b'y' + b'x' * 99))
-    place.want('values that are cut', [line for line in fields_of(place.page())[1] if 'path' in line],
-               [f'path=.."{8 * "x"}{8 * "x"}".. | .."{8 * "x"}y{7 * "x"}".. (1 of 1,200 bytes differs, at byte 1100)'])
+    place.want('values that are cut', changes_of(place.page().all('details', 'row')[0]),
+               [f'- path=.."{16 * "x"}"..', f'+ path=.."{8 * "x"}y{7 * "x"}".. # 1 of 1,200 bytes differs, at byte 1100'])
     place.put('a', link(b'x'))
     place.put('b', link(b'x', 13))
-    place.want('other layouts', [line for line in fields_of(place.page())[1] if 'status' in line or 'path' in line],
-               ['-\u00a0status=0 (NFS3_OK)', '-\u00a0path="x"', '+\u00a0status=13 (NFS3ERR_ACCES)'])
+    place.want('other layouts', changes_of(place.page().all('details', 'row')[0]),
+               ['- status=0 (NFS3_OK)', '+ status=13 (NFS3ERR_ACCES)'])
+
+
+def changes_of(node: Node) -> list[str]:
+    """The lines of what differs, with plain spaces."""
+    return [one.text() for change in node.all('div', 'change') for one in change.all('div')]
+
+
+def glance_of(page: Node) -> str:
+    return ''.join(one.text() for one in page.all('p', 'glance'))
+
+
+SENTENCE = b'This is the same in every run, and it is long enough that nobody reads the whole of it.\n'
+
+
+def worked(text: bytes, *made_at: int) -> Conversation:
+    """A mount of `/hold`, a file there that is written and read twice among 40 GETATTRs, and SETATTRs of another after some of these."""
+    told = [(call(1, MOUNT, 3, 1, opaque(b'/hold')), success(1, ok(fh(b'\1top'), array([]))))]
+
+    def ask(procedure: int, arguments: bytes, results: bytes) -> None:
+        told.append((call(len(told) + 1, NFS, 3, procedure, arguments), success(len(told) + 1, results)))
+    for number, name in enumerate((b'f1', b'f2')):
+        ask(LOOKUP, dirop(b'\1top', name), ok(fh(name + b'\2'), post_op_attr(fattr(1, 7 + number)), post_op_attr()))
+    for at in range(40):
+        ask(GETATTR, fh(b'f2\2'), ok(fattr(1, 8, at)))
+        if at == 10:
+            ask(WRITE, fh(b'f2\2') + hyper(0) + word(len(text)) + word(2) + opaque(text), ok(wcc(), word(len(text)), word(2), bytes(8)))
+        if at in (15, 20):
+            ask(READ, fh(b'f2\2') + hyper(0) + word(4096), ok(post_op_attr(), word(len(text)), word(1), opaque(text)))
+        for _ in range(made_at.count(at)):
+            ask(SETATTR, fh(b'f1\2') + sattr(mode=0o640) + guard(), ok(wcc()))
+    return [asked for asked, _ in told], [reply for _, reply in told]
+
+
+def at_a_glance(place: Pages) -> None:
+    """Under the title stands what differs, with its paths. Both runs and the mask are folded below it."""
+    place.put('a', worked(SENTENCE))
+    place.put('b', worked(SENTENCE.replace(b'same', b'sAme'), 30))
+    page = place.page()
+    place.want('glance', glance_of(page),
+               '1 byte of /hold/f2 (1 WRITE, 2 READs) \u00b7 1 SETATTR more in the second run: /hold/f1 mode 0640')
+    place.want('paths', [one.text() for one in page.all('p', 'glance')[0].all('code')], ['/hold/f2', '/hold/f1'])
+    order = [node.tag for node in page.nodes() if node.tag in ('h1', 'section') or {'glance', 'about'} & set(
+        node.attributes.get('class', '').split())]
+    place.want('order', order, ['h1', 'p', 'details', 'section', 'section', 'section'])
+    place.want('heading', page.all('h2')[1].text(), '3 differences in 4 messages')
+    place.put('b', worked(SENTENCE[:20], 30, 31))
+    place.want('several', glance_of(place.page()), 'bytes of /hold/f2 (1 WRITE, 2 READs) \u00b7 2 SETATTRs more in the second run: /hold/f1'
+               ' \u00b7 count of /hold/f2: 88 \u2192 20 (1 WRITE) \u00b7 count of /hold/f2: 88 \u2192 20 (3 replies to WRITE, READ)')
+    place.put('a', asked([0o640] * 3), gets([1, 2]), link(b'x'))
+    place.put('b', asked([0o640, 0o600, 0o600]), gets([1, 2]), link(b'y', 13))
+    place.want('fields', glance_of(place.page()), 'obj.mode of 2 paths, the first /m/f1: 0640 \u2192 0600 (2 GETATTR replies)'
+               ' \u00b7 status: NFS3_OK \u2192 NFS3ERR_ACCES (1 READLINK reply)')
+    place.put('a', asked([0o640]), link(b'x'), gets([0o640]))
+    place.put('b', asked([0o600]), link(b'y'), gets([0o600]))
+    place.want('procedures', glance_of(place.page()), 'obj.mode of /m/f0 and others: 0640 \u2192 0600 (2 GETATTR replies) \u00b7 path: "x" \u2192 "y" (1 READLINK reply)')
+    place.put('a', asked([1, 2, 3]))
+    place.put('b', (lambda both: (both[0][:3] + both[0][5:] + both[0][3:5], both[1]))(asked([1, 2, 3])))
+    place.want('order', glance_of(place.page('--order=strict')), '2 calls in another turn')
+    place.want('data and size', 'bytes of /hold/f2 (1 WRITE, 2 READs)' in glance_of(two_texts(place, SENTENCE, SENTENCE[:-1])), True)
+    place.want('of the first run', '1 connection more in the first run' in (place.put('b', gets([1, 2])) or glance_of(place.page())), True)
+
+
+def two_texts(place: Pages, first: bytes, second: bytes) -> Node:
+    """The page of two runs that write these texts."""
+    place.put('a', worked(first))
+    place.put('b', worked(second))
+    return place.page()
+
+
+def marked_bytes(place: Pages) -> None:
+    """Beside the hexadecimal digits of a text stands the text. The bytes that differ are marked in both."""
+    place.put('a', worked(SENTENCE))
+    place.put('b', worked(SENTENCE.replace(b'same', b'sAme')))
+    minus, plus = place.page().all('article')[0].all('div', 'change')[0].all('div')
+    place.want('marks', [[one.text() for one in line.all('mark')] for line in (minus, plus)], [['61', 'a'], ['41', 'A']])
+    place.want('texts', [one.text() for line in (minus, plus) for one in line.all('span', 'text')], ['is the same in e', 'is the sAme in e'])
+    place.want('digits', minus.text(), '- data=..697320746865207361' '6d6520696e2065.. is the same in e')
+    place.put('a', worked(b'ab<c'))
+    place.put('b', worked(b'xb<cd'))
+    minus, plus = place.page().all('article')[0].all('div', 'change')[0].all('div')[-2:]
+    place.want('short', (minus.text(), plus.text(), [one.text() for one in plus.all('mark')]),
+               ('- data=61623c63 ab<c', '+ data=78623c6364 xb<cd', ['78', '64', 'x', 'd']))
+    place.put('a', worked(bytes(range(128, 160))))
+    place.put('b', worked(bytes(range(129, 161))))
+    lines = place.page().all('article')[0].all('div', 'change')[0]
+    place.want('no text', (len(lines.all('span', 'text')), len(lines.all('mark'))), (0, 2))
+    place.put('a', link(b'target 1'))
+    place.put('b', link(b'target <'))
+    minus, plus = place.page().all('article')[0].all('div', 'change')[0].all('div')
+    place.want('name', (minus.text(), plus.text(), [one.text() for one in plus.all('mark')]), ('- path="target 1"', '+ path="target <"', ['<']))
+
+
+def calls_of_one_run(place: Pages) -> None:
+    """A call that one run alone has shows its arguments, and stands where it was sent, also if calls before it have another turn."""
+    place.put('a', worked(SENTENCE))
+    place.put('b', worked(SENTENCE, 30))
+    page = place.page()
+    article, = page.all('article')
+    place.want('arguments', changes_of(article), ['+ set.mode=0640 (416)'])
+    row, = [one for one in page.all('details', 'row') if one.all('summary')[0].text().startswith('+')]
+    place.want('in its row', (changes_of(row), [line for line in fields_of(row)[0] if 'mode' in line]), (
+        ['+ set.mode=0640 (416)'], ['+\u00a0set_mode=1 (TRUE)']))
+    calls, replies = gets(range(60))
+    added = call(99, NFS, 3, SETATTR, fh(b'file') + sattr(mode=0o640) + guard())
+    # One call changed its turn: it comes just before the added one.
+    turned = [*calls[:5], *calls[6:40], calls[5], added, *calls[40:]]
+    place.put('a', (calls, replies))
+    place.put('b', (turned, [*replies, success(99, ok(wcc()))]))
+    rows = rows_and_gaps(place.page('--order=strict'))
+    at = rows.index('+ 41')
+    place.want('turn', rows[at - 1:at + 2], ['= 40 39', '+ 41', '= 41 42'])
+    calls, replies = asked([1])
+    place.put('a', (calls, replies))
+    place.put('b', ([*calls, call(9, NFS, 3, GETATTR, fh(b'0'))], [*replies, success(9, ok(fattr(1, 2, 0, 1)))]))
+    place.want('no arguments', [one.text() for one in place.page('--extra=none').all('p', 'quiet')][:1],
+               ['It has no arguments but its path.'])
+
+
+def sized(*order: int) -> Conversation:
+    """Three WRITEs to one file in an order. The size after each depends on those before it."""
+    calls, replies, end = list[bytes](), list[bytes](), 0
+    for xid in order:
+        end = max(end, 4 * xid)
+        calls.append(call(xid, NFS, 3, WRITE, fh(b'f') + hyper(4 * xid - 4) + word(4) + word(2) + opaque(b'%4d' % xid)))
+        replies.append(success(xid, ok(wcc(None, fattr(1, 7, end)), word(4), word(2), bytes(8))))
+    return calls, replies
+
+
+def what_is_not_counted(place: Pages) -> None:
+    """Fields that do not count in another order are folded, with all that belongs to them."""
+    place.put('a', sized(1, 2, 3))
+    place.put('b', sized(3, 1, 2))
+    page = place.page()
+    fold, = page.all('details', 'uncounted')
+    place.want('folded', (fold.attributes.get('open'), fold.all('summary')[0].text()), (None, '2 fields that were not counted'))
+    place.want('all of them', [[len(node.all(tag)) for tag in ('article', 'section')] for node in (fold, page)], [[2, 3]] * 2)
+    place.want('heading', fold.all('h2')[1].text(), '2 uncounted differences in 2 messages')
+    place.want('nothing is said to differ', (page.all('h1')[0].attributes['class'], glance_of(page)), ('same', ''))
+    place.put('b', sized(1, 2, 3), gets([1]))
+    place.want('what counts', len(place.page().all('details', 'uncounted')), 0)
 
 
 # --- Names of others ---
@@ -595,7 +743,7 @@ BESIDE = """(() => {
     range.setEnd(text, place + 1);
     return range.getBoundingClientRect().top;
   };
-  return at > 0 && top(at) === top(at + 2);
+  return at >= 0 && top(at) === top(at + 2);
 })()"""
 
 
@@ -632,9 +780,63 @@ def searching(place: Pages) -> None:
                       [name for name, said in rows.items() if text.lower() in said])
             place.want(text, [browser.value(VISIBLE % one) for one in ('article', '.row', '.gap')], [*wanted, []])
             place.want(text + ' is found', [bool(some) for some in wanted], [text != 'nothing has this'] * 2)
-            place.want(text + ' counted', browser.value('found.textContent').startswith(f'{len(wanted[0])} finding'), True)
+            place.want(text + ' counted', browser.value('found.textContent').startswith(f'{len(wanted[0])} difference'), True)
         browser.value('find.value = "", find.dispatchEvent(new Event("input"))')
         place.want('all again', (browser.value(VISIBLE % 'article'), browser.value(VISIBLE % '.row')), (findings, [*rows]))
+        place.want('errors', browser.errors, [])
+
+
+def searches_without_a_hit(place: Pages) -> None:
+    """No heading is left without what it stands over, and the number of differences follows the search."""
+    ten_findings(place)
+    with place.browser() as browser:
+        opened(place, browser)
+        def shown(text: str) -> list[str]:
+            browser.value(f'find.value = {json.dumps(text)}, find.dispatchEvent(new Event("input"))')
+            return browser.value('[...document.querySelectorAll("h2, h3, .connection > h3")].filter(one => one.checkVisibility() '
+                                 '&& !one.closest("article")).map(one => one.textContent)')
+        whole = shown('')
+        place.want('all', whole[:2], ['What differs', '2 differences in 10 messages'])
+        place.want('none', shown('nothing has this'), [])
+        place.want('one', shown('/m/f28'), ['1 difference in 5 messages', 'Calls', 'connection 1 | connection 1'])
+        place.want('a field', shown('obj.mode')[:1], ['What differs'])
+        place.want('all again', shown(''), whole)
+        place.want('errors', browser.errors, [])
+
+
+def signs_are_beside_their_places(place: Pages) -> None:
+    """A sign of a run does not stand alone on a line, however narrow the window is. Frames stand once beside it."""
+    place.put('a', gets([1]))
+    with place.browser() as browser:
+        opened(place, browser, *CONCURRENT[::2])
+        for width in (320, *WIDTHS):
+            browser.resize(width)
+            place.want(f'{width}', browser.value(
+                '[...document.querySelectorAll(".place")].every(one => { const [sign, words] = [...one.children].map('
+                'child => child.getBoundingClientRect()); return words.top < sign.bottom && words.left >= sign.right })'), True)
+            place.want(f'{width}: filters', browser.value(
+                '[...document.querySelectorAll(".filter")].every(one => one.getBoundingClientRect().width <= 1)'), True)
+        place.want('errors', browser.errors, [])
+
+
+def uncounted_fields(place: Pages) -> None:
+    """They are neither red nor green, and a search, a link and a key open them."""
+    place.put('a', sized(1, 2, 3))
+    place.put('b', sized(3, 1, 2))
+    is_open = '(document.querySelector(".uncounted").open)'
+    with place.browser() as browser:
+        opened(place, browser)
+        place.want('folded', (browser.value(is_open), browser.value(VISIBLE % 'article')), (False, []))
+        colours = browser.value('["h2", ".change .minus", ".change .plus", ".sign"].map(one => getComputedStyle('
+                                'document.querySelector(one))).map(one => [one.color, one.backgroundColor])')
+        place.want('colours', colours, [colours[0]] * 4)
+        browser.press('n')
+        place.want('a key', browser.value(is_open), True)
+        for what in ('find.value = "after.size", find.dispatchEvent(new Event("input"))', 'location.hash = "#f2"'):
+            browser.value('document.querySelector(".uncounted").open = false')
+            browser.value(what)
+            browser.value('new Promise(done => setTimeout(done, 200))')
+            place.want(what, browser.value(is_open), True)
         place.want('errors', browser.errors, [])
 
 
@@ -707,7 +909,7 @@ def folding(place: Pages) -> None:
 
 
 def copying(place: Pages) -> None:
-    """A button copies its filter, and a click selects it."""
+    """A button copies its filter, which is not seen beside it."""
     with place.browser() as browser:
         opened(place, browser, *CONCURRENT[::2])
         wanted = browser.value('document.querySelector("#f2 .filter").textContent')
@@ -717,8 +919,6 @@ def copying(place: Pages) -> None:
         browser.ask('Input.dispatchKeyEvent', type='keyDown', key='v', commands=['paste'])
         place.want('pasted', (browser.value('find.value'), wanted.startswith('frame.number == ')), (wanted, True))
         browser.value('find.value = "", find.dispatchEvent(new Event("input"))')
-        browser.click('#f2 .filter')
-        place.want('selected', browser.value('String(getSelection())'), wanted)
         place.want('errors', browser.errors, [])
 
 
@@ -727,22 +927,17 @@ def without_scripts(place: Pages) -> None:
     with place.browser() as browser:
         place.page(*CONCURRENT[::2])
         browser.open(place.path('page.html'), has_scripts=False)
-        root = browser.ask('DOM.getDocument')['root']['nodeId']
-        def is_shown(selector: str) -> bool:
-            node = browser.ask('DOM.querySelector', nodeId=root, selector=selector)['nodeId']
-            try:
-                return bool(browser.ask('DOM.getBoxModel', nodeId=node)['model']['height'])
-            except RuntimeError:
-                return False
-        place.want('shown', [is_shown(one) for one in ('h1', '.runs', 'article', '.filter', '.row', '.gap', '.bar', '.copy')],
+        place.want('shown', [browser.is_shown(one) for one in ('h1', '.about', 'article', '.filter', '.row', '.gap', '.bar', '.copy')],
                    [True] * 6 + [False] * 2)
 
 
 TESTS: list[Callable[[Pages], None]] = [
     the_top, what_does_not_count, other_verdicts, counts_lead_to_findings, findings_of_a_page, parts_of_a_recording,
     findings_that_say_the_same, long_messages, places_of_many_findings, two_thousand_findings, two_thousand_calls_of_the_second_run,
-    size_of_a_page, calls_around, connections_of_one_run, fields_on_a_click, names_are_escaped, pages_stand_alone]
-IN_CHROMIUM: list[Callable[[Pages], None]] = [pages_load, colours, signs, searching, keys, links, folding, copying, without_scripts]
+    size_of_a_page, calls_around, connections_of_one_run, fields_on_a_click, at_a_glance, marked_bytes,
+    calls_of_one_run, what_is_not_counted, names_are_escaped, pages_stand_alone]
+IN_CHROMIUM: list[Callable[[Pages], None]] = [
+    pages_load, colours, signs, searching, searches_without_a_hit, signs_are_beside_their_places, uncounted_fields, keys, links, folding, copying, without_scripts]
 
 
 class PageTest(FolderTest, make=Pages, tests=[*TESTS, *map(unittest.skipUnless(chromium(), 'chromium is not there'), IN_CHROMIUM)]):

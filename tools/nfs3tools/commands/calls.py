@@ -50,9 +50,9 @@ import typing
 from collections.abc import Callable, Iterator, Sequence
 from functools import partial
 
-from ..captures.in_words import short_name
 from ..comparison.values.long_values import bytes_of
-from ..judgement.exchanges import Exchange, Kept
+from ..judgement.exchanges import Exchange, Kept, call_of
+from ..judgement.tallies import milliseconds
 from ..judgement.verdict import Verdict, counts_after, is_row, named, status_of, sums_of, tell_notes
 from ..recordings.coverage import PROCEDURES
 from ..recordings.selection import count, plural
@@ -61,7 +61,6 @@ from ..reporting.messages import add_judging, allowed_of, options_of, parser_of,
 from ..shared.layouts import BY_NAME, RAW
 from ..shared.printed import escaped, printable
 from ..shared.programs import program_path
-from .procedures import milliseconds
 from .verdicts import CONNECTIONS_AT_ONCE, VERSION, Judge, objects_of
 
 HEADS = ('time', 'ms', 'frame', 'conn', 'call', 'answer')
@@ -154,20 +153,6 @@ def cells_of(one: Exchange, begun: int) -> tuple[str, ...]:
     return (f'{(one.time - begun) / 1_000_000_000:.6f}' if one.time else '-',
             milliseconds(one.latency), str(one.frame or '-'),
             f'{one.part.number}:{one.record}', call_of(one), one.answer)
-
-
-def call_of(one: Exchange) -> str:
-    """A call with its paths and its other arguments."""
-    words, path = [short_name(one.procedure)], one.path
-    if path is not None:
-        words.append(path)
-    if one.asked.other is not None:
-        words.append(f'-> {one.other_path}')
-    if one.asked.words:
-        words.append(one.asked.words)
-    if one.again:
-        words.append(f'(sent {one.again + 1} times)')
-    return ' '.join(words)
 
 
 class Lines:

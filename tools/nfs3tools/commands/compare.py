@@ -58,7 +58,7 @@ from ..comparison.parts.marks import NoMark
 from ..comparison.parts.part_by_part import PartByPart
 from ..comparison.values.classes import CLASSES, in_any_order, mask_word, told
 from ..comparison.verdict import summary
-from ..comparison.verdict.cover import Cover, Size, cover_of, lines_of_counts
+from ..comparison.verdict.cover import Cover, Size, cover_of, lines_of_counts, losses_of
 from ..comparison.verdict.decision import judged, run_of
 from ..comparison.verdict.excerpt import Around
 from ..comparison.verdict.findings import Compared, Framing, Run
@@ -71,6 +71,7 @@ from ..recordings.parts import files_of
 from ..recordings.selection import Options
 from ..recordings.taken import NotTaken, Taken, take
 from ..reporting import pages, telling
+from ..reporting.markup import encoded
 from ..reporting.messages import (
     REFUSED, add_judging, advice_on, allowed_of, ended,
     options_of, parser_of, run)
@@ -142,17 +143,6 @@ def recorded_of(taken: Taken, name: str) -> Recorded:
                     taken.parts)
 
 
-def write_page(path: str, inputs: list[str], content: Content) -> None:
-    write_file(path, (piece.encode(errors='backslashreplace') for piece in pages.page(content)),
-               inputs)
-
-
-def losses_of(covers: Sequence[Cover]) -> str:
-    """What of both runs is not compared, or nothing."""
-    return ', '.join(words for name, cover in zip(summary.RUNS, covers)
-                     for words in cover.lacking(name))
-
-
 class Whole(NamedTuple):
     """Both runs as they were taken, checked and written as captures."""
     names: list[str]
@@ -207,7 +197,7 @@ def compared_runs(words: argparse.Namespace, stack: ExitStack) -> int:
     choices = Choices(words.order, masks, frozenset() if words.extra == 'none' else ASKING,
                       AROUND if words.html else None)
     is_same = (compared_whole if words.marks is None
-               else compared_by_parts)(words, whole, choices, losses_of(whole.covers))
+               else compared_by_parts)(words, whole, choices, losses_of(whole.covers, summary.RUNS))
     if any(cover.is_refused for cover in whole.covers):
         return REFUSED
     return SAME if is_same else DIFFERENT
@@ -254,8 +244,8 @@ def explain(words: argparse.Namespace, whole: Whole, line: str, report: Report, 
                    whole.inputs)
     if words.html:
         recorded = [recorded_of(*one) for one in zip(whole.taken, whole.names)]
-        write_page(words.html, whole.inputs,
-                   Content(line, report, compared, words.ignore, left_out, whole.runs, recorded))
+        content = Content(line, report, compared, words.ignore, left_out, whole.runs, recorded)
+        write_file(words.html, encoded(pages.page(content)), whole.inputs)
     if words.json:
         write_file(words.json, json_of(report, compared, left_out, whole.framings()), whole.inputs)
     print_found(words, whole, report, compared, left_out)

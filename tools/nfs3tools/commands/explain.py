@@ -28,52 +28,24 @@ import sys
 from collections.abc import Sequence
 from functools import partial
 
-from ..captures.located import HEAD_OF_CALL, Call, Within, call_of, located, numbers_in
+from ..captures.explained import tell_bytes, tell_reason, tell_record
+from ..captures.located import Within, located
 from ..recordings.carried import places_at
 from ..recordings.taken import FrameRef, NotTaken
 from ..reporting.frames import lines_of
 from ..reporting.messages import (
     ABSENT, add_options, ended, options_of, parser_of, position_text, run)
-from ..shared.layouts import Body, Item, Message, Procedure, procedure_of
 from ..shared.names import as_called
 from ..shared.places import FilePlace, FramePlace, NoPlace, Place, parse_fault, parse_place
 from ..shared.printed import escaped
 
 AID = 'A reader\'s aid, and no part of what is proved.'
-LINES_AROUND = 8  # of 16 bytes, before and after the byte of a long record
-SHOWN_AT_MOST = 100  # bytes of an item
 
-REASONS = {
-    'BadMagic': 'a capture begins with NFS3CAP1 or NFS3CAP2', 'CaptureCut': 'the file ends before it is complete',
-    'BadMark': 'a connection word is 0 or 1, and of version 2 a side word 0, 1 or 2, and a length word at least 1',
-    'AfterEnd': 'nothing stands after the last word 0',
-    'TooManyConnections': 'there are at most 65,535', 'TooManyBytes': 'all streams together have at most 1,073,741,824 bytes',
-    'RecordCut': 'the stream ends in this record', 'RecordTooLong': 'the body of a record has at most 16,777,216 bytes',
-    'Short': 'the body ends before this item is whole', 'Trailing': 'the message ends before this byte, and the body does not',
-    'BadBool': 'a bool is 0 or 1', 'BadEnum': 'this value is not listed', 'TooLong': 'the length or count is over its maximum',
-    'RpcVersion': 'the RPC version is 2', 'Flavor': 'other flavors are not taken, as that of RPCSEC_GSS, which is 6',
-    'AuthLength': 'the length is not that of the parameters', 'WrongSide': 'calls are the client\'s, and replies the server\'s',
-    'NoCall': 'no call of the connection has this xid, perhaps since its call was not recorded',
-    'XidConflict': 'an earlier call of the connection has this xid and another procedure'}
-
-
-# --- A record ---
 
 def explain_record(within: Within, place: Place, reason: str | None) -> None:
     found = within.record(place)
     tell_frames(within, place, found.frames)
-    head, is_call = found.body[:HEAD_OF_CALL], place.side == 'client'
-    call = None if is_call else call_of(found.calls, head[:4])
-    procedure = heading(place, found.body, call)
-    if place.byte is None:
-        tell_items(found.body, is_call, procedure)
-        return
-    begin, end = tell_item(found.body, is_call, procedure, place.byte)
-    earlier = call_of(found.calls, head[:4], place.record) if reason == 'XidConflict' else None
-    if earlier:
-        print('earlier: client record %d, %s' % (earlier.record, procedure_of(*earlier.numbers).name))
-    print_reason(reason)
-    dump(found.body, begin, end, place.byte)
+    tell_record(found, place, reason, print)
 
 
 def tell_frames(within: Within, place: Place | FilePlace, frames: list[FrameRef]) -> None:
@@ -82,87 +54,14 @@ def tell_frames(within: Within, place: Place | FilePlace, frames: list[FrameRef]
         print('\n'.join(lines_of(within.taken, place, frames)))
 
 
-def heading(place: Place, body: Body, call: Call | None) -> Procedure | None:
-    """Prints what the message is, and returns its procedure if that is known."""
-    head, is_call = body[:HEAD_OF_CALL], place.side == 'client'
-    numbers = call.numbers if call else numbers_in(head)
-    procedure = procedure_of(*numbers) if call or is_call and len(head) == HEAD_OF_CALL else None
-    named = ('%s of program %d, version %d, procedure %d' % (procedure.name, *numbers) if procedure
-             else 'of a procedure that is not known')
-    print('%s: %s %s' % (place._replace(byte=None), 'call' if is_call else 'reply', named))
-    xid = 'xid %d' % int.from_bytes(head[:4], 'big') if len(head) >= 4 else 'no xid'
-    print('%s, a body of %d bytes' % (xid, len(body)), end='')
-    print(', to call record %d' % call.record if call else '')
-    return procedure
-
-
-def tell_items(body: Body, is_call: bool, procedure: Procedure | None) -> None:
-    """Prints all items that have bytes, up to the end or to the first that is at fault."""
-    last = list[Item]()
-
-    def tell(item: Item) -> None:
-        last[:] = [item]
-        if item.begin < item.end or not item.is_whole:
-            print(line_of(item))
-
-    message = Message(body, tell, SHOWN_AT_MOST)
-    if not message.read(is_call, procedure):
-        print('allowed: %s' % last[0].allowed)
-    if message.at < len(body):
-        print('byte %d: %d bytes more, which are not taken apart' % (message.at, len(body) - message.at))
-
-
-def tell_item(body: Body, is_call: bool, procedure: Procedure | None, byte: int) -> tuple[int, int]:
-    """Prints the item at a byte, and returns where it begins and ends."""
-    found = list[Item]()
-
-    def look(item: Item) -> None:
-        if not found and (item.begin <= byte < item.end or item.begin == byte and not item.is_whole):
-            found.append(item)
-
-    Message(body, look, SHOWN_AT_MOST).read(is_call, procedure)
-    for item in found:
-        print(line_of(item, byte))
-        print('allowed: %s' % item.allowed)
-        return item.begin, item.end
-    print('byte %d: %s' % (byte, 'after the last item of the message' if byte < len(body) else 'the end of the body'))
-    return byte, len(body)
-
-
-def line_of(item: Item, byte: int | None = None) -> str:
-    """The line of an item, which is at this byte."""
-    value = item.value + '..' if item.end - item.begin > SHOWN_AT_MOST else item.value
-    return 'byte %d: %s = %s%s' % (item.begin if byte is None else byte, item.name, value or 'nothing, since the body ends here',
-                                   ' (%s)' % item.meaning if item.meaning else '')
-
-
-def dump(data: Body, begin: int, end: int, byte: int, first: int = 0) -> None:
-    """Prints lines of 16 bytes, of a long run those around a byte, with the bytes from `begin` to `end` in brackets."""
-    low, high = 0, len(data)
-    if high > 32 * LINES_AROUND:
-        low, high = max(0, byte // 16 - LINES_AROUND) * 16, min(high, (min(end, byte + 64) // 16 + LINES_AROUND) * 16)
-    for at in range(low - low % 16, high, 16):
-        piece = data[at:at + 16]
-        cells = ('%s%02x%s' % ('[' if place == begin else ' ', byte, ']' if place == end - 1 else ' ')
-                 for place, byte in enumerate(piece, at))
-        text = ''.join(chr(byte) if 32 <= byte < 127 else '.' for byte in piece)
-        print('%8d %-64s %s' % (first + at, ''.join(cells), text))
-
-
-# --- A byte of the file ---
-
 def explain_byte(within: Within, place: FilePlace, reason: str | None) -> None:
     part = within.part(place)
     tell_frames(within, place, within.frames_of(place))
     print('file byte %d: %s, from byte %d' % (place.byte, part.what, part.begin))
-    print_reason(reason)
+    tell_reason(reason, print)
     low = max(0, place.byte - place.byte % 16 - 64)
-    dump(within.bytes_from(low, 160), place.byte - low, min(part.end, place.byte + 4) - low, place.byte - low, low)
-
-
-def print_reason(reason: str | None) -> None:
-    if reason:
-        print('%s: %s' % (reason, REASONS.get(reason, 'no reason of nfs3canon')))
+    tell_bytes(within.bytes_from(low, 160), place.byte - low, min(part.end, place.byte + 4) - low,
+               place.byte - low, print, low)
 
 
 def main(command_line: list[str]) -> int:

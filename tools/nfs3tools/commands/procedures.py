@@ -1,6 +1,6 @@
 """Counts calls, errors, bytes and latencies by procedure.
 
-    tools/procedures [--total] [--sort COLUMN] [--json FILE] [--csv FILE] RECORDING|CAPTURE ..
+    tools/procedures [--total] [--sort COLUMN] [--json FILE] [--csv FILE] [--html FILE] RECORDING|CAPTURE ..
     tools/procedures --beside A B
 
 Printed is a table for each connection, one for each recording in all, and one for all recordings if they are several. A row has the
@@ -17,7 +17,8 @@ the clock went back, latencies are negative; their number is told.
 Each connection is judged as by tools/verdicts, whose verdict is above its table: one of which bytes are missing is `ok in part`, and one
 that is refused is counted up to its fault. The counts of tools/verdicts stand above the table of a recording. --total leaves out the tables
 of the connections. --sort has the largest of a column first. --beside has two recordings in one table: a number that differs is `A -> B`, with the change in per cent for bytes and
-latencies. --json and --csv write all tables.
+latencies. --json and --csv write all tables. --html writes a page for a browser, with the tables that are printed and a time line of the
+latencies of each recording: a dot for each call, with its path and its frame.
 
 The recordings are taken as by tools/from_pcap (--port, --no-midstream, --whole-records, --filter, patterns in quotes for the parts of one
 recording); `-` is standard input. FILE is written beside its name, and gets it once it is whole. It is refused if it is an input, or begins
@@ -36,11 +37,14 @@ from collections import Counter
 from collections.abc import Iterator, Sequence
 from functools import partial
 
-from ..judgement.tallies import Tallies, Tally, counted_of, in_order, sum_of
+from ..judgement.seen import Seen, seen_in
+from ..judgement.tallies import Tallies, Tally, counted_of, in_order, milliseconds, sum_of
 from ..judgement.verdict import Verdict, counts_after, is_row, named, status_of, sums_of, tell_notes
+from ..judgement.verdict_page import Content, Table as ShownTable, page, row_of_cells, said_of
 from ..recordings.parts import files_of
 from ..recordings.selection import plural
 from ..recordings.taken import Taken, TakenConnection
+from ..reporting.markup import encoded
 from ..reporting.messages import add_judging, allowed_of, options_of, parser_of, run
 from ..shared.outputs import printed_beside, try_outputs, write_file
 from ..shared.places import Place
@@ -64,7 +68,6 @@ COLUMNS: dict[str, typing.Callable[[Tally], int | None]] = {
     'median': lambda tally: tally.ranked(PARTS)[0], 'p99': lambda tally: tally.ranked(PARTS)[1],
     'most': lambda tally: tally.ranked(PARTS)[2], 'mean': lambda tally: tally.mean,
     'sum': lambda tally: tally.total, 'errors': lambda tally: sum(tally.errors.values())}
-NANOSECONDS_OF_A_MILLISECOND = 1_000_000
 
 
 class Table(typing.NamedTuple):
@@ -94,11 +97,13 @@ def sorted_by(column: str, names: list[str], *several: Tallies) -> list[str]:
 
 
 class Counted(typing.NamedTuple):
-    """A recording with its verdicts, the tables of its connections, and that of all of them."""
+    """A recording with its verdicts, the tables of its connections, that of all of them, and what
+    a page shows besides."""
     recording: str
     verdicts: list[Verdict]
     tables: list[Table]
     in_all: Table
+    seen: Seen
 
 
 def total_of(tallies: Tallies) -> Tally:
@@ -109,16 +114,21 @@ def total_of(tallies: Tallies) -> Tally:
     return total
 
 
-def counted(judge: Judge, recording: str) -> Counted:
-    """Judges a recording or capture, and counts each connection that was judged."""
-    tables = list[Table]()
+def counted(judge: Judge, recording: str, is_seen: bool) -> Counted:
+    """Judges a recording or capture, and counts each connection that was judged. What a page shows
+    is looked for if there is to be one."""
+    tables, seen = list[Table](), list[Seen]()
 
     def look(taken: Taken, verdicts: list[Verdict]) -> None:
         judged = {verdict.connection: verdict for verdict in verdicts if verdict.state != 'error'}
         tables.extend(table_of(judge, connection, judged[connection.number]) for connection in taken.connections
                       if connection.number in judged)
+        if is_seen:
+            seen.append(seen_in(judge.program, taken, recording, verdicts))
     verdicts = judge.verdicts(recording, look)
-    return Counted(recording, verdicts, tables, Table(recording, None, sum_of(table.tallies for table in tables)))
+    in_all = Table(recording, None, sum_of(table.tallies for table in tables))
+    return Counted(recording, verdicts, tables, in_all,
+                   (seen or [Seen(recording, verdicts)])[0]._replace(verdicts=verdicts))
 
 
 def table_of(judge: Judge, connection: TakenConnection, verdict: Verdict) -> Table:
@@ -150,10 +160,6 @@ def longest_of(tally: Tally, is_named: bool) -> str:
     return printable(f'{escaped(longest.recording)} {place}') if is_named else place
 
 
-def milliseconds(rank: int | None) -> str:
-    return '-' if rank is None else f'{rank / NANOSECONDS_OF_A_MILLISECOND:.3f}'
-
-
 def errors_of(errors: Counter[str]) -> str:
     return ', '.join(f'{name} {number}' for name, number in most_first(errors)) or '-'
 
@@ -165,10 +171,14 @@ def most_first(errors: Counter[str]) -> list[tuple[str, int]]:
 def print_table(title: str, table: Table, column: str) -> None:
     """Prints a table below its title, which is alone if there is nothing in the table. An empty line is before it."""
     print(f'\n{title}{told_of_clock(total_of(table.tallies))}')
-    rows = [(*HEADS[:-1], LONGEST, HEADS[-1]),
-            *(cells_of(*row, table.recording is None) for row in table.rows(column))]
-    for line in table.tallies and columns(rows, range(1, len(HEADS) - 1)):
+    for line in table.tallies and columns(rows_of(table, column), range(1, len(HEADS) - 1)):
         print(line)
+
+
+def rows_of(table: Table, column: str) -> list[Sequence[str]]:
+    """The rows of a table, that of the heads first."""
+    return [(*HEADS[:-1], LONGEST, HEADS[-1]),
+            *(cells_of(*row, table.recording is None) for row in table.rows(column))]
 
 
 def told_of_clock(tally: Tally) -> str:
@@ -198,8 +208,12 @@ def print_tables(found: Sequence[Counted], is_total: bool, column: str) -> None:
                     one.in_all, column)
     if len(found) > 1:
         sums = sums_of([verdict for one in found for verdict in one.verdicts])
-        print_table(f'all recordings: {sums}',
-                    Table(None, None, sum_of(one.in_all.tallies for one in found)), column)
+        print_table(f'all recordings: {sums}', in_all_of(found), column)
+
+
+def in_all_of(found: Sequence[Counted]) -> Table:
+    """The table of all recordings."""
+    return Table(None, None, sum_of(one.in_all.tallies for one in found))
 
 
 def print_beside(first: Counted, second: Counted, column: str) -> None:
@@ -210,11 +224,16 @@ def print_beside(first: Counted, second: Counted, column: str) -> None:
                 print(printable(f'{named(verdict)}: {verdict.message}'))
         told = told_of_clock(total_of(one.in_all.tallies))
         print(printable(f'{name}: {escaped(one.recording)}: {sums_of(one.verdicts)}{told}'))
+    for line in columns(rows_beside(first, second, column), range(1, len(HEADS) - 1)):
+        print(line)
+
+
+def rows_beside(first: Counted, second: Counted, column: str) -> list[Sequence[str]]:
+    """The rows of two recordings in one table, that of the heads first."""
     here, there = (dict(one.in_all.rows()) for one in (first, second))
     names = [*sorted_by(column, in_order({*here, *there} - {IN_ALL}), here, there), IN_ALL]
-    rows = [cells_beside(name, here.get(name, Tally()), there.get(name, Tally())) for name in names]
-    for line in columns([HEADS, *rows], range(1, len(HEADS) - 1)):
-        print(line)
+    return [HEADS, *(cells_beside(name, here.get(name, Tally()), there.get(name, Tally()))
+                     for name in names)]
 
 
 def cells_beside(name: str, first: Tally, second: Tally) -> list[str]:
@@ -236,6 +255,37 @@ def changed(first: str, second: str, change: str = '') -> str:
 def change_of(first: int | None, second: int | None) -> str:
     """The change in per cent, if there is something that it is of."""
     return f' ({round(100 * (second - first) / first):+d} %)' if first and second is not None else ''
+
+
+# --- The page ---
+
+def page_of(found: Sequence[Counted], chosen: argparse.Namespace) -> Iterator[str]:
+    """The page: the tables that are printed, and a time line for each recording."""
+    whole, of_each = list[ShownTable](), list[list[ShownTable]]()
+    if chosen.beside:
+        heads, *rows = rows_beside(found[0], found[1], chosen.sort)
+        whole = [shown_of('A: {} | B: {}'.format(*(escaped(one.recording) for one in found)),
+                          heads, rows)]
+    elif len(found) > 1:
+        whole = [shown('all recordings', in_all_of(found), chosen.sort)]
+    if not chosen.beside:
+        of_each = [[shown('in all', one.in_all, chosen.sort),
+                    *(shown(title_of(table.verdict._replace(message=said_of(table.verdict))), table,
+                            chosen.sort)
+                      for table in ([] if chosen.total else one.tables) if table.verdict)]
+                   for one in found]
+    return page(Content([one.seen for one in found], allowed_of(chosen), whole, of_each, False))
+
+
+def shown(title: str, table: Table, column: str) -> ShownTable:
+    """A table as it is printed, for the page."""
+    heads, *rows = rows_of(table, column)
+    return shown_of(title + told_of_clock(total_of(table.tallies)), heads, rows)
+
+
+def shown_of(title: str, heads: Sequence[str], rows: Sequence[Sequence[str]]) -> ShownTable:
+    numbers = range(1, len(HEADS) - 1)
+    return ShownTable(title, heads, [row_of_cells(row, numbers) for row in rows], numbers)
 
 
 # --- What is written ---
@@ -292,6 +342,8 @@ def words_of(words: list[str]) -> argparse.Namespace:
                         help=f'has the largest of a column first: {", ".join(COLUMNS)}')
     parser.add_argument('--json', metavar='FILE', help='writes the verdicts and the tables as JSON')
     parser.add_argument('--csv', metavar='FILE', help='writes the tables as comma-separated values')
+    parser.add_argument('--html', metavar='FILE',
+                        help='writes a page for a browser, with the tables and latencies')
     add_judging(parser)
     chosen = parser.parse_args(words)
     if chosen.beside and len(chosen.recordings) != 2:
@@ -302,12 +354,13 @@ def words_of(words: list[str]) -> argparse.Namespace:
 def main(words: list[str]) -> int:
     chosen = words_of(words)
     inputs = [file for recording in chosen.recordings for file in files_of(recording)]
-    try_outputs([chosen.json, chosen.csv], inputs)
+    outputs = [chosen.json, chosen.csv, chosen.html]
+    try_outputs(outputs, inputs)
     judge = Judge(program_path(chosen.program), options_of(chosen), CONNECTIONS_AT_ONCE, True)
-    found = [counted(judge, recording) for recording in chosen.recordings]
+    found = [counted(judge, recording, bool(chosen.html)) for recording in chosen.recordings]
     verdicts = [verdict for one in found for verdict in one.verdicts]
     tell_notes(verdicts)
-    with printed_beside([chosen.json, chosen.csv]):
+    with printed_beside(outputs):
         if chosen.beside:
             print_beside(found[0], found[1], chosen.sort)
         else:
@@ -316,6 +369,8 @@ def main(words: list[str]) -> int:
         write_file(chosen.json, [json_of(found, chosen.sort)], inputs)
     if chosen.csv:
         write_file(chosen.csv, [csv_of(found, chosen.sort)], inputs)
+    if chosen.html:
+        write_file(chosen.html, encoded(page_of(found, chosen)), inputs)
     return status_of(verdicts, allowed_of(chosen))
 
 

@@ -1,6 +1,6 @@
 """Judges each connection of recordings and captures by itself.
 
-    tools/verdicts [-q] [--junit FILE] [--json FILE] [-j N] RECORDING|CAPTURE ..
+    tools/verdicts [-q] [--junit FILE] [--json FILE] [--html FILE] [-j N] RECORDING|CAPTURE ..
     tcpdump -i any -U -w - port 2049 | tools/verdicts [-q] --follow -
 
 Each connection is a capture of its own, which `nfs3canon check` judges, so a fault in one hides nothing of another. A row is printed
@@ -25,7 +25,8 @@ is in part and what is left out, --allow-not-checked what is not checked. A conn
 
 The recordings are taken as by `tools/from_pcap` (--port, --no-midstream, --whole-records, --filter, patterns in quotes for the parts of
 one recording); `-` is standard input. --junit writes the verdicts as JUnit XML, as Jenkins and GitLab take it, and --json as an object
-with the counts and an object for each row and for each note on a recording. N recordings are judged at once, as many as there are
+with the counts and an object for each row and for each note on a recording. --html writes a page for a browser: the counts, the table,
+each fault with its fields, and a time line of the latencies of each recording. N recordings are judged at once, as many as there are
 processors if it is not said.
 
 --follow judges one recording while it is made: `-`, a fifo or a file that grows. The line of a connection is printed once it is closed,
@@ -37,6 +38,7 @@ written or a program died.
 """
 from __future__ import annotations
 
+import argparse
 import concurrent.futures
 import contextlib
 import functools
@@ -50,13 +52,16 @@ import xml.etree.ElementTree
 from functools import partial
 
 from ..judgement.following import follow
+from ..judgement.seen import Seen, seen_in
 from ..judgement.verdict import (
     HEADS, Verdict, counts_after, error_of, is_row, of_covered, row_of, status_of, sums_of,
     tell_notes, told, verdict_of)
+from ..judgement.verdict_page import Content, page, table_of
 from ..recordings.coverage import Allowed, named as named_calls
 from ..recordings.parts import files_of
 from ..recordings.selection import Options
 from ..recordings.taken import NotTaken, Taken, TakenConnection, take
+from ..reporting.markup import encoded
 from ..reporting.messages import (
     add_judging, advice_on, allowed_of, options_of,
     parser_of, run, words_of)
@@ -96,6 +101,20 @@ class Judge(typing.NamedTuple):
             raise Died(f'{escaped(recording)}: {died}') from died
         except MemoryError:
             return [error_of(recording, 'out of memory')]
+
+    def seen(self, recording: str) -> Seen:
+        """The verdicts on a recording or capture, with what a page shows besides."""
+        found = list[Seen]()
+
+        def look(taken: Taken, verdicts: list[Verdict]) -> None:
+            found.append(seen_in(self.program, taken, recording, verdicts))
+        verdicts = self.verdicts(recording, look)
+        # (an error may come after the look, and then counts alone)
+        return found[0] if found and found[0].verdicts is verdicts else Seen(recording, verdicts)
+
+    def unseen(self, recording: str) -> Seen:
+        """The verdicts alone."""
+        return Seen(recording, self.verdicts(recording))
 
     def of_taken(self, recording: str, taken: Taken) -> list[Verdict]:
         with concurrent.futures.ThreadPoolExecutor(self.at_once) as threads:
@@ -139,34 +158,48 @@ def main(words: list[str]) -> int:
                         help='prints no row of what is ok, and no heads')
     parser.add_argument('--junit', metavar='FILE', help='writes the verdicts as JUnit XML')
     parser.add_argument('--json', metavar='FILE', help='writes the verdicts as JSON')
+    parser.add_argument('--html', metavar='FILE',
+                        help='writes a page for a browser, with faults and latencies')
     parser.add_argument('-j', metavar='N', type=positive, help='judges N recordings at once')
     parser.add_argument('--follow', action='store_true',
                         help='judges one recording while it is made, and prints each verdict at once')
     add_judging(parser)
     chosen = parser.parse_args(words)
+    refused = chosen.j, chosen.junit, chosen.json, chosen.html, chosen.filter
+    if chosen.follow and (len(chosen.recordings) > 1 or any(refused)):
+        parser.error('--follow takes one recording, and none of -j, --junit, --json, --html '
+                     'and --filter')
     if chosen.follow:
-        if len(chosen.recordings) > 1 or any((chosen.j, chosen.junit, chosen.json, chosen.filter)):
-            parser.error(
-                '--follow takes one recording, and none of -j, --junit, --json and --filter')
         return follow(chosen.recordings[0], program_path(chosen.program), options_of(chosen),
                       allowed_of(chosen), chosen.quiet)
+    return judged_all(chosen)
+
+
+def judged_all(chosen: argparse.Namespace) -> int:
+    """Judges all recordings, and prints and writes what was found."""
     recordings_at_once = chosen.j or os.cpu_count() or 1
     at_once = max(1, min(CONNECTIONS_AT_ONCE, recordings_at_once // len(chosen.recordings)))
     inputs = [file for recording in chosen.recordings for file in files_of(recording)]
-    try_outputs([chosen.junit, chosen.json], inputs)
+    outputs = [chosen.junit, chosen.json, chosen.html]
+    try_outputs(outputs, inputs)
     judge = Judge(program_path(chosen.program), options_of(chosen), at_once,
                   len(chosen.recordings) == 1)
     try:
-        verdicts = list(judged(judge, chosen.recordings, recordings_at_once))
+        seen = list(judged(judge.seen if chosen.html else judge.unseen, chosen.recordings,
+                           recordings_at_once))
     except concurrent.futures.BrokenExecutor as broken:
         raise OSError(
             'a process that judged a recording was killed, as when memory runs out') from broken
-    with printed_beside([chosen.junit, chosen.json]):
+    verdicts = [verdict for one in seen for verdict in one.verdicts]
+    with printed_beside(outputs):
         print_table(verdicts, chosen.quiet)
     if chosen.junit:
         write_file(chosen.junit, [junit_of(verdicts, allowed_of(chosen))], inputs)
     if chosen.json:
         write_file(chosen.json, [json_of(verdicts)], inputs)
+    if chosen.html:
+        content = Content(seen, allowed_of(chosen), [table_of(seen)], (), True)
+        write_file(chosen.html, encoded(page(content)), inputs)
     return status_of(verdicts, allowed_of(chosen))
 
 
@@ -176,22 +209,23 @@ def positive(word: str) -> int:
     return int(word)
 
 
-def judged(judge: Judge, recordings: list[str], at_once: int) -> typing.Iterator[Verdict]:
-    """Iterates over the verdicts in the order of the recordings, which processes of their own judge
+def judged(judge: typing.Callable[[str], Seen], recordings: list[str],
+           at_once: int) -> typing.Iterator[Seen]:
+    """Iterates over what is said of recordings, in their order. Processes of their own judge them
     if they are several."""
     processes, is_shown = min(at_once, len(recordings)), sys.stderr.isatty()
     with contextlib.ExitStack() as pools:
-        map_all: typing.Callable[..., typing.Iterator[list[Verdict]]] = map
+        map_all: typing.Callable[..., typing.Iterator[Seen]] = map
         if processes > 1 and '-' not in recordings:
             pool = concurrent.futures.ProcessPoolExecutor(processes, initializer=leave_interrupts)
             pools.callback(pool.shutdown, cancel_futures=True)
             map_all = pool.map
-        for number, verdicts in enumerate(map_all(judge.verdicts, recordings), 1):
+        for number, seen in enumerate(map_all(judge, recordings), 1):
             if is_shown and len(recordings) > 1:
                 print(f'\r{number} of {len(recordings)} recordings',
                       end='' if number < len(recordings) else '\r\x1b[K',
                       file=sys.stderr, flush=True)
-            yield from verdicts
+            yield seen
 
 
 def leave_interrupts() -> None:

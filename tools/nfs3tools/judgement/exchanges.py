@@ -16,7 +16,7 @@ from collections.abc import Sequence
 from typing import Any, NamedTuple
 
 from ..captures.answering import Answering
-from ..captures.in_words import Asked, answer_in, asked_in
+from ..captures.in_words import Asked, answer_in, asked_in, short_name
 from ..captures.listings import ITEM, Item
 from ..captures.paths import LISTING, MAKING, MOUNTING, UNKNOWN, Paths, below
 from ..recordings.records import READ_AT_ONCE
@@ -107,6 +107,20 @@ class Exchange(NamedTuple):
         if not self.replies:
             return self.part.has_all_replies
         return any(reply.error for reply in self.replies)
+
+
+def call_of(one: Exchange) -> str:
+    """A call with its paths and its other arguments."""
+    words, path = [short_name(one.procedure)], one.path
+    if path is not None:
+        words.append(path)
+    if one.asked.other is not None:
+        words.append(f'-> {one.other_path}')
+    if one.asked.words:
+        words.append(one.asked.words)
+    if one.again:
+        words.append(f'(sent {one.again + 1} times)')
+    return ' '.join(words)
 
 
 class Values:

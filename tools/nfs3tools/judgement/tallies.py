@@ -26,6 +26,7 @@ from ..shared.programs import lines_of_program
 
 NUMBERS = re.compile(r'mtype=0 rpcvers=2 prog=(\d+) vers=(\d+) proc=(\d+) ')
 REFUSED = 2  # the status of `show` after a fault
+NANOSECONDS_OF_A_MILLISECOND = 1_000_000
 
 
 class Longest(NamedTuple):
@@ -111,6 +112,10 @@ def in_order(names: Iterable[str]) -> list[str]:
     """Returns the names of procedures in the order of the RFC; raw ones come last."""
     places = {name: place for place, name in enumerate(BY_NAME)}
     return sorted(names, key=lambda name: (places.get(name, len(places)), name))
+
+
+def milliseconds(rank: int | None) -> str:
+    return '-' if rank is None else f'{rank / NANOSECONDS_OF_A_MILLISECOND:.3f}'
 
 
 class Counting:

@@ -152,8 +152,14 @@ def tell_notes(verdicts: Iterable[Verdict]) -> None:
     """Prints on standard error what is missing from recordings, and which connections are left out
     that show no call."""
     for verdict in verdicts:
-        for line in [*verdict.notes, *([] if is_row(verdict) else [verdict.message])]:
-            print(printable(f'{named(verdict)}: {line}'), file=sys.stderr)
+        for line in notes_of(verdict):
+            print(line, file=sys.stderr)
+
+
+def notes_of(verdict: Verdict) -> list[str]:
+    """Returns what is told of a verdict that has no row, and beside one."""
+    lines = [*verdict.notes, *([] if is_row(verdict) else [verdict.message])]
+    return [printable(f'{named(verdict)}: {line}') for line in lines]
 
 
 def named(verdict: Verdict) -> str:

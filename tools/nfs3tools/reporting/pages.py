@@ -1,7 +1,8 @@
-"""A comparison as one page for a browser, which needs no server: the verdict, which fields differ, what differs and how, and the calls
-around that.
+"""A comparison as one page for a browser, which needs no server: what differs at a glance, which
+fields differ, each difference, and the calls around that.
 
-A page has at most 2,000 findings, those that say the same as one. It is made in pieces, and all that comes from a recording is escaped.
+A page has at most 2,000 findings, those that say the same as one. What does not count for the
+verdict is folded. It is made in pieces, and all that comes from a recording is escaped.
 """
 from __future__ import annotations
 
@@ -10,15 +11,13 @@ from collections.abc import Iterator, Sequence
 from dataclasses import dataclass
 from functools import cached_property
 from html import escape
-from itertools import zip_longest
+from itertools import chain, zip_longest
 from typing import NamedTuple, Optional
 
 from ..captures.listings import Message
-from ..captures.whose import Labels
-from ..comparison.values import long_values
 from ..comparison.values.classes import besides, told
 from ..comparison.verdict import summary
-from ..comparison.verdict.cover import Cover, Row as NotJudged
+from ..comparison.verdict.cover import Cover, Row as NotJudged, losses_of
 from ..comparison.verdict.excerpt import Connection, Gap, Row
 from ..comparison.verdict.findings import Compared, Finding, Run
 from ..comparison.verdict.ignored import Ignored
@@ -27,20 +26,20 @@ from ..recordings.coverage import named
 from ..recordings.parts import Part
 from ..recordings.selection import count, plural
 from ..recordings.taken import FrameRef
-from . import telling
-from .frames import filters_of, time_of
-from .styling import SCRIPT, STYLE
+from . import fields, markup, telling
+from .fields import SIDES, SIGNS
+from .frames import time_of
+from .glance import phrases
+from .markup import code
 
 SHOWN_AT_MOST = 2_000  # findings
 # Places of findings that say the same as one: of one, and about so many of all
 OTHERS_AT_MOST, OTHERS_OF_ALL = 300, 20_000
-DIFFERENCES_AT_MOST = 200  # of a finding
 NOT_JUDGED_AT_MOST = 20  # connections of a run that are named
-FIELDS_AT_MOST = 6_000  # characters of a message's fields
+PHRASES_AT_MOST = 6  # of what differs, under the title
 MANY = 2_000  # messages whose calls are shown
 BOTH = (0, 1)
-GLUE = '\u00a0'  # a space after a sign at which no line ends
-SIGNS, SIDES, RUNS = ('-', '+'), ('minus', 'plus'), ('first', 'second')
+RUNS = ('first', 'second')
 Places = tuple[Optional[str], Optional[str]]
 
 
@@ -66,10 +65,6 @@ class Content:
     recorded: Sequence[Recorded]
 
 
-def code(text: str) -> str:
-    return f'<code>{escape(text)}</code>'
-
-
 def places_of(first: Message | None, second: Message | None) -> Places:
     return first.place if first else None, second.place if second else None
 
@@ -86,31 +81,48 @@ def together(row: Row) -> Iterator[tuple[Message | None, Message | None]]:
 def page(content: Content) -> Iterator[str]:
     """The page, in pieces."""
     word, names = content.report.word(), ' and '.join(run.name for run in content.runs)
-    yield ('<!DOCTYPE html><html lang=en><meta charset=utf-8><meta name=viewport content="width=device-width, initial-scale=1">'
-           f'<meta name=color-scheme content="light dark"><title>{escape(word)}: {escape(names)}</title><style>{STYLE}</style>')
+    yield markup.opening(f'{word}: {names}')
     body = Body(content)
     yield from head(content, word)
-    yield from facts(content)
+    yield from markup.folded('about', 'About these runs', facts(content))
     if body.groups:
-        yield from body.bar()
-    yield from body.fields()
-    yield from body.findings()
-    yield from body.silent()
-    yield from body.calls()
-    yield f'<script>{SCRIPT}</script></html>\n'
+        yield markup.bar(body.word, 'call')
+    yield from body.all()
+    yield markup.closing()
 
 
 def head(content: Content, word: str) -> Iterator[str]:
-    """The verdict in words, and as it is printed."""
-    is_same = word.startswith('same')
-    look = 'differ' if not is_same else 'part' if content.report.is_in_part else 'same'
-    yield f'<h1 class={look}>The runs {"are the " if is_same else ""}{escape(word)}</h1>'
-    yield ''.join(f'<p>{code(line)}</p>' for line in content.line.splitlines())
-    yield f'<p>{escape(summary.of_compared(content.compared))}.</p>'
+    """The verdict in words, what differs, and what is not compared."""
+    report, is_same, said = content.report, word.startswith('same'), ''
+    look = 'differ' if not is_same else 'part' if report.is_in_part else 'same'
+    yield markup.heading(look, f'The runs {"are the " if is_same else ""}{word}')
+    if is_same:
+        # (how the order differs is told below)
+        said = content.line.partition(';')[0]
+        yield f'<p>{code(said)}</p>'
+    else:
+        yield from glance(content)
+    losses = losses_of(report.covers, summary.RUNS) if report.covers else ''
+    if losses not in said:
+        yield f'<p class=part>Compared in part: {escape(losses)}.</p>'
+
+
+def glance(content: Content) -> Iterator[str]:
+    """What differs, in a few phrases with paths."""
+    found = phrases(content.compared)
+    said = [f'{escape(one.before)}{code(one.path) if one.path else ""}{escape(one.after)}'
+            for one in found[:PHRASES_AT_MOST]]
+    more = len(found) - PHRASES_AT_MOST
+    if more > 0:
+        said.append(f'<a href=#findings>{count(more, "more difference")}</a>')
+    if said:
+        yield f'<p class=glance>{" · ".join(said)}</p>'
 
 
 def facts(content: Content) -> Iterator[str]:
-    """Both runs, what is masked, and what else does not count."""
+    """Both runs, how their calls belong together, what is masked, and what else does not count."""
+    yield ''.join(f'<p>{code(line)}</p>' for line in content.line.splitlines())
+    yield f'<p>{escape(summary.of_compared(content.compared))}.</p>'
     yield '<table class=runs><thead><tr><th></th><th>- first run</th><th>+ second run</th></tr></thead>'
     for what, values in rows_of_runs(content):
         yield f'<tr><th>{what}</th>{"".join(f"<td>{escape(value)}</td>" for value in values)}</tr>'
@@ -189,6 +201,10 @@ def is_told_of_connections(finding: Finding) -> bool:
     return finding.kind in ('connection', 'order')
 
 
+def is_of_fields(finding: Finding) -> bool:
+    return bool(finding.differences) or finding.kind == 'only'
+
+
 def run_of(finding: Finding) -> str:
     return RUNS[0] if finding.first else RUNS[1]
 
@@ -203,22 +219,11 @@ def kind_of(finding: Finding) -> tuple[str, str]:
     return 'connections' if is_told_of_connections(finding) else message.procedure, said.get(finding.kind, finding.kind)
 
 
-def change_of(finding: Finding) -> Iterator[str]:
-    """The values of both runs, each with its sign, or the arguments of a call that one run alone
-    has."""
-    lines = [line.strip() for difference in finding.differences[:DIFFERENCES_AT_MOST]
-             for line in telling.of_difference(difference)]
-    lines += telling.of_arguments(finding)
-    yield '<div class=change>'
-    yield from (f'<div{class_of(line[0])}>{line[0]}{GLUE}{escape(line[2:])}</div>'
-                for line in lines)
-    if len(finding.differences) > DIFFERENCES_AT_MOST:
-        yield f'<div>.. and {len(finding.differences) - DIFFERENCES_AT_MOST:,} more fields</div>'
-    yield '</div>'
-
-
-def class_of(sign: str) -> str:
-    return f' class={SIDES[SIGNS.index(sign)]}' if sign in SIGNS else ''
+def keys_of(finding: Finding) -> list[tuple[str, str]]:
+    """Returns the fields of a finding with their procedure, or what is said of it if it has
+    none."""
+    procedure = telling.procedure_of(finding)
+    return [(procedure, one.field) for one in finding.differences] or [kind_of(finding)]
 
 
 class Body:
@@ -232,15 +237,47 @@ class Body:
         self.shown = self.groups[:SHOWN_AT_MOST]
         self.others_at_most = min(OTHERS_AT_MOST, OTHERS_OF_ALL // max(1, len(self.shown)))
 
+    @property
+    def is_counted(self) -> bool:
+        """Whether what differs counts for the verdict."""
+        return self.content.report.same_under is None
+
+    @property
+    def word(self) -> str:
+        """What findings that say the same are called."""
+        return 'difference' if self.is_counted else 'uncounted difference'
+
+    def all(self) -> Iterator[str]:
+        """All parts. What does not count is folded, and comes last."""
+        if self.is_counted or not self.groups:
+            for part in (self.fields(), self.findings(), self.silent(), self.calls()):
+                yield from part
+            return
+        yield from self.silent()
+        number = sum(len(finding.differences) or 1 for finding in self.compared.findings)
+        words = f'{count(number, "field")} that {plural(number, "was", "were")} not counted'
+        yield from markup.folded('uncounted', words,
+                                 chain(self.fields(), self.findings(), self.calls()))
+
     @cached_property
     def numbers(self) -> dict[Places, list[int]]:
         """By both places: the numbers of the findings there."""
         out: dict[Places, list[int]] = {}
-        for number, group in enumerate(self.groups, 1):
-            for finding in group:
-                if finding.kind != 'order':
-                    out.setdefault(places_of(finding.first, finding.second), []).append(number)
+        for number, finding in self.numbered():
+            if finding.kind != 'order':
+                out.setdefault(places_of(finding.first, finding.second), []).append(number)
         return out
+
+    @cached_property
+    def changed(self) -> dict[Places, Finding]:
+        """By both places: what differs between two messages, or that one run alone has a call."""
+        return {places_of(finding.first, finding.second): finding
+                for finding in self.compared.findings if is_of_fields(finding)}
+
+    def numbered(self) -> Iterator[tuple[int, Finding]]:
+        """All findings, with their numbers."""
+        return ((number, finding) for number, group in enumerate(self.groups, 1)
+                for finding in group)
 
     @cached_property
     def anchors(self) -> dict[Places, int]:
@@ -250,60 +287,56 @@ class Body:
         return {places_of(*both): number for number, row in enumerate(rows, 1)
                 for both in together(row)}
 
-    def bar(self) -> Iterator[str]:
-        """What searches, and goes from finding to finding, if scripts run."""
-        yield ('<div class=bar><input id=find type=search placeholder="a path, a value, a frame .." aria-label="search">'
-               '<button type=button id=previous>previous (p)</button><button type=button id=next>next (n)</button>'
-               '<span id=found class=quiet aria-live=polite></span></div>')
-
     # --- Fields ---
 
-    def firsts(self) -> dict[tuple[str, str], int]:
-        """Returns where each field of a procedure, or what else is told, is first: the number of
-        the finding."""
-        out: dict[tuple[str, str], int] = {}
-        for number, group in enumerate(self.groups, 1):
-            message = group[0].first or group[0].second
-            assert message
-            for difference in group[0].differences:
-                out.setdefault((message.procedure, difference.field), number)
-            if not group[0].differences:
-                out.setdefault(kind_of(group[0]), number)
+    def where(self) -> dict[tuple[str, str], tuple[int, set[str]]]:
+        """Returns where each field of a procedure, or what else is told, is: the number of its
+        first finding, and the paths of all."""
+        out: dict[tuple[str, str], tuple[int, set[str]]] = {}
+        for number, finding in self.numbered():
+            for key in keys_of(finding):
+                _, paths = out.setdefault(key, (number, set()))
+                paths.update([finding.path] if finding.path else [])
         return out
 
     def fields(self) -> Iterator[str]:
-        """The fields by their procedures, with their counts."""
-        counts = self.compared.fields()
-        counts.update(kind_of(finding) for finding in self.compared.findings
-                      if not finding.differences)
+        """The fields by their procedures, with their paths and counts."""
+        counts = Counter(key for finding in self.compared.findings for key in keys_of(finding))
         if not counts:
             return
-        yield '<section><h2>What differs</h2><table><thead><tr><th>procedure</th><th>field</th><th>how often</th></tr></thead>'
-        firsts, before = self.firsts(), ''
+        names = markup.heads(['procedure', 'field', 'path', 'how often'])
+        yield f'<section><h2>What differs</h2><table>{names}'
+        where, before = self.where(), ''
         for (procedure, field), number in sorted(counts.items(),
                                                  key=lambda item: (item[0][0], -item[1], item[0][1])):
-            first = firsts[procedure, field]
+            first, paths = where[procedure, field]
             often = f'<a href=#f{first}>{number:,}</a>' if first <= len(self.shown) else f'{number:,}'
-            same = '' if procedure == before else escape(procedure)
-            yield f'<tr><td>{same}</td><td>{escape(field)}</td><td class=count>{often}</td></tr>'
+            path = code(min(paths)) if len(paths) == 1 else f'{len(paths):,} paths' if paths else ''
+            same = '' if procedure == before else escape(summary.short(procedure))
+            yield (f'<tr><td>{same}</td><td>{escape(field)}</td><td>{path}</td>'
+                   f'<td class=count>{often}</td></tr>')
             before = procedure
         yield '</table></section>'
 
     # --- Findings ---
 
     def findings(self) -> Iterator[str]:
-        yield f'<section><h2>{self.heading()}</h2>{"".join(f"<p>{line}</p>" for line in self.remarks())}'
+        yield f'<section id=findings><h2>{self.heading()}</h2>'
+        yield ''.join(f'<p>{line}</p>' for line in self.remarks())
         for number, group in enumerate(self.shown, 1):
             yield from self.article(number, group)
         more = sum(map(len, self.groups[SHOWN_AT_MOST:]))
         if more:
-            yield f'<p id=more>.. and {count(more, "finding")} more. <code>--json FILE</code> writes all.</p>'
+            yield (f'<p id=more>.. and {count(more, "message")} more. <code>--json FILE</code> '
+                   'writes all.</p>')
         yield '</section>'
 
     def heading(self) -> str:
+        """How many differences there are, those that say the same as one."""
         total = len(self.compared.findings)
-        as_one = f', {len(self.groups):,} if those that say the same are one' if total > len(self.groups) else ''
-        return f'{count(total, "finding")}{as_one}' if total else 'No findings'
+        if not total:
+            return 'No differences'
+        return f'{count(len(self.groups), self.word)} in {count(total, "message")}'
 
     def remarks(self) -> Iterator[str]:
         """What is to be known of the findings, or of there being none."""
@@ -321,14 +354,16 @@ class Body:
     def article(self, number: int, group: Sequence[Finding]) -> Iterator[str]:
         """A finding, and the places of those that say the same."""
         finding = group[0]
-        yield f'<article id=f{number}><h3><a href=#f{number}>{number}</a> {self.title(group)}</h3>'
+        yield (f'<article id=f{number} data-messages={len(group)}>'
+               f'<h3><a href=#f{number}>{number}</a> {self.title(group)}</h3>')
         for at, message in zip(BOTH, (finding.first, finding.second)):
             if message and finding.kind != 'order':
-                yield f'<div class=place><span class="sign {SIDES[at]}">{SIGNS[at]}</span>{self.place(message, at)}</div>'
+                yield (f'<div class=place><span class="sign {SIDES[at]}">{SIGNS[at]}</span>'
+                       f'<span>{self.place(message, at)}</span></div>')
         if finding.remark:
             yield f'<p>{escape(finding.remark)}</p>'
-        if finding.differences or finding.arguments:
-            yield from change_of(finding)
+        if is_of_fields(finding):
+            yield from fields.change_of(finding)
         anchor = self.anchors.get(places_of(finding.first, finding.second))
         if anchor:
             yield f'<p><a href=#r{anchor}>among the calls around it</a></p>'
@@ -353,13 +388,10 @@ class Body:
                                         else '')
 
     def place(self, message: Message, side: int) -> str:
-        """Where a message is, its frames, and a display filter for them to copy, as HTML."""
-        numbers = self.runs[side].frames(message)
-        words = f'<span>{message.place}{telling.frames_of(message, self.runs[side].frames)}</span>'
-        for name, text in filters_of(self.content.recorded[side].parts, numbers) if numbers else ():
-            words += (f'<span>{escape(name)}{": " if name else ""}<code class=filter>{text}</code> '
-                      '<button type=button class=copy aria-label="copy the filter"></button></span>')
-        return words
+        """Where a message is, its frames, and a display filter for all of them to copy, as HTML."""
+        run = self.runs[side]
+        return (f'{message.place}{telling.frames_of(message, run.frames)}'
+                + markup.filters(self.content.recorded[side].parts, run.frames(message)))
 
     def others(self, group: Sequence[Finding]) -> Iterator[str]:
         """The places of the findings that say the same as the first."""
@@ -420,7 +452,7 @@ class Body:
         yield (f'<details class="row{" told" if mark != "=" else ""}" id=r{number}><summary><b class=mark>{mark}</b> {exchange.procedure}'
                f'{f" {code(row.path)}" if row.path else ""} <span class=quiet>{places}</span>{said}</summary>')
         for first, second in together(row):
-            yield self.message(first, second)
+            yield from self.message(first, second)
         yield '</details>'
 
     def mark(self, row: Row) -> tuple[str, str]:
@@ -435,15 +467,15 @@ class Body:
             return '≠', f' <span>{links or "differs"}</span>'
         return ('≠', ' <span>differs in what is ignored</span>') if row.is_told else ('=', '')
 
-    def message(self, first: Message | None, second: Message | None) -> str:
-        """A message of both runs: where it is, and its fields. Values of both are written if they
-        differ."""
+    def message(self, first: Message | None, second: Message | None) -> Iterator[str]:
+        """A message of both runs: where it is, and its fields."""
         message = first or second
         assert message
-        places = ' | '.join(f'{one.place}{telling.frames_of(one, run.frames)}'
+        # (the frames of the call are in the line of its row)
+        places = ' | '.join(one.place + ('' if one.is_call else telling.frames_of(one, run.frames))
                             for one, run in zip((first, second), self.runs) if one)
-        fields = '\n'.join(cut(lines_of(first, second)))
-        return f'<h4>{"call" if message.is_call else "reply"}: {places}</h4><div class=fields>{escape(fields)}</div>'
+        yield f'<h4>{"call" if message.is_call else "reply"}: {places}</h4>'
+        yield from fields.of_messages(first, second, self.changed.get(places_of(first, second)))
 
 
 def heading_of(connection: Connection) -> str:
@@ -465,48 +497,3 @@ def gap(some: Gap, where: str = '') -> Iterator[str]:
              (some.left_out, f'{count(some.left_out, "call")} of the first run left out')]
     if any(some):
         yield f'<p class=gap>{", ".join(said for number, said in words if number)}{where}</p>'
-
-
-# --- Fields of messages ---
-
-def values_of(message: Message) -> Iterator[tuple[str, str]]:
-    """Returns the labels of a message's items, and their values as they are printed, with their
-    names if they have some."""
-    labels = Labels(message)
-    for at, item in enumerate(message.items):
-        meaning = labels.meaning(at)
-        yield labels.label(at), telling.named(item.name, item.value, meaning)
-
-
-def lines_of(first: Message | None, second: Message | None) -> Iterator[str]:
-    """The fields of a message of both runs. If they have not the same fields, those of the second
-    come after those of the first."""
-    if first and second and [item.name
-                             for item in first.items] == [item.name for item in second.items]:
-        values = (item.value for item in first.items), (item.value for item in second.items)
-        for (label, one), (_, other), *both in zip(values_of(first), values_of(second), *values):
-            yield f'{label}={one}' if both[0] == both[1] else f'{label}={parting_of(*both) or f"{one} | {other}"}'
-        return
-    for sign, message in zip(SIGNS, (first, second)):
-        if message:
-            yield from (f'{sign}{GLUE}{label}={value}' for label, value in values_of(message))
-
-
-def parting_of(first: str, second: str) -> str:
-    """Returns how two values differ of which one at least is not printed whole, or nothing: what is
-    cut off may be all that differs."""
-    if telling.shortened(first) == first and telling.shortened(second) == second:
-        return ''
-    parting = long_values.apart(first, second)
-    return f'{parting.shown[0]} | {parting.shown[1]} ({long_values.told(parting)})'
-
-
-def cut(lines: Iterator[str]) -> Iterator[str]:
-    """Returns lines up to some characters, and then how many are left."""
-    size = 0
-    for line in lines:
-        size += len(line)
-        if size > FIELDS_AT_MOST:
-            yield f'.. and {1 + sum(1 for _ in lines):,} more'
-            return
-        yield line

@@ -6,12 +6,14 @@ STYLE = '''
 :root {
   color-scheme: light dark; --line: #8885; --soft: #8881; --quiet: #57606a; --link: #0550ae; --here: #0969da;
   --minus: #a1260d; --minus-back: #d1242f1f; --plus: #0b5e3b; --plus-back: #1a7f371f;
+  --part: #7d4e00; --dot: #0969da; --mark: #f5c51899;
   --mono: ui-monospace, SFMono-Regular, Menlo, Consolas, "DejaVu Sans Mono", monospace;
 }
 @media (prefers-color-scheme: dark) {
   :root {
     --quiet: #9ba5b0; --link: #79b8ff; --here: #58a6ff;
     --minus: #ffa198; --minus-back: #f851492b; --plus: #7ee2a8; --plus-back: #2ea04330;
+    --part: #e3b341; --dot: #79b8ff; --mark: #bb800999;
   }
 }
 * { box-sizing: border-box }
@@ -20,20 +22,28 @@ body { font: 15px/1.5 system-ui, sans-serif; margin: 0 auto; max-width: 1240px; 
 a { color: var(--link) }
 h1 { font-size: 26px; line-height: 1.2; margin: 24px 0 8px }
 h1.same { color: var(--plus) }
-h1.differ, h1.part { color: var(--minus) }
+h1.differ { color: var(--minus) }
+h1.part { color: var(--part) }
 h2 { font-size: 19px; margin: 32px 0 8px }
 h3 { font-size: 15px; margin: 0 }
 p { margin: 6px 0 }
-code, .change, .fields { font-family: var(--mono); font-size: 13px }
+code, pre, .change, .fields { font-family: var(--mono); font-size: 13px }
 .quiet, .gap, dt { color: var(--quiet) }
 .minus { color: var(--minus) }
 .plus { color: var(--plus) }
+.part { color: var(--part) }
+.glance code { font-size: 15px }
+.glance { font-size: 17px; margin: 10px 0 }
+.about { margin: 14px 0 }
+.uncounted > summary { font-size: 17px; margin: 32px 0 8px }
+mark { color: inherit; background: var(--mark); border-radius: 2px; font-weight: 700 }
+.text { color: CanvasText; border: 1px solid var(--line); border-radius: 4px; padding: 0 5px; white-space: pre-wrap; display: inline-block }
 summary { cursor: pointer }
 button { font: inherit; font-size: 13px; padding: 3px 10px; cursor: pointer }
 
 table { border-collapse: collapse }
 td, th { border: 1px solid var(--line); padding: 3px 10px; text-align: left; vertical-align: top; font-weight: normal }
-thead th { background: var(--soft); font-weight: 600 }
+thead th { background: var(--soft); font-weight: 600; overflow-wrap: normal }
 td.count { text-align: right }
 .runs { table-layout: fixed; width: 100%; margin: 14px 0 }
 .runs th:first-child { width: 9.5em }
@@ -52,13 +62,41 @@ dd { margin: 0 }
 article { border: 1px solid var(--line); border-radius: 6px; margin: 10px 0; padding: 8px 12px }
 article, .row { scroll-margin-top: 100px }
 article.here, article:target, .row:target { outline: 2px solid var(--here); outline-offset: -1px }
-.place { display: flex; flex-wrap: wrap; gap: 2px 10px; align-items: baseline }
+.place { display: grid; grid-template-columns: 1.3em 1fr; align-items: baseline }
 .sign { font-family: var(--mono); font-weight: 700 }
 .filter { user-select: all; border: 1px solid var(--line); border-radius: 4px; padding: 0 5px }
+.js .filter { position: absolute; width: 1px; height: 1px; padding: 0; border: 0; overflow: hidden; clip-path: inset(50%); white-space: nowrap }
 .change { margin: 6px 0; white-space: pre-wrap }
 .change div { padding: 0 6px }
 .change .minus { background: var(--minus-back) }
 .change .plus { background: var(--plus-back) }
+.counts { list-style: none; display: flex; flex-wrap: wrap; gap: 6px 10px; padding: 0; margin: 14px 0 }
+.counts li { border: 1px solid var(--line); border-radius: 6px; padding: 4px 12px; color: var(--quiet) }
+.counts b { font-size: 19px }
+.counts .plus { color: var(--plus) }
+.counts .part { color: var(--part) }
+.counts .minus { color: var(--minus) }
+.wide { overflow-x: auto; margin: 8px 0 }
+.wide td, .wide th { overflow-wrap: normal; white-space: nowrap; padding: 3px 6px; font-size: 13px }
+.wide td:last-child { white-space: normal; min-width: 20em }
+.wide td:first-child, .wide th:first-child { position: sticky; left: -1px; background: Canvas; box-shadow: -2px 0 Canvas }
+.cards { overflow-x: auto }
+.cards td:not(:first-child):not(:last-child) { overflow-wrap: normal }
+td.minus a { color: var(--minus) }
+pre { overflow-x: auto; font-size: 13px; margin: 6px 0; line-height: 1.4; white-space: pre-wrap }
+.line { display: block; width: calc(100% - 84px); margin: 10px 20px 0 64px; overflow: visible; font-size: 12px }
+.forms { position: absolute; width: 0; height: 0 }
+.line text { fill: var(--quiet) }
+.line line { stroke: var(--line) }
+.line .lane { stroke-dasharray: 3 4 }
+.line use:hover { stroke: currentColor; stroke-width: 2 }
+.good { fill: var(--dot); fill-opacity: .6 }
+.bad { fill: var(--minus); stroke: Canvas; stroke-width: .5 }
+.open { fill: none; stroke: var(--quiet) }
+.key { width: 16px; height: 16px; vertical-align: -3px; margin-left: 8px }
+
+/* what does not count is neither red nor green */
+.uncounted .minus, .uncounted .plus, .uncounted .change .minus, .uncounted .change .plus { color: inherit; background: none }
 details ol { margin: 6px 0; padding-left: 3.5em }
 
 .connection { margin: 14px 0 }
@@ -70,6 +108,9 @@ details ol { margin: 6px 0; padding-left: 3.5em }
 .mark { display: inline-block; width: 1.3em }
 .gap { text-align: center; padding: 3px }
 .fields { white-space: pre-wrap; columns: 3 22em; column-gap: 24px; margin: 4px 0 10px 1.5em }
+.row .change, .row .head { margin: 4px 0 4px 1.5em }
+.head > summary { font-size: 13px; color: var(--quiet) }
+.head .fields { margin-left: 0 }
 @media (max-width: 600px) {
   body { padding: 0 10px 40px }
   h1 { font-size: 22px }
@@ -77,8 +118,15 @@ details ol { margin: 6px 0; padding-left: 3.5em }
   .runs th:first-child { width: 7em }
   dl { grid-template-columns: 1fr; gap: 0 }
   dd { margin-bottom: 6px }
-  .fields, .row h4 { margin-left: 4px }
+  .fields, .row h4, .row .change, .row .head { margin-left: 4px }
   details ol { padding-left: 2.5em }
+  pre { white-space: pre }
+  .cards thead { display: none }
+  .cards table, .cards tbody { display: block }
+  .cards tr { display: flex; flex-wrap: wrap; gap: 0 14px; border: 1px solid var(--line); border-radius: 6px; margin: 6px 0; padding: 4px 10px }
+  .cards td { border: 0; padding: 0; overflow-wrap: anywhere !important }
+  .cards td::before { content: attr(data-head) " "; color: var(--quiet) }
+  .cards td:last-child { flex-basis: 100%; font-weight: 600 }
 }
 @media print { .bar, .copy { display: none !important } }
 '''
@@ -86,8 +134,9 @@ details ol { margin: 6px 0; padding-left: 3.5em }
 SCRIPT = '''
 'use strict';
 document.documentElement.className = 'js';
-const findings = [...document.querySelectorAll('article')], rows = [...document.querySelectorAll('.row')];
+const every = selector => [...document.querySelectorAll(selector)], findings = every('article'), rows = every('.row');
 const find = document.getElementById('find'), found = document.getElementById('found'), texts = new Map();
+const heading = document.querySelector('#findings h2'), whole = heading && heading.textContent;
 let here = null;
 
 function plain(text) {
@@ -99,22 +148,36 @@ function has(element, text) {
   return texts.get(element).includes(text);
 }
 
+// Of a part that has what is searched through, what is found in it decides, and else its own text.
+function isFound(part, text) {
+  const inner = [...part.querySelectorAll('article, .row')];
+  return inner.length ? inner.some(one => !one.hidden) : has(part, text);
+}
+
 function search() {
-  const text = plain(find.value);
-  for (const one of [...findings, ...rows]) one.hidden = text !== '' && !has(one, text);
-  for (const one of document.querySelectorAll('.gap')) one.hidden = text !== '';
-  for (const one of document.querySelectorAll('.connection')) one.hidden = text !== '' && !one.querySelector('.row:not([hidden])');
+  const text = plain(find.value), isAll = text === '';
+  for (const one of [...findings, ...rows]) one.hidden = !isAll && !has(one, text);
+  for (const one of every('.gap, #more')) one.hidden = !isAll;
+  for (const one of every('.connection, section')) one.hidden = !isAll && !isFound(one, text);
+  for (const one of every('.uncounted')) {
+    one.hidden = !isAll && !isFound(one, text);
+    one.open ||= !isAll && !one.hidden;
+  }
+  const seen = findings.filter(one => !one.hidden), messages = seen.reduce((sum, one) => sum + Number(one.dataset.messages), 0);
+  const differing = counted(seen.length, find.parentElement.dataset.found);
+  if (heading) heading.textContent = isAll ? whole : `${differing} in ${counted(messages, 'message')}`;
   tell();
 }
 
-function count(some, word) {
-  const number = some.filter(one => !one.hidden).length;
+function counted(number, word) {
   return `${number.toLocaleString('en')} ${word}${number === 1 ? '' : 's'}`;
 }
 
 function tell() {
-  const at = findings.filter(one => !one.hidden).indexOf(here);
-  found.textContent = `${at < 0 ? '' : `${at + 1} of `}${count(findings, 'finding')}, ${count(rows, 'call')}`;
+  const seen = findings.filter(one => !one.hidden), at = seen.indexOf(here), words = find.parentElement.dataset;
+  const others = counted(rows.filter(one => !one.hidden).length, words.rows);
+  const all = findings.length ? `${counted(seen.length, words.found)}, ${others}` : others;
+  found.textContent = `${at < 0 ? '' : `${at + 1} of `}${all}`;
 }
 
 function stay(element) {
@@ -124,11 +187,16 @@ function stay(element) {
   tell();
 }
 
+function show(element) {
+  for (let one = element.parentElement.closest('details'); one; one = one.parentElement.closest('details')) one.open = true;
+  element.scrollIntoView({block: 'start'});
+}
+
 function go(step) {
   const seen = findings.filter(one => !one.hidden), at = seen.indexOf(here);
   if (!seen.length) return;
   stay(seen[at < 0 ? (step > 0 ? 0 : seen.length - 1) : Math.min(Math.max(at + step, 0), seen.length - 1)]);
-  here.scrollIntoView({block: 'start'});
+  show(here);
 }
 
 function copy(button) {
@@ -142,12 +210,13 @@ function follow() {
   if (target.hidden) {
     find.value = '';
     search();
-    target.scrollIntoView({block: 'start'});
   }
+  show(target);
   if (target.matches('article')) stay(target);
 }
 
 if (find) {
+  for (const one of every('#next, #previous')) one.hidden = !findings.length;
   find.addEventListener('input', search);
   document.getElementById('next').addEventListener('click', () => go(1));
   document.getElementById('previous').addEventListener('click', () => go(-1));

@@ -171,3 +171,8 @@ def lines_of_counts(covers: Sequence[Cover], names: Sequence[str]) -> Iterator[s
         yield f'both runs: {sums[0]}'
     else:
         yield from (f'{name} run: {words}' for name, words in zip(names, sums))
+
+
+def losses_of(covers: Sequence[Cover], names: Sequence[str]) -> str:
+    """What of both runs is not compared, or nothing."""
+    return ', '.join(words for name, cover in zip(names, covers) for words in cover.lacking(name))

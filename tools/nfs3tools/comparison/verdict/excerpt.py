@@ -91,13 +91,16 @@ class Shown:
 
     def comes_after(self, to: int) -> int:
         """Returns which exchange of the first run is before one of the second, in connections that
-        belong together."""
+        belong together: as many exchanges of both runs are before it as in the second run. (Calls
+        before it may have another turn.)"""
         place = self.there.connection_of(to)
         own, home = self.there.exchanges_of(place), self.here.exchanges_of(self.place_of((NOBODY, to)))
         if place not in self.followed:
-            self.followed[place] = array('i', accumulate(
-                self.partners[own.start:own.stop], lambda last, at: at if at in home else last,
-                initial=home.start - 1))
+            paired = [at in home for at in self.partners[own.start:own.stop]]
+            before = [home.start - 1, *sorted(filter(home.__contains__,
+                                                     self.partners[own.start:own.stop]))]
+            self.followed[place] = array('i', (before[number]
+                                               for number in accumulate(paired, initial=0)))
         return self.followed[place][to - own.start]
 
     def place_of(self, pair: Pair) -> int:
@@ -155,10 +158,11 @@ class Shown:
         own = self.here.exchanges_of(place) if place != NOBODY else range(0)
         begin = own.start
         for pair in pairs:
-            if pair[0] > begin:
-                yield self.gap(begin, pair[0])
+            at = pair[0] if pair[0] != NOBODY or place == NOBODY else self.comes_after(pair[1]) + 1
+            if at > begin:
+                yield self.gap(begin, at)
             yield row(pair, pair in self.told)
-            begin = max(begin, pair[0] + 1)
+            begin = max(begin, at + (pair[0] != NOBODY))
         if begin < own.stop:
             yield self.gap(begin, own.stop)
 

@@ -1,0 +1,140 @@
+"""What stands in a record, or at one of its bytes, line by line: its message, the item with its
+value and what may stand there, and the bytes.
+
+    tell_record(within.record(place), place, reason, print)
+
+A line is told as soon as it is made, since a record may have very many of them.
+"""
+from __future__ import annotations
+
+from collections.abc import Callable
+
+from ..shared.layouts import Body, Item, Message, Procedure, procedure_of
+from ..shared.places import Place
+from .located import HEAD_OF_CALL, Call, Found, call_of, numbers_in
+
+LINES_AROUND = 8  # of 16 bytes, before and after the byte of a long record
+SHOWN_AT_MOST = 100  # bytes of an item
+Tell = Callable[[str], object]
+
+# What reasons of the program mean.
+REASONS = {
+    'BadMagic': 'a capture begins with NFS3CAP1 or NFS3CAP2',
+    'CaptureCut': 'the file ends before it is complete',
+    'BadMark': 'a connection word is 0 or 1, and of version 2 a side word 0, 1 or 2, '
+        'and a length word at least 1',
+    'AfterEnd': 'nothing stands after the last word 0',
+    'TooManyConnections': 'there are at most 65,535',
+    'TooManyBytes': 'all streams together have at most 1,073,741,824 bytes',
+    'RecordCut': 'the stream ends in this record',
+    'RecordTooLong': 'the body of a record has at most 16,777,216 bytes',
+    'Short': 'the body ends before this item is whole',
+    'Trailing': 'the message ends before this byte, and the body does not',
+    'BadBool': 'a bool is 0 or 1',
+    'BadEnum': 'this value is not listed',
+    'TooLong': 'the length or count is over its maximum',
+    'RpcVersion': 'the RPC version is 2',
+    'Flavor': 'other flavors are not taken, as that of RPCSEC_GSS, which is 6',
+    'AuthLength': 'the length is not that of the parameters',
+    'WrongSide': "calls are the client's, and replies the server's",
+    'NoCall': 'no call of the connection has this xid, perhaps since its call was not recorded',
+    'XidConflict': 'an earlier call of the connection has this xid and another procedure'}
+
+
+def tell_record(found: Found, place: Place, reason: str | None, tell: Tell) -> None:
+    """Tells the item at a byte, with why it is refused, or all items."""
+    head, is_call = found.body[:HEAD_OF_CALL], place.side == 'client'
+    call = None if is_call else call_of(found.calls, head[:4])
+    procedure = tell_heading(place, found.body, call, tell)
+    if place.byte is None:
+        tell_items(found.body, is_call, procedure, tell)
+        return
+    begin, end = tell_item(found.body, is_call, procedure, place.byte, tell)
+    earlier = call_of(found.calls, head[:4], place.record) if reason == 'XidConflict' else None
+    if earlier:
+        name = procedure_of(*earlier.numbers).name
+        tell('earlier: client record %d, %s' % (earlier.record, name))
+    tell_reason(reason, tell)
+    tell_bytes(found.body, begin, end, place.byte, tell)
+
+
+def tell_heading(place: Place, body: Body, call: Call | None, tell: Tell) -> Procedure | None:
+    """Tells what the message is, and returns its procedure if that is known."""
+    head, is_call = body[:HEAD_OF_CALL], place.side == 'client'
+    numbers = call.numbers if call else numbers_in(head)
+    procedure = procedure_of(*numbers) if call or is_call and len(head) == HEAD_OF_CALL else None
+    named = ('%s of program %d, version %d, procedure %d' % (procedure.name, *numbers) if procedure
+             else 'of a procedure that is not known')
+    tell('%s: %s %s' % (place._replace(byte=None), 'call' if is_call else 'reply', named))
+    xid = 'xid %d' % int.from_bytes(head[:4], 'big') if len(head) >= 4 else 'no xid'
+    answered = ', to call record %d' % call.record if call else ''
+    tell('%s, a body of %d bytes%s' % (xid, len(body), answered))
+    return procedure
+
+
+def tell_items(body: Body, is_call: bool, procedure: Procedure | None, tell: Tell) -> None:
+    """Tells all items that have bytes, up to the end or to the first that is at fault."""
+    last = list[Item]()
+
+    def look(item: Item) -> None:
+        last[:] = [item]
+        if item.begin < item.end or not item.is_whole:
+            tell(line_of(item))
+
+    message = Message(body, look, SHOWN_AT_MOST)
+    if not message.read(is_call, procedure):
+        tell('allowed: %s' % last[0].allowed)
+    if message.at < len(body):
+        more = len(body) - message.at
+        tell('byte %d: %d bytes more, which are not taken apart' % (message.at, more))
+
+
+def tell_item(body: Body, is_call: bool, procedure: Procedure | None, byte: int,
+              tell: Tell) -> tuple[int, int]:
+    """Tells the item at a byte, and returns where it begins and ends."""
+    found = list[Item]()
+
+    def look(item: Item) -> None:
+        is_there = item.begin <= byte < item.end or item.begin == byte and not item.is_whole
+        if not found and is_there:
+            found.append(item)
+
+    Message(body, look, SHOWN_AT_MOST).read(is_call, procedure)
+    for item in found:
+        tell(line_of(item, byte))
+        tell('allowed: %s' % item.allowed)
+        return item.begin, item.end
+    is_within = byte < len(body)
+    where = 'after the last item of the message' if is_within else 'the end of the body'
+    tell('byte %d: %s' % (byte, where))
+    return byte, len(body)
+
+
+def line_of(item: Item, byte: int | None = None) -> str:
+    """The line of an item, which is at this byte."""
+    value = item.value + '..' if item.end - item.begin > SHOWN_AT_MOST else item.value
+    return 'byte %d: %s = %s%s' % (item.begin if byte is None else byte, item.name,
+                                   value or 'nothing, since the body ends here',
+                                   ' (%s)' % item.meaning if item.meaning else '')
+
+
+def tell_bytes(data: Body, begin: int, end: int, byte: int, tell: Tell, first: int = 0) -> None:
+    """Tells lines of 16 bytes, of a long run those around a byte, with the bytes from `begin` to
+    `end` in brackets."""
+    low, high = 0, len(data)
+    if high > 32 * LINES_AROUND:
+        low = max(0, byte // 16 - LINES_AROUND) * 16
+        high = min(high, (min(end, byte + 64) // 16 + LINES_AROUND) * 16)
+    for at in range(low - low % 16, high, 16):
+        piece = data[at:at + 16]
+        cells = ('%s%02x%s' % ('[' if place == begin else ' ', value,
+                               ']' if place == end - 1 else ' ')
+                 for place, value in enumerate(piece, at))
+        text = ''.join(chr(byte) if 32 <= byte < 127 else '.' for byte in piece)
+        tell('%8d %-64s %s' % (first + at, ''.join(cells), text))
+
+
+def tell_reason(reason: str | None, tell: Tell) -> None:
+    """Tells what a reason means."""
+    if reason:
+        tell('%s: %s' % (reason, REASONS.get(reason, 'no reason of nfs3canon')))

@@ -1,0 +1,145 @@
+"""A time line of latencies as SVG: a dot for each call, whose height is its latency on a log scale.
+Errors have another form and another colour.
+
+Places from left to right are parts of the width in per cent, so the line is as wide as its page,
+and its texts keep their size.
+"""
+from __future__ import annotations
+
+import math
+from collections.abc import Iterator, Sequence
+from html import escape
+from typing import NamedTuple
+
+from ..recordings.selection import count, plural
+
+COLUMNS = 1_000  # of pixels, into which dots are sorted
+HEIGHT, TOP, BOTTOM = 330, 44, 290  # of the line, and of the scale in it
+LANE = 18  # the height of calls without a latency
+TICKS_AT_MOST = 6
+NO_LATENCIES = (1_000, 1_000_000)  # nanoseconds, on a scale without any
+# The forms of dots, once for a page: of a call that was answered, of an error, and of a call of
+# which no reply is recorded.
+FORMS = ('<svg class=forms><defs><circle id=good r=3 class=good />'
+         '<path id=bad class=bad d="M0-4.5L4.5 3.5H-4.5Z" />'
+         '<circle id=open r=3.5 class=open /></defs></svg>')
+UNITS = ((9, 's'), (6, 'ms'), (3, '\u00b5s'), (0, 'ns'))
+
+
+class Dot(NamedTuple):
+    """A call: nanoseconds from the first frame of the recording, its latency, None if it has none,
+    whether it failed, and what is said of it."""
+    time: int
+    latency: int | None
+    is_error: bool
+    words: str
+
+
+class TimeLine(NamedTuple):
+    """Some dots of a recording. The last of all calls begins after `end` nanoseconds.
+
+    calls: how many calls there are
+    errors: how many errors are not among the dots
+    untimed: how many calls have no time
+    """
+    dots: Sequence[Dot]
+    end: int
+    calls: int
+    errors: int = 0
+    untimed: int = 0
+
+
+def of_time_line(line: TimeLine) -> Iterator[str]:
+    """The time line, and below it what its forms mean and how many calls are left out."""
+    if line.dots:
+        scale = Scale(line)
+        yield f'<svg class=line height={HEIGHT} role=img aria-label="latencies over time">'
+        yield from scale.axes()
+        yield from map(scale.dot, line.dots)
+        yield '</svg>'
+        yield ('<p class=quiet><svg class=key><use href=#good x=8 y=8 /></svg> answered '
+               '<svg class=key><use href=#bad x=8 y=8 /></svg> an error, or no reply '
+               '<svg class=key><use href=#open x=8 y=8 /></svg> no reply recorded</p>')
+    yield ''.join(f'<p class=quiet>{escape(words)}</p>' for words in words_of(line))
+
+
+def words_of(line: TimeLine) -> Iterator[str]:
+    """How many calls are drawn, and which are left out."""
+    drawn = len(line.dots)
+    if line.untimed:
+        are = plural(line.untimed, 'call has', 'calls have')
+        yield f'{line.untimed:,} {are} no time, and {plural(line.untimed, "is", "are")} not drawn.'
+    left = line.calls - line.untimed - drawn
+    if not line.calls:
+        yield 'No call was judged.'
+    elif not left and drawn:
+        yield f'{count(drawn, "call")} {plural(drawn, "is", "are")} drawn.'
+    elif drawn:
+        errors = f', {line.errors:,} of them errors' if line.errors else ''
+        yield (f'{drawn:,} of {count(line.calls - line.untimed, "call")} are drawn: errors, and the '
+               f'slowest call of each pixel column. {left:,} are left out{errors}.')
+
+
+class Scale:
+    """Where the dots of a line are."""
+
+    def __init__(self, line: TimeLine) -> None:
+        self.end = max(1, line.end)
+        known = [dot.latency for dot in line.dots if dot.latency is not None and dot.latency > 0]
+        known = known or [*NO_LATENCIES]
+        self.low = math.floor(math.log10(min(known)))
+        self.high = max(self.low + 1, math.ceil(math.log10(max(known))))
+
+    def across(self, time: int) -> str:
+        # (the clock may have gone back to before the first frame)
+        return f'{100 * max(0, time) / self.end:.2f}%'
+
+    def down(self, latency: int | None) -> float:
+        """Returns the height of a latency. One that is not positive is at the bottom."""
+        if latency is None:
+            return LANE
+        part = (math.log10(latency) - self.low) / (self.high - self.low) if latency > 0 else 0.0
+        return round(BOTTOM - part * (BOTTOM - TOP), 1)
+
+    def dot(self, dot: Dot) -> str:
+        form = 'bad' if dot.is_error else 'good' if dot.latency is not None else 'open'
+        return (f'<use href=#{form} x={self.across(dot.time)} y={self.down(dot.latency):g}>'
+                f'<title>{escape(dot.words)}</title></use>')
+
+    def axes(self) -> Iterator[str]:
+        """A line and a label for each decade, for times, and for calls without a latency."""
+        yield text_of(-8, LANE + 4, 'no reply', 'end')
+        yield f'<line x2=100% y1={LANE} y2={LANE} class=lane />'
+        for decade in range(self.low, self.high + 1):
+            height = self.down(10 ** decade)
+            yield f'<line x2=100% y1={height:g} y2={height:g} />'
+            yield text_of(-8, height + 4, latency_named(decade), 'end')
+        power, unit = unit_of(math.floor(math.log10(self.end)))
+        for time in ticks(self.end):
+            at = self.across(time)
+            yield (f'<line x1={at} x2={at} y1={TOP} y2={BOTTOM + 5} />'
+                   f'{text_of(at, BOTTOM + 20, f"{time / 10 ** power:g} {unit}", "middle")}')
+        yield text_of('100%', HEIGHT - 4, 'time from the first frame', 'end')
+        yield text_of(-60, HEIGHT - 4, 'latency, log scale', 'start')
+
+
+def text_of(across: float | str, down: float, words: str, anchor: str) -> str:
+    return f'<text x={across} y={down:g} text-anchor={anchor}>{escape(words)}</text>'
+
+
+def latency_named(decade: int) -> str:
+    """A power of ten of nanoseconds, as `100 µs`."""
+    power, unit = unit_of(decade)
+    return f'{10 ** (decade - power):,} {unit}'
+
+
+def unit_of(decade: int) -> tuple[int, str]:
+    """Returns the unit in which a power of ten of nanoseconds is named, and its own power."""
+    return next(one for one in UNITS if one[0] <= decade)
+
+
+def ticks(end: int) -> Iterator[int]:
+    """Returns round times up to an end, a few of them."""
+    step = 10 ** max(0, math.floor(math.log10(end)) - 1)
+    factor = next(one for one in (1, 2, 5, 10, 20, 50) if end // (step * one) < TICKS_AT_MOST)
+    return iter(range(0, end + 1, step * factor))
