@@ -44,7 +44,7 @@ _nfs3_options() {
     *verdicts) echo "$judging" --quiet --follow --junit --json -j ;;
     *calls) echo "$judging" --errors --slow --procedure --path --user --client --sort --json --csv ;;
     *procedures) echo "$judging" --beside --total --sort --json --csv ;;
-    *compare) echo "$judging" --mask --order --extra --ignore --marks --all --brief --html --json --junit ;;
+    *compare) echo "$judging" --mask --order --extra --ignore --accept --accept-new --marks --all --brief --html --json --junit ;;
     *cut) echo --origins --program ;;
   esac
 }

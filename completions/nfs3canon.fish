@@ -64,6 +64,8 @@ complete -c nfs3-compare -l mask -x -a '(__fish_append , none times stamps machi
 complete -c nfs3-compare -l order -x -a 'strict any' -d 'Whether the order of calls counts'
 complete -c nfs3-compare -l extra -x -a 'asking none' -d 'What is left out in any order'
 complete -c nfs3-compare -l ignore -x -d 'Fields that are left out of the explanation'
+complete -c nfs3-compare -l accept -r -d 'A file of accepted findings'
+complete -c nfs3-compare -l accept-new -r -d 'Write a file that accepts the findings'
 complete -c nfs3-compare -l marks -x -d 'Compare the parts that begin at calls with such names'
 complete -c nfs3-compare -l all -d 'Print each finding by itself'
 complete -c nfs3-compare -l brief -d 'Print a line for each finding'

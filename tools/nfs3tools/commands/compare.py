@@ -1,7 +1,7 @@
 """Compares two ordinary runs: are they the same but for what two runs never share, and if not, what differs.
 
-    tools/compare [--mask CLASS,..] [--order strict|any] [--ignore PROCEDURE.FIELD,..] [--marks PATTERN] [--all] [--brief] [--html FILE]
-                  [--json FILE] [--junit FILE] A B
+    tools/compare [--mask CLASS,..] [--order strict|any] [--ignore PROCEDURE.FIELD,..] [--accept FILE] [--accept-new FILE]
+                  [--marks PATTERN] [--all] [--brief] [--html FILE] [--json FILE] [--junit FILE] A B
 
 A and B are recordings (pcap, pcapng; a pattern in quotes names the parts of one) or captures. Values that each run has its own
 of are masked first: of the classes below, those marked with a star by default. What is masked is always printed. Then
@@ -23,6 +23,10 @@ way are printed once, with their number. --brief prints a line for each.
 --mask times,ids masks these classes alone, --mask +owners one more, --mask=-times one less, --mask none nothing; NAME=zero and
 NAME=number say how. --ignore NFSPROC3_GETATTR.obj.nlink,*.eof leaves fields out of what is printed and written of the differences, by
 their labels, or by the name of items, as `nlink`, whose ever they are; the verdict is that of the mask all the same.
+
+--accept reads a file of findings that somebody accepted, and --accept-new writes one from all findings of this comparison. Accepted findings
+are counted apart, and the others decide. If there are no others, both runs are compared without the calls of the accepted ones, by the
+program. Entries of the file that fit nothing any more are printed. What of a run is not compared is never accepted by this.
 
 --marks compares the parts of a test run one by one, each as a run of its own. A part begins with a call of LOOKUP, CREATE or MKDIR whose
 name fits PATTERN (of the shell, as 'test_*'), and has that name. It has the calls that were sent up to the next mark, over all connections,
@@ -58,6 +62,7 @@ from ..comparison.parts.marks import NoMark
 from ..comparison.parts.part_by_part import PartByPart
 from ..comparison.values.classes import CLASSES, in_any_order, mask_word, told
 from ..comparison.verdict import summary
+from ..comparison.verdict.accepted import accepted_of, file_of
 from ..comparison.verdict.cover import Cover, Size, cover_of, lines_of_counts
 from ..comparison.verdict.decision import judged, run_of
 from ..comparison.verdict.excerpt import Around
@@ -76,7 +81,7 @@ from ..reporting.messages import (
     options_of, parser_of, run)
 from ..reporting.pages import Content, Recorded
 from ..reporting.reports import json_of, json_of_parts, junit_of, junit_of_error, junit_of_parts
-from ..shared.outputs import held, printed_beside, try_outputs, write_file
+from ..shared.outputs import check_output, held, printed_beside, try_outputs, write_file
 from ..shared.printed import escaped
 from ..shared.programs import program_path
 
@@ -104,6 +109,10 @@ def words_of(words: list[str]) -> argparse.Namespace:
     parser.add_argument('--ignore', type=ignored_of, action='extend', default=[],
                         metavar='PROCEDURE.FIELD,..',
                         help='fields that are left out of the explanation; * is any procedure')
+    parser.add_argument('--accept', type=accepted_of, metavar='FILE',
+                        help='takes a file of accepted findings, which do not count')
+    parser.add_argument('--accept-new', metavar='FILE',
+                        help='writes a file that accepts the findings of this comparison')
     parser.add_argument('--marks', metavar='PATTERN',
                         help='compares the parts that begin at calls of LOOKUP, CREATE and MKDIR whose name fits a pattern of the shell')
     parser.add_argument('--all', action='store_true',
@@ -121,6 +130,8 @@ def words_of(words: list[str]) -> argparse.Namespace:
     chosen = parser.parse_args(words)
     if chosen.marks is not None and chosen.html:
         parser.error('--html is not for parts: --marks has --json and --junit')
+    if chosen.marks is not None and (chosen.accept or chosen.accept_new):
+        parser.error('--accept and --accept-new are not for parts')
     return chosen
 
 
@@ -180,7 +191,20 @@ class Whole(NamedTuple):
 
 
 def outputs_of(words: argparse.Namespace) -> list[str | None]:
-    return [words.html, words.json, words.junit]
+    return [words.html, words.json, words.junit, words.accept_new]
+
+
+def try_all(words: argparse.Namespace, recordings: Sequence[str]) -> None:
+    """Tries all outputs. The file of accepted findings may be replaced by another, and by nothing
+    else."""
+    try_outputs(outputs_of(words), recordings)
+    for path in filter(None, outputs_of(words)[:-1]):
+        check_output(path, accepted_by(words))
+
+
+def accepted_by(words: argparse.Namespace) -> list[str]:
+    """The file of accepted findings, if there is one."""
+    return [words.accept.path] if words.accept else []
 
 
 def taken_of(name: str, options: Options) -> Taken:
@@ -195,17 +219,17 @@ def compared_runs(words: argparse.Namespace, stack: ExitStack) -> int:
     program = program_path(words.program)
     names = [words.first, words.second]
     inputs = [file for name in names for file in files_of(name)]
-    try_outputs(outputs_of(words), inputs)
+    try_all(words, inputs)
     with held():
         folder = Path(stack.enter_context(tempfile.TemporaryDirectory(prefix='nfs3canon')))
     runs = [stack.enter_context(taken_of(name, options_of(words))) for name in names]
     for taken, name in zip(runs, names):
         tell(name, taken)
-    whole = whole_of(program, folder, names, inputs, runs)
+    whole = whole_of(program, folder, names, [*inputs, *accepted_by(words)], runs)
     masks = in_any_order(words.mask, any(cover.has_raw for cover in whole.covers))
     print(f'masked: {told(masks[0])}', flush=True)
     choices = Choices(words.order, masks, frozenset() if words.extra == 'none' else ASKING,
-                      AROUND if words.html else None)
+                      AROUND if words.html else None, words.accept)
     is_same = (compared_whole if words.marks is None
                else compared_by_parts)(words, whole, choices, losses_of(whole.covers))
     if any(cover.is_refused for cover in whole.covers):
@@ -240,6 +264,10 @@ def compared_whole(words: argparse.Namespace, whole: Whole, choices: Choices, lo
     print(line, *whole.lines_of_counts(), sep='\n', flush=True)
     is_good = said.is_same and whole.is_good(allowed_of(words))
     report = said.report(choices, whole.names, whole.sizes, whole.covers)
+    if words.accept_new:
+        compared = said.found.whole or said.found.compared
+        recordings = [file for name in whole.names for file in files_of(name)]
+        write_file(words.accept_new, [file_of(compared.findings, compared.mask)], recordings)
     explain(words, whole, line, report, said.found.compared, is_good)
     return is_good
 
@@ -259,6 +287,8 @@ def explain(words: argparse.Namespace, whole: Whole, line: str, report: Report, 
     if words.json:
         write_file(words.json, json_of(report, compared, left_out, whole.framings()), whole.inputs)
     print_found(words, whole, report, compared, left_out)
+    for text in telling.of_accepted(report.accepted, whole.framings(), words.all):
+        print(text)
 
 
 def is_told(words: argparse.Namespace, report: Report) -> bool:

@@ -96,6 +96,7 @@ def page(content: Content) -> Iterator[str]:
     yield from body.fields()
     yield from body.findings()
     yield from body.silent()
+    yield from body.accepted()
     yield from body.calls()
     yield f'<script>{SCRIPT}</script></html>\n'
 
@@ -384,6 +385,18 @@ class Body:
             yield '<section><h2>Left out</h2>'
             yield from (f'<p>{escape(line)}</p>' for line in lines)
             yield '</section>'
+
+    def accepted(self) -> Iterator[str]:
+        """How many findings were accepted, and these folded."""
+        lines = list(telling.of_accepted(self.content.report.accepted,
+                                         [run.frames for run in self.runs], True))
+        shown = [line for line in lines if line.startswith('accepted: ')]
+        for line in lines[len(shown):]:
+            yield f'<p class=accepted>{escape(line)}</p>'
+        if shown:
+            yield f'<details class=others><summary>{count(len(shown), "accepted finding")}</summary>'
+            yield from (f'<p>{escape(line)}</p>' for line in shown[:OTHERS_AT_MOST])
+            yield '</details>'
 
     # --- Calls ---
 
