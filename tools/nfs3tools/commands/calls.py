@@ -53,7 +53,8 @@ from functools import partial
 from ..captures.in_words import short_name
 from ..comparison.values.long_values import bytes_of
 from ..judgement.exchanges import Exchange, Kept
-from ..judgement.verdict import Verdict, counts_after, is_row, named, status_of, sums_of, tell_notes
+from ..judgement.verdict import (
+    VERSION, Verdict, counts_after, is_row, named, object_of, status_of, sums_of, tell_notes)
 from ..recordings.coverage import PROCEDURES
 from ..recordings.selection import count, plural
 from ..recordings.taken import Taken
@@ -62,7 +63,7 @@ from ..shared.layouts import BY_NAME, RAW
 from ..shared.printed import escaped, printable
 from ..shared.programs import program_path
 from .procedures import milliseconds
-from .verdicts import CONNECTIONS_AT_ONCE, VERSION, Judge, objects_of
+from .verdicts import CONNECTIONS_AT_ONCE, Judge
 
 HEADS = ('time', 'ms', 'frame', 'conn', 'call', 'answer')
 RIGHT = 4  # columns that are set to the right
@@ -252,7 +253,7 @@ class Json:
 
     def end(self, verdicts: list[Verdict]) -> None:
         rest = json.dumps({'counts': counts_after(verdicts).members(),
-                           'verdicts': objects_of(verdicts)}, indent=1)
+                           'verdicts': [*map(object_of, verdicts)]}, indent=1)
         sys.stdout.write(f'\n],{rest[1:]}\n')
 
 

@@ -37,7 +37,9 @@ from collections.abc import Iterator, Sequence
 from functools import partial
 
 from ..judgement.tallies import Tallies, Tally, counted_of, in_order, sum_of
-from ..judgement.verdict import Verdict, counts_after, is_row, named, status_of, sums_of, tell_notes
+from ..judgement.verdict import (
+    VERSION, Verdict, counts_after, is_row, named, object_of as object_of_verdict, status_of,
+    sums_of, tell_notes)
 from ..recordings.parts import files_of
 from ..recordings.selection import plural
 from ..recordings.taken import Taken, TakenConnection
@@ -46,7 +48,7 @@ from ..shared.outputs import printed_beside, try_outputs, write_file
 from ..shared.places import Place
 from ..shared.printed import columns, escaped, printable
 from ..shared.programs import program_path
-from .verdicts import CONNECTIONS_AT_ONCE, VERSION, Judge, objects_of
+from .verdicts import CONNECTIONS_AT_ONCE, Judge
 
 PARTS = (0.5, 0.99, 1)  # of the latencies: the median, the 99th percentile, and the longest
 COUNTS = ('calls', 'again', 'replies', 'unanswered', 'call_bytes', 'reply_bytes')
@@ -264,7 +266,7 @@ def json_of(found: Sequence[Counted], column: str) -> bytes:
     verdicts = [verdict for one in found for verdict in one.verdicts]
     tables = [{**whose(table), 'procedures': [object_of(*row) for row in table.rows(column)]}
               for one in found for table in (*one.tables, one.in_all)]
-    whole = {'version': VERSION, 'counts': counts_after(verdicts).members(), 'verdicts': objects_of(verdicts), 'tables': tables}
+    whole = {'version': VERSION, 'counts': counts_after(verdicts).members(), 'verdicts': [*map(object_of_verdict, verdicts)], 'tables': tables}
     return json.dumps(whole, indent=1).encode() + b'\n'
 
 

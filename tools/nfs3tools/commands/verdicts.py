@@ -30,6 +30,7 @@ processors if it is not said.
 
 --follow judges one recording while it is made: `-`, a fifo or a file that grows. The line of a connection is printed once it is closed,
 or once a fault of it is seen; at the end, or at SIGINT or SIGTERM, the others are judged. The manual page says when a fault is seen.
+With --json - each line is an object of JSON: a row, or at the end the counts and the status.
 
 FILE is written beside its name, and gets it once it is whole. It is refused if it is an input, or begins as a recording or a capture. The
 other statuses are 1 if a verdict is not good, 2 if the command line or FILE is refused or the program is missing, 3 if FILE cannot be
@@ -49,10 +50,10 @@ import typing
 import xml.etree.ElementTree
 from functools import partial
 
-from ..judgement.following import follow
+from ..judgement.following import Form, follow
 from ..judgement.verdict import (
-    HEADS, Verdict, counts_after, error_of, is_row, of_covered, row_of, status_of, sums_of,
-    tell_notes, told, verdict_of)
+    HEADS, VERSION, Verdict, counts_after, error_of, is_row, object_of, of_covered, row_of,
+    status_of, sums_of, tell_notes, told, verdict_of)
 from ..recordings.coverage import Allowed, named as named_calls
 from ..recordings.parts import files_of
 from ..recordings.selection import Options
@@ -60,13 +61,12 @@ from ..recordings.taken import NotTaken, Taken, TakenConnection, take
 from ..reporting.messages import (
     add_judging, advice_on, allowed_of, options_of,
     parser_of, run, words_of)
-from ..shared.outputs import printed_beside, try_outputs, write_file
+from ..shared.outputs import STANDARD_OUTPUT, printed_beside, try_outputs, write_file
 from ..shared.places import Place, parse_fault
 from ..shared.printed import columns, escaped, printable
 from ..shared.programs import CHECKED, Died, FilterRefused, Missing, program_path, run_program
 
 CONNECTIONS_AT_ONCE = 32  # of a recording
-VERSION = 2  # of the form of --json; the first was a list of the rows
 Look = typing.Callable[[Taken, list[Verdict]], object]
 
 
@@ -145,11 +145,12 @@ def main(words: list[str]) -> int:
     add_judging(parser)
     chosen = parser.parse_args(words)
     if chosen.follow:
-        if len(chosen.recordings) > 1 or any((chosen.j, chosen.junit, chosen.json, chosen.filter)):
-            parser.error(
-                '--follow takes one recording, and none of -j, --junit, --json and --filter')
+        if len(chosen.recordings) > 1 or any((chosen.j, chosen.junit, chosen.filter)):
+            parser.error('--follow takes one recording, and none of -j, --junit and --filter')
+        if chosen.json not in (None, STANDARD_OUTPUT):
+            parser.error('--follow prints JSON on standard output: --json -')
         return follow(chosen.recordings[0], program_path(chosen.program), options_of(chosen),
-                      allowed_of(chosen), chosen.quiet)
+                      allowed_of(chosen), Form(chosen.quiet, chosen.json is not None))
     recordings_at_once = chosen.j or os.cpu_count() or 1
     at_once = max(1, min(CONNECTIONS_AT_ONCE, recordings_at_once // len(chosen.recordings)))
     inputs = [file for recording in chosen.recordings for file in files_of(recording)]
@@ -265,20 +266,8 @@ def name_of(verdict: Verdict) -> str:
 def json_of(verdicts: list[Verdict]) -> bytes:
     """The verdicts as JSON, with the version of this form, the counts, and an object for each."""
     whole = {'version': VERSION, 'counts': counts_after(verdicts).members(),
-             'rows': objects_of(verdicts)}
+             'rows': [*map(object_of, verdicts)]}
     return json.dumps(whole, indent=1).encode() + b'\n'
-
-
-def objects_of(verdicts: list[Verdict]) -> list[dict[str, object]]:
-    """The verdicts as objects of JSON."""
-    rows = []
-    for verdict in verdicts:
-        row = verdict._asdict()
-        row.update(recording=escaped(verdict.recording), raw=dict(verdict.raw),
-                   frames=[frame._asdict() for frame in verdict.frames],
-                   seconds=round(verdict.seconds, 3))
-        rows.append(row)
-    return rows
 
 
 command = partial(run, 'verdicts', main)

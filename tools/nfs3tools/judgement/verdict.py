@@ -15,6 +15,7 @@ from ..shared.printed import escaped, printable
 from ..shared.programs import Answer
 
 NOT_ALL_OK = 1
+VERSION = 2  # of the forms of JSON with verdicts; the first was a list of them
 HEADS = ('recording', 'connection', 'client', 'server', 'calls', 'replies', 'verdict')
 State = typing.Literal['ok', 'refused', 'in part', 'left out', 'not checked', 'error', 'note']
 COUNTS = re.compile(r'ok connections=1 calls=(\d+) replies=(\d+) handles=\d+\n')
@@ -144,6 +145,15 @@ def status_of(verdicts: Iterable[Verdict], allowed: Allowed) -> int:
 def counts_after(verdicts: Iterable[Verdict]) -> Counts:
     """How many of the verdicts are under each word."""
     return counts_of((verdict.state, verdict.shows_calls, verdict.raw) for verdict in verdicts)
+
+
+def object_of(verdict: Verdict) -> dict[str, object]:
+    """The verdict as an object of JSON."""
+    row = verdict._asdict()
+    row.update(recording=escaped(verdict.recording), raw=dict(verdict.raw),
+               frames=[frame._asdict() for frame in verdict.frames],
+               seconds=round(verdict.seconds, 3))
+    return row
 
 
 # --- What is printed ---

@@ -20,6 +20,7 @@ from ..shared.printed import escaped, printable
 from . import telling
 from .telling import brief_of, folded, is_summed, of_group, of_silent, shortened
 
+VERSION = 1  # of the form of JSON
 CASES_AT_MOST = 1_000  # of findings
 FIELDS_AT_MOST = 4  # in the name of a case
 KINDS = {'moved': 'another turn', 'replies': 'another number of replies'}
@@ -32,7 +33,7 @@ def json_of(report: Report, compared: Compared, left_out: Counter[tuple[str, str
     covers = [members_of(cover) for cover in report.covers] if report.covers else [{}, {}]
     runs = zip(report.names, report.sizes, covers, compared.lonely, compared.left_out)
     head = {
-        'verdict': report.word(), 'position': report.verdict.partition(' at ')[2] or None,
+        'version': VERSION, 'verdict': report.word(), 'position': report.verdict.partition(' at ')[2] or None,
         'mask': words_of(report.mask),
         'same_under': report.same_under and words_of(report.same_under),
         'runs': [{'name': escaped(name), **size._asdict(), **cover, 'only': only,
@@ -64,7 +65,7 @@ def json_of_parts(marks: str, covers: Sequence[Cover], parts: Sequence[PartRepor
                   framings: Sequence[Framing]) -> Iterator[bytes]:
     """The comparison of parts, in pieces: an object with a list of the parts. What is said of a
     part is an object as of whole runs."""
-    yield json.dumps({'marks': escaped(marks), 'runs': [*map(members_of, covers)]},
+    yield json.dumps({'version': VERSION, 'marks': escaped(marks), 'runs': [*map(members_of, covers)]},
                      indent=1).removesuffix('\n}').encode() + b',\n "parts": ['
     for turn, part in enumerate(parts):
         head = {'name': part.name, 'number': part.number, 'verdict': part.word(), 'only': part.only}
