@@ -27,6 +27,7 @@ for tool in from_pcap verdicts calls procedures nfs3-from-pcap nfs3-where nfs3-v
     complete -c $tool -l help -d 'Print help'
 end
 for tool in verdicts nfs3-verdicts calls nfs3-calls procedures nfs3-procedures nfs3-compare
+    complete -c $tool -l color -x -a 'auto always never' -d 'Whether there are colours'
     complete -c $tool -l allow-losses -d 'Take what is in part or left out as the status 0'
     complete -c $tool -l allow-not-checked -d 'Take what is not checked as the status 0'
 end
@@ -52,6 +53,7 @@ for tool in calls nfs3-calls
 end
 for tool in procedures nfs3-procedures
     complete -c $tool -l beside -d 'Print two recordings side by side'
+    complete -c $tool -l width -x -d 'Print no line of a table wider'
     complete -c $tool -l total -d 'Print no tables of connections'
     complete -c $tool -l sort -x -a 'procedure calls again replies no-reply call-bytes reply-bytes median p99 most mean sum errors' -d 'Have the largest of a column first'
     complete -c $tool -l json -r -d 'Write JSON'

@@ -47,6 +47,7 @@ from __future__ import annotations
 
 import argparse
 import os
+import re
 import sys
 import tempfile
 from collections import Counter
@@ -84,9 +85,11 @@ from ..reporting.reports import json_of, json_of_parts, junit_of, junit_of_error
 from ..shared.outputs import check_output, held, printed_beside, try_outputs, write_file
 from ..shared.printed import escaped
 from ..shared.programs import program_path
+from ..shared.screens import Colour, Screen, add_colour, screen_of
 
 SAME, DIFFERENT = range(2)
 FINDINGS_AT_MOST, SILENT_AT_MOST = 20, 12
+SIGN, SIGNS = re.compile(r'  ([-+]) '), {'-': Colour.RED, '+': Colour.GREEN}  # of values
 AROUND = Around(3, pages.SHOWN_AT_MOST)  # on a page
 
 
@@ -124,6 +127,7 @@ def words_of(words: list[str]) -> argparse.Namespace:
                         help='writes the verdict and all findings as JSON')
     parser.add_argument('--junit', metavar='FILE',
                         help='writes the verdict and the findings as JUnit XML')
+    add_colour(parser)
     add_judging(parser)
     parser.add_argument('first', metavar='A')
     parser.add_argument('second', metavar='B')
@@ -261,9 +265,10 @@ def compared_whole(words: argparse.Namespace, whole: Whole, choices: Choices, lo
     """Compares the runs as wholes. Returns whether they are the same."""
     said = judged(whole.trial, whole.runs, whole.sizes, choices)
     line = said.line(choices, whole.sizes[0], losses)
-    print(line, *whole.lines_of_counts(), sep='\n', flush=True)
     is_good = said.is_same and whole.is_good(allowed_of(words))
     report = said.report(choices, whole.names, whole.sizes, whole.covers)
+    print(screen_of(words.color).painted(line, colour_of(report.word(), is_good)),
+          *whole.lines_of_counts(), sep='\n', flush=True)
     if words.accept_new:
         compared = said.found.whole or said.found.compared
         recordings = [file for name in whole.names for file in files_of(name)]
@@ -301,16 +306,30 @@ def print_found(words: argparse.Namespace, whole: Whole, report: Report, compare
                 left_out: Counter[tuple[str, str]]) -> None:
     if report.verdict == 'same':
         return
+    screen = screen_of(words.color)
     if is_told(words, report):
         first, second = whole.framings()
         for text in telling.of_compared(compared, first, second,
                                         None if words.all else FINDINGS_AT_MOST, left_out,
                                         words.brief):
-            print(text)
+            print(coloured(text, screen))
     for text in telling.of_silent(compared, whole.framings(),
                                   None if words.all else SILENT_AT_MOST):
         print(text)
     print(summary.of_compared(compared))
+
+
+def colour_of(word: str, is_good: bool) -> Colour:
+    """The colour of a verdict."""
+    if is_good:
+        return Colour.GREEN
+    return Colour.YELLOW if word.startswith('same') else Colour.RED
+
+
+def coloured(line: str, screen: Screen) -> str:
+    """Returns a line of a finding, as `diff` colours it."""
+    sign = SIGN.match(line)
+    return screen.painted(line, SIGNS[sign[1]]) if sign else line
 
 
 def compared_by_parts(words: argparse.Namespace, whole: Whole, choices: Choices,
@@ -318,9 +337,9 @@ def compared_by_parts(words: argparse.Namespace, whole: Whole, choices: Choices,
     """Compares the parts that begin at marks. Returns whether all are the same."""
     parts = PartByPart(whole.trial, whole.names, whole.runs, words.marks,
                        choices).reports(words.ignore)
+    is_good, screen = whole.is_good(allowed_of(words)), screen_of(words.color)
     for part in parts:
-        print(part.line)
-    is_good = whole.is_good(allowed_of(words))
+        print(screen.painted(part.line, colour_of(part.word(), is_good and part.is_good)))
     if words.junit:
         counting = '' if is_good else losses
         write_file(words.junit,

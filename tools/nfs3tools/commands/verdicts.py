@@ -1,6 +1,6 @@
 """Judges each connection of recordings and captures by itself.
 
-    tools/verdicts [-q] [--junit FILE] [--json FILE] [-j N] RECORDING|CAPTURE ..
+    tools/verdicts [-q] [--color WHEN] [--junit FILE] [--json FILE] [-j N] RECORDING|CAPTURE ..
     tcpdump -i any -U -w - port 2049 | tools/verdicts [-q] --follow -
 
 Each connection is a capture of its own, which `nfs3canon check` judges, so a fault in one hides nothing of another. A row is printed
@@ -41,6 +41,7 @@ from __future__ import annotations
 import concurrent.futures
 import contextlib
 import functools
+import itertools
 import json
 import os
 import signal
@@ -52,8 +53,8 @@ from functools import partial
 
 from ..judgement.following import Form, follow
 from ..judgement.verdict import (
-    HEADS, VERSION, Verdict, counts_after, error_of, is_row, object_of, of_covered, row_of,
-    status_of, sums_of, tell_notes, told, verdict_of)
+    HEADS, VERSION, Verdict, colour_of, counts_after, error_of, is_row, object_of, of_covered,
+    row_of, status_of, sums_of, tell_notes, told, verdict_of)
 from ..recordings.coverage import Allowed, named as named_calls
 from ..recordings.parts import files_of
 from ..recordings.selection import Options
@@ -63,8 +64,9 @@ from ..reporting.messages import (
     parser_of, run, words_of)
 from ..shared.outputs import STANDARD_OUTPUT, printed_beside, try_outputs, write_file
 from ..shared.places import Place, parse_fault
-from ..shared.printed import columns, escaped, printable
+from ..shared.printed import escaped, printable
 from ..shared.programs import CHECKED, Died, FilterRefused, Missing, program_path, run_program
+from ..shared.screens import Screen, Styled, add_colour, is_as_wide, lines_of, screen_of
 
 CONNECTIONS_AT_ONCE = 32  # of a recording
 Look = typing.Callable[[Taken, list[Verdict]], object]
@@ -142,6 +144,7 @@ def main(words: list[str]) -> int:
     parser.add_argument('-j', metavar='N', type=positive, help='judges N recordings at once')
     parser.add_argument('--follow', action='store_true',
                         help='judges one recording while it is made, and prints each verdict at once')
+    add_colour(parser)
     add_judging(parser)
     chosen = parser.parse_args(words)
     if chosen.follow:
@@ -150,7 +153,7 @@ def main(words: list[str]) -> int:
         if chosen.json not in (None, STANDARD_OUTPUT):
             parser.error('--follow prints JSON on standard output: --json -')
         return follow(chosen.recordings[0], program_path(chosen.program), options_of(chosen),
-                      allowed_of(chosen), Form(chosen.quiet, chosen.json is not None))
+                      allowed_of(chosen), Form(chosen.quiet, chosen.json is not None, screen_of(chosen.color)))
     recordings_at_once = chosen.j or os.cpu_count() or 1
     at_once = max(1, min(CONNECTIONS_AT_ONCE, recordings_at_once // len(chosen.recordings)))
     inputs = [file for recording in chosen.recordings for file in files_of(recording)]
@@ -163,7 +166,7 @@ def main(words: list[str]) -> int:
         raise OSError(
             'a process that judged a recording was killed, as when memory runs out') from broken
     with printed_beside([chosen.junit, chosen.json]):
-        print_table(verdicts, chosen.quiet)
+        print_table(verdicts, chosen.quiet, screen_of(chosen.color))
     if chosen.junit:
         write_file(chosen.junit, [junit_of(verdicts, allowed_of(chosen))], inputs)
     if chosen.json:
@@ -204,14 +207,26 @@ def leave_interrupts() -> None:
 
 # --- What is printed and written ---
 
-def print_table(verdicts: list[Verdict], is_quiet: bool) -> None:
+def print_table(verdicts: list[Verdict], is_quiet: bool, screen: Screen) -> None:
     """Prints a row for each verdict but those on connections that show no call, which with all
     notes go to standard error."""
     tell_notes(verdicts)
-    rows = [row_of(verdict) for verdict in verdicts if is_row(verdict, is_quiet)]
-    for line in columns(rows if is_quiet else [HEADS, *rows]):
+    for line in rows_of([verdict for verdict in verdicts if is_row(verdict, is_quiet)],
+                        not is_quiet, screen):
         print(line)
-    print(sums_of(verdicts))
+    print(*screen.wrapped(sums_of(verdicts), 0), sep='\n')
+
+
+def rows_of(verdicts: list[Verdict], has_heads: bool, screen: Screen) -> typing.Iterator[str]:
+    """The lines of a table. If it is too wide for the terminal, each recording has its own."""
+    heads = [Styled(HEADS)] if has_heads else []
+    rows = [Styled(row_of(verdict, screen), colour_of(verdict)) for verdict in verdicts]
+    if screen.width is None or is_as_wide([*heads, *rows], screen.width):
+        yield from lines_of([*heads, *rows], screen)
+        return
+    for name, some in itertools.groupby(rows, lambda row: row.cells[0]):
+        yield from screen.wrapped(f'{name}:', 0)
+        yield from lines_of([row._replace(cells=row.cells[1:]) for row in (*heads, *some)], screen)
 
 
 def junit_of(verdicts: list[Verdict], allowed: Allowed) -> bytes:

@@ -36,9 +36,10 @@ from ..shared.kinds import MAGICS
 from ..shared.outputs import held
 from ..shared.printed import escaped
 from ..shared.programs import CHECKED, Died, run_program
+from ..shared.screens import Screen, Styled, lines_of
 from .verdict import (
-    HEADS, VERSION, Before, Verdict, counts_after, error_of, is_row, object_of, of_covered, row_of,
-    status_of, tell_notes, verdict_of)
+    HEADS, VERSION, Before, Verdict, colour_of, counts_after, error_of, is_row, object_of,
+    of_covered, row_of, status_of, tell_notes, verdict_of)
 
 # Bytes of a section that is judged for the first time, if it has not had its turn before
 FIRST_SIZE = 1 << 16
@@ -492,9 +493,10 @@ def without_reply(streams: list[TakenStream], server: TakenStream) -> tuple[list
 # --- The command ---
 
 class Form(typing.NamedTuple):
-    """How verdicts are printed: without those that are `ok`, and as JSON."""
+    """How verdicts are printed: without those that are `ok`, as JSON, and where."""
     is_quiet: bool
     is_json: bool = False
+    screen: Screen = Screen()
 
 
 class Lines:
@@ -503,7 +505,7 @@ class Lines:
     def __init__(self, allowed: Allowed, form: Form) -> None:
         self.allowed, self.form, self.counts, self.status = allowed, form, Counts(), 0
         if not form.is_quiet and not form.is_json:
-            self.print(HEADS)
+            self.print(Styled(HEADS))
 
     def say(self, verdict: Verdict) -> None:
         tell_notes([verdict])
@@ -512,17 +514,19 @@ class Lines:
         if self.form.is_json and not (self.form.is_quiet and verdict.state == 'ok'):
             self.print_object({'row': object_of(verdict)})
         elif not self.form.is_json and is_row(verdict, self.form.is_quiet):
-            self.print(row_of(verdict))
+            self.print(Styled(row_of(verdict, self.form.screen), colour_of(verdict)))
 
     def end(self) -> None:
         """Prints the sums."""
         if self.form.is_json:
             self.print_object({'counts': self.counts.members(), 'status': self.status})
         else:
-            print(self.counts.words())
+            print(*self.form.screen.wrapped(self.counts.words(), 0), sep='\n')
 
-    def print(self, cells: tuple[str, ...]) -> None:
-        print('  '.join(cell.ljust(width) for cell, width in zip(cells, WIDTHS)), flush=True)
+    def print(self, row: Styled) -> None:
+        cells = [cell.ljust(width) for cell, width in zip(row.cells, WIDTHS)]
+        lines = lines_of([row._replace(cells=cells)], self.form.screen)
+        print(*lines, sep='\n', flush=True)
 
     def print_object(self, members: dict[str, object]) -> None:
         print(json.dumps({'version': VERSION, **members}), flush=True)

@@ -13,6 +13,7 @@ from ..recordings.taken import FrameRef, Taken, TakenConnection
 from ..shared.places import FilePlace, parse_fault
 from ..shared.printed import escaped, printable
 from ..shared.programs import Answer
+from ..shared.screens import Colour, Screen
 
 NOT_ALL_OK = 1
 VERSION = 2  # of the forms of JSON with verdicts; the first was a list of them
@@ -183,9 +184,17 @@ def sums_of(verdicts: Iterable[Verdict]) -> str:
     return counts_after(verdicts).words()
 
 
-def row_of(verdict: Verdict) -> tuple[str, ...]:
+def colour_of(verdict: Verdict) -> Colour:
+    """The colour of a verdict: green for what was judged, and is valid."""
+    if verdict.state == 'ok':
+        return Colour.GREEN
+    return Colour.RED if verdict.state in ('refused', 'error') else Colour.YELLOW
+
+
+def row_of(verdict: Verdict, screen: Screen = Screen()) -> tuple[str, ...]:
     numbers = (verdict.connection, verdict.calls, verdict.replies)
-    connection, calls, replies = ('-' if number is None else str(number) for number in numbers)
+    connection, calls, replies = ('-' if number is None else screen.number(number)
+                                  for number in numbers)
     return (escaped(verdict.recording), connection, verdict.client or '-', verdict.server or '-',
             calls, replies,
             printable(verdict.message))
