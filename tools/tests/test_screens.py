@@ -1,19 +1,31 @@
-"""Tests of what the tools print on a terminal: colours, and tables that fit it.
+"""Tests of what the tools print on a terminal: colours, tables that fit it, and how far they are.
 
 The terminals are pseudo-terminals of a known width. What is expected is written by hand.
 """
+import bz2
+import contextlib
 import fcntl
+import gzip
+import io
+import lzma
 import os
 import pty
+import random
 import re
+import shutil
 import struct
 import subprocess
 import termios
+import typing
 from collections.abc import Sequence
 
 from examples.messages import NFS, call, dirop, failed, fattr, fh, ok, post_op_attr, success
 from examples.packets import Talk, pcap
+from tests.shared.running import ended
 
+from ..nfs3tools.recordings.frames import Recording, Source, opened
+from ..nfs3tools.recordings.taken import share_of, size_of
+from ..nfs3tools.shared.progress import Progress
 from ..nfs3tools.shared.screens import Colour, Screen, Styled, lines_of, panels
 from .cases import FolderTest
 from .scripts import TOP, Tools, exchange, sums, whole
@@ -26,15 +38,21 @@ PLAIN = {name: value for name, value in os.environ.items() if name not in ('NO_C
 
 def on_terminal(tools: Tools, width: int, *words: str, **variables: str) -> tuple[int, list[str]]:
     """The status of a tool whose standard output is a terminal, and the lines there."""
+    status, text = written_to(tools, width, 'stdout', *words, **variables)
+    return status, text.replace('\r\n', '\n').splitlines()
+
+
+def written_to(tools: Tools, width: int, stream: str, *words: str, **variables: str) -> tuple[int, str]:
+    """The status of a tool of which one stream is a terminal, and what is written there."""
     master, slave = pty.openpty()
     fcntl.ioctl(slave, termios.TIOCSWINSZ, struct.pack('4H', 24, width, 0, 0))
     command = [str(TOP / 'tools' / words[0]), '--program', tools.program, *words[1:]]
-    with subprocess.Popen(command, cwd=tools.folder, env={**PLAIN, **variables}, stdin=subprocess.DEVNULL, stdout=slave,
-                          stderr=subprocess.DEVNULL) as process:
+    streams = {'stdin': subprocess.DEVNULL, 'stdout': subprocess.DEVNULL, 'stderr': subprocess.DEVNULL, stream: slave}
+    with subprocess.Popen(command, cwd=tools.folder, env={**PLAIN, **variables}, **typing.cast(dict[str, typing.Any], streams)) as process:
         os.close(slave)
         content = b''.join(iter(lambda: piece_of(master), b''))
     os.close(master)
-    return process.returncode, content.decode().replace('\r\n', '\n').splitlines()
+    return process.returncode, content.decode()
 
 
 def piece_of(master: int) -> bytes:
@@ -199,9 +217,81 @@ def numbers_have_separators_on_a_terminal_alone(tools: Tools) -> None:
         tools.want(number, (re.split('  +', lines[1])[2:], lines[-1]), ([one.replace('%s', number) for one in row], sums(1)))
 
 
+# --- Progress ---
+
+class Terminal(io.StringIO):
+    """A stream that says that it is a terminal."""
+
+    def isatty(self) -> bool:
+        return True
+
+
+def shares_are_those_of_the_file(tools: Tools) -> None:
+    """The share of a recording that was read grows from frame to frame, and is 1 in the end: also of parts, and of compressed files by
+    their own bytes."""
+    chance = random.Random(1)
+    content = pcap([chance.randbytes(60_000) for _ in range(100)])
+    files = {'a': content, 'a.gz': gzip.compress(content), 'a.xz': lzma.compress(content), 'a.bz2': bz2.compress(content)}
+    for name, packed in files.items():
+        tools.write(name, packed)
+    if shutil.which('zstd'):
+        files['a.zst'] = ended(['zstd', '-qc', 'a'], tools.folder).out
+        tools.write('a.zst', files['a.zst'])
+    for name, packed in files.items():
+        for before, size in ((0, len(packed)), (len(packed), 2 * len(packed))):
+            with opened(tools.path(name)) as file:
+                source = Source(file)
+                share = share_of(source, before, size)
+                shares = [share() for _ in Recording(source).frames() if share]
+            tools.want(f'{name} after {before}', (len(shares), shares == sorted(shares), shares[-1]), (100, True, 1.0))
+            # (zstd reads some megabytes ahead)
+            tools.want(f'{name} in the middle', name == 'a.zst' or abs(shares[50] - (before + len(packed) / 2) / size) < 0.3, True)
+    with opened(tools.path('a')) as file:
+        tools.want('no size', share_of(Source(file), 0, size_of(['-'])), None)
+
+
+def progress_is_said_at_times(tools: Tools) -> None:
+    """What begins is said at once, how far it is at most five times a second and never over 100 %, and in the end the line is empty."""
+    with contextlib.redirect_stderr(Terminal()) as stream:
+        progress = Progress()
+        progress.begin('one')
+        progress.step('two', lambda: 0.5)
+        progress.told -= 1
+        progress.step('three', lambda: 0.416)
+        progress.told -= 1
+        progress.step('four', lambda: 1.5)
+        lines = list(progress.lines('five', ['a', 'b'], lambda: 2))
+        progress.end()
+    tools.want('lines', lines, ['a', 'b'])
+    tools.want('said', stream.getvalue().split('\r\x1b[K'), ['', 'one', 'three, 41 %', 'four, 100 %', 'five', ''])
+    with contextlib.redirect_stderr(io.StringIO()) as other:
+        progress = Progress()
+        progress.begin('one')
+        progress.told -= 1
+        progress.step('two', lambda: 1 / 0)
+        progress.end()
+    tools.want('elsewhere', other.getvalue(), '')
+
+
+def comparisons_say_how_far_they_are(tools: Tools) -> None:
+    """On a terminal each step of a comparison is said, and the line is gone in the end, also after an error; a pipe gets nothing."""
+    place = Comparisons(tools.program, tools.folder)
+    place.put('a', run(1, 1, 1))
+    place.put('b', run(1, 1, 2, names=(2, 1, 0)))
+    said = written_to(tools, 80, 'stderr', 'compare', '--order', 'any', 'a', 'b')[1].split('\r\x1b[K')
+    steps = ['checking both runs', 'masking values', 'comparing both runs', 'reading the calls', 'bringing 12 calls together',
+             'writing both runs in one order']
+    tools.want('steps', ([step for step in steps if step not in said], said[-1]), ([], ''))
+    tools.want('a pipe', place.compare('--order', 'any', 'a', 'b')[2], '')
+    place.put('b', ([call(1, NFS, 3, 19, fh(b'q'))], []))
+    text = written_to(tools, 80, 'stderr', 'compare', '--order', 'any', 'a', 'b')[1]
+    tools.want('an error', text.split('\r\x1b[K')[-1], 'compare: nothing to compare: no call of one run is in the other\r\n')
+
+
 TESTS = [lines_that_fit_are_as_elsewhere, panels_repeat_the_first_column, a_long_word_is_broken, verdicts_have_colours, no_colours_elsewhere,
          names_stay_escaped, comparisons_have_colours_as_diff, verdicts_fit, calls_fit, procedures_fit,
-         numbers_have_separators_on_a_terminal_alone]
+         numbers_have_separators_on_a_terminal_alone, shares_are_those_of_the_file, progress_is_said_at_times,
+         comparisons_say_how_far_they_are]
 
 
 class TestScreens(FolderTest, make=Tools, tests=TESTS):

@@ -85,6 +85,7 @@ from ..reporting.reports import json_of, json_of_parts, junit_of, junit_of_error
 from ..shared.outputs import check_output, held, printed_beside, try_outputs, write_file
 from ..shared.printed import escaped
 from ..shared.programs import program_path
+from ..shared.progress import Progress
 from ..shared.screens import Colour, Screen, add_colour, screen_of
 
 SAME, DIFFERENT = range(2)
@@ -245,8 +246,11 @@ def whole_of(program: str, folder: Path, names: list[str], inputs: list[str],
              runs: Sequence[Taken]) -> Whole:
     """Checks both runs, and prints what is refused. Raises `NothingToCompare` if a run has no call
     that can be compared."""
-    trial = Trial(program, folder, runs)
+    progress = Progress()
+    progress.begin('checking both runs')
+    trial = Trial(program, folder, runs, progress)
     covers = [cover_of(program, *one) for one in zip(runs, trial.captures)]
+    progress.end()
     for cover, name in zip(covers, names):
         if not cover.size.calls:
             faults = '; '.join(f'{escaped(name)}: {fault}' for fault in cover.faults())
@@ -256,14 +260,15 @@ def whole_of(program: str, folder: Path, names: list[str], inputs: list[str],
         for line in cover.notes():
             print(f'{escaped(name)}: {line}', file=sys.stderr)
     if any(cover.refused for cover in covers):
-        trial = Trial(program, folder, [cover.taken for cover in covers])
+        trial = Trial(program, folder, [cover.taken for cover in covers], progress)
     return Whole(names, inputs, covers, trial,
                  [run_of(trial, *one) for one in zip(trial.runs, trial.captures, names)])
 
 
 def compared_whole(words: argparse.Namespace, whole: Whole, choices: Choices, losses: str) -> bool:
     """Compares the runs as wholes. Returns whether they are the same."""
-    said = judged(whole.trial, whole.runs, whole.sizes, choices)
+    with whole.trial.progress.line():
+        said = judged(whole.trial, whole.runs, whole.sizes, choices)
     line = said.line(choices, whole.sizes[0], losses)
     is_good = said.is_same and whole.is_good(allowed_of(words))
     report = said.report(choices, whole.names, whole.sizes, whole.covers)
@@ -335,8 +340,9 @@ def coloured(line: str, screen: Screen) -> str:
 def compared_by_parts(words: argparse.Namespace, whole: Whole, choices: Choices,
                       losses: str) -> bool:
     """Compares the parts that begin at marks. Returns whether all are the same."""
-    parts = PartByPart(whole.trial, whole.names, whole.runs, words.marks,
-                       choices).reports(words.ignore)
+    with whole.trial.progress.line():
+        parts = PartByPart(whole.trial, whole.names, whole.runs, words.marks,
+                           choices).reports(words.ignore)
     is_good, screen = whole.is_good(allowed_of(words)), screen_of(words.color)
     for part in parts:
         print(screen.painted(part.line, colour_of(part.word(), is_good and part.is_good)))

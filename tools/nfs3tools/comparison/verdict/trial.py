@@ -2,13 +2,14 @@
 from __future__ import annotations
 
 import re
-from collections.abc import Callable, Iterator, Sequence
+from collections.abc import Callable, Iterable, Iterator, Sequence
 from functools import partial
 from pathlib import Path
 
 from ...recordings.taken import Taken
 from ...shared.places import Place
 from ...shared.programs import CHECKED, COMPARED, lines_of_program, run_program
+from ...shared.progress import Progress
 from ..exchanges.outlines import Outlines, When
 from ..exchanges.pairing import InOrder, Listing, Pairing, Relaxed, paired
 from ..exchanges.reordered import write_in_order
@@ -31,8 +32,10 @@ class Trial:
     """Two runs, which are written as captures. What is made of them is written beside them, each
     once and under a new name."""
 
-    def __init__(self, program: str, folder: Path, runs: Sequence[Taken]) -> None:
+    def __init__(self, program: str, folder: Path, runs: Sequence[Taken],
+                 progress: Progress = Progress(False)) -> None:
         self.program, self.folder, self.runs, self.number = program, folder, runs, 0
+        self.progress = progress
         self.made = dict[tuple[str, ...], list[str]]()  # by how it was made, and of which captures
         self.captures = self.named()
         self.write()
@@ -62,25 +65,33 @@ class Trial:
                             name: self.mask(capture, name, mask))
 
     def mask(self, capture: str, name: str, mask: Mask) -> None:
+        self.progress.begin('masking values')
         write_masked(self.program, capture, name, mask)
 
     def same(self, captures: Sequence[str], mask: Mask) -> str:
         """Returns what the program says of two captures under a mask: `same`, or where they
         differ."""
-        return run_program(self.program, ['same', *self.masked(captures, mask)],
-                           COMPARED).out.strip()
+        masked = self.masked(captures, mask)
+        self.progress.begin('comparing both runs')
+        return run_program(self.program, ['same', *masked], COMPARED).out.strip()
 
     def listing(self, capture: str) -> Listing:
         """Returns the lines of a capture. Connections have the numbers that they have in the run,
         of which some may be left out."""
-        numbers = self.numbers_of(self.runs[RUNS.index(Path(capture).name[0])])
+        taken = self.runs[RUNS.index(Path(capture).name[0])]
+        numbers = self.numbers_of(taken)
         if numbers is None:
-            return lambda: lines_of_program(self.program, ['show', capture])
-        return partial(self.numbered, capture, numbers)
+            return partial(self.lines, capture, taken)
+        return partial(self.numbered, capture, taken, numbers)
 
-    def numbered(self, capture: str, numbers: Sequence[int]) -> Iterator[str]:
+    def lines(self, capture: str, taken: Taken) -> Iterable[str]:
+        """Returns the lines of a capture."""
+        lines = lines_of_program(self.program, ['show', capture])
+        return self.progress.lines('reading the calls', lines, taken.count_records)
+
+    def numbered(self, capture: str, taken: Taken, numbers: Sequence[int]) -> Iterator[str]:
         """Yields the lines of a capture, whose connections get these numbers."""
-        for line in lines_of_program(self.program, ['show', capture]):
+        for line in self.lines(capture, taken):
             number, _, rest = line.partition(' ')
             yield f'{numbers[int(number) - 1]} {rest}'
 
@@ -103,9 +114,12 @@ class Trial:
                   mask: Mask | None = None) -> tuple[Listing, Listing]:
         """Returns the listings of two captures in canonical form, under a mask if there is one."""
         masked = captures if mask is None else self.masked(captures, mask)
-        names = self.made_of(masked, 'canon', lambda capture,
-                             name: run_program(self.program, ['canon', capture, name], CHECKED))
+        names = self.made_of(masked, 'canon', self.make_canonical)
         return self.listing(names[0]), self.listing(names[1])
+
+    def make_canonical(self, capture: str, name: str) -> None:
+        self.progress.begin('making the canonical form')
+        run_program(self.program, ['canon', capture, name], CHECKED)
 
     def paired(self, masks: Sequence[Mask], lonely: frozenset[str]) -> Pairing:
         """Brings the exchanges of both runs together, by what they have in common under the first
@@ -116,11 +130,13 @@ class Trial:
                        for listing, taken in zip(listings, self.runs))
         relaxed = (lambda: Relaxed(more[0],
                                    self.canonical(self.captures, more[0]))) if more else None
+        self.progress.begin(f'bringing {len(here) + len(there):,} calls together')
         return paired(here, there, listings, lonely, relaxed)
 
     def in_one_order(self, pairing: Pairing) -> list[str]:
         """Writes both runs in the order of the first one, without the exchanges that have no
         partner. Returns the captures' names."""
+        self.progress.begin('writing both runs in one order')
         names = self.named()
         sides = ((pairing.here, pairing.order_of_first(), pairing.only_first()),
                  (pairing.there, pairing.order_of_second(), pairing.only_second()))
