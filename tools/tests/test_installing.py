@@ -10,6 +10,7 @@ import shutil
 import sys
 import tarfile
 import tomllib
+import unittest
 from collections.abc import Callable
 
 from tests.shared.running import Answer, Runs, ended, program_named
@@ -46,9 +47,8 @@ def works(place: Place, prefix: pathlib.Path) -> None:
     form = str(pathlib.Path(place.folder, 'masked'))
     place.want('nfs3mask', place.command(str(prefix / 'bin/nfs3mask'), str(TOP / 'examples/null.nfs3cap'), form)[0], 0)
     for name in PROGRAMS:
-        path, words = str(prefix / 'bin' / name), ('--version', '--help')
-        place.want('version of ' + name, place.command(path, words[0]), (0, f'{name} {version()}\n', ''))
-        place.want('usage of ' + name, place.command(path, *words), place.command(program_named(name, place.program), *words))
+        path = str(prefix / 'bin' / name)
+        place.want('version of ' + name, place.command(path, '--version'), (0, f'{name} {version()}\n', ''))
     for tool in TOOLS:
         own = str(prefix / 'bin' / ('nfs3-' + tool))
         place.want('version of ' + tool, place.command(own, '--version')[1].split()[1:], [version()])
@@ -65,6 +65,24 @@ def works(place: Place, prefix: pathlib.Path) -> None:
             place.want(path, (prefix / 'share' / path).is_file(), True)
     for path in ('nfs3canon/LICENSE-MIT', 'nfs3canon/LICENSE-APACHE'):
         place.want(path, (prefix / 'share' / path).is_file(), True)
+
+
+def help_of_the_installed_programs(place: Place) -> None:
+    """The installed launchers print what the program says of itself, on standard output with status 0, and leave wrong lines as
+    they are."""
+    place.want('install', place.tool('install', 'prefix')[0], 0)
+    asking = [('nfs3canon', '--help'), ('nfs3canon', '-h'), ('nfs3canon', 'help'), ('nfs3canon', 'check', '--help'),
+              ('nfs3canon', 'help', 'pack'), ('nfs3mask', '--help'), ('nfs3mask', 'in', '-h')]
+    for name, *words in asking:
+        text = place.command(program_named(name, place.program), *words)[2]
+        found = place.command(place.path(f'prefix/bin/{name}'), *words)
+        place.want(f'{name} {words}', (found, f'Usage: {name} ' in text), ((0, text, ''), True))
+    for name, *words in (('nfs3canon', 'help', 'no'), ('nfs3canon', '--no', '--help'), ('nfs3canon',), ('nfs3canon', 'check', '--', '--help'),
+                         ('nfs3mask',)):
+        own = place.command(program_named(name, place.program), *words)
+        place.want(f'wrong: {name} {words}', place.command(place.path(f'prefix/bin/{name}'), *words), own)
+    full = place.command('sh', '-c', 'prefix/bin/nfs3canon --help >/dev/full')
+    place.want('full', full, (3, '', 'nfs3canon: standard output is closed or full\n'))
 
 
 OTHER_NAMES = r'tools/|(?<!nfs3-)\b(?:from_pcap|where|verdicts|calls|procedures|compare|explain|cut)(?: - |\(1\))|\bfrom_pcap\b'
@@ -270,6 +288,46 @@ def as_a_release(place: Place) -> None:
     works(place, pathlib.Path(place.folder, name))
 
 
+PACKED = ('dpkg', 'dpkg-deb')
+
+
+@unittest.skipUnless(all(map(shutil.which, PACKED)), 'dpkg is not there')
+def as_a_package(place: Place) -> None:
+    """The package for Debian is installed into a root of its own, where the tools and the programs run. It is the same when it is
+    made again, and its files are where Debian has them."""
+    name, contents = f'nfs3canon_{version()}_amd64.deb', set[bytes]()
+    for umask in ('022', '077'):
+        os.mkdir(place.path(umask))
+        out = place.command('bash', '-c', f'umask {umask}; exec "$@"', 'bash', str(TOP / 'tools/release'), '--program', place.program,
+                            '--deb', umask)
+        place.want('release', out, (0, f'{umask}/{name}\n', ''))
+        contents.add(pathlib.Path(place.path(umask), name).read_bytes())
+    place.want('made again', len(contents), 1)
+    place.want('checksum', place.command('sh', '-c', f'cd 022 && sha256sum -c {name}.sha256')[0], 0)
+    fields = dict(line.split(': ', 1) for line in place.command('dpkg-deb', '-f', f'022/{name}')[1].splitlines() if line[0] != ' ')
+    place.want('control', {key: fields[key] for key in ('Package', 'Version', 'Architecture', 'Depends')},
+               {'Package': 'nfs3canon', 'Version': version(), 'Architecture': 'amd64', 'Depends': 'python3 (>= 3.9), libc6'})
+    listed = [line.split() for line in place.command('dpkg-deb', '-c', f'022/{name}')[1].splitlines()]
+    place.want('owners', {words[1] for words in listed}, {'root/root'})
+    place.want('permissions', {words[0] for words in listed}, {'drwxr-xr-x', '-rwxr-xr-x', '-rw-r--r--', 'lrwxrwxrwx'})
+    root = pathlib.Path(place.folder, 'root')
+    for folder in ('info', 'updates'):
+        (root / 'var/lib/dpkg' / folder).mkdir(parents=True)
+    (root / 'var/lib/dpkg/status').touch()
+    # (the root has no Python of its own)
+    place.want('dpkg', place.command('dpkg', f'--root={root}', '--force-not-root', '--force-depends', f'--log={root}/log', '-i',
+                                     f'022/{name}')[0], 0)
+    for path in ('share/man/man1/nfs3-compare.1.gz', 'share/man/man1/nfs3canon.1.gz', 'share/zsh/vendor-completions/_nfs3canon',
+                 'share/bash-completion/completions/nfs3-verdicts', 'share/doc/nfs3canon/copyright'):
+        place.want(path, (root / 'usr' / path).is_file(), True)
+    sums = '3 judged (3 ok, 0 refused), 0 in part, 0 left out, 0 not checked, 0 errors'
+    place.want('verdicts', place.command(str(root / 'usr/bin/nfs3-verdicts'), str(TOP / 'examples/ganesha_a.pcap'))[1].splitlines()[-1], sums)
+    place.want('program', place.command(str(root / 'usr/bin/nfs3canon'), 'check', str(TOP / 'examples/null.nfs3cap'))[:2],
+               (0, 'ok connections=1 calls=1 replies=1 handles=0\n'))
+    without = place.command('env', 'PATH=/nonexistent', sys.executable, str(TOP / 'tools/release'), '--program', place.program, '--deb', '.')
+    place.want('without dpkg-deb', without[0::2], (2, 'release: dpkg-deb is not there; Debian has it in the package dpkg\n'))
+
+
 UMASKS = (0o000, 0o002, 0o022, 0o027, 0o077)
 
 
@@ -317,6 +375,7 @@ def version_of_the_launcher(place: Place) -> None:
 
 TESTS: list[Callable[[Place], None]] = [under_a_prefix, named_as_installed, commands_of_the_package, completions_load, where_nothing_can_be_written,
                                         without_a_program, on_a_full_disk, removed_again, removed_from_elsewhere, as_a_release,
+                                        as_a_package, help_of_the_installed_programs,
                                         under_every_umask, under_a_name_that_is_no_text,
                                         version_of_the_launcher]
 

@@ -39,15 +39,41 @@ COMPLETIONS = {file.format(name): place.format(name) for name in PROGRAMS for fi
     ('{}.fish', 'share/fish/vendor_completions.d/{}.fish'))}
 HOME = 'share/nfs3canon'
 PROGRAMS_HOME = 'libexec/nfs3canon'
-# The command lines of the programs are proved, and none of them asks for the version.
+# The command lines of the programs are proved. None of them asks for the version, and help is printed
+# on standard error with the status 4 of a wrong line, which begins with `error:`.
 LAUNCHER = '''#!/bin/sh
-# Prints the version of the program that has the name of this script, or runs it.
+# Prints the version of the program that has the name of this script, or its help on standard output, or runs it.
 own=$(readlink -f "$0")
+name=${{own##*/}}
+program=${{own%/*}}/../{home}/$name
+
 if [ $# = 1 ] && [ "$1" = --version ]; then
-  echo "${{own##*/}} {version}"
+  echo "$name {version}"
   exit
 fi
-exec "${{own%/*}}/../{home}/${{own##*/}}" "$@"
+
+asks=
+[ "$name ${{1-}}" != 'nfs3canon help' ] || asks=1
+for word; do
+  case $word in
+    --) break ;;
+    -h | --help) asks=1 ;;
+  esac
+done
+[ -n "$asks" ] || exec "$program" "$@"
+
+status=0
+text=$("$program" "$@" 2>&1) || status=$?
+case $status-$text in
+  4-error:*) ;;
+  4-*)
+    printf '%s\\n' "$text" 2>/dev/null && exit
+    echo "$name: standard output is closed or full" >&2
+    exit 3
+    ;;
+esac
+[ -z "$text" ] || printf '%s\\n' "$text" >&2
+exit "$status"
 '''
 LIST = f'{HOME}/installed'
 EXECUTABLE = 0o100
