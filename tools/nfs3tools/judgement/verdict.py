@@ -4,11 +4,11 @@ from __future__ import annotations
 import re
 import sys
 import typing
-from collections.abc import Iterable, Mapping
+from collections.abc import Iterable, Mapping, Sequence
 
 from ..recordings.coverage import (
     Allowed, Called, Counts, Covered, Word, called_in, counts_of, of_connection)
-from ..recordings.selection import count
+from ..recordings.selection import BEGUN_BEFORE, count
 from ..recordings.taken import FrameRef, Taken, TakenConnection
 from ..shared.places import FilePlace, parse_fault
 from ..shared.printed import escaped, printable
@@ -19,6 +19,7 @@ NOT_ALL_OK = 1
 VERSION = 2  # of the forms of JSON with verdicts; the first was a list of them
 HEADS = ('recording', 'connection', 'client', 'server', 'calls', 'replies', 'verdict')
 State = typing.Literal['ok', 'refused', 'in part', 'left out', 'not checked', 'error', 'note']
+LEFT_OUT = re.compile(r'left out: (\S+) and (\S+): ')
 COUNTS = re.compile(r'ok connections=1 calls=(\d+) replies=(\d+) handles=\d+\n')
 
 
@@ -159,12 +160,39 @@ def object_of(verdict: Verdict) -> dict[str, object]:
 
 # --- What is printed ---
 
-def tell_notes(verdicts: Iterable[Verdict]) -> None:
-    """Prints on standard error what is missing from recordings, and which connections are left out
-    that show no call."""
+def tell_notes(verdicts: Sequence[Verdict]) -> None:
+    """Prints on standard error what is missing from recordings, which connections are left out that
+    show no call, and whether recordings look like parts of one."""
     for verdict in verdicts:
         for line in [*verdict.notes, *([] if is_row(verdict) else [verdict.message])]:
             print(printable(f'{named(verdict)}: {line}'), file=sys.stderr)
+    parts = parts_in(verdicts)
+    if parts:
+        print(printable(f'{" and ".join(map(escaped, parts))}: these look like parts of one '
+                        'recording; put the pattern in quotes'), file=sys.stderr)
+
+
+def parts_in(verdicts: Iterable[Verdict]) -> list[str]:
+    """Returns two recordings of which one goes on with a connection of the other, if there are
+    some: its beginning is missing there."""
+    having = dict[frozenset[str], str]()
+    begun_before = list[tuple[frozenset[str], str]]()
+    for verdict in verdicts:
+        ends = ends_of(verdict)
+        if not ends or BEGUN_BEFORE not in verdict.lacks and verdict.state != 'left out':
+            having.setdefault(ends, verdict.recording)
+        else:
+            begun_before.append((ends, verdict.recording))
+    return next(([having[ends], name] for ends, name in begun_before
+                 if having.get(ends, name) != name), [])
+
+
+def ends_of(verdict: Verdict) -> frozenset[str]:
+    """Returns both ends of a connection, none if they are not known."""
+    if verdict.client:
+        return frozenset((verdict.client, verdict.server))
+    found = LEFT_OUT.match(verdict.message) if verdict.shows_calls else None
+    return frozenset(found.groups()) if found else frozenset()
 
 
 def named(verdict: Verdict) -> str:
