@@ -7,13 +7,16 @@ import os
 import pathlib
 import re
 import shutil
+import signal
+import subprocess
 import sys
 import tarfile
+import time
 import tomllib
 import unittest
 from collections.abc import Callable
 
-from tests.shared.running import Answer, Runs, ended, program_named
+from tests.shared.running import Answer, Runs, begin, ended, pipe_of, program_named
 from ..nfs3tools.comparison.values.classes import BY_NAME
 from .cases import FolderTest
 from .scripts import TOP
@@ -83,6 +86,44 @@ def help_of_the_installed_programs(place: Place) -> None:
         place.want(f'wrong: {name} {words}', place.command(place.path(f'prefix/bin/{name}'), *words), own)
     full = place.command('sh', '-c', 'prefix/bin/nfs3canon --help >/dev/full')
     place.want('full', full, (3, '', 'nfs3canon: standard output is closed or full\n'))
+
+
+def signals_leave_nothing(place: Place) -> None:
+    """A signal while a file is written ends the launchers of a clone and of a prefix, and the program, and leaves no file of this run; one
+    of another run stays. Ctrl-C signals both, `kill` the launcher alone."""
+    place.want('install', place.tool('install', 'prefix')[0], 0)
+    os.mkdir(place.path('out'))
+    mine, half = '.nfs3canon-0123456789abcdef', (TOP / 'examples/two_connections.nfs3cap').read_bytes()[:-4]
+    place.write(f'out/{mine}', b'of another run')
+    commands = [(str(launcher / name), *words) for launcher in (TOP, pathlib.Path(place.folder, 'prefix/bin'))
+                for name, *words in (('nfs3canon', 'canon', '/dev/stdin', 'out/x'), ('nfs3mask', '/dev/stdin', 'out/x'))]
+    for command in commands:
+        for number, how in ((signal.SIGINT, os.killpg), (signal.SIGHUP, os.killpg), (signal.SIGTERM, os.kill), (signal.SIGINT, os.kill)):
+            process = begin(command, place.folder, stdin=subprocess.PIPE, prepare=own_group)
+            pipe_of(process.stdin).write(half)
+            pipe_of(process.stdin).flush()
+            begun = waited(lambda: len(os.listdir(place.path('out'))) == 2)
+            how(process.pid, number)
+            status = process.wait(20)
+            gone = waited(lambda: not ended(['pgrep', '-g', str(process.pid)], place.folder).out)
+            place.want(f'{command[0]} {number.name}', (begun, status, gone, os.listdir(place.path('out'))), (True, -number, True, [mine]))
+            for pipe in (process.stdin, process.stdout, process.stderr):
+                pipe_of(pipe).close()
+
+
+def own_group() -> None:
+    """A session as a terminal has it, with the signals that it has."""
+    os.setsid()
+    for number in (signal.SIGINT, signal.SIGHUP, signal.SIGTERM):
+        signal.signal(number, signal.SIG_DFL)
+
+
+def waited(holds: Callable[[], bool], seconds: float = 20) -> bool:
+    """Waits until something holds. Returns whether it does in time."""
+    end = time.monotonic() + seconds
+    while not holds() and time.monotonic() < end:
+        time.sleep(0.02)
+    return holds()
 
 
 OTHER_NAMES = r'tools/|(?<!nfs3-)\b(?:from_pcap|where|verdicts|calls|procedures|compare|explain|cut)(?: - |\(1\))|\bfrom_pcap\b'
@@ -375,7 +416,7 @@ def version_of_the_launcher(place: Place) -> None:
 
 TESTS: list[Callable[[Place], None]] = [under_a_prefix, named_as_installed, commands_of_the_package, completions_load, where_nothing_can_be_written,
                                         without_a_program, on_a_full_disk, removed_again, removed_from_elsewhere, as_a_release,
-                                        as_a_package, help_of_the_installed_programs,
+                                        as_a_package, help_of_the_installed_programs, signals_leave_nothing,
                                         under_every_umask, under_a_name_that_is_no_text,
                                         version_of_the_launcher]
 

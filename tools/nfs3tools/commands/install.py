@@ -52,6 +52,7 @@ if [ $# = 1 ] && [ "$1" = --version ]; then
   exit
 fi
 
+{writing}
 asks=
 [ "$name ${{1-}}" != 'nfs3canon help' ] || asks=1
 for word; do
@@ -60,6 +61,7 @@ for word; do
     -h | --help) asks=1 ;;
   esac
 done
+if [ -z "$asks" ] && is_writing "$name" "$@"; then run_writing "$program" "$@"; fi
 [ -n "$asks" ] || exec "$program" "$@"
 
 status=0
@@ -142,12 +144,18 @@ def install(prefix: Path, program: Path, is_listed: bool = True) -> None:
             is_run = source.stat().st_mode & EXECUTABLE
             made.write(place, content_of(source, place), FOR_ALL_TO_RUN if is_run else FOR_ALL_TO_READ)
         for name in PROGRAMS:
-            made.write(f'bin/{name}', LAUNCHER.format(version=version(), home=PROGRAMS_HOME).encode(), FOR_ALL_TO_RUN)
+            made.write(f'bin/{name}', launcher().encode(), FOR_ALL_TO_RUN)
         for place, target in links():
             made.link(place, target)
         if is_listed:
             made.list_in(Installed(prefix, LIST))
         made.give_names()
+
+
+def launcher() -> str:
+    """Returns the launcher of a program, with what those of a clone have, too."""
+    writing = (TOP / 'dev/writing.sh').read_text()
+    return LAUNCHER.format(version=version(), home=PROGRAMS_HOME, writing=writing)
 
 
 def is_utf8(path: Path) -> bool:
