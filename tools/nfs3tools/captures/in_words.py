@@ -43,7 +43,7 @@ RESULTS = {'NFSPROC3_GETATTR': (re.compile(r' (type)=(\d+) (mode)=(\d+) nlink=\d
 OF_TWO = ('NFSPROC3_RENAME', 'NFSPROC3_LINK')
 LISTING = ('NFSPROC3_READDIR', 'NFSPROC3_READDIRPLUS')
 SPLIT = re.compile(r'\\(?:x[0-9a-f]?)?$')  # the beginning of a byte that is spelled by its digits
-NAMED = ('access', 'committed', 'how', 'mode', 'stable', 'type')  # items whose numbers have names
+NAMED = {'access', 'committed', 'how', 'mode', 'stable', 'type'}  # items whose numbers have names
 NOT_READ = 'accepted'  # what is said of results that are not read
 
 
@@ -93,9 +93,8 @@ class Told(dict[str, str]):
 
     def __init__(self, items: Iterable[tuple[str, str]]) -> None:
         super().__init__(items)
-        for name in NAMED:
-            if name in self:
-                self[name] = number_named(name, self[name])
+        for name in NAMED & self.keys():
+            self[name] = number_named(name, self[name])
 
     def __missing__(self, name: str) -> str:
         if name == 'sattr':

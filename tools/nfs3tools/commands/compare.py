@@ -64,7 +64,7 @@ from ..comparison.parts.part_by_part import PartByPart
 from ..comparison.values.classes import CLASSES, in_any_order, mask_word, told
 from ..comparison.verdict import summary
 from ..comparison.verdict.accepted import accepted_of, file_of
-from ..comparison.verdict.cover import Cover, Size, cover_of, lines_of_counts
+from ..comparison.verdict.cover import Cover, Size, covers_of, lines_of_counts
 from ..comparison.verdict.decision import judged, run_of
 from ..comparison.verdict.excerpt import Around
 from ..comparison.verdict.findings import Compared, Framing, Run
@@ -249,7 +249,7 @@ def whole_of(program: str, folder: Path, names: list[str], inputs: list[str],
     progress = Progress()
     progress.begin('checking both runs')
     trial = Trial(program, folder, runs, progress)
-    covers = [cover_of(program, *one) for one in zip(runs, trial.captures)]
+    covers = covers_of(program, runs, trial.captures)
     progress.end()
     for cover, name in zip(covers, names):
         if not cover.size.calls:

@@ -281,14 +281,21 @@ class Taken:
 
         An older capture may be replaced.
 
-        Raises `NotTaken` if they are more than a capture may have, and what `write_file` does; then the file is as it was.
+        Raises what `capture` and `write_file` do; then the file is as it was.
+        """
+        write_file(path, self.capture(), inputs, (CAPTURE,))
+
+    def capture(self) -> typing.Iterable[bytes]:
+        """Returns the connections as a capture of version 1, in blocks.
+
+        Raises `NotTaken` if they are more than a capture may have.
         """
         size = sum(stream.size for pair in self.pairs() for stream in pair)
         if len(self.connections) > MOST_CONNECTIONS:
             raise NotTaken(f'{len(self.connections)} connections are more than the {MOST_CONNECTIONS} of a capture')
         if size > MOST_BYTES:
             raise NotTaken(f'{size} bytes of streams are more than the {MOST_BYTES} of a capture')
-        write_file(path, capture_of(self.pairs()), inputs, (CAPTURE,))
+        return capture_of(self.pairs())
 
     def frames(self, place: Place | FilePlace) -> list[FrameRef]:
         """Returns the frames that carry a byte, or all frames that carry a record if the place names no byte.

@@ -107,6 +107,27 @@ def run_program(program: str, words: list[str], expected: typing.Mapping[int, st
     return answer
 
 
+def run_side_by_side(commands: typing.Sequence[list[str]],
+                     expected: typing.Mapping[int, str]) -> list[Answer]:
+    """Runs commands at once, each a program with its words, which read nothing. Returns their
+    answers.
+
+    Raises what `run_program` does.
+    """
+    with contextlib.ExitStack() as stack:
+        running = []
+        for command in commands:
+            out, error = (stack.enter_context(tempfile.TemporaryFile()) for _ in range(2))
+            running.append((stack.enter_context(
+                begun(command, stdin=subprocess.DEVNULL, stdout=out, stderr=error)), out, error))
+        answers = [Answer(process.wait(), text_of(out), text_of(error))
+                   for process, out, error in running]
+    for command, answer in zip(commands, answers):
+        if answer.status not in expected or not answer.out.startswith(expected[answer.status]):
+            raise died(command, answer.status, answer.error)
+    return answers
+
+
 def lines_of_program(program: str, words: list[str], expected: int = 0,
                      stdin: Stream = subprocess.DEVNULL) -> typing.Iterator[str]:
     """Iterates over the lines that a program prints.

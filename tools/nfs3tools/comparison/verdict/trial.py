@@ -1,21 +1,25 @@
 """Both runs as captures in a folder, and what the programs say of them."""
 from __future__ import annotations
 
+import os
 import re
 from collections.abc import Callable, Iterable, Iterator, Sequence
 from functools import partial
 from pathlib import Path
 
 from ...recordings.taken import Taken
+from ...shared.outputs import write_temporary
 from ...shared.places import Place
-from ...shared.programs import CHECKED, COMPARED, lines_of_program, run_program
+from ...shared.programs import (
+    CHECKED, COMPARED, lines_of_program, run_program, run_side_by_side)
 from ...shared.progress import Progress
 from ..exchanges.outlines import Outlines, When
 from ..exchanges.pairing import InOrder, Listing, Pairing, Relaxed, paired
 from ..exchanges.reordered import write_in_order
 from ..values.classes import Mask, told
-from ..values.masking import write_masked
+from ..values.masking import write_both_masked
 
+SMALL = 1 << 18  # bytes of a capture whose lines are kept
 RUNS = 'ab'  # begin the names of captures
 CONNECTION = re.compile(r'(?<=differ at )connection (\d+)')
 
@@ -37,12 +41,14 @@ class Trial:
         self.program, self.folder, self.runs, self.number = program, folder, runs, 0
         self.progress = progress
         self.made = dict[tuple[str, ...], list[str]]()  # by how it was made, and of which captures
+        self.said = dict[tuple[str, str], str]()  # what `same` says of two
+        self.few = dict[str, list[str]]()  # the lines of small captures, which are listed once
         self.captures = self.named()
         self.write()
 
     def write(self) -> None:
         for taken, capture in zip(self.runs, self.captures):
-            taken.write_capture(capture)
+            write_temporary(capture, taken.capture())
 
     def named(self) -> list[str]:
         """Returns two new names."""
@@ -50,30 +56,32 @@ class Trial:
         return [str(self.folder / f'{letter}{self.number}') for letter in RUNS]
 
     def made_of(self, captures: Sequence[str], how: str,
-                make: Callable[[str, str], object]) -> list[str]:
+                make: Callable[[Sequence[str], Sequence[str]], object]) -> list[str]:
         """Returns the names of what is made of two captures in one way."""
         key = how, *captures
         if key not in self.made:
             names = self.named()
-            for capture, name in zip(captures, names):
-                make(capture, name)
+            make(captures, names)
             self.made[key] = names
         return self.made[key]
 
     def masked(self, captures: Sequence[str], mask: Mask) -> list[str]:
-        return self.made_of(captures, told(mask), lambda capture,
-                            name: self.mask(capture, name, mask))
+        return self.made_of(captures, told(mask),
+                            lambda captures, names: self.mask(captures, names, mask))
 
-    def mask(self, capture: str, name: str, mask: Mask) -> None:
+    def mask(self, captures: Sequence[str], names: Sequence[str], mask: Mask) -> None:
         self.progress.begin('masking values')
-        write_masked(self.program, capture, name, mask)
+        write_both_masked(self.program, captures, names, mask)
 
     def same(self, captures: Sequence[str], mask: Mask) -> str:
         """Returns what the program says of two captures under a mask: `same`, or where they
         differ."""
         masked = self.masked(captures, mask)
-        self.progress.begin('comparing both runs')
-        return run_program(self.program, ['same', *masked], COMPARED).out.strip()
+        key = masked[0], masked[1]
+        if key not in self.said:
+            self.progress.begin('comparing both runs')
+            self.said[key] = run_program(self.program, ['same', *masked], COMPARED).out.strip()
+        return self.said[key]
 
     def listing(self, capture: str) -> Listing:
         """Returns the lines of a capture. Connections have the numbers that they have in the run,
@@ -86,6 +94,10 @@ class Trial:
 
     def lines(self, capture: str, taken: Taken) -> Iterable[str]:
         """Returns the lines of a capture."""
+        if os.path.getsize(capture) <= SMALL:
+            if capture not in self.few:
+                self.few[capture] = list(lines_of_program(self.program, ['show', capture]))
+            return self.few[capture]
         lines = lines_of_program(self.program, ['show', capture])
         return self.progress.lines('reading the calls', lines, taken.count_records)
 
@@ -117,9 +129,9 @@ class Trial:
         names = self.made_of(masked, 'canon', self.make_canonical)
         return self.listing(names[0]), self.listing(names[1])
 
-    def make_canonical(self, capture: str, name: str) -> None:
+    def make_canonical(self, captures: Sequence[str], names: Sequence[str]) -> None:
         self.progress.begin('making the canonical form')
-        run_program(self.program, ['canon', capture, name], CHECKED)
+        run_side_by_side([[self.program, 'canon', *one] for one in zip(captures, names)], CHECKED)
 
     def paired(self, masks: Sequence[Mask], lonely: frozenset[str]) -> Pairing:
         """Brings the exchanges of both runs together, by what they have in common under the first
