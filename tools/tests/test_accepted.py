@@ -165,6 +165,17 @@ def a_new_file_accepts_what_was_found(place: Comparisons) -> None:
     place.want('replaced', (compared(place, '--accept', 'new', '--accept-new', 'new')[0], json.loads(place.read('new'))), (0, found))
 
 
+def what_counts_in_no_order_is_not_written(place: Comparisons) -> None:
+    """--accept-new of runs that are the same in another order has no entry, though file ids differ; with an accepted field it has that."""
+    place.put('a', run(1, 1, 1))
+    place.put('b', run(1, 1, 1, names=(2, 1, 0)))
+    place.want('turned', (compared(place, '--accept-new', 'new')[0], json.loads(place.read('new'))['accepted']), (1, []))
+    place.put('b', run(1, 2, 1, names=(2, 1, 0)))
+    accepts(place, NLINK)
+    place.want('with a field', compared(place, '--order', 'any', '--accept', 'known', '--accept-new', 'new')[0], 0)
+    place.want('entries', [one['field'] for one in json.loads(place.read('new'))['accepted']], ['obj.nlink'])
+
+
 def glob_free(path: str) -> str:
     return path.replace('?', '[?]')
 
@@ -229,7 +240,7 @@ def many_entries_cost_little(place: Comparisons) -> None:
 TESTS = [a_field_is_accepted_by_procedure_path_and_values, what_is_left_decides, entries_that_fit_nothing_are_named,
          a_call_of_one_run_alone_is_accepted_by_its_side, other_orders_stay_what_they_are, nothing_else_becomes_green,
          lost_and_refused_connections_stay, a_new_file_accepts_what_was_found, files_are_written_and_read_with_care, all_forms_say_the_same,
-         many_entries_cost_little]
+         what_counts_in_no_order_is_not_written, many_entries_cost_little]
 
 
 class TestAccepted(FolderTest, make=Comparisons, tests=TESTS):

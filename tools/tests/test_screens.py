@@ -42,12 +42,13 @@ def on_terminal(tools: Tools, width: int, *words: str, **variables: str) -> tupl
     return status, text.replace('\r\n', '\n').splitlines()
 
 
-def written_to(tools: Tools, width: int, stream: str, *words: str, **variables: str) -> tuple[int, str]:
-    """The status of a tool of which one stream is a terminal, and what is written there."""
+def written_to(tools: Tools, width: int, stream: str, *words: str, given: typing.IO[bytes] | None = None,
+               **variables: str) -> tuple[int, str]:
+    """The status of a tool of which one stream is a terminal, and what is written there. It may be given its standard input."""
     master, slave = pty.openpty()
     fcntl.ioctl(slave, termios.TIOCSWINSZ, struct.pack('4H', 24, width, 0, 0))
     command = [str(TOP / 'tools' / words[0]), '--program', tools.program, *words[1:]]
-    streams = {'stdin': subprocess.DEVNULL, 'stdout': subprocess.DEVNULL, 'stderr': subprocess.DEVNULL, stream: slave}
+    streams = {'stdin': given or subprocess.DEVNULL, 'stdout': subprocess.DEVNULL, 'stderr': subprocess.DEVNULL, stream: slave}
     with subprocess.Popen(command, cwd=tools.folder, env={**PLAIN, **variables}, **typing.cast(dict[str, typing.Any], streams)) as process:
         os.close(slave)
         content = b''.join(iter(lambda: piece_of(master), b''))
@@ -175,6 +176,17 @@ def verdicts_fit(tools: Tools) -> None:
     tools.want('wide', wide, tools.tool('verdicts', '--program', tools.program, 'a.pcap')[1].splitlines())
 
 
+def lines_of_follow_fit(tools: Tools) -> None:
+    """With --follow the lines have columns on a wide terminal, and none on a narrow one; the verdict is coloured."""
+    tools.write('a.pcap', pcap(whole()))
+    row = ['-', '1', '192.0.2.7:700', '192.0.2.1:2049', '39', '39', f'{GREEN}ok{END}']
+    for width, wanted in ((80, '  '.join(row)), (150, '-          1           192.0.2.7:700          192.0.2.1:2049         39         39         '
+                                                 + row[-1])):
+        with open(tools.path('a.pcap'), 'rb') as file:
+            text = written_to(tools, width, 'stdout', 'verdicts', '--follow', '-', given=file)[1]
+        tools.want(f'{width} columns', text.replace('\r\n', '\n').splitlines()[1], wanted)
+
+
 def calls_fit(tools: Tools) -> None:
     """In 70 columns a long call is wrapped below its beginning, and an answer that does not fit is below the call."""
     tools.write('a.pcap', recording())
@@ -289,7 +301,7 @@ def comparisons_say_how_far_they_are(tools: Tools) -> None:
 
 
 TESTS = [lines_that_fit_are_as_elsewhere, panels_repeat_the_first_column, a_long_word_is_broken, verdicts_have_colours, no_colours_elsewhere,
-         names_stay_escaped, comparisons_have_colours_as_diff, verdicts_fit, calls_fit, procedures_fit,
+         names_stay_escaped, comparisons_have_colours_as_diff, verdicts_fit, lines_of_follow_fit, calls_fit, procedures_fit,
          numbers_have_separators_on_a_terminal_alone, shares_are_those_of_the_file, progress_is_said_at_times,
          comparisons_say_how_far_they_are]
 

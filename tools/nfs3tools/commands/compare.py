@@ -275,7 +275,7 @@ def compared_whole(words: argparse.Namespace, whole: Whole, choices: Choices, lo
     print(screen_of(words.color).painted(line, colour_of(report.word(), is_good)),
           *whole.lines_of_counts(), sep='\n', flush=True)
     if words.accept_new:
-        compared = said.found.whole or said.found.compared
+        compared = said.found.whole or Compared()
         recordings = [file for name in whole.names for file in files_of(name)]
         write_file(words.accept_new, [file_of(compared.findings, compared.mask)], recordings)
     explain(words, whole, line, report, said.found.compared, is_good)

@@ -60,7 +60,8 @@ LOOK_EVERY = 1_000  # frames
 READ_AT_ONCE = 1 << 16
 IDLE = 1.0  # seconds without input, after which all that is new is judged
 POLL = 0.1  # seconds between looks at a file that grows
-WIDTHS = (9, 10, 21, 21, 9, 9, 0)  # of the columns
+WIDTHS = (9, 10, 21, 21, 9, 9, 0)  # of the columns, unless the terminal is narrow
+ROOM = 40  # columns for a verdict, and between the others
 
 
 # --- The input ---
@@ -504,6 +505,8 @@ class Lines:
 
     def __init__(self, allowed: Allowed, form: Form) -> None:
         self.allowed, self.form, self.counts, self.status = allowed, form, Counts(), 0
+        is_narrow = form.screen.width is not None and form.screen.width < sum(WIDTHS) + ROOM
+        self.widths = [0] * len(WIDTHS) if is_narrow else WIDTHS
         if not form.is_quiet and not form.is_json:
             self.print(Styled(HEADS))
 
@@ -524,7 +527,7 @@ class Lines:
             print(*self.form.screen.wrapped(self.counts.words(), 0), sep='\n')
 
     def print(self, row: Styled) -> None:
-        cells = [cell.ljust(width) for cell, width in zip(row.cells, WIDTHS)]
+        cells = [cell.ljust(width) for cell, width in zip(row.cells, self.widths)]
         lines = lines_of([row._replace(cells=cells)], self.form.screen)
         print(*lines, sep='\n', flush=True)
 

@@ -44,7 +44,7 @@ class Found:
 
     accepted: the findings that were accepted, which are not among those of `compared`
     is_rest_same: whether the runs are the same in their own order without the exchanges of these
-    whole: all findings, accepted or not
+    whole: the comparison with all findings that count, accepted or not, if there are some
     """
     compared: Compared
     same_under: Mask | None = None
@@ -80,11 +80,12 @@ class Orders:
         """Finds what differs, or that nothing does in another order, and what of it was
         accepted."""
         found = self.found_of_all()
+        found = replace(found, whole=found.compared if found.same_under is None else None)
         if self.choices.accepted is None:
             return found
         compared, accepted = self.choices.accepted.split(found.compared)
         is_all = bool(accepted.findings) and not compared.findings and found.same_under is None
-        found = replace(found, compared=compared, accepted=accepted, whole=found.compared)
+        found = replace(found, compared=compared, accepted=accepted)
         return self.with_rest(found, accepted.findings) if is_all else found
 
     def with_rest(self, found: Found, accepted: Sequence[Finding]) -> Found:
