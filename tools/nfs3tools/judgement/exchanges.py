@@ -220,6 +220,7 @@ class Reading:
     def __init__(self, kept: Kept, paths: Paths) -> None:
         self.kept, self.paths = kept, paths
         self.answering, self.owners = Answering(), array('Q')  # the exchange of each call
+        self.number = len(kept.parts) - 1
 
     def call(self, line: str, completion: Completion) -> None:
         _, _, record, xid, name, said = line.split(' ', 5)
@@ -233,7 +234,7 @@ class Reading:
         kept.frames.append(completion.frame)
         kept.times.append(completion.time)
         kept.latencies.append(UNTIMED)
-        kept.part_of.append(len(kept.parts) - 1)
+        kept.part_of.append(self.number)
         kept.calls.append((name_of_call(name, said), tuple(asked_in(name, said))))
         kept.replied.append(0)
 
