@@ -291,10 +291,13 @@ def comparisons_say_how_far_they_are(tools: Tools) -> None:
     place.put('a', run(1, 1, 1))
     place.put('b', run(1, 1, 2, names=(2, 1, 0)))
     said = written_to(tools, 80, 'stderr', 'compare', '--order', 'any', 'a', 'b')[1].split('\r\x1b[K')
-    steps = ['checking both runs', 'masking values', 'comparing both runs', 'reading the calls', 'bringing 12 calls together',
-             'writing both runs in one order']
+    steps = ['checking both runs', 'masking values', 'comparing both runs', 'bringing 12 calls together', 'writing both runs in one order']
     tools.want('steps', ([step for step in steps if step not in said], said[-1]), ([], ''))
     tools.want('a pipe', place.compare('--order', 'any', 'a', 'b')[2], '')
+    place.put('a', run(*[1] * 3_000))
+    place.put('b', run(*[1] * 2_999, 2))
+    said = written_to(tools, 80, 'stderr', 'compare', 'a', 'b')[1].split('\r\x1b[K')
+    tools.want('many calls', 'reading the calls' in said, True)
     place.put('b', ([call(1, NFS, 3, 19, fh(b'q'))], []))
     text = written_to(tools, 80, 'stderr', 'compare', '--order', 'any', 'a', 'b')[1]
     tools.want('an error', text.split('\r\x1b[K')[-1], 'compare: nothing to compare: no call of one run is in the other\r\n')
