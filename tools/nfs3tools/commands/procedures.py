@@ -29,6 +29,7 @@ from __future__ import annotations
 import argparse
 import csv
 import io
+import itertools
 import json
 import sys
 import typing
@@ -232,11 +233,10 @@ def print_beside(first: Counted, second: Counted, column: str, screen: Screen) -
 def print_rows_beside(rows: Sequence[Styled], screen: Screen) -> None:
     """Prints a table of two recordings, or if it is too wide a block for each procedure."""
     if screen.width is None or is_as_wide(rows, screen.width):
-        for line in lines_of(rows, screen, range(1, len(HEADS) - 1)):
-            print(line)
-        return
-    for row in rows[1:]:
-        print(*block_of(row, screen), sep='\n')
+        lines = lines_of(rows, screen, range(1, len(HEADS) - 1))
+    else:
+        lines = itertools.chain.from_iterable(block_of(row, screen) for row in rows[1:])
+    print(*lines, sep='\n')
 
 
 def block_of(row: Styled, screen: Screen) -> Iterator[str]:

@@ -102,8 +102,14 @@ def run_program(program: str, words: list[str], expected: typing.Mapping[int, st
                 for block in content:
                     write_whole(process.stdin.fileno(), block)
         answer = Answer(process.returncode, *map(text_of, (out, error)))
+    return expected_of([program, *words], answer, expected)
+
+
+def expected_of(command: list[str], answer: Answer,
+                expected: typing.Mapping[int, str]) -> Answer:
+    """Returns an answer. Raises `Died` if it is none that is expected."""
     if answer.status not in expected or not answer.out.startswith(expected[answer.status]):
-        raise died([program, *words], answer.status, answer.error)
+        raise died(command, answer.status, answer.error)
     return answer
 
 
@@ -122,10 +128,7 @@ def run_side_by_side(commands: typing.Sequence[list[str]],
                 begun(command, stdin=subprocess.DEVNULL, stdout=out, stderr=error)), out, error))
         answers = [Answer(process.wait(), text_of(out), text_of(error))
                    for process, out, error in running]
-    for command, answer in zip(commands, answers):
-        if answer.status not in expected or not answer.out.startswith(expected[answer.status]):
-            raise died(command, answer.status, answer.error)
-    return answers
+    return [expected_of(*one, expected) for one in zip(commands, answers)]
 
 
 def lines_of_program(program: str, words: list[str], expected: int = 0,

@@ -9,6 +9,7 @@ from collections import defaultdict
 from collections.abc import Iterable, Iterator, Mapping, Sequence
 from dataclasses import replace
 from fnmatch import fnmatchcase
+from itertools import compress
 from typing import Any, NamedTuple
 
 from ...captures.whose import ANY
@@ -60,9 +61,8 @@ class Accepted:
             if not finding.differences:
                 (taken if numbers else left).append(finding)
                 continue
-            for wanted, out in ((True, taken), (False, left)):
-                its = tuple(one for one, by in zip(finding.differences, some) if bool(by) == wanted)
-                out += [replace(finding, differences=its)] if its else []
+            taken += with_fields(finding, map(bool, some))
+            left += with_fields(finding, (not by for by in some))
         gone = [entry for number, entry in enumerate(self.entries) if number not in used]
         rest = replace(compared, findings=left, lonely=lonely_without(compared, taken))
         return rest, Split(taken, gone)
@@ -73,6 +73,12 @@ def key_of(pattern: str | None) -> object:
     if pattern is not None and not WILD.isdisjoint(ESCAPED.sub('', pattern)):
         return ANY
     return (pattern and ESCAPED.sub(r'\1', pattern),)
+
+
+def with_fields(finding: Finding, wanted: Iterable[bool]) -> list[Finding]:
+    """Returns a finding with some of its fields, or nothing if there are none."""
+    its = tuple(compress(finding.differences, wanted))
+    return [replace(finding, differences=its)] if its else []
 
 
 def lonely_without(compared: Compared, taken: Iterable[Finding]) -> tuple[int, int]:
