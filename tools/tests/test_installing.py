@@ -66,7 +66,7 @@ def works(place: Place, prefix: pathlib.Path) -> None:
         for path in ('bash-completion/completions/' + name, 'zsh/site-functions/_' + name, 'fish/vendor_completions.d/%s.fish' % name,
                      'man/man1/%s.1' % name):
             place.want(path, (prefix / 'share' / path).is_file(), True)
-    for path in ('nfs3canon/LICENSE-MIT', 'nfs3canon/LICENSE-APACHE'):
+    for path in ('nfs3canon/LICENSE-MIT', 'nfs3canon/LICENSE-APACHE', 'nfs3canon/docs/schemas/compare.json'):
         place.want(path, (prefix / 'share' / path).is_file(), True)
 
 

@@ -7,6 +7,7 @@ Under the prefix there are
     bin/nfs3-NAME                                a link to each tool, with hyphens in its name
     share/nfs3canon/tools/                       the tools
     share/nfs3canon/{CHANGELOG.md,LICENSE-*}     the version, and the licences
+    share/nfs3canon/docs/schemas/                the schemas of JSON
     share/nfs3canon/installed                    what was put there, which `--remove` takes away again
     share/man/man1/                              the manual pages
     share/bash-completion/completions/, share/zsh/site-functions/, share/fish/vendor_completions.d/
@@ -96,6 +97,8 @@ def files(program: Path) -> Iterator[tuple[Path, str]]:
         yield TOP / 'tools/man' / f'{tool}.1', f'share/man/man1/{installed_name(tool)}.1'
     for module in sorted((TOP / 'tools/nfs3tools').rglob('*.py')):
         yield module, f'{HOME}/{module.relative_to(TOP)}'
+    for schema in sorted((TOP / 'docs/schemas').glob('*.json')):
+        yield schema, f'{HOME}/{schema.relative_to(TOP)}'
     for name in ('CHANGELOG.md', 'tools/CHANGELOG.md', 'LICENSE-MIT', 'LICENSE-APACHE'):
         yield TOP / name, f'{HOME}/{name}'
     for name, place in COMPLETIONS.items():
