@@ -28,6 +28,7 @@ _nfs3_tool() {
       words='none times stamps machines space ids fsids cookies cookieverfs createverfs owners wcc sillynames raw'
       given=${word%"${word##*,}"}
       ;;
+    *' --color') words='auto always never' ;;
     *'compare --order') words='strict any' ;;
     *'compare --extra') words='asking none' ;;
     *'calls --sort') words='time latency' ;;
@@ -41,10 +42,10 @@ _nfs3_options() {
   local judging='--allow-losses --allow-not-checked --program'
   echo --port --no-midstream --whole-records --filter --version --help
   case $1 in
-    *verdicts) echo "$judging" --quiet --follow --junit --json --html -j ;;
-    *calls) echo "$judging" --errors --slow --procedure --path --user --client --sort --json --csv ;;
-    *procedures) echo "$judging" --beside --total --sort --json --csv --html ;;
-    *compare) echo "$judging" --mask --order --extra --ignore --marks --all --brief --html --json --junit ;;
+    *verdicts) echo "$judging" --color --quiet --follow --junit --json --html -j ;;
+    *calls) echo "$judging" --color --errors --slow --procedure --path --user --client --sort --json --csv ;;
+    *procedures) echo "$judging" --color --width --beside --total --sort --json --csv --html ;;
+    *compare) echo "$judging" --color --mask --order --extra --ignore --accept --accept-new --marks --all --brief --html --json --junit ;;
     *cut) echo --origins --program ;;
   esac
 }

@@ -27,6 +27,7 @@ for tool in from_pcap verdicts calls procedures nfs3-from-pcap nfs3-where nfs3-v
     complete -c $tool -l help -d 'Print help'
 end
 for tool in verdicts nfs3-verdicts calls nfs3-calls procedures nfs3-procedures nfs3-compare
+    complete -c $tool -l color -x -a 'auto always never' -d 'Whether there are colours'
     complete -c $tool -l allow-losses -d 'Take what is in part or left out as the status 0'
     complete -c $tool -l allow-not-checked -d 'Take what is not checked as the status 0'
 end
@@ -53,6 +54,7 @@ for tool in calls nfs3-calls
 end
 for tool in procedures nfs3-procedures
     complete -c $tool -l beside -d 'Print two recordings side by side'
+    complete -c $tool -l width -x -d 'Print no line of a table wider'
     complete -c $tool -l total -d 'Print no tables of connections'
     complete -c $tool -l sort -x -a 'procedure calls again replies no-reply call-bytes reply-bytes median p99 most mean sum errors' -d 'Have the largest of a column first'
     complete -c $tool -l json -r -d 'Write JSON'
@@ -66,6 +68,8 @@ complete -c nfs3-compare -l mask -x -a '(__fish_append , none times stamps machi
 complete -c nfs3-compare -l order -x -a 'strict any' -d 'Whether the order of calls counts'
 complete -c nfs3-compare -l extra -x -a 'asking none' -d 'What is left out in any order'
 complete -c nfs3-compare -l ignore -x -d 'Fields that are left out of the explanation'
+complete -c nfs3-compare -l accept -r -d 'A file of accepted findings'
+complete -c nfs3-compare -l accept-new -r -d 'Write a file that accepts the findings'
 complete -c nfs3-compare -l marks -x -d 'Compare the parts that begin at calls with such names'
 complete -c nfs3-compare -l all -d 'Print each finding by itself'
 complete -c nfs3-compare -l brief -d 'Print a line for each finding'

@@ -17,8 +17,9 @@ from ..nfs3tools.judgement.verdict import Verdict
 from ..nfs3tools.recordings.container import capture_of
 from ..nfs3tools.recordings.frames import Source
 from ..nfs3tools.recordings.selection import Options
-from ..nfs3tools.recordings.taken import NotTaken, Progress, Taken, take_from
+from ..nfs3tools.recordings.taken import NotTaken, Taken, take_from
 from ..nfs3tools.reporting.messages import add_options, lines_of, options_of, parser_of
+from ..nfs3tools.shared.progress import Progress
 
 TOP = pathlib.Path(__file__).resolve().parents[2]
 

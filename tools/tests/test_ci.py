@@ -93,7 +93,7 @@ def made_by(tools: Tools, found: Sequence[int], wanted: Sequence[int], differenc
 def the_page(tools: Tools, traffic: str, differences: int) -> None:
     """The reference, and then both pipelines, on a run."""
     variables = made_ready(tools, traffic)
-    reference, _ = blocks_of(PAGE, 'sh')
+    reference, accept, _ = blocks_of(PAGE, 'sh')
     github, gitlab = blocks_of(PAGE, 'yaml')
     install, *steps = of_github(github)
     tools.want('steps', len(steps), 3)
@@ -109,6 +109,8 @@ def the_page(tools: Tools, traffic: str, differences: int) -> None:
     for text in (github.partition('path: |')[2], gitlab.partition('paths: ')[2]):
         kept = set(re.findall(r'[\w.]+\.(?:pcap|xml|html)', text))
         tools.want('what is kept', kept, {'compare.html', 'compare.xml', 'run.pcap', 'verdicts.html', 'verdicts.xml'})
+    again = 'nfs3-compare --order any --accept accepted.json reference.nfs3cap.xz run.pcap'
+    tools.want('accepted', [run(tools, script, variables) for script in (accept, again)], [status, 0])
 
 
 def a_run_that_is_the_same(tools: Tools) -> None:
@@ -192,7 +194,7 @@ def the_image(tools: Tools) -> None:
 
 def image_on(tools: Tools, podman: Podman, base: str) -> None:
     """The same, on a base."""
-    _, commands = blocks_of(PAGE, 'sh')
+    *_, commands = blocks_of(PAGE, 'sh')
     make, release, build, push = (line.split() for line in commands.splitlines())
     tools.want('the commands', (make, release, push),
                (['mkdir', 'image'], ['tools/release', 'image'], ['podman', 'push', build[3]]))

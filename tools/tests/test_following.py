@@ -1,5 +1,6 @@
 """Tests of `tools/verdicts --follow`."""
 import contextlib
+import json
 import os
 import pathlib
 import random
@@ -225,8 +226,8 @@ def what_is_refused(tools: Tools) -> None:
     """What needs the whole recording, or several; a capture; a file that is not there or is damaged."""
     tools.write('a.pcap', pcap(whole()))
     tools.write('b.pcap', pcap(whole()) + b'\xff' * 16)
-    said = '--follow takes one recording, and none of -j, --junit, --json, --html and --filter'
-    for words in (['a.pcap', 'a.pcap'], ['--json', 'x', '-'], ['--junit', 'x', '-'], ['--html', 'x', '-'], ['--filter', 'tcp', '-'], ['-j', '2', '-']):
+    said = '--follow takes one recording, and none of -j, --junit, --html and --filter'
+    for words in (['a.pcap', 'a.pcap'], ['--junit', 'x', '-'], ['--html', 'x', '-'], ['--filter', 'tcp', '-'], ['-j', '2', '-']):
         status, out, error = tools.tool('verdicts', '--follow', *words)
         tools.want(' '.join(words), (status, out, said in error), (2, '', True))
     tools.want('no file', tools.exists('x'), False)
@@ -239,6 +240,27 @@ def what_is_refused(tools: Tools) -> None:
         status, out, _ = tools.tool('verdicts', '--follow', '--program', tools.program, name, stdin=content)
         rows = [re.split('  +', one) for one in out.splitlines()]
         tools.want(line, (status, rows[1:]), (1, [[name, '-', '-', '-', '-', '-', line], [sums(0, 0, 0, 1)]]))
+
+
+def lines_of_json(tools: Tools) -> None:
+    """With --json - a line comes as soon as a connection is closed or has a fault; the counts and the status at the end are those of
+    the plain form, and -q leaves out what is `ok`."""
+    tools.want('a file', (tools.tool('verdicts', '--follow', '--json', 'x', '-')[0], tools.exists('x')), (2, False))
+    frames = whole()
+    talk = Talk(701)
+    frames += [*talk.opened(), talk.sent(0, stream([call(1, NFS, 3, 0)])), talk.sent(1, stream([BAD])), *talk.closed()]
+    for words, states in (((), ['ok', 'refused']), (('-q',), ['refused'])):
+        fed = Fed(tools, '--json', '-', *words)
+        fed.send(frames[:13] if words else whole())
+        first = json.loads(fed.line()[0]) if not words else None
+        tools.want('at once', first and (first['version'], first['row']['connection'], first['row']['calls']), None if words else (2, 1, 39))
+        fed.send(frames[len(whole()):] if not words else frames[13:])
+        status, lines, _ = fed.ended()
+        rest = [json.loads('  '.join(line)) for line in lines]
+        rows = [*([first] if first else []), *rest[:-1]]
+        tools.want('rows', ([one['row']['state'] for one in rows], status), (states, 1))
+        wanted = {'judged': 2, 'ok': 1, 'refused': 1, 'in part': 0, 'left out': 0, 'without calls': 0, 'not checked': 0, 'errors': 0, 'raw': {}}
+        tools.want('the end', rest[-1], {'version': 2, 'counts': wanted, 'status': 1})
 
 
 def the_same_verdicts(tools: Tools) -> None:
@@ -330,7 +352,7 @@ def bytes_that_are_forgotten(tools: Tools) -> None:
 
 
 TESTS = [closed_connections, bytes_that_never_come, faults_of_open_connections, what_is_no_fault_yet, interrupted, files_that_grow,
-         what_is_refused, the_same_verdicts, many_short_connections, a_long_connection, bytes_that_are_forgotten]
+         what_is_refused, lines_of_json, the_same_verdicts, many_short_connections, a_long_connection, bytes_that_are_forgotten]
 
 
 class FollowingTest(FolderTest, make=Tools, tests=TESTS):

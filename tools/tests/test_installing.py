@@ -7,12 +7,16 @@ import os
 import pathlib
 import re
 import shutil
+import signal
+import subprocess
 import sys
 import tarfile
+import time
 import tomllib
+import unittest
 from collections.abc import Callable
 
-from tests.shared.running import Answer, Runs, ended, program_named
+from tests.shared.running import Answer, Runs, begin, ended, pipe_of, program_named
 from ..nfs3tools.comparison.values.classes import BY_NAME
 from .cases import FolderTest
 from .scripts import TOP
@@ -46,9 +50,8 @@ def works(place: Place, prefix: pathlib.Path) -> None:
     form = str(pathlib.Path(place.folder, 'masked'))
     place.want('nfs3mask', place.command(str(prefix / 'bin/nfs3mask'), str(TOP / 'examples/null.nfs3cap'), form)[0], 0)
     for name in PROGRAMS:
-        path, words = str(prefix / 'bin' / name), ('--version', '--help')
-        place.want('version of ' + name, place.command(path, words[0]), (0, f'{name} {version()}\n', ''))
-        place.want('usage of ' + name, place.command(path, *words), place.command(program_named(name, place.program), *words))
+        path = str(prefix / 'bin' / name)
+        place.want('version of ' + name, place.command(path, '--version'), (0, f'{name} {version()}\n', ''))
     for tool in TOOLS:
         own = str(prefix / 'bin' / ('nfs3-' + tool))
         place.want('version of ' + tool, place.command(own, '--version')[1].split()[1:], [version()])
@@ -63,8 +66,64 @@ def works(place: Place, prefix: pathlib.Path) -> None:
         for path in ('bash-completion/completions/' + name, 'zsh/site-functions/_' + name, 'fish/vendor_completions.d/%s.fish' % name,
                      'man/man1/%s.1' % name):
             place.want(path, (prefix / 'share' / path).is_file(), True)
-    for path in ('nfs3canon/LICENSE-MIT', 'nfs3canon/LICENSE-APACHE'):
+    for path in ('nfs3canon/LICENSE-MIT', 'nfs3canon/LICENSE-APACHE', 'nfs3canon/docs/schemas/compare.json'):
         place.want(path, (prefix / 'share' / path).is_file(), True)
+
+
+def help_of_the_installed_programs(place: Place) -> None:
+    """The installed launchers print what the program says of itself, on standard output with status 0, and leave wrong lines as
+    they are."""
+    place.want('install', place.tool('install', 'prefix')[0], 0)
+    asking = [('nfs3canon', '--help'), ('nfs3canon', '-h'), ('nfs3canon', 'help'), ('nfs3canon', 'check', '--help'),
+              ('nfs3canon', 'help', 'pack'), ('nfs3mask', '--help'), ('nfs3mask', 'in', '-h')]
+    for name, *words in asking:
+        text = place.command(program_named(name, place.program), *words)[2]
+        found = place.command(place.path(f'prefix/bin/{name}'), *words)
+        place.want(f'{name} {words}', (found, f'Usage: {name} ' in text), ((0, text, ''), True))
+    for name, *words in (('nfs3canon', 'help', 'no'), ('nfs3canon', '--no', '--help'), ('nfs3canon',), ('nfs3canon', 'check', '--', '--help'),
+                         ('nfs3mask',)):
+        own = place.command(program_named(name, place.program), *words)
+        place.want(f'wrong: {name} {words}', place.command(place.path(f'prefix/bin/{name}'), *words), own)
+    full = place.command('sh', '-c', 'prefix/bin/nfs3canon --help >/dev/full')
+    place.want('full', full, (3, '', 'nfs3canon: standard output is closed or full\n'))
+
+
+def signals_leave_nothing(place: Place) -> None:
+    """A signal while a file is written ends the launchers of a clone and of a prefix, and the program, and leaves no file of this run; one
+    of another run stays. Ctrl-C signals both, `kill` the launcher alone."""
+    place.want('install', place.tool('install', 'prefix')[0], 0)
+    os.mkdir(place.path('out'))
+    mine, half = '.nfs3canon-0123456789abcdef', (TOP / 'examples/two_connections.nfs3cap').read_bytes()[:-4]
+    place.write(f'out/{mine}', b'of another run')
+    commands = [(str(launcher / name), *words) for launcher in (TOP, pathlib.Path(place.folder, 'prefix/bin'))
+                for name, *words in (('nfs3canon', 'canon', '/dev/stdin', 'out/x'), ('nfs3mask', '/dev/stdin', 'out/x'))]
+    for command in commands:
+        for number, how in ((signal.SIGINT, os.killpg), (signal.SIGHUP, os.killpg), (signal.SIGTERM, os.kill), (signal.SIGINT, os.kill)):
+            process = begin(command, place.folder, stdin=subprocess.PIPE, prepare=own_group)
+            pipe_of(process.stdin).write(half)
+            pipe_of(process.stdin).flush()
+            begun = waited(lambda: len(os.listdir(place.path('out'))) == 2)
+            how(process.pid, number)
+            status = process.wait(20)
+            gone = waited(lambda: not ended(['pgrep', '-g', str(process.pid)], place.folder).out)
+            place.want(f'{command[0]} {number.name}', (begun, status, gone, os.listdir(place.path('out'))), (True, -number, True, [mine]))
+            for pipe in (process.stdin, process.stdout, process.stderr):
+                pipe_of(pipe).close()
+
+
+def own_group() -> None:
+    """A session as a terminal has it, with the signals that it has."""
+    os.setsid()
+    for number in (signal.SIGINT, signal.SIGHUP, signal.SIGTERM):
+        signal.signal(number, signal.SIG_DFL)
+
+
+def waited(holds: Callable[[], bool], seconds: float = 20) -> bool:
+    """Waits until something holds. Returns whether it does in time."""
+    end = time.monotonic() + seconds
+    while not holds() and time.monotonic() < end:
+        time.sleep(0.02)
+    return holds()
 
 
 OTHER_NAMES = r'tools/|(?<!nfs3-)\b(?:from_pcap|where|verdicts|calls|procedures|compare|explain|cut)(?: - |\(1\))|\bfrom_pcap\b'
@@ -270,6 +329,46 @@ def as_a_release(place: Place) -> None:
     works(place, pathlib.Path(place.folder, name))
 
 
+PACKED = ('dpkg', 'dpkg-deb')
+
+
+@unittest.skipUnless(all(map(shutil.which, PACKED)), 'dpkg is not there')
+def as_a_package(place: Place) -> None:
+    """The package for Debian is installed into a root of its own, where the tools and the programs run. It is the same when it is
+    made again, and its files are where Debian has them."""
+    name, contents = f'nfs3canon_{version()}_amd64.deb', set[bytes]()
+    for umask in ('022', '077'):
+        os.mkdir(place.path(umask))
+        out = place.command('bash', '-c', f'umask {umask}; exec "$@"', 'bash', str(TOP / 'tools/release'), '--program', place.program,
+                            '--deb', umask)
+        place.want('release', out, (0, f'{umask}/{name}\n', ''))
+        contents.add(pathlib.Path(place.path(umask), name).read_bytes())
+    place.want('made again', len(contents), 1)
+    place.want('checksum', place.command('sh', '-c', f'cd 022 && sha256sum -c {name}.sha256')[0], 0)
+    fields = dict(line.split(': ', 1) for line in place.command('dpkg-deb', '-f', f'022/{name}')[1].splitlines() if line[0] != ' ')
+    place.want('control', {key: fields[key] for key in ('Package', 'Version', 'Architecture', 'Depends')},
+               {'Package': 'nfs3canon', 'Version': version(), 'Architecture': 'amd64', 'Depends': 'python3 (>= 3.9), libc6'})
+    listed = [line.split() for line in place.command('dpkg-deb', '-c', f'022/{name}')[1].splitlines()]
+    place.want('owners', {words[1] for words in listed}, {'root/root'})
+    place.want('permissions', {words[0] for words in listed}, {'drwxr-xr-x', '-rwxr-xr-x', '-rw-r--r--', 'lrwxrwxrwx'})
+    root = pathlib.Path(place.folder, 'root')
+    for folder in ('info', 'updates'):
+        (root / 'var/lib/dpkg' / folder).mkdir(parents=True)
+    (root / 'var/lib/dpkg/status').touch()
+    # (the root has no Python of its own)
+    place.want('dpkg', place.command('dpkg', f'--root={root}', '--force-not-root', '--force-depends', f'--log={root}/log', '-i',
+                                     f'022/{name}')[0], 0)
+    for path in ('share/man/man1/nfs3-compare.1.gz', 'share/man/man1/nfs3canon.1.gz', 'share/zsh/vendor-completions/_nfs3canon',
+                 'share/bash-completion/completions/nfs3-verdicts', 'share/doc/nfs3canon/copyright'):
+        place.want(path, (root / 'usr' / path).is_file(), True)
+    sums = '3 judged (3 ok, 0 refused), 0 in part, 0 left out, 0 not checked, 0 errors'
+    place.want('verdicts', place.command(str(root / 'usr/bin/nfs3-verdicts'), str(TOP / 'examples/ganesha_a.pcap'))[1].splitlines()[-1], sums)
+    place.want('program', place.command(str(root / 'usr/bin/nfs3canon'), 'check', str(TOP / 'examples/null.nfs3cap'))[:2],
+               (0, 'ok connections=1 calls=1 replies=1 handles=0\n'))
+    without = place.command('env', 'PATH=/nonexistent', sys.executable, str(TOP / 'tools/release'), '--program', place.program, '--deb', '.')
+    place.want('without dpkg-deb', without[0::2], (2, 'release: dpkg-deb is not there; Debian has it in the package dpkg\n'))
+
+
 UMASKS = (0o000, 0o002, 0o022, 0o027, 0o077)
 
 
@@ -317,6 +416,7 @@ def version_of_the_launcher(place: Place) -> None:
 
 TESTS: list[Callable[[Place], None]] = [under_a_prefix, named_as_installed, commands_of_the_package, completions_load, where_nothing_can_be_written,
                                         without_a_program, on_a_full_disk, removed_again, removed_from_elsewhere, as_a_release,
+                                        as_a_package, help_of_the_installed_programs, signals_leave_nothing,
                                         under_every_umask, under_a_name_that_is_no_text,
                                         version_of_the_launcher]
 

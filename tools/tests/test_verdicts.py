@@ -462,9 +462,34 @@ def take_interrupts() -> None:
     signal.signal(signal.SIGINT, signal.SIG_DFL)
 
 
+def parts_without_quotes(tools: Tools) -> None:
+    """Several recordings of which one goes on with a connection of another are told to be parts, by each tool that takes several; as a
+    pattern in quotes they are one. Recordings of other connections are not told of."""
+    frames = talk_in_turns(Talk())
+    tools.write('run1.pcap', pcap(frames[:13]))
+    tools.write('run2.pcap', pcap(frames[13:]))
+    tools.write('other.pcap', pcap(talk_in_turns(Talk(701))[13:]))
+    line = 'run1.pcap and %s: these look like parts of one recording; put the pattern in quotes'
+    for tool in ('verdicts', 'procedures', 'calls'):
+        for names, is_told in ((['run1.pcap', 'run2.pcap'], True), (['run2.pcap', 'run1.pcap'], True), (['run?.pcap'], False),
+                               (['run1.pcap', 'other.pcap'], False), (['run1.pcap', 'run1.pcap'], False), (['run2.pcap'], False)):
+            _, _, error = tools.tool(tool, '--program', tools.program, *names)
+            tools.want(f'{tool} {names}', [one for one in error.splitlines() if 'look like' in one], [line % 'run2.pcap'] * is_told)
+    _, _, error = tools.tool('verdicts', '--program', tools.program, '--no-midstream', 'run1.pcap', 'run2.pcap')
+    tools.want('left out', line % 'run2.pcap' in error, True)
+
+
+def talk_in_turns(talk: Talk) -> list[bytes]:
+    """The frames of a connection, three calls and then their replies."""
+    frames = talk.opened()
+    for at in range(0, len(CALLS), 3):
+        frames += [talk.sent(0, stream(CALLS[at:at + 3])), talk.sent(1, stream(REPLIES[at:at + 3]))]
+    return [*frames, *talk.closed()]
+
+
 TESTS = [places, places_of_other_recordings, parts_of_a_recording, recordings_that_are_compressed, places_at_the_frames_of_tshark,
          faults_with_their_frames, rows_of_all_kinds, rows_of_faults_alone, what_is_told, ok_in_part, ok_in_part_in_files, notes_on_a_recording,
-         files_for_others, interrupted]
+         files_for_others, interrupted, parts_without_quotes]
 
 
 class VerdictsTest(FolderTest, make=Tools, tests=TESTS):

@@ -10,7 +10,7 @@ from __future__ import annotations
 import functools
 import re
 from collections.abc import Iterable, Iterator, Mapping
-from typing import NamedTuple
+from typing import NamedTuple, Optional
 
 from ..shared.layouts import RAW, VALUES, meaning_of
 from .answering import error_in
@@ -43,7 +43,7 @@ RESULTS = {'NFSPROC3_GETATTR': (re.compile(r' (type)=(\d+) (mode)=(\d+) nlink=\d
 OF_TWO = ('NFSPROC3_RENAME', 'NFSPROC3_LINK')
 LISTING = ('NFSPROC3_READDIR', 'NFSPROC3_READDIRPLUS')
 SPLIT = re.compile(r'\\(?:x[0-9a-f]?)?$')  # the beginning of a byte that is spelled by its digits
-NAMED = ('access', 'committed', 'how', 'mode', 'stable', 'type')  # items whose numbers have names
+NAMED = {'access', 'committed', 'how', 'mode', 'stable', 'type'}  # items whose numbers have names
 NOT_READ = 'accepted'  # what is said of results that are not read
 
 
@@ -66,18 +66,32 @@ class Asked(NamedTuple):
 
 def asked_in(procedure: str, said: str) -> Asked:
     """Returns what a call asks. Of a raw call that is nothing but its user."""
-    head = HEAD.match(said)
-    assert head, said[:200]
-    user = int(head[1]) if head[1] else None
+    head, user = head_of(procedure, said)
     if procedure == RAW.name:
         return Asked(user)
-    items = ITEM.findall(said, head.end())
+    items = ITEM.findall(said, len(head))
     template = ARGUMENTS.get(procedure)
     words = '' if template is None else template.format_map(Told(items)).strip()
     handle, entry = object_in(items)
     if procedure not in OF_TWO:
         return Asked(user, handle, entry, None, None, words)
     return Asked(user, handle, entry, *object_in(items[1 if entry is None else 2:]), words)
+
+
+# The last head of each procedure, and its user: most calls have that of the one before.
+LAST_HEADS = dict[str, tuple[str, Optional[int]]]()
+
+
+def head_of(procedure: str, said: str) -> tuple[str, int | None]:
+    """Returns what a call says before its arguments, and the user in that."""
+    last = LAST_HEADS.get(procedure)
+    # (the head ends before a space; with the same text before it, it is the same head)
+    if last and said.startswith(last[0]) and said[len(last[0]):len(last[0]) + 1] in ' \n':
+        return last
+    head = HEAD.match(said)
+    assert head, said[:200]
+    found = LAST_HEADS[procedure] = head[0], int(head[1]) if head[1] else None
+    return found
 
 
 def object_in(items: list[tuple[str, str]]) -> tuple[str | None, str | None]:
@@ -93,9 +107,8 @@ class Told(dict[str, str]):
 
     def __init__(self, items: Iterable[tuple[str, str]]) -> None:
         super().__init__(items)
-        for name in NAMED:
-            if name in self:
-                self[name] = number_named(name, self[name])
+        for name in NAMED & self.keys():
+            self[name] = number_named(name, self[name])
 
     def __missing__(self, name: str) -> str:
         if name == 'sattr':

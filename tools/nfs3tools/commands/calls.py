@@ -53,7 +53,8 @@ from functools import partial
 from ..comparison.values.long_values import bytes_of
 from ..judgement.exchanges import Exchange, Kept, call_of
 from ..judgement.tallies import milliseconds
-from ..judgement.verdict import Verdict, counts_after, is_row, named, status_of, sums_of, tell_notes
+from ..judgement.verdict import (
+    VERSION, Verdict, counts_after, is_row, named, object_of, status_of, sums_of, tell_notes)
 from ..recordings.coverage import PROCEDURES
 from ..recordings.selection import count, plural
 from ..recordings.taken import Taken
@@ -61,7 +62,8 @@ from ..reporting.messages import add_judging, allowed_of, options_of, parser_of,
 from ..shared.layouts import BY_NAME, RAW
 from ..shared.printed import escaped, printable
 from ..shared.programs import program_path
-from .verdicts import CONNECTIONS_AT_ONCE, VERSION, Judge, objects_of
+from ..shared.screens import GAP, NARROWEST, Colour, Screen, add_colour, screen_of
+from .verdicts import CONNECTIONS_AT_ONCE, Judge
 
 HEADS = ('time', 'ms', 'frame', 'conn', 'call', 'answer')
 RIGHT = 4  # columns that are set to the right
@@ -157,13 +159,16 @@ def cells_of(one: Exchange, begun: int) -> tuple[str, ...]:
 
 class Lines:
     """Lines of cells. Each block of them is as wide as its cells are, and at least as the block
-    before. A long call moves its answer."""
+    before. A long call moves its answer. On a terminal both are wrapped if they are too long."""
 
-    def __init__(self) -> None:
-        self.widths = [0] * (len(HEADS) - 1)
+    def __init__(self, screen: Screen) -> None:
+        self.screen, self.widths = screen, [0] * (len(HEADS) - 1)
         self.rows: list[tuple[str, ...]] = [HEADS]
+        self.errors = set[int]()  # rows whose answers are errors
 
-    def add(self, row: tuple[str, ...]) -> None:
+    def add(self, row: tuple[str, ...], is_error: bool) -> None:
+        if is_error:
+            self.errors.add(len(self.rows))
         self.rows.append(row)
         if len(self.rows) > AT_ONCE:
             self.print()
@@ -171,18 +176,45 @@ class Lines:
     def print(self) -> None:
         columns = zip(self.widths, zip(*self.rows))
         self.widths = [max(width, *map(len, column)) for width, column in columns]
-        self.widths[RIGHT] = min(self.widths[RIGHT], WIDEST)
+        self.widths[RIGHT] = min(self.widths[RIGHT], WIDEST, self.room_of_calls())
         right = (f'{{:>{width}}}' for width in self.widths[:RIGHT])
         line = '  '.join([*right, f'{{:<{self.widths[RIGHT]}}}', '{}'])
-        sys.stdout.writelines(line.format(*row) + '\n' for row in self.rows)
-        self.rows = []
+        if self.screen == Screen():
+            sys.stdout.writelines(line.format(*row) + '\n' for row in self.rows)
+        else:
+            sys.stdout.writelines(self.styled(number, row, line.format(*row)) + '\n'
+                                  for number, row in enumerate(self.rows))
+        self.rows, self.errors = [], set()
+
+    def indent(self) -> int:
+        """Returns how many columns are before the call."""
+        return sum(self.widths[:RIGHT]) + len(GAP) * RIGHT
+
+    def room_of_calls(self) -> int:
+        """Returns how wide the column of the calls may be, so that many answers fit beside it."""
+        if self.screen.width is None:
+            return WIDEST
+        return max(NARROWEST, self.screen.width - self.indent() - len(GAP) - NARROWEST)
+
+    def styled(self, number: int, row: tuple[str, ...], line: str) -> str:
+        """Returns the line of a row for a terminal, or its lines: the answer is below the call if
+        it does not fit."""
+        screen, colour = self.screen, Colour.RED if number in self.errors else None
+        answer, before = row[-1], line[:len(line) - len(row[-1])]
+        if screen.width is None or len(line) <= screen.width:
+            return before + screen.painted(answer, colour)
+        indent = self.indent()
+        calls = screen.wrapped(row[RIGHT], indent)
+        answers = [screen.painted(one, colour) for one in screen.wrapped(answer, indent + len(GAP))]
+        return '\n'.join([before[:indent] + calls[0], *(' ' * indent + call for call in calls[1:]),
+                          *(' ' * indent + GAP + one for one in answers)])
 
 
-def print_lines(found: Listed) -> None:
+def print_lines(found: Listed, screen: Screen) -> None:
     """Prints the lines of a recording."""
-    lines = Lines()
+    lines = Lines(screen)
     for one in found.exchanges():
-        lines.add(cells_of(one, found.begun))
+        lines.add(cells_of(one, found.begun), one.is_error)
     lines.print()
 
 
@@ -237,7 +269,7 @@ class Json:
 
     def end(self, verdicts: list[Verdict]) -> None:
         rest = json.dumps({'counts': counts_after(verdicts).members(),
-                           'verdicts': objects_of(verdicts)}, indent=1)
+                           'verdicts': [*map(object_of, verdicts)]}, indent=1)
         sys.stdout.write(f'\n],{rest[1:]}\n')
 
 
@@ -261,13 +293,13 @@ class Csv:
 class Text:
     """Lines for a reader. Those of several recordings come after their names."""
 
-    def __init__(self, is_one: bool) -> None:
-        self.is_one, self.number, self.all = is_one, 0, 0
+    def __init__(self, is_one: bool, screen: Screen) -> None:
+        self.is_one, self.screen, self.number, self.all = is_one, screen, 0, 0
 
     def add(self, found: Listed) -> None:
         if not self.is_one:
             print(f'{escaped(found.recording)}:')
-        print_lines(found)
+        print_lines(found, self.screen)
         self.number, self.all = self.number + len(found.wanted), self.all + len(found.kept)
 
     def end(self, verdicts: list[Verdict]) -> None:
@@ -328,6 +360,7 @@ def words_of(words: list[str]) -> argparse.Namespace:
     form = parser.add_mutually_exclusive_group()
     form.add_argument('--json', action='store_true', help='prints JSON')
     form.add_argument('--csv', action='store_true', help='prints comma-separated values')
+    add_colour(parser)
     add_judging(parser)
     return parser.parse_args(words)
 
@@ -336,7 +369,7 @@ def main(words: list[str]) -> int:
     chosen, verdicts = words_of(words), list[Verdict]()
     judge = Judge(program_path(chosen.program), options_of(chosen), CONNECTIONS_AT_ONCE, True)
     form: Json | Csv | Text
-    form = Json() if chosen.json else Csv() if chosen.csv else Text(len(chosen.recordings) == 1)
+    form = Json() if chosen.json else Csv() if chosen.csv else Text(len(chosen.recordings) == 1, screen_of(chosen.color))
     for recording in chosen.recordings:
         found = listed(judge, recording, wanted_by(chosen), chosen.sort == 'latency', verdicts)
         with contextlib.closing(found.kept):

@@ -1,7 +1,7 @@
 """Compares two ordinary runs: are they the same but for what two runs never share, and if not, what differs.
 
-    tools/compare [--mask CLASS,..] [--order strict|any] [--ignore PROCEDURE.FIELD,..] [--marks PATTERN] [--all] [--brief] [--html FILE]
-                  [--json FILE] [--junit FILE] A B
+    tools/compare [--mask CLASS,..] [--order strict|any] [--ignore PROCEDURE.FIELD,..] [--accept FILE] [--accept-new FILE]
+                  [--marks PATTERN] [--all] [--brief] [--html FILE] [--json FILE] [--junit FILE] A B
 
 A and B are recordings (pcap, pcapng; a pattern in quotes names the parts of one) or captures. Values that each run has its own
 of are masked first: of the classes below, those marked with a star by default. What is masked is always printed. Then
@@ -24,6 +24,10 @@ way are printed once, with their number. --brief prints a line for each.
 NAME=number say how. --ignore NFSPROC3_GETATTR.obj.nlink,*.eof leaves fields out of what is printed and written of the differences, by
 their labels, or by the name of items, as `nlink`, whose ever they are; the verdict is that of the mask all the same.
 
+--accept reads a file of findings that somebody accepted, and --accept-new writes one from all findings of this comparison. Accepted findings
+are counted apart, and the others decide. If there are no others, both runs are compared without the calls of the accepted ones, by the
+program. Entries of the file that fit nothing any more are printed. What of a run is not compared is never accepted by this.
+
 --marks compares the parts of a test run one by one, each as a run of its own. A part begins with a call of LOOKUP, CREATE or MKDIR whose
 name fits PATTERN (of the shell, as 'test_*'), and has that name. It has the calls that were sent up to the next mark, over all connections,
 and their replies. What is before the first mark is a part, too. It is an error if no call of both runs is a mark. A line for each part has
@@ -43,6 +47,7 @@ from __future__ import annotations
 
 import argparse
 import os
+import re
 import sys
 import tempfile
 from collections import Counter
@@ -58,7 +63,8 @@ from ..comparison.parts.marks import NoMark
 from ..comparison.parts.part_by_part import PartByPart
 from ..comparison.values.classes import CLASSES, in_any_order, mask_word, told
 from ..comparison.verdict import summary
-from ..comparison.verdict.cover import Cover, Size, cover_of, lines_of_counts, losses_of
+from ..comparison.verdict.accepted import accepted_of, file_of
+from ..comparison.verdict.cover import Cover, Size, covers_of, lines_of_counts, losses_of
 from ..comparison.verdict.decision import judged, run_of
 from ..comparison.verdict.excerpt import Around
 from ..comparison.verdict.findings import Compared, Framing, Run
@@ -77,12 +83,15 @@ from ..reporting.messages import (
     options_of, parser_of, run)
 from ..reporting.pages import Content, Recorded
 from ..reporting.reports import json_of, json_of_parts, junit_of, junit_of_error, junit_of_parts
-from ..shared.outputs import held, printed_beside, try_outputs, write_file
+from ..shared.outputs import check_output, held, printed_beside, try_outputs, write_file
 from ..shared.printed import escaped
 from ..shared.programs import program_path
+from ..shared.progress import Progress
+from ..shared.screens import Colour, Screen, add_colour, screen_of
 
 SAME, DIFFERENT = range(2)
 FINDINGS_AT_MOST, SILENT_AT_MOST = 20, 12
+SIGN, SIGNS = re.compile(r'  ([-+]) '), {'-': Colour.RED, '+': Colour.GREEN}  # of values
 AROUND = Around(3, pages.SHOWN_AT_MOST)  # on a page
 
 
@@ -105,6 +114,10 @@ def words_of(words: list[str]) -> argparse.Namespace:
     parser.add_argument('--ignore', type=ignored_of, action='extend', default=[],
                         metavar='PROCEDURE.FIELD,..',
                         help='fields that are left out of the explanation; * is any procedure')
+    parser.add_argument('--accept', type=accepted_of, metavar='FILE',
+                        help='takes a file of accepted findings, which do not count')
+    parser.add_argument('--accept-new', metavar='FILE',
+                        help='writes a file that accepts the findings of this comparison')
     parser.add_argument('--marks', metavar='PATTERN',
                         help='compares the parts that begin at calls of LOOKUP, CREATE and MKDIR whose name fits a pattern of the shell')
     parser.add_argument('--all', action='store_true',
@@ -116,12 +129,15 @@ def words_of(words: list[str]) -> argparse.Namespace:
                         help='writes the verdict and all findings as JSON')
     parser.add_argument('--junit', metavar='FILE',
                         help='writes the verdict and the findings as JUnit XML')
+    add_colour(parser)
     add_judging(parser)
     parser.add_argument('first', metavar='A')
     parser.add_argument('second', metavar='B')
     chosen = parser.parse_args(words)
     if chosen.marks is not None and chosen.html:
         parser.error('--html is not for parts: --marks has --json and --junit')
+    if chosen.marks is not None and (chosen.accept or chosen.accept_new):
+        parser.error('--accept and --accept-new are not for parts')
     return chosen
 
 
@@ -170,7 +186,20 @@ class Whole(NamedTuple):
 
 
 def outputs_of(words: argparse.Namespace) -> list[str | None]:
-    return [words.html, words.json, words.junit]
+    return [words.html, words.json, words.junit, words.accept_new]
+
+
+def try_all(words: argparse.Namespace, recordings: Sequence[str]) -> None:
+    """Tries all outputs. The file of accepted findings may be replaced by another, and by nothing
+    else."""
+    try_outputs(outputs_of(words), recordings)
+    for path in filter(None, outputs_of(words)[:-1]):
+        check_output(path, accepted_by(words))
+
+
+def accepted_by(words: argparse.Namespace) -> list[str]:
+    """The file of accepted findings, if there is one."""
+    return [words.accept.path] if words.accept else []
 
 
 def taken_of(name: str, options: Options) -> Taken:
@@ -185,17 +214,17 @@ def compared_runs(words: argparse.Namespace, stack: ExitStack) -> int:
     program = program_path(words.program)
     names = [words.first, words.second]
     inputs = [file for name in names for file in files_of(name)]
-    try_outputs(outputs_of(words), inputs)
+    try_all(words, inputs)
     with held():
         folder = Path(stack.enter_context(tempfile.TemporaryDirectory(prefix='nfs3canon')))
     runs = [stack.enter_context(taken_of(name, options_of(words))) for name in names]
     for taken, name in zip(runs, names):
         tell(name, taken)
-    whole = whole_of(program, folder, names, inputs, runs)
+    whole = whole_of(program, folder, names, [*inputs, *accepted_by(words)], runs)
     masks = in_any_order(words.mask, any(cover.has_raw for cover in whole.covers))
     print(f'masked: {told(masks[0])}', flush=True)
     choices = Choices(words.order, masks, frozenset() if words.extra == 'none' else ASKING,
-                      AROUND if words.html else None)
+                      AROUND if words.html else None, words.accept)
     is_same = (compared_whole if words.marks is None
                else compared_by_parts)(words, whole, choices, losses_of(whole.covers, summary.RUNS))
     if any(cover.is_refused for cover in whole.covers):
@@ -207,8 +236,11 @@ def whole_of(program: str, folder: Path, names: list[str], inputs: list[str],
              runs: Sequence[Taken]) -> Whole:
     """Checks both runs, and prints what is refused. Raises `NothingToCompare` if a run has no call
     that can be compared."""
-    trial = Trial(program, folder, runs)
-    covers = [cover_of(program, *one) for one in zip(runs, trial.captures)]
+    progress = Progress()
+    progress.begin('checking both runs')
+    trial = Trial(program, folder, runs, progress)
+    covers = covers_of(program, runs, trial.captures)
+    progress.end()
     for cover, name in zip(covers, names):
         if not cover.size.calls:
             faults = '; '.join(f'{escaped(name)}: {fault}' for fault in cover.faults())
@@ -218,18 +250,24 @@ def whole_of(program: str, folder: Path, names: list[str], inputs: list[str],
         for line in cover.notes():
             print(f'{escaped(name)}: {line}', file=sys.stderr)
     if any(cover.refused for cover in covers):
-        trial = Trial(program, folder, [cover.taken for cover in covers])
+        trial = Trial(program, folder, [cover.taken for cover in covers], progress)
     return Whole(names, inputs, covers, trial,
                  [run_of(trial, *one) for one in zip(trial.runs, trial.captures, names)])
 
 
 def compared_whole(words: argparse.Namespace, whole: Whole, choices: Choices, losses: str) -> bool:
     """Compares the runs as wholes. Returns whether they are the same."""
-    said = judged(whole.trial, whole.runs, whole.sizes, choices)
+    with whole.trial.progress.line():
+        said = judged(whole.trial, whole.runs, whole.sizes, choices)
     line = said.line(choices, whole.sizes[0], losses)
-    print(line, *whole.lines_of_counts(), sep='\n', flush=True)
     is_good = said.is_same and whole.is_good(allowed_of(words))
     report = said.report(choices, whole.names, whole.sizes, whole.covers)
+    print(screen_of(words.color).painted(line, colour_of(report.word(), is_good)),
+          *whole.lines_of_counts(), sep='\n', flush=True)
+    if words.accept_new:
+        compared = said.found.whole or Compared()
+        recordings = [file for name in whole.names for file in files_of(name)]
+        write_file(words.accept_new, [file_of(compared.findings, compared.mask)], recordings)
     explain(words, whole, line, report, said.found.compared, is_good)
     return is_good
 
@@ -249,6 +287,8 @@ def explain(words: argparse.Namespace, whole: Whole, line: str, report: Report, 
     if words.json:
         write_file(words.json, json_of(report, compared, left_out, whole.framings()), whole.inputs)
     print_found(words, whole, report, compared, left_out)
+    for text in telling.of_accepted(report.accepted, whole.framings(), words.all):
+        print(text)
 
 
 def is_told(words: argparse.Namespace, report: Report) -> bool:
@@ -261,26 +301,41 @@ def print_found(words: argparse.Namespace, whole: Whole, report: Report, compare
                 left_out: Counter[tuple[str, str]]) -> None:
     if report.verdict == 'same':
         return
+    screen = screen_of(words.color)
     if is_told(words, report):
         first, second = whole.framings()
         for text in telling.of_compared(compared, first, second,
                                         None if words.all else FINDINGS_AT_MOST, left_out,
                                         words.brief):
-            print(text)
+            print(coloured(text, screen))
     for text in telling.of_silent(compared, whole.framings(),
                                   None if words.all else SILENT_AT_MOST):
         print(text)
     print(summary.of_compared(compared))
 
 
+def colour_of(word: str, is_good: bool) -> Colour:
+    """The colour of a verdict."""
+    if is_good:
+        return Colour.GREEN
+    return Colour.YELLOW if word.startswith('same') else Colour.RED
+
+
+def coloured(line: str, screen: Screen) -> str:
+    """Returns a line of a finding, as `diff` colours it."""
+    sign = SIGN.match(line)
+    return screen.painted(line, SIGNS[sign[1]]) if sign else line
+
+
 def compared_by_parts(words: argparse.Namespace, whole: Whole, choices: Choices,
                       losses: str) -> bool:
     """Compares the parts that begin at marks. Returns whether all are the same."""
-    parts = PartByPart(whole.trial, whole.names, whole.runs, words.marks,
-                       choices).reports(words.ignore)
+    with whole.trial.progress.line():
+        parts = PartByPart(whole.trial, whole.names, whole.runs, words.marks,
+                           choices).reports(words.ignore)
+    is_good, screen = whole.is_good(allowed_of(words)), screen_of(words.color)
     for part in parts:
-        print(part.line)
-    is_good = whole.is_good(allowed_of(words))
+        print(screen.painted(part.line, colour_of(part.word(), is_good and part.is_good)))
     if words.junit:
         counting = '' if is_good else losses
         write_file(words.junit,

@@ -50,12 +50,13 @@ from ..recordings.parts import files_of
 from ..recordings.records import Extent, Window, body_of, xids
 from ..recordings.selection import Options, plural
 from ..recordings.taken import (
-    NotTaken, Progress, Taken, TakenConnection, TakenStream, copied, take, take_from)
+    NotTaken, Taken, TakenConnection, TakenStream, copied, take, take_from)
 from ..reporting.messages import ABSENT, add_options, add_program, ended, options_of, parser_of, run
 from ..shared.outputs import CAPTURE, Refused, held, printed_beside, try_outputs, write_file
 from ..shared.places import SIDES, FilePlace, FramePlace, NoPlace, Place, Side, parse_place
 from ..shared.printed import escaped, printable
 from ..shared.programs import CHECKED, lines_of_program, program_path, run_program
+from ..shared.progress import Progress
 from .verdicts import Judge
 
 PCAP, PCAPNG = '.pcap', '.pcapng'

@@ -7,6 +7,7 @@ Under the prefix there are
     bin/nfs3-NAME                                a link to each tool, with hyphens in its name
     share/nfs3canon/tools/                       the tools
     share/nfs3canon/{CHANGELOG.md,LICENSE-*}     the version, and the licences
+    share/nfs3canon/docs/schemas/                the schemas of JSON
     share/nfs3canon/installed                    what was put there, which `--remove` takes away again
     share/man/man1/                              the manual pages
     share/bash-completion/completions/, share/zsh/site-functions/, share/fish/vendor_completions.d/
@@ -39,15 +40,43 @@ COMPLETIONS = {file.format(name): place.format(name) for name in PROGRAMS for fi
     ('{}.fish', 'share/fish/vendor_completions.d/{}.fish'))}
 HOME = 'share/nfs3canon'
 PROGRAMS_HOME = 'libexec/nfs3canon'
-# The command lines of the programs are proved, and none of them asks for the version.
+# The command lines of the programs are proved. None of them asks for the version, and help is printed
+# on standard error with the status 4 of a wrong line, which begins with `error:`.
 LAUNCHER = '''#!/bin/sh
-# Prints the version of the program that has the name of this script, or runs it.
+# Prints the version of the program that has the name of this script, or its help on standard output, or runs it.
 own=$(readlink -f "$0")
+name=${{own##*/}}
+program=${{own%/*}}/../{home}/$name
+
 if [ $# = 1 ] && [ "$1" = --version ]; then
-  echo "${{own##*/}} {version}"
+  echo "$name {version}"
   exit
 fi
-exec "${{own%/*}}/../{home}/${{own##*/}}" "$@"
+
+{writing}
+asks=
+[ "$name ${{1-}}" != 'nfs3canon help' ] || asks=1
+for word; do
+  case $word in
+    --) break ;;
+    -h | --help) asks=1 ;;
+  esac
+done
+if [ -z "$asks" ] && is_writing "$name" "$@"; then run_writing "$program" "$@"; fi
+[ -n "$asks" ] || exec "$program" "$@"
+
+status=0
+text=$("$program" "$@" 2>&1) || status=$?
+case $status-$text in
+  4-error:*) ;;
+  4-*)
+    printf '%s\\n' "$text" 2>/dev/null && exit
+    echo "$name: standard output is closed or full" >&2
+    exit 3
+    ;;
+esac
+[ -z "$text" ] || printf '%s\\n' "$text" >&2
+exit "$status"
 '''
 LIST = f'{HOME}/installed'
 EXECUTABLE = 0o100
@@ -68,6 +97,8 @@ def files(program: Path) -> Iterator[tuple[Path, str]]:
         yield TOP / 'tools/man' / f'{tool}.1', f'share/man/man1/{installed_name(tool)}.1'
     for module in sorted((TOP / 'tools/nfs3tools').rglob('*.py')):
         yield module, f'{HOME}/{module.relative_to(TOP)}'
+    for schema in sorted((TOP / 'docs/schemas').glob('*.json')):
+        yield schema, f'{HOME}/{schema.relative_to(TOP)}'
     for name in ('CHANGELOG.md', 'tools/CHANGELOG.md', 'LICENSE-MIT', 'LICENSE-APACHE'):
         yield TOP / name, f'{HOME}/{name}'
     for name, place in COMPLETIONS.items():
@@ -116,12 +147,18 @@ def install(prefix: Path, program: Path, is_listed: bool = True) -> None:
             is_run = source.stat().st_mode & EXECUTABLE
             made.write(place, content_of(source, place), FOR_ALL_TO_RUN if is_run else FOR_ALL_TO_READ)
         for name in PROGRAMS:
-            made.write(f'bin/{name}', LAUNCHER.format(version=version(), home=PROGRAMS_HOME).encode(), FOR_ALL_TO_RUN)
+            made.write(f'bin/{name}', launcher().encode(), FOR_ALL_TO_RUN)
         for place, target in links():
             made.link(place, target)
         if is_listed:
             made.list_in(Installed(prefix, LIST))
         made.give_names()
+
+
+def launcher() -> str:
+    """Returns the launcher of a program, with what those of a clone have, too."""
+    writing = (TOP / 'dev/writing.sh').read_text()
+    return LAUNCHER.format(version=version(), home=PROGRAMS_HOME, writing=writing)
 
 
 def is_utf8(path: Path) -> bool:

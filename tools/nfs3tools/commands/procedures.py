@@ -1,6 +1,6 @@
 """Counts calls, errors, bytes and latencies by procedure.
 
-    tools/procedures [--total] [--sort COLUMN] [--json FILE] [--csv FILE] [--html FILE] RECORDING|CAPTURE ..
+    tools/procedures [--total] [--sort COLUMN] [--width N] [--json FILE] [--csv FILE] [--html FILE] RECORDING|CAPTURE ..
     tools/procedures --beside A B
 
 Printed is a table for each connection, one for each recording in all, and one for all recordings if they are several. A row has the
@@ -30,6 +30,7 @@ from __future__ import annotations
 import argparse
 import csv
 import io
+import itertools
 import json
 import sys
 import typing
@@ -39,7 +40,9 @@ from functools import partial
 
 from ..judgement.seen import Seen, seen_in
 from ..judgement.tallies import Tallies, Tally, counted_of, in_order, milliseconds, sum_of
-from ..judgement.verdict import Verdict, counts_after, is_row, named, status_of, sums_of, tell_notes
+from ..judgement.verdict import (
+    VERSION, Verdict, colour_of, counts_after, is_row, named, object_of as object_of_verdict, status_of,
+    sums_of, tell_notes)
 from ..judgement.verdict_page import Content, Table as ShownTable, page, row_of_cells, said_of
 from ..recordings.parts import files_of
 from ..recordings.selection import plural
@@ -48,9 +51,11 @@ from ..reporting.markup import encoded
 from ..reporting.messages import add_judging, allowed_of, options_of, parser_of, run
 from ..shared.outputs import printed_beside, try_outputs, write_file
 from ..shared.places import Place
-from ..shared.printed import columns, escaped, printable
+from ..shared.printed import escaped, printable
 from ..shared.programs import program_path
-from .verdicts import CONNECTIONS_AT_ONCE, VERSION, Judge, objects_of
+from ..shared.screens import (
+    Colour, Screen, Styled, add_colour, is_as_wide, lines_of, panels, screen_of)
+from .verdicts import CONNECTIONS_AT_ONCE, Judge, positive
 
 PARTS = (0.5, 0.99, 1)  # of the latencies: the median, the 99th percentile, and the longest
 COUNTS = ('calls', 'again', 'replies', 'unanswered', 'call_bytes', 'reply_bytes')
@@ -139,11 +144,12 @@ def table_of(judge: Judge, connection: TakenConnection, verdict: Verdict) -> Tab
 
 # --- What is printed ---
 
-def cells_of(name: str, tally: Tally, is_named: bool) -> list[str]:
-    """The cells of a row. The longest latency is named by its recording, or not."""
-    counts = (str(getattr(tally, count)) for count in COUNTS)
-    return [name, *counts, *map(milliseconds, latencies_of(tally)),
-            longest_of(tally, is_named), errors_of(tally.errors)]
+def row_of(name: str, tally: Tally, is_named: bool, screen: Screen) -> Styled:
+    """A row. The longest latency is named by its recording, or not."""
+    counts = (screen.number(getattr(tally, count)) for count in COUNTS)
+    latencies = (milliseconds(rank, screen) for rank in latencies_of(tally))
+    cells = [name, *counts, *latencies, longest_of(tally, is_named), errors_of(tally.errors, screen)]
+    return Styled(cells, Colour.RED if tally.errors else None)
 
 
 def latencies_of(tally: Tally) -> list[int | None]:
@@ -160,25 +166,28 @@ def longest_of(tally: Tally, is_named: bool) -> str:
     return printable(f'{escaped(longest.recording)} {place}') if is_named else place
 
 
-def errors_of(errors: Counter[str]) -> str:
-    return ', '.join(f'{name} {number}' for name, number in most_first(errors)) or '-'
+def errors_of(errors: Counter[str], screen: Screen) -> str:
+    return ', '.join(f'{name} {screen.number(number)}'
+                     for name, number in most_first(errors)) or '-'
 
 
 def most_first(errors: Counter[str]) -> list[tuple[str, int]]:
     return sorted(errors.items(), key=lambda error: (-error[1], error[0]))
 
 
-def print_table(title: str, table: Table, column: str) -> None:
-    """Prints a table below its title, which is alone if there is nothing in the table. An empty line is before it."""
+def print_table(title: str, table: Table, column: str, screen: Screen) -> None:
+    """Prints a table below its title, which is alone if there is nothing in the table. An empty
+    line is before it."""
     print(f'\n{title}{told_of_clock(total_of(table.tallies))}')
-    for line in table.tallies and columns(rows_of(table, column), range(1, len(HEADS) - 1)):
+    for line in table.tallies and panels(rows_of(table, column, screen), screen,
+                                         range(1, len(HEADS) - 1)):
         print(line)
 
 
-def rows_of(table: Table, column: str) -> list[Sequence[str]]:
+def rows_of(table: Table, column: str, screen: Screen) -> list[Styled]:
     """The rows of a table, that of the heads first."""
-    return [(*HEADS[:-1], LONGEST, HEADS[-1]),
-            *(cells_of(*row, table.recording is None) for row in table.rows(column))]
+    return [Styled((*HEADS[:-1], LONGEST, HEADS[-1])),
+            *(row_of(*row, table.recording is None, screen) for row in table.rows(column))]
 
 
 def told_of_clock(tally: Tally) -> str:
@@ -188,27 +197,28 @@ def told_of_clock(tally: Tally) -> str:
     return f'; the clock went back: {number:,} {are} negative' if number else ''
 
 
-def title_of(verdict: Verdict) -> str:
+def title_of(verdict: Verdict, screen: Screen) -> str:
     """The title of a connection's table, with its verdict."""
     ends = f': client {verdict.client}, server {verdict.server}' if verdict.client else ''
     how_far = '; counted up to there' if verdict.state == 'refused' else ''
-    return printable(f'{named(verdict)}{ends}: {verdict.message}{how_far}')
+    word = screen.painted(printable(verdict.message), colour_of(verdict))
+    return f'{printable(f"{named(verdict)}{ends}")}: {word}{how_far}'
 
 
-def print_tables(found: Sequence[Counted], is_total: bool, column: str) -> None:
+def print_tables(found: Sequence[Counted], is_total: bool, column: str, screen: Screen) -> None:
     """Prints the tables of each recording, and what is said of it that is none of a connection."""
     for one in found:
         for table in [] if is_total else one.tables:
             assert table.verdict
-            print_table(title_of(table.verdict), table, column)
+            print_table(title_of(table.verdict, screen), table, column, screen)
         for verdict in one.verdicts:
             if is_row(verdict) and (verdict.state == 'error' or verdict.connection is None):
-                print('\n' + printable(f'{named(verdict)}: {verdict.message}'))
-        print_table(printable(f'{escaped(one.recording)} in all: {sums_of(one.verdicts)}'),
-                    one.in_all, column)
+                print('\n' + title_of(verdict, screen))
+        title = printable(f'{escaped(one.recording)} in all: {sums_of(one.verdicts)}')
+        print_table('\n'.join(screen.wrapped(title, 0)), one.in_all, column, screen)
     if len(found) > 1:
         sums = sums_of([verdict for one in found for verdict in one.verdicts])
-        print_table(f'all recordings: {sums}', in_all_of(found), column)
+        print_table(f'all recordings: {sums}', in_all_of(found), column, screen)
 
 
 def in_all_of(found: Sequence[Counted]) -> Table:
@@ -216,34 +226,57 @@ def in_all_of(found: Sequence[Counted]) -> Table:
     return Table(None, None, sum_of(one.in_all.tallies for one in found))
 
 
-def print_beside(first: Counted, second: Counted, column: str) -> None:
+def print_beside(first: Counted, second: Counted, column: str, screen: Screen) -> None:
     """Prints two recordings in one table."""
     for name, one in zip('AB', (first, second)):
         for verdict in one.verdicts:
             if is_row(verdict) and verdict.state != 'ok':
                 print(printable(f'{named(verdict)}: {verdict.message}'))
         told = told_of_clock(total_of(one.in_all.tallies))
-        print(printable(f'{name}: {escaped(one.recording)}: {sums_of(one.verdicts)}{told}'))
-    for line in columns(rows_beside(first, second, column), range(1, len(HEADS) - 1)):
-        print(line)
+        title = printable(f'{name}: {escaped(one.recording)}: {sums_of(one.verdicts)}{told}')
+        print(*screen.wrapped(title, 0), sep='\n')
+    print_rows_beside(rows_beside(first, second, column, screen), screen)
 
 
-def rows_beside(first: Counted, second: Counted, column: str) -> list[Sequence[str]]:
+def rows_beside(first: Counted, second: Counted, column: str, screen: Screen) -> list[Styled]:
     """The rows of two recordings in one table, that of the heads first."""
     here, there = (dict(one.in_all.rows()) for one in (first, second))
     names = [*sorted_by(column, in_order({*here, *there} - {IN_ALL}), here, there), IN_ALL]
-    return [HEADS, *(cells_beside(name, here.get(name, Tally()), there.get(name, Tally()))
-                     for name in names)]
+    return [Styled(HEADS), *(
+        Styled(cells_beside(name, here.get(name, Tally()), there.get(name, Tally()), screen))
+        for name in names)]
 
 
-def cells_beside(name: str, first: Tally, second: Tally) -> list[str]:
+def print_rows_beside(rows: Sequence[Styled], screen: Screen) -> None:
+    """Prints a table of two recordings, or if it is too wide a block for each procedure."""
+    if screen.width is None or is_as_wide(rows, screen.width):
+        lines = lines_of(rows, screen, range(1, len(HEADS) - 1))
+    else:
+        lines = itertools.chain.from_iterable(block_of(row, screen) for row in rows[1:])
+    print(*lines, sep='\n')
+
+
+def block_of(row: Styled, screen: Screen) -> Iterator[str]:
+    """The lines of a block: the procedure, and below it what there is of it."""
+    yield row.cells[0]
+    rows = [Styled(['', head, cell]) for head, cell in zip(HEADS[1:], row.cells[1:])
+            if cell not in ('-', '0')]
+    yield from lines_of(rows, screen)
+
+
+def cells_beside(name: str, first: Tally, second: Tally, screen: Screen) -> list[str]:
     """The cells of a row about two recordings."""
-    counts = [(getattr(first, count), getattr(second, count), count.endswith('bytes')) for count in COUNTS]
-    errors = (f'{error} ' + changed(str(first.errors[error]), str(second.errors[error]))
+    number_of, both = screen.number, (first, second)
+    counts = [(*(getattr(tally, count) for tally in both), count.endswith('bytes'))
+              for count in COUNTS]
+    errors = (f'{error} ' + changed(*(number_of(tally.errors[error]) for tally in both))
               for error, _ in most_first(first.errors + second.errors))
-    return [name, *(changed(str(number), str(other), change_of(number, other) if is_size else '') for number, other, is_size in counts),
-            *(changed(milliseconds(rank), milliseconds(other), change_of(rank, other))
-              for rank, other in zip(latencies_of(first), latencies_of(second))),
+    latencies = zip(*map(latencies_of, both))
+    return [name, *(changed(number_of(number), number_of(other),
+                            change_of(number, other) if is_size else '')
+                    for number, other, is_size in counts),
+            *(changed(milliseconds(rank, screen), milliseconds(other, screen),
+                      change_of(rank, other)) for rank, other in latencies),
             ', '.join(errors) or '-']
 
 
@@ -263,15 +296,14 @@ def page_of(found: Sequence[Counted], chosen: argparse.Namespace) -> Iterator[st
     """The page: the tables that are printed, and a time line for each recording."""
     whole, of_each = list[ShownTable](), list[list[ShownTable]]()
     if chosen.beside:
-        heads, *rows = rows_beside(found[0], found[1], chosen.sort)
         whole = [shown_of('A: {} | B: {}'.format(*(escaped(one.recording) for one in found)),
-                          heads, rows)]
+                          rows_beside(found[0], found[1], chosen.sort, Screen()))]
     elif len(found) > 1:
         whole = [shown('all recordings', in_all_of(found), chosen.sort)]
     if not chosen.beside:
         of_each = [[shown('in all', one.in_all, chosen.sort),
-                    *(shown(title_of(table.verdict._replace(message=said_of(table.verdict))), table,
-                            chosen.sort)
+                    *(shown(title_of(table.verdict._replace(message=said_of(table.verdict)),
+                                     Screen()), table, chosen.sort)
                       for table in ([] if chosen.total else one.tables) if table.verdict)]
                    for one in found]
     return page(Content([one.seen for one in found], allowed_of(chosen), whole, of_each, False))
@@ -279,12 +311,13 @@ def page_of(found: Sequence[Counted], chosen: argparse.Namespace) -> Iterator[st
 
 def shown(title: str, table: Table, column: str) -> ShownTable:
     """A table as it is printed, for the page."""
-    heads, *rows = rows_of(table, column)
-    return shown_of(title + told_of_clock(total_of(table.tallies)), heads, rows)
+    return shown_of(title + told_of_clock(total_of(table.tallies)),
+                    rows_of(table, column, Screen()))
 
 
-def shown_of(title: str, heads: Sequence[str], rows: Sequence[Sequence[str]]) -> ShownTable:
+def shown_of(title: str, styled: Sequence[Styled]) -> ShownTable:
     numbers = range(1, len(HEADS) - 1)
+    heads, *rows = (row.cells for row in styled)
     return ShownTable(title, heads, [row_of_cells(row, numbers) for row in rows], numbers)
 
 
@@ -314,7 +347,7 @@ def json_of(found: Sequence[Counted], column: str) -> bytes:
     verdicts = [verdict for one in found for verdict in one.verdicts]
     tables = [{**whose(table), 'procedures': [object_of(*row) for row in table.rows(column)]}
               for one in found for table in (*one.tables, one.in_all)]
-    whole = {'version': VERSION, 'counts': counts_after(verdicts).members(), 'verdicts': objects_of(verdicts), 'tables': tables}
+    whole = {'version': VERSION, 'counts': counts_after(verdicts).members(), 'verdicts': [*map(object_of_verdict, verdicts)], 'tables': tables}
     return json.dumps(whole, indent=1).encode() + b'\n'
 
 
@@ -344,6 +377,9 @@ def words_of(words: list[str]) -> argparse.Namespace:
     parser.add_argument('--csv', metavar='FILE', help='writes the tables as comma-separated values')
     parser.add_argument('--html', metavar='FILE',
                         help='writes a page for a browser, with the tables and latencies')
+    parser.add_argument('--width', metavar='N', type=positive,
+                        help='prints no line of a table wider than N columns; by default those of a terminal')
+    add_colour(parser)
     add_judging(parser)
     chosen = parser.parse_args(words)
     if chosen.beside and len(chosen.recordings) != 2:
@@ -361,10 +397,11 @@ def main(words: list[str]) -> int:
     verdicts = [verdict for one in found for verdict in one.verdicts]
     tell_notes(verdicts)
     with printed_beside(outputs):
+        screen = screen_of(chosen.color, chosen.width)
         if chosen.beside:
-            print_beside(found[0], found[1], chosen.sort)
+            print_beside(found[0], found[1], chosen.sort, screen)
         else:
-            print_tables(found, chosen.total, chosen.sort)
+            print_tables(found, chosen.total, chosen.sort, screen)
     if chosen.json:
         write_file(chosen.json, [json_of(found, chosen.sort)], inputs)
     if chosen.csv:

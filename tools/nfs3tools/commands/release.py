@@ -1,7 +1,13 @@
-"""Makes the tar file of a release: what `tools/install` puts under a prefix, in a folder that has the version in its name."""
+"""Makes the tar file of a release: what `tools/install` puts under a prefix, in a folder that has the version in its name. Or a package for
+Debian with the same under /usr, made by dpkg-deb.
+"""
 from __future__ import annotations
 
+import gzip
 import hashlib
+import os
+import shutil
+import subprocess
 import sys
 import tarfile
 import tempfile
@@ -10,8 +16,9 @@ from pathlib import Path
 
 from ..reporting.messages import run
 from ..shared.outputs import COMPRESSED, write_file
-from ..shared.printed import escaped
-from ..shared.version import version
+from ..shared.printed import escaped, printable
+from ..shared.programs import Died, Missing
+from ..shared.version import TOP, version
 from .install import (
     EXECUTABLE, FOR_ALL_TO_READ, FOR_ALL_TO_RUN, OF_A_LINK, install, parser_for, program_of)
 
@@ -29,6 +36,85 @@ def entry(info: tarfile.TarInfo) -> tarfile.TarInfo:
     return info
 
 
+# --- A package for Debian ---
+
+PACKAGER = 'dpkg-deb'
+# Debian has pages packed, and looks for completions of zsh in a folder of its own.
+PAGES, ZSH, ZSH_OF_DEBIAN = 'usr/share/man', 'usr/share/zsh/site-functions', 'usr/share/zsh/vendor-completions'
+DOCUMENTS = 'usr/share/doc/nfs3canon'
+CONTROL = """Package: nfs3canon
+Version: {version}
+Architecture: amd64
+Maintainer: nfs3canon <nfs3canon@localhost>
+Installed-Size: {kilobytes}
+Depends: python3 (>= 3.9), libc6
+Suggests: tshark, zstd
+Section: net
+Priority: optional
+Description: checks and compares recorded NFS version 3 traffic
+ nfs3canon checks that every message of a recording is valid, and says of two
+ recordings whether they are the same but for what two runs never share. Its
+ tools read pcap and pcapng, count calls and times, and find frames and fields.
+"""
+# What Python writes beside the tools belongs to no package.
+PRERM = """#!/bin/sh
+set -e
+find /usr/share/nfs3canon/tools -type d -name __pycache__ -prune -exec rm -rf {} +
+"""
+
+
+def package(folder: Path, program: Path) -> Path:
+    """Makes a package for Debian, and beside it its checksum. Returns the package.
+
+    Raises `Missing` if dpkg-deb is not there, and `Died` if it fails.
+    """
+    if shutil.which(PACKAGER) is None:
+        raise Missing(f'{PACKAGER} is not there; Debian has it in the package dpkg')
+    archive = folder / f'nfs3canon_{version()}_amd64.deb'
+    with tempfile.TemporaryDirectory(prefix='nfs3canon') as place:
+        tree, made = Path(place) / 'tree', Path(place) / 'made.deb'
+        install(tree / 'usr', program, is_listed=False)
+        arrange(tree)
+        describe(tree)
+        words = [PACKAGER, '--root-owner-group', '-Zxz', '--build', str(tree), str(made)]
+        answer = subprocess.run(words, capture_output=True, check=False,
+                                env={**os.environ, 'SOURCE_DATE_EPOCH': str(RELEASED)})
+        if answer.returncode:
+            raise Died(f'{PACKAGER}: {printable(answer.stderr.decode(errors="replace").strip())}')
+        return with_checksum(archive, made.read_bytes())
+
+
+def arrange(tree: Path) -> None:
+    """Puts files where Debian has them."""
+    for page in sorted((tree / PAGES).rglob('*.1')):
+        put(page.with_name(f'{page.name}.gz'), gzip.compress(page.read_bytes(), mtime=RELEASED))
+        page.unlink()
+    (tree / ZSH).rename(tree / ZSH_OF_DEBIAN)
+    licences = (TOP / name for name in ('LICENSE-MIT', 'LICENSE-APACHE'))
+    put(tree / DOCUMENTS / 'copyright', b'\n'.join(licence.read_bytes() for licence in licences))
+    changes = (TOP / 'CHANGELOG.md').read_bytes()
+    put(tree / DOCUMENTS / 'changelog.gz', gzip.compress(changes, mtime=RELEASED))
+
+
+def describe(tree: Path) -> None:
+    """Writes what dpkg reads of a package."""
+    sizes = [path.stat().st_size for path in tree.rglob('*') if path.is_file() and not path.is_symlink()]
+    text = CONTROL.format(version=version(), kilobytes=-(-sum(sizes) // 1024))
+    put(tree / 'DEBIAN/control', text.encode())
+    put(tree / 'DEBIAN/prerm', PRERM.encode(), FOR_ALL_TO_RUN)
+
+
+def put(path: Path, content: bytes, mode: int = FOR_ALL_TO_READ) -> None:
+    """Writes a file in a tree, whose permissions are the same under every umask."""
+    for folder in reversed([one for one in path.parents if not one.exists()]):
+        folder.mkdir()
+        folder.chmod(FOR_ALL_TO_RUN)
+    path.write_bytes(content)
+    path.chmod(mode)
+
+
+# --- The tar file ---
+
 def release(folder: Path, program: Path) -> Path:
     """Makes the tar file of a release, and beside it its checksum as `sha256sum -c` reads it.
     Returns the tar file."""
@@ -41,6 +127,10 @@ def release(folder: Path, program: Path) -> Path:
                 tar.add(path, path.relative_to(place), recursive=False, filter=entry)
         file.seek(0)
         content = file.read()
+    return with_checksum(archive, content)
+
+
+def with_checksum(archive: Path, content: bytes) -> Path:
     write_file(str(archive), [content], replaces=(COMPRESSED,))
     write_file(f'{archive}.sha256',
                [f'{hashlib.sha256(content).hexdigest()}  {archive.name}\n'.encode()])
@@ -48,10 +138,13 @@ def release(folder: Path, program: Path) -> Path:
 
 
 def main(words: list[str]) -> int:
-    asked = parser_for('release',
-                       'Makes the tar file of a release, and its checksum, in FOLDER. Unpack it, and copy what '
-                       'is in it under a prefix.', 'FOLDER', '.').parse_args(words)
-    print(escaped(str(release(asked.target, program_of(asked)))))
+    parser = parser_for('release',
+                        'Makes the tar file of a release, and its checksum, in FOLDER. Unpack it, and copy what '
+                        'is in it under a prefix.', 'FOLDER', '.')
+    parser.add_argument('--deb', action='store_true', help='makes a package for Debian in its place')
+    asked = parser.parse_args(words)
+    make = package if asked.deb else release
+    print(escaped(str(make(asked.target, program_of(asked)))))
     return 0
 
 

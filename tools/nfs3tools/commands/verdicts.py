@@ -1,6 +1,6 @@
 """Judges each connection of recordings and captures by itself.
 
-    tools/verdicts [-q] [--junit FILE] [--json FILE] [--html FILE] [-j N] RECORDING|CAPTURE ..
+    tools/verdicts [-q] [--color WHEN] [--junit FILE] [--json FILE] [--html FILE] [-j N] RECORDING|CAPTURE ..
     tcpdump -i any -U -w - port 2049 | tools/verdicts [-q] --follow -
 
 Each connection is a capture of its own, which `nfs3canon check` judges, so a fault in one hides nothing of another. A row is printed
@@ -31,6 +31,7 @@ processors if it is not said.
 
 --follow judges one recording while it is made: `-`, a fifo or a file that grows. The line of a connection is printed once it is closed,
 or once a fault of it is seen; at the end, or at SIGINT or SIGTERM, the others are judged. The manual page says when a fault is seen.
+With --json - each line is an object of JSON: a row, or at the end the counts and the status.
 
 FILE is written beside its name, and gets it once it is whole. It is refused if it is an input, or begins as a recording or a capture. The
 other statuses are 1 if a verdict is not good, 2 if the command line or FILE is refused or the program is missing, 3 if FILE cannot be
@@ -42,6 +43,7 @@ import argparse
 import concurrent.futures
 import contextlib
 import functools
+import itertools
 import json
 import os
 import signal
@@ -51,11 +53,11 @@ import typing
 import xml.etree.ElementTree
 from functools import partial
 
-from ..judgement.following import follow
+from ..judgement.following import Form, follow
 from ..judgement.seen import Seen, seen_in
 from ..judgement.verdict import (
-    HEADS, Verdict, counts_after, error_of, is_row, of_covered, row_of, status_of, sums_of,
-    tell_notes, told, verdict_of)
+    HEADS, VERSION, Verdict, colour_of, counts_after, error_of, is_row, object_of, of_covered,
+    row_of, status_of, sums_of, tell_notes, told, verdict_of)
 from ..judgement.verdict_page import Content, page, table_of
 from ..recordings.coverage import Allowed, named as named_calls
 from ..recordings.parts import files_of
@@ -65,13 +67,13 @@ from ..reporting.markup import encoded
 from ..reporting.messages import (
     add_judging, advice_on, allowed_of, options_of,
     parser_of, run, words_of)
-from ..shared.outputs import printed_beside, try_outputs, write_file
+from ..shared.outputs import STANDARD_OUTPUT, printed_beside, try_outputs, write_file
 from ..shared.places import Place, parse_fault
-from ..shared.printed import columns, escaped, printable
+from ..shared.printed import escaped, printable
 from ..shared.programs import CHECKED, Died, FilterRefused, Missing, program_path, run_program
+from ..shared.screens import Screen, Styled, add_colour, is_as_wide, lines_of, screen_of
 
 CONNECTIONS_AT_ONCE = 32  # of a recording
-VERSION = 2  # of the form of --json; the first was a list of the rows
 Look = typing.Callable[[Taken, list[Verdict]], object]
 
 
@@ -163,16 +165,24 @@ def main(words: list[str]) -> int:
     parser.add_argument('-j', metavar='N', type=positive, help='judges N recordings at once')
     parser.add_argument('--follow', action='store_true',
                         help='judges one recording while it is made, and prints each verdict at once')
+    add_colour(parser)
     add_judging(parser)
     chosen = parser.parse_args(words)
-    refused = chosen.j, chosen.junit, chosen.json, chosen.html, chosen.filter
-    if chosen.follow and (len(chosen.recordings) > 1 or any(refused)):
-        parser.error('--follow takes one recording, and none of -j, --junit, --json, --html '
-                     'and --filter')
     if chosen.follow:
-        return follow(chosen.recordings[0], program_path(chosen.program), options_of(chosen),
-                      allowed_of(chosen), chosen.quiet)
+        return followed(parser, chosen)
     return judged_all(chosen)
+
+
+def followed(parser: argparse.ArgumentParser, chosen: argparse.Namespace) -> int:
+    """Judges a recording while it is made."""
+    refused = chosen.j, chosen.junit, chosen.html, chosen.filter
+    if len(chosen.recordings) > 1 or any(refused):
+        parser.error('--follow takes one recording, and none of -j, --junit, --html and --filter')
+    if chosen.json not in (None, STANDARD_OUTPUT):
+        parser.error('--follow prints JSON on standard output: --json -')
+    form = Form(chosen.quiet, chosen.json is not None, screen_of(chosen.color))
+    return follow(chosen.recordings[0], program_path(chosen.program), options_of(chosen),
+                  allowed_of(chosen), form)
 
 
 def judged_all(chosen: argparse.Namespace) -> int:
@@ -192,7 +202,7 @@ def judged_all(chosen: argparse.Namespace) -> int:
             'a process that judged a recording was killed, as when memory runs out') from broken
     verdicts = [verdict for one in seen for verdict in one.verdicts]
     with printed_beside(outputs):
-        print_table(verdicts, chosen.quiet)
+        print_table(verdicts, chosen.quiet, screen_of(chosen.color))
     if chosen.junit:
         write_file(chosen.junit, [junit_of(verdicts, allowed_of(chosen))], inputs)
     if chosen.json:
@@ -237,14 +247,26 @@ def leave_interrupts() -> None:
 
 # --- What is printed and written ---
 
-def print_table(verdicts: list[Verdict], is_quiet: bool) -> None:
+def print_table(verdicts: list[Verdict], is_quiet: bool, screen: Screen) -> None:
     """Prints a row for each verdict but those on connections that show no call, which with all
     notes go to standard error."""
     tell_notes(verdicts)
-    rows = [row_of(verdict) for verdict in verdicts if is_row(verdict, is_quiet)]
-    for line in columns(rows if is_quiet else [HEADS, *rows]):
+    for line in rows_of([verdict for verdict in verdicts if is_row(verdict, is_quiet)],
+                        not is_quiet, screen):
         print(line)
-    print(sums_of(verdicts))
+    print(*screen.wrapped(sums_of(verdicts), 0), sep='\n')
+
+
+def rows_of(verdicts: list[Verdict], has_heads: bool, screen: Screen) -> typing.Iterator[str]:
+    """The lines of a table. If it is too wide for the terminal, each recording has its own."""
+    heads = [Styled(HEADS)] if has_heads else []
+    rows = [Styled(row_of(verdict, screen), colour_of(verdict)) for verdict in verdicts]
+    if screen.width is None or is_as_wide([*heads, *rows], screen.width):
+        yield from lines_of([*heads, *rows], screen)
+        return
+    for name, some in itertools.groupby(rows, lambda row: row.cells[0]):
+        yield from screen.wrapped(f'{name}:', 0)
+        yield from lines_of([row._replace(cells=row.cells[1:]) for row in (*heads, *some)], screen)
 
 
 def junit_of(verdicts: list[Verdict], allowed: Allowed) -> bytes:
@@ -299,20 +321,8 @@ def name_of(verdict: Verdict) -> str:
 def json_of(verdicts: list[Verdict]) -> bytes:
     """The verdicts as JSON, with the version of this form, the counts, and an object for each."""
     whole = {'version': VERSION, 'counts': counts_after(verdicts).members(),
-             'rows': objects_of(verdicts)}
+             'rows': [*map(object_of, verdicts)]}
     return json.dumps(whole, indent=1).encode() + b'\n'
-
-
-def objects_of(verdicts: list[Verdict]) -> list[dict[str, object]]:
-    """The verdicts as objects of JSON."""
-    rows = []
-    for verdict in verdicts:
-        row = verdict._asdict()
-        row.update(recording=escaped(verdict.recording), raw=dict(verdict.raw),
-                   frames=[frame._asdict() for frame in verdict.frames],
-                   seconds=round(verdict.seconds, 3))
-        rows.append(row)
-    return rows
 
 
 command = partial(run, 'verdicts', main)

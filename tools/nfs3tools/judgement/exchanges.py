@@ -92,6 +92,8 @@ class Exchange(NamedTuple):
     @property
     def answer(self) -> str:
         """What the replies say, or that there is none."""
+        if len(self.replies) == 1:
+            return self.replies[0].words
         words = [reply.words for reply in self.replies]
         if len(words) > 1 and words.count(words[0]) == len(words):
             return f'{words[0]} ({len(words)} replies)'
@@ -188,21 +190,20 @@ class Kept:
         self.parts.append(Part(connection.number, connection.client_end, connection.server_end,
                                paths, is_refused, has_all))
         reading = Reading(self, paths)
+        call, reply = reading.call, reading.reply
         for line, completion in listed_of(program, connection, is_refused):
-            if is_call(line):
-                reading.call(line, completion)
-            else:
-                reading.reply(line, completion)
+            (call if is_call(line) else reply)(line, completion)
 
     def exchange(self, at: int) -> Exchange:
         """Returns an exchange by its number."""
-        replies = [self.replied[at], *self.further.get(at, ())] if self.replied[at] else []
+        first, latency = self.replied[at], self.latencies[at]
+        replies = [Reply._make(self.replies[first])] if first else []
+        if at in self.further:
+            replies += map(Reply._make, map(self.replies.__getitem__, self.further[at]))
         procedure, asked = self.calls[at + 1]
-        latency = None if self.latencies[at] == UNTIMED else self.latencies[at]
         return Exchange(self.parts[self.part_of[at]], self.records[at], self.frames[at],
-                        self.times[at], latency, self.again.get(at, 0), procedure,
-                        Asked._make(asked),
-                        [Reply._make(self.replies[number]) for number in replies])
+                        self.times[at], None if latency == UNTIMED else latency,
+                        self.again.get(at, 0), procedure, Asked._make(asked), replies)
 
     def in_order(self, by_latency: bool) -> list[int]:
         """Returns the numbers of the exchanges by time, or with the longest latency first."""
@@ -233,6 +234,7 @@ class Reading:
     def __init__(self, kept: Kept, paths: Paths) -> None:
         self.kept, self.paths = kept, paths
         self.answering, self.owners = Answering(), array('Q')  # the exchange of each call
+        self.number = len(kept.parts) - 1
 
     def call(self, line: str, completion: Completion) -> None:
         _, _, record, xid, name, said = line.split(' ', 5)
@@ -246,7 +248,7 @@ class Reading:
         kept.frames.append(completion.frame)
         kept.times.append(completion.time)
         kept.latencies.append(UNTIMED)
-        kept.part_of.append(len(kept.parts) - 1)
+        kept.part_of.append(self.number)
         kept.calls.append((name_of_call(name, said), tuple(asked_in(name, said))))
         kept.replied.append(0)
 

@@ -10,6 +10,7 @@ import collections
 import contextlib
 import dataclasses
 import itertools
+import json
 import os
 import select as waits
 import signal
@@ -35,9 +36,10 @@ from ..shared.kinds import MAGICS
 from ..shared.outputs import held
 from ..shared.printed import escaped
 from ..shared.programs import CHECKED, Died, run_program
+from ..shared.screens import Screen, Styled, lines_of
 from .verdict import (
-    HEADS, Before, Verdict, counts_after, error_of, is_row, of_covered, row_of, status_of,
-    tell_notes, verdict_of)
+    HEADS, VERSION, Before, Verdict, colour_of, counts_after, error_of, is_row, object_of,
+    of_covered, row_of, status_of, tell_notes, verdict_of)
 
 # Bytes of a section that is judged for the first time, if it has not had its turn before
 FIRST_SIZE = 1 << 16
@@ -58,7 +60,8 @@ LOOK_EVERY = 1_000  # frames
 READ_AT_ONCE = 1 << 16
 IDLE = 1.0  # seconds without input, after which all that is new is judged
 POLL = 0.1  # seconds between looks at a file that grows
-WIDTHS = (9, 10, 21, 21, 9, 9, 0)  # of the columns
+WIDTHS = (9, 10, 21, 21, 9, 9, 0)  # of the columns, unless the terminal is narrow
+ROOM = 40  # columns for a verdict, and between the others
 
 
 # --- The input ---
@@ -490,29 +493,51 @@ def without_reply(streams: list[TakenStream], server: TakenStream) -> tuple[list
 
 # --- The command ---
 
+class Form(typing.NamedTuple):
+    """How verdicts are printed: without those that are `ok`, as JSON, and where."""
+    is_quiet: bool
+    is_json: bool = False
+    screen: Screen = Screen()
+
+
 class Lines:
     """Prints a line for each verdict as it comes, and counts them."""
 
-    def __init__(self, allowed: Allowed, is_quiet: bool) -> None:
-        self.allowed, self.is_quiet, self.counts, self.status = allowed, is_quiet, Counts(), 0
-        if not is_quiet:
-            self.print(HEADS)
+    def __init__(self, allowed: Allowed, form: Form) -> None:
+        self.allowed, self.form, self.counts, self.status = allowed, form, Counts(), 0
+        is_narrow = form.screen.width is not None and form.screen.width < sum(WIDTHS) + ROOM
+        self.widths = [0] * len(WIDTHS) if is_narrow else WIDTHS
+        if not form.is_quiet and not form.is_json:
+            self.print(Styled(HEADS))
 
     def say(self, verdict: Verdict) -> None:
         tell_notes([verdict])
         self.counts += counts_after([verdict])
         self.status = self.status or status_of([verdict], self.allowed)
-        if is_row(verdict, self.is_quiet):
-            self.print(row_of(verdict))
+        if self.form.is_json and not (self.form.is_quiet and verdict.state == 'ok'):
+            self.print_object({'row': object_of(verdict)})
+        elif not self.form.is_json and is_row(verdict, self.form.is_quiet):
+            self.print(Styled(row_of(verdict, self.form.screen), colour_of(verdict)))
 
-    def print(self, cells: tuple[str, ...]) -> None:
-        print('  '.join(cell.ljust(width) for cell, width in zip(cells, WIDTHS)), flush=True)
+    def end(self) -> None:
+        """Prints the sums."""
+        if self.form.is_json:
+            self.print_object({'counts': self.counts.members(), 'status': self.status})
+        else:
+            print(*self.form.screen.wrapped(self.counts.words(), 0), sep='\n')
+
+    def print(self, row: Styled) -> None:
+        cells = [cell.ljust(width) for cell, width in zip(row.cells, self.widths)]
+        lines = lines_of([row._replace(cells=cells)], self.form.screen)
+        print(*lines, sep='\n', flush=True)
+
+    def print_object(self, members: dict[str, object]) -> None:
+        print(json.dumps({'version': VERSION, **members}), flush=True)
 
 
-def follow(recording: str, program: str, options: Options, allowed: Allowed,
-           is_quiet: bool) -> int:
+def follow(recording: str, program: str, options: Options, allowed: Allowed, form: Form) -> int:
     """Judges a recording while it is made, and returns the status of the tool."""
-    lines = Lines(allowed, is_quiet)
+    lines = Lines(allowed, form)
     following = Following(recording, program, options, lines.say)
     try:
         with contextlib.closing(following.connections.spool), opened_for_following(recording) as file, ended_by_signals() as wakes:
@@ -523,7 +548,7 @@ def follow(recording: str, program: str, options: Options, allowed: Allowed,
         lines.say(error_of(recording, advice_on(refused, 'verdicts')))
     except Died as died:
         raise Died(f'{escaped(recording)}: {died}') from died
-    print(lines.counts.words())
+    lines.end()
     return lines.status
 
 

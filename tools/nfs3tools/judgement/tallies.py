@@ -23,6 +23,7 @@ from ..recordings.coverage import call_named
 from ..recordings.taken import Completion, TakenConnection
 from ..shared.layouts import BY_NAME, RAW
 from ..shared.programs import lines_of_program
+from ..shared.screens import Screen
 
 NUMBERS = re.compile(r'mtype=0 rpcvers=2 prog=(\d+) vers=(\d+) proc=(\d+) ')
 REFUSED = 2  # the status of `show` after a fault
@@ -114,8 +115,11 @@ def in_order(names: Iterable[str]) -> list[str]:
     return sorted(names, key=lambda name: (places.get(name, len(places)), name))
 
 
-def milliseconds(rank: int | None) -> str:
-    return '-' if rank is None else f'{rank / NANOSECONDS_OF_A_MILLISECOND:.3f}'
+def milliseconds(rank: int | None, screen: Screen = Screen()) -> str:
+    if rank is None:
+        return '-'
+    number = rank / NANOSECONDS_OF_A_MILLISECOND
+    return f'{number:.3f}' if screen.width is None else f'{number:,.3f}'
 
 
 class Counting:

@@ -4,19 +4,22 @@ from __future__ import annotations
 import re
 import sys
 import typing
-from collections.abc import Iterable, Mapping
+from collections.abc import Iterable, Mapping, Sequence
 
 from ..recordings.coverage import (
     Allowed, Called, Counts, Covered, Word, called_in, counts_of, of_connection)
-from ..recordings.selection import count
+from ..recordings.selection import BEGUN_BEFORE, count
 from ..recordings.taken import FrameRef, Taken, TakenConnection
 from ..shared.places import FilePlace, parse_fault
 from ..shared.printed import escaped, printable
 from ..shared.programs import Answer
+from ..shared.screens import Colour, Screen
 
 NOT_ALL_OK = 1
+VERSION = 2  # of the forms of JSON with verdicts; the first was a list of them
 HEADS = ('recording', 'connection', 'client', 'server', 'calls', 'replies', 'verdict')
 State = typing.Literal['ok', 'refused', 'in part', 'left out', 'not checked', 'error', 'note']
+LEFT_OUT = re.compile(r'left out: (\S+) and (\S+): ')
 COUNTS = re.compile(r'ok connections=1 calls=(\d+) replies=(\d+) handles=\d+\n')
 
 
@@ -146,20 +149,56 @@ def counts_after(verdicts: Iterable[Verdict]) -> Counts:
     return counts_of((verdict.state, verdict.shows_calls, verdict.raw) for verdict in verdicts)
 
 
+def object_of(verdict: Verdict) -> dict[str, object]:
+    """The verdict as an object of JSON."""
+    row = verdict._asdict()
+    row.update(recording=escaped(verdict.recording), raw=dict(verdict.raw),
+               frames=[frame._asdict() for frame in verdict.frames],
+               seconds=round(verdict.seconds, 3))
+    return row
+
+
 # --- What is printed ---
 
-def tell_notes(verdicts: Iterable[Verdict]) -> None:
-    """Prints on standard error what is missing from recordings, and which connections are left out
-    that show no call."""
+def tell_notes(verdicts: Sequence[Verdict]) -> None:
+    """Prints on standard error what is missing from recordings, which connections are left out that
+    show no call, and whether recordings look like parts of one."""
     for verdict in verdicts:
         for line in notes_of(verdict):
             print(line, file=sys.stderr)
+    parts = parts_in(verdicts)
+    if parts:
+        print(printable(f'{" and ".join(map(escaped, parts))}: these look like parts of one '
+                        'recording; put the pattern in quotes'), file=sys.stderr)
 
 
 def notes_of(verdict: Verdict) -> list[str]:
     """Returns what is told of a verdict that has no row, and beside one."""
     lines = [*verdict.notes, *([] if is_row(verdict) else [verdict.message])]
     return [printable(f'{named(verdict)}: {line}') for line in lines]
+
+
+def parts_in(verdicts: Iterable[Verdict]) -> list[str]:
+    """Returns two recordings of which one goes on with a connection of the other, if there are
+    some: its beginning is missing there."""
+    having = dict[frozenset[str], str]()
+    begun_before = list[tuple[frozenset[str], str]]()
+    for verdict in verdicts:
+        ends = ends_of(verdict)
+        if not ends or BEGUN_BEFORE not in verdict.lacks and verdict.state != 'left out':
+            having.setdefault(ends, verdict.recording)
+        else:
+            begun_before.append((ends, verdict.recording))
+    return next(([having[ends], name] for ends, name in begun_before
+                 if having.get(ends, name) != name), [])
+
+
+def ends_of(verdict: Verdict) -> frozenset[str]:
+    """Returns both ends of a connection, none if they are not known."""
+    if verdict.client:
+        return frozenset((verdict.client, verdict.server))
+    found = LEFT_OUT.match(verdict.message) if verdict.shows_calls else None
+    return frozenset(found.groups()) if found else frozenset()
 
 
 def named(verdict: Verdict) -> str:
@@ -179,9 +218,17 @@ def sums_of(verdicts: Iterable[Verdict]) -> str:
     return counts_after(verdicts).words()
 
 
-def row_of(verdict: Verdict) -> tuple[str, ...]:
+def colour_of(verdict: Verdict) -> Colour:
+    """The colour of a verdict: green for what was judged, and is valid."""
+    if verdict.state == 'ok':
+        return Colour.GREEN
+    return Colour.RED if verdict.state in ('refused', 'error') else Colour.YELLOW
+
+
+def row_of(verdict: Verdict, screen: Screen = Screen()) -> tuple[str, ...]:
     numbers = (verdict.connection, verdict.calls, verdict.replies)
-    connection, calls, replies = ('-' if number is None else str(number) for number in numbers)
+    connection, calls, replies = ('-' if number is None else screen.number(number)
+                                  for number in numbers)
     return (escaped(verdict.recording), connection, verdict.client or '-', verdict.server or '-',
             calls, replies,
             printable(verdict.message))

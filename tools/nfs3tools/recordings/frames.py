@@ -7,7 +7,7 @@ import sys
 import typing
 
 from ..shared.kinds import LONGEST_MAGIC, PACKED_BY, PCAP, SECTION
-from .unpacking import READ_AT_ONCE, CutShort, Damaged, Readable, unpacked
+from .unpacking import READ_AT_ONCE, CutShort, Damaged, Piped, Readable, position_of, unpacked
 
 LONGEST = 1 << 24  # bytes of a frame or block; a greater length is damage, and is never allocated
 NANOSECONDS = 1_000_000_000
@@ -42,6 +42,7 @@ class Source:
 
     def __init__(self, file: Readable) -> None:
         self.file, self.block, self.begin, self.before = file, b'', 0, 0
+        self.given = file
         self.damage: Damaged | None = None
         content = unpacked(file, self.peek(LONGEST_MAGIC), self.block)
         self.is_unpacked = content is not None
@@ -51,6 +52,10 @@ class Source:
     @property
     def at(self) -> int:
         return self.before + self.begin
+
+    def position(self) -> int:
+        """Returns how many bytes of the file itself, which has a size, were read."""
+        return position_of(self.file if isinstance(self.file, Piped) else self.given)
 
     def peek(self, size: int) -> bytes:
         """Returns the next bytes without taking them: `size`, or fewer at the end."""

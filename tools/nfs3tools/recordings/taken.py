@@ -17,15 +17,16 @@ import array
 import bisect
 import contextlib
 import itertools
+import os
 import sys
 import tempfile
-import time
 import typing
 
 from ..shared.kinds import MAGICS
 from ..shared.outputs import CAPTURE, write_file
 from ..shared.places import SIDES, FilePlace, NoPlace, Place, Side
 from ..shared.programs import chosen_frames
+from ..shared.progress import Progress, Share
 from .connections import Connection, Connections
 from .container import (
     CHUNK, MOST_BYTES, MOST_CONNECTIONS, BadCapture, Container, capture_of, place_in)
@@ -267,6 +268,11 @@ class Taken:
         yield from (left_out.covered() for left_out in self.left_out)
         yield from self.remarks
 
+    def count_records(self) -> int:
+        """Returns how many records all streams have."""
+        return sum(stream.count_records() for connection in self.connections
+                   for stream in (connection.client, connection.server))
+
     def pairs(self) -> list[tuple[TakenStream, TakenStream]]:
         return [(connection.client, connection.server) for connection in self.connections]
 
@@ -275,14 +281,21 @@ class Taken:
 
         An older capture may be replaced.
 
-        Raises `NotTaken` if they are more than a capture may have, and what `write_file` does; then the file is as it was.
+        Raises what `capture` and `write_file` do; then the file is as it was.
+        """
+        write_file(path, self.capture(), inputs, (CAPTURE,))
+
+    def capture(self) -> typing.Iterable[bytes]:
+        """Returns the connections as a capture of version 1, in blocks.
+
+        Raises `NotTaken` if they are more than a capture may have.
         """
         size = sum(stream.size for pair in self.pairs() for stream in pair)
         if len(self.connections) > MOST_CONNECTIONS:
             raise NotTaken(f'{len(self.connections)} connections are more than the {MOST_CONNECTIONS} of a capture')
         if size > MOST_BYTES:
             raise NotTaken(f'{size} bytes of streams are more than the {MOST_BYTES} of a capture')
-        write_file(path, capture_of(self.pairs()), inputs, (CAPTURE,))
+        return capture_of(self.pairs())
 
     def frames(self, place: Place | FilePlace) -> list[FrameRef]:
         """Returns the frames that carry a byte, or all frames that carry a record if the place names no byte.
@@ -358,7 +371,8 @@ def take(path: str, options: Options = Options(), frames: bool = True, shows_pro
     if len(files) > 1:
         return take_parts(files, options, frames, progress)
     with contextlib.ExitStack() as stack:
-        taken = take_from(*opened_for(files[0], options, stack), options, frames, progress)
+        source, chosen = opened_for(files[0], options, stack)
+        taken = take_from(source, chosen, options, frames, progress, share_of(source, 0, size_of(files)))
     begun = sum(left_out.is_begun_before for left_out in taken.left_out)
     pattern = pattern_beside(files[0]) if begun else None
     if pattern:
@@ -367,15 +381,29 @@ def take(path: str, options: Options = Options(), frames: bool = True, shows_pro
     return taken
 
 
-def take_parts(files: list[str], options: Options, keeps_frames: bool, progress: 'Progress') -> Taken:
+def size_of(files: typing.Iterable[str]) -> int | None:
+    """The bytes of files, None if one has no size, as a pipe."""
+    return sum(map(os.path.getsize, files)) if all(map(os.path.isfile, files)) else None
+
+
+def share_of(source: Source, before: int, size: int | None) -> Share | None:
+    """Returns what tells the share of files that was read, if their size is known: of this one, and of the bytes of those before it."""
+    if not size:
+        return None
+    all_bytes = size
+    return lambda: (before + source.position()) / all_bytes
+
+
+def take_parts(files: list[str], options: Options, keeps_frames: bool, progress: Progress) -> Taken:
     """Takes several files as the parts of one recording."""
-    taking = Taking(options, keeps_frames, progress)
+    taking, size, before = Taking(options, keeps_frames, progress), size_of(files), 0
     try:
         for path in in_order(files):
             with contextlib.ExitStack() as stack:
                 source, chosen = opened_for(path, options, stack)
                 taking.taken.parts.append(Part(path, taking.count))
-                taking.add(Recording(source), chosen, f'{path}: ')
+                taking.add(Recording(source), chosen, f'{path}: ', share_of(source, before, size))
+            before += size_of([path]) or 0
     except (NoRecording, Damaged) as refused:
         raise NotTaken(str(refused)) from refused
     return taking.ended()
@@ -407,13 +435,14 @@ def copied(content: Readable) -> typing.Iterator[typing.IO[bytes]]:
         yield copy
 
 
-def take_from(source: Source, chosen: set[int] | None, options: Options, keeps_frames: bool, progress: 'Progress') -> Taken:
+def take_from(source: Source, chosen: set[int] | None, options: Options, keeps_frames: bool, progress: Progress,
+              share: Share | None = None) -> Taken:
     """Takes what is read; of a recording only the frames that are chosen, if `chosen` is not None."""
     try:
         if source.peek(8) in MAGICS:
             return of_capture(source)
         taking = Taking(options, keeps_frames, progress)
-        taking.add(Recording(source), chosen)
+        taking.add(Recording(source), chosen, share=share)
         return taking.ended()
     except NoRecording as refused:
         raise NotTaken(str(refused), refused.packed_by) from refused
@@ -442,13 +471,13 @@ def whole(stored: Stored) -> list[tuple[int, int]]:
 class Taking:
     """Takes the frames of a recording, or of its parts one after the other."""
 
-    def __init__(self, options: Options, keeps_frames: bool, progress: 'Progress') -> None:
+    def __init__(self, options: Options, keeps_frames: bool, progress: Progress) -> None:
         self.options, self.connections, self.progress = options, Connections(keeps_frames), progress
         self.taken = Taken(self.connections.spool, True, keeps_frames, ports_of(options))
         self.segments = Segments(self.taken.ports)
         self.count = 0  # frames
 
-    def add(self, recording: Recording, chosen: set[int] | None, name: str = '') -> None:
+    def add(self, recording: Recording, chosen: set[int] | None, name: str = '', share: Share | None = None) -> None:
         """Takes a part, of which only the frames that are chosen count, if `chosen` is not None. A name stands before what is told."""
         before, segments, connections, ports = self.count, self.segments, self.connections, self.options.ports
         for frame in recording.frames():
@@ -459,7 +488,7 @@ class Taking:
                 is_chosen = is_chosen and (not ports or segment.has_port(ports))
                 connections.take(segment, before + frame.number, frame.time, is_chosen)
             if not frame.number % FRAMES_A_STEP:
-                self.progress.step(before + frame.number)
+                self.progress.step(f'{before + frame.number:,} frames', share)
         self.count += recording.count
         if recording.cut:
             self.taken.remarks.append(Covered('in part', name + recording.cut))
@@ -521,19 +550,3 @@ def why_left_out(connection: Connection, options: Options) -> str:
     if options.midstream:
         return 'no position was found from which its records follow one another'
     return 'its first bytes are missing from the recording'
-
-
-class Progress:
-    """How many frames were read, on standard error if that is a terminal."""
-
-    def __init__(self, is_shown: bool) -> None:
-        self.told, self.is_shown = time.monotonic(), is_shown and sys.stderr.isatty()
-
-    def step(self, number: int) -> None:
-        if self.is_shown and time.monotonic() > self.told + 0.2:
-            self.told = time.monotonic()
-            print(f'\r{number} frames', end='', file=sys.stderr, flush=True)
-
-    def end(self) -> None:
-        if self.is_shown:
-            print('\r\x1b[K', end='', file=sys.stderr, flush=True)

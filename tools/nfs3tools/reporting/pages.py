@@ -250,10 +250,10 @@ class Body:
     def all(self) -> Iterator[str]:
         """All parts. What does not count is folded, and comes last."""
         if self.is_counted or not self.groups:
-            for part in (self.fields(), self.findings(), self.silent(), self.calls()):
+            for part in (self.fields(), self.findings(), self.silent(), self.accepted(), self.calls()):
                 yield from part
             return
-        yield from self.silent()
+        yield from chain(self.silent(), self.accepted())
         number = sum(len(finding.differences) or 1 for finding in self.compared.findings)
         words = f'{count(number, "field")} that {plural(number, "was", "were")} not counted'
         yield from markup.folded('uncounted', words,
@@ -416,6 +416,18 @@ class Body:
             yield '<section><h2>Left out</h2>'
             yield from (f'<p>{escape(line)}</p>' for line in lines)
             yield '</section>'
+
+    def accepted(self) -> Iterator[str]:
+        """How many findings were accepted, and these folded."""
+        lines = list(telling.of_accepted(self.content.report.accepted,
+                                         [run.frames for run in self.runs], True))
+        shown = [line for line in lines if line.startswith('accepted: ')]
+        for line in lines[len(shown):]:
+            yield f'<p class=accepted>{escape(line)}</p>'
+        if shown:
+            yield f'<details class=others><summary>{count(len(shown), "accepted finding")}</summary>'
+            yield from (f'<p>{escape(line)}</p>' for line in shown[:OTHERS_AT_MOST])
+            yield '</details>'
 
     # --- Calls ---
 

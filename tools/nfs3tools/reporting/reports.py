@@ -10,14 +10,17 @@ from typing import Any
 from ..captures.listings import Message
 from ..captures.stored import Stored
 from ..comparison.values.classes import Mask
+from ..comparison.verdict.accepted import Split
 from ..comparison.verdict.cover import Cover
 from ..comparison.verdict.differences import Difference
 from ..comparison.verdict.findings import Compared, Finding, Framing
 from ..comparison.verdict.report import PartReport, Report
 from ..comparison.verdict.summary import RUNS, short
 from ..shared.printed import escaped, printable
+from . import telling
 from .telling import brief_of, folded, is_summed, of_group, of_silent, shortened
 
+VERSION = 1  # of the form of JSON
 CASES_AT_MOST = 1_000  # of findings
 FIELDS_AT_MOST = 4  # in the name of a case
 KINDS = {'moved': 'another turn', 'replies': 'another number of replies'}
@@ -30,7 +33,7 @@ def json_of(report: Report, compared: Compared, left_out: Counter[tuple[str, str
     covers = [members_of(cover) for cover in report.covers] if report.covers else [{}, {}]
     runs = zip(report.names, report.sizes, covers, compared.lonely, compared.left_out)
     head = {
-        'verdict': report.word(), 'position': report.verdict.partition(' at ')[2] or None,
+        'version': VERSION, 'verdict': report.word(), 'position': report.verdict.partition(' at ')[2] or None,
         'mask': words_of(report.mask),
         'same_under': report.same_under and words_of(report.same_under),
         'runs': [{'name': escaped(name), **size._asdict(), **cover, 'only': only,
@@ -42,7 +45,8 @@ def json_of(report: Report, compared: Compared, left_out: Counter[tuple[str, str
         'fields': counts_of(compared.fields()), 'ignored': counts_of(left_out),
         'left_out': [{'procedure': one.call.procedure, 'path': one.path,
                       'first': of_message(one.first, framings[0]),
-                      'second': of_message(one.second, framings[1])} for one in compared.silent]}
+                      'second': of_message(one.second, framings[1])} for one in compared.silent],
+        'accepted': report.accepted and of_accepted(report.accepted, framings)}
     yield json.dumps(head, indent=1).removesuffix('\n}').encode() + b',\n "findings": ['
     for number, finding in enumerate(compared.findings):
         yield b',\n  ' if number else b'\n  '
@@ -61,7 +65,7 @@ def json_of_parts(marks: str, covers: Sequence[Cover], parts: Sequence[PartRepor
                   framings: Sequence[Framing]) -> Iterator[bytes]:
     """The comparison of parts, in pieces: an object with a list of the parts. What is said of a
     part is an object as of whole runs."""
-    yield json.dumps({'marks': escaped(marks), 'runs': [*map(members_of, covers)]},
+    yield json.dumps({'version': VERSION, 'marks': escaped(marks), 'runs': [*map(members_of, covers)]},
                      indent=1).removesuffix('\n}').encode() + b',\n "parts": ['
     for turn, part in enumerate(parts):
         head = {'name': part.name, 'number': part.number, 'verdict': part.word(), 'only': part.only}
@@ -91,6 +95,12 @@ def of_finding(finding: Finding, first: Framing, second: Framing) -> dict[str, A
             'differences': [of_difference(one) for one in finding.differences],
             'arguments': [{'label': one.label, 'value': cut(one.value),
                            'name': one.meaning or None} for one in finding.arguments]}
+
+
+def of_accepted(accepted: Split, framings: Sequence[Framing]) -> dict[str, Any]:
+    return {'count': len(accepted.findings),
+            'findings': [of_finding(one, *framings) for one in accepted.findings],
+            'no_longer_found': accepted.no_longer_found}
 
 
 def of_message(message: Message | None, framing: Framing) -> dict[str, Any] | None:
@@ -126,18 +136,19 @@ def digest_of(value: str | None) -> str | None:
 class Suite:
     """A suite of test cases about two runs."""
 
-    def __init__(self, names: Sequence[str], covers: Sequence[Cover] = ()) -> None:
+    def __init__(self, names: Sequence[str], covers: Sequence[Cover] = (),
+                 accepted: Split | None = None) -> None:
         self.root, self.names = xml.etree.ElementTree.Element('testsuites'), names
         self.suite = xml.etree.ElementTree.SubElement(self.root, 'testsuite',
                                                       name='nfs3canon compare')
         self.number_of = Counter[str]()  # cases of a name
-        self.add_counts(covers)
+        self.add_counts(covers, accepted)
         for run, cover in zip(RUNS, covers):
             if cover.is_refused:
                 self.add(f'the {run} run is valid', 'error', '; '.join(cover.faults()))
 
-    def add_counts(self, covers: Sequence[Cover]) -> None:
-        """Adds the four counts of both runs as properties."""
+    def add_counts(self, covers: Sequence[Cover], accepted: Split | None) -> None:
+        """Adds the four counts of both runs as properties, and how many findings were accepted."""
         element = xml.etree.ElementTree.SubElement
         properties = element(self.suite, 'properties') if covers else self.suite
         for run, cover in zip(RUNS, covers):
@@ -145,6 +156,10 @@ class Suite:
                 element(properties, 'property', name=f'{run} run: {name}', value=str(number))
             for name, number in cover.counts().raw.items():
                 element(properties, 'property', name=f'{run} run: raw: {name}', value=str(number))
+        if accepted is not None:
+            element(properties, 'property', name='accepted', value=str(len(accepted.findings)))
+            element(properties, 'property', name='no longer found',
+                    value=str(len(accepted.no_longer_found)))
 
     def add(self, given: str, tag: str | None = None, message: str = '', text: Iterable[str] = (),
             **attributes: str) -> None:
@@ -174,9 +189,10 @@ def junit_of(line: str, report: Report, compared: Compared, framings: Sequence[F
     """The verdict as a case, which passed if it is good, and else each finding as one that failed.
     Findings that say the same are one. The counts are properties, and each run of which a part is
     refused has a case with an error."""
-    suite, groups = Suite(report.names,
-                          report.covers or ()), [] if is_good else folded(compared.findings)
-    silent = list(of_silent(compared, framings, CASES_AT_MOST))
+    groups = [] if is_good else folded(compared.findings)
+    suite = Suite(report.names, report.covers or (), report.accepted)
+    silent = [*telling.of_accepted(report.accepted, framings, True),
+              *of_silent(compared, framings, CASES_AT_MOST)]
     more = [f'{len(groups) - CASES_AT_MOST:,} more findings have no case'] if len(groups) > CASES_AT_MOST else []
     if is_good:
         suite.add('the runs are the same', text=[line, *silent])

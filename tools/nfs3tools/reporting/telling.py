@@ -7,6 +7,7 @@ from collections.abc import Iterable, Iterator, Sequence
 from ..captures.listings import Message
 from ..captures.stored import Stored
 from ..comparison.values import long_values
+from ..comparison.verdict.accepted import Split, words_of
 from ..comparison.verdict.differences import Difference
 from ..comparison.verdict.findings import Compared, Finding, Framing, Silent
 
@@ -238,6 +239,19 @@ def of_compared(compared: Compared, first: Framing, second: Framing, most: int |
         yield f'left out by --ignore, and how often: {told(left_out.most_common())}'
     elif not compared.findings:
         yield 'no field of messages that belong together differs; only which messages share a value, or empty connections, can'
+
+
+def of_accepted(accepted: Split | None, framings: Sequence[Framing],
+                is_all: bool) -> Iterator[str]:
+    """How many findings were accepted, each in a line if all are asked for, and which entries fit
+    none any more. Nothing if there is no file of them."""
+    if accepted is None:
+        return
+    if is_all:
+        first, second = framings
+        yield from (f'accepted: {brief_of([one], first, second)}' for one in accepted.findings)
+    yield f'{len(accepted.findings):,} accepted'
+    yield from (f'no longer found: {words_of(entry)}' for entry in accepted.no_longer_found)
 
 
 def told(fields: Iterable[tuple[tuple[str, str], int]]) -> str:

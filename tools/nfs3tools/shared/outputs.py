@@ -54,6 +54,17 @@ def write_file(path: str, blocks: typing.Iterable[bytes], inputs: typing.Iterabl
                 write_all(number, blocks)
 
 
+def write_temporary(path: str, blocks: typing.Iterable[bytes]) -> None:
+    """Writes a file in a temporary folder of this process. It is gone with the folder, so it need
+    not be safe on the disk. Raises `OSError`."""
+    number = os.open(path, os.O_WRONLY | os.O_CREAT | os.O_TRUNC, OWNER_ALONE)
+    try:
+        with named(path):
+            write_all(number, blocks)
+    finally:
+        os.close(number)
+
+
 @contextlib.contextmanager
 def named(path: str) -> typing.Iterator[None]:
     """A failure has the name of the output, and not that of a part of it."""

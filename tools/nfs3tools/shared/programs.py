@@ -102,9 +102,33 @@ def run_program(program: str, words: list[str], expected: typing.Mapping[int, st
                 for block in content:
                     write_whole(process.stdin.fileno(), block)
         answer = Answer(process.returncode, *map(text_of, (out, error)))
+    return expected_of([program, *words], answer, expected)
+
+
+def expected_of(command: list[str], answer: Answer,
+                expected: typing.Mapping[int, str]) -> Answer:
+    """Returns an answer. Raises `Died` if it is none that is expected."""
     if answer.status not in expected or not answer.out.startswith(expected[answer.status]):
-        raise died([program, *words], answer.status, answer.error)
+        raise died(command, answer.status, answer.error)
     return answer
+
+
+def run_side_by_side(commands: typing.Sequence[list[str]],
+                     expected: typing.Mapping[int, str]) -> list[Answer]:
+    """Runs commands at once, each a program with its words, which read nothing. Returns their
+    answers.
+
+    Raises what `run_program` does.
+    """
+    with contextlib.ExitStack() as stack:
+        running = []
+        for command in commands:
+            out, error = (stack.enter_context(tempfile.TemporaryFile()) for _ in range(2))
+            running.append((stack.enter_context(
+                begun(command, stdin=subprocess.DEVNULL, stdout=out, stderr=error)), out, error))
+        answers = [Answer(process.wait(), text_of(out), text_of(error))
+                   for process, out, error in running]
+    return [expected_of(*one, expected) for one in zip(commands, answers)]
 
 
 def lines_of_program(program: str, words: list[str], expected: int = 0,

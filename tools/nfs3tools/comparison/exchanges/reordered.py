@@ -13,7 +13,7 @@ from typing import NamedTuple
 from ...recordings.container import CHUNK, capture_of
 from ...recordings.records import READ_AT_ONCE, Window, body_of, extent_of, extents
 from ...recordings.taken import Taken, TakenStream
-from ...shared.outputs import CAPTURE, write_file
+from ...shared.outputs import write_temporary
 from ...shared.places import SIDES, Side
 from ...shared.programs import Died
 
@@ -130,14 +130,13 @@ class Stream:
 def write_in_order(taken: Taken, exchanges: Iterable[Exchange], left_out: Iterable[Exchange],
                    path: str,
                    writer: type[Rewriting] = Rewriting) -> None:
-    """Writes the exchanges of a run, which are iterated over twice, as a capture. With those that
-    are left out they are all of it.
+    """Writes the exchanges of a run, which are iterated over twice, as a capture in a temporary
+    folder. With those that are left out they are all of it.
 
-    Raises `WrongOrder` if they are not, and what `write_file` does.
+    Raises `WrongOrder` if they are not, and `OSError`.
     """
     rewriting = writer(taken, exchanges)
     rewriting.leave_out(left_out)
-    write_file(path, capture_of([(Stream(rewriting, 'client'), Stream(rewriting, 'server'))]), (),
-               (CAPTURE,))
+    write_temporary(path, capture_of([(Stream(rewriting, 'client'), Stream(rewriting, 'server'))]))
     if not rewriting.is_whole():
         raise WrongOrder('a message of a run is neither in an order nor left out')

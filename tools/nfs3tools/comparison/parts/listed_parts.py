@@ -82,12 +82,12 @@ class PartTrial(Trial):
     def named(self) -> list[str]:
         return self.listed.trial.named()
 
-    def mask(self, capture: str, name: str, mask: Mask) -> None:
-        if capture in self.captures:
-            content = capture_of(self.runs[self.captures.index(capture)].pairs())
-            write_masked(self.program, '/dev/stdin', name, mask, content)
-        else:
-            super().mask(capture, name, mask)
+    def mask(self, captures: Sequence[str], names: Sequence[str], mask: Mask) -> None:
+        if captures is not self.captures:
+            super().mask(captures, names, mask)
+            return
+        for taken, name in zip(self.runs, names):
+            write_masked(self.program, '/dev/stdin', name, mask, capture_of(taken.pairs()))
 
     def listing(self, capture: str) -> Listing:
         if capture not in self.captures:

@@ -162,7 +162,7 @@ class PartByPart:
     def trial(self, pairs: Sequence[Both]) -> Iterator[Trial]:
         """A trial of some parts of both runs. Its captures are removed in the end."""
         with tempfile.TemporaryDirectory(dir=self.whole.folder) as folder:
-            yield Trial(self.whole.program, Path(folder), self.taken(pairs))
+            yield Trial(self.whole.program, Path(folder), self.taken(pairs), self.whole.progress)
 
     def taken(self, pairs: Sequence[Both]) -> list[Taken]:
         """Returns what is taken of some parts of both runs."""

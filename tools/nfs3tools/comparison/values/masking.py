@@ -1,9 +1,9 @@
 """Captures with masked values, so that `nfs3canon same` passes over them. nfs3mask masks them."""
 from __future__ import annotations
 
-from collections.abc import Iterable
+from collections.abc import Iterable, Sequence
 
-from ...shared.programs import MASKED, program_beside, run_program
+from ...shared.programs import MASKED, program_beside, run_program, run_side_by_side
 from .classes import BY_NAME, Mask
 
 
@@ -18,5 +18,15 @@ def write_masked(program: str, capture: str, path: str, mask: Mask,
 
     Raises `Missing` if nfs3mask is not there, and `Died` if it fails.
     """
-    run_program(program_beside(program, 'nfs3mask'), [capture, path, *words_for(mask)], MASKED,
-                content)
+    masking, *words = command_for(program, capture, path, mask)
+    run_program(masking, words, MASKED, content)
+
+
+def write_both_masked(program: str, captures: Sequence[str], paths: Sequence[str],
+                      mask: Mask) -> None:
+    """The same of several captures at once."""
+    run_side_by_side([command_for(program, *one, mask) for one in zip(captures, paths)], MASKED)
+
+
+def command_for(program: str, capture: str, path: str, mask: Mask) -> list[str]:
+    return [program_beside(program, 'nfs3mask'), capture, path, *words_for(mask)]

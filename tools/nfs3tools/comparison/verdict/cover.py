@@ -16,7 +16,7 @@ from ...recordings.coverage import Allowed, Counted, Counts, Covered, counts_of
 from ...recordings.selection import count
 from ...recordings.taken import Taken, TakenConnection
 from ...shared.places import FilePlace, parse_fault
-from ...shared.programs import CHECKED, Answer, Died, run_program
+from ...shared.programs import CHECKED, Answer, Died, run_program, run_side_by_side
 
 COUNTS = re.compile(r'ok connections=(\d+) calls=(\d+) ')
 
@@ -125,12 +125,17 @@ def is_connection(covered: Covered) -> bool:
     return covered.number is not None or bool(covered.ends)
 
 
-def cover_of(program: str, taken: Taken, capture: str) -> Cover:
-    """Returns how much of a run, which is written as a capture, is compared.
+def covers_of(program: str, runs: Sequence[Taken], captures: Sequence[str]) -> list[Cover]:
+    """Returns how much of each run, which is written as a capture, is compared.
 
     Raises `Died` if the program gives no answer.
     """
-    answer = run_program(program, ['check', capture], CHECKED)
+    answers = run_side_by_side([[program, 'check', capture] for capture in captures], CHECKED)
+    return [cover_of(program, *one) for one in zip(runs, answers)]
+
+
+def cover_of(program: str, taken: Taken, answer: Answer) -> Cover:
+    """Returns how much of a run is compared, by what `check` says of the whole."""
     if answer.status == 0:
         return Cover(taken, size_of(answer), list(taken.covered()), {})
     kept, refused, calls = copy.copy(taken), dict[int, str](), 0

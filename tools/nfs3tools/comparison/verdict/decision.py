@@ -10,6 +10,7 @@ from ...recordings.taken import Taken
 from ...shared.places import Place
 from ...shared.printed import escaped
 from . import summary
+from .accepted import Accepted
 from .cover import Cover, Size
 from .findings import Compared, Run
 from .orders import Choices, Found, Order, Orders
@@ -30,6 +31,10 @@ class Judged(NamedTuple):
         return self.found.same_under is not None
 
     @property
+    def number_accepted(self) -> int:
+        return len(self.found.accepted.findings) if self.found.accepted else 0
+
+    @property
     def is_same(self) -> bool:
         """Whether the runs are the same, if the order counts as was asked for."""
         return self.verdict == 'same' or self.is_turned and self.order == 'any'
@@ -38,21 +43,23 @@ class Judged(NamedTuple):
                covers: Sequence[Cover] = ()) -> Report:
         both = (covers[0], covers[1]) if covers else None
         return Report(self.verdict, choices.masks[0], (names[0], names[1]), (sizes[0], sizes[1]),
-                      self.found.same_under, both)
+                      self.found.same_under, both, self.found.accepted)
 
     def line(self, choices: Choices, size: Size, losses: str = '') -> str:
         """What is printed of the verdict: how much was compared, and in which part."""
         if self.is_turned:
             return line_of(summary.IN_ANOTHER_ORDER, summary.of_same(self.found, choices.masks[0]),
-                           losses)
+                           losses, self.number_accepted)
         is_in_any = self.verdict != 'same' and self.order == 'any'
-        return line_of('differ in any order' if is_in_any else self.verdict, size, losses)
+        return line_of('differ in any order' if is_in_any else self.verdict, size, losses,
+                       self.number_accepted)
 
 
-def line_of(verdict: str, compared: Size | str, losses: str) -> str:
+def line_of(verdict: str, compared: Size | str, losses: str, accepted: int) -> str:
     if verdict.startswith('differ'):
         return f'{verdict}\ncompared in part: {losses}' if losses else verdict
-    return f'{verdict} in part: {compared}, {losses}' if losses else f'{verdict}: {compared}'
+    but = f' but for {accepted:,} accepted' if accepted else ''
+    return f'{verdict}{" in part" if losses else ""}{but}: {compared}{f", {losses}" if losses else ""}'
 
 
 def run_of(trial: Trial, taken: Taken, capture: str, name: str) -> Run:
@@ -62,10 +69,12 @@ def run_of(trial: Trial, taken: Taken, capture: str, name: str) -> Run:
     return Run(escaped(name), trial.listing(capture), frames)
 
 
-def same_of(sizes: Sequence[Size], order: Order) -> Judged:
+def same_of(sizes: Sequence[Size], order: Order, accepted: Accepted | None = None) -> Judged:
     """Returns what is said of two runs of these sizes that the program calls the same."""
     first, second = (size.calls for size in sizes)
-    return Judged('same', Found(Compared(exchanges=first, calls=(first, second))), order)
+    compared = Compared(exchanges=first, calls=(first, second))
+    split = accepted.split(compared)[1] if accepted else None
+    return Judged('same', Found(compared, accepted=split), order)
 
 
 def judged(trial: Trial, runs: Sequence[Run], sizes: Sequence[Size], choices: Choices) -> Judged:
@@ -73,8 +82,19 @@ def judged(trial: Trial, runs: Sequence[Run], sizes: Sequence[Size], choices: Ch
     shown side by side."""
     verdict = trial.placed(trial.same(trial.captures, choices.masks[0]))
     if verdict == 'same' and choices.around is None:
-        return same_of(sizes, choices.order)
+        return same_of(sizes, choices.order, choices.accepted)
     order: Order = 'strict' if verdict == 'same' else choices.order
     first, second = runs
-    return Judged(verdict, Orders(trial, first, second, replace(choices, order=order)).found(),
-                  choices.order)
+    found = Orders(trial, first, second, replace(choices, order=order)).found()
+    return Judged(verdict_without(verdict, found), found, choices.order)
+
+
+def verdict_without(verdict: str, found: Found) -> str:
+    """Returns the verdict without the findings that were accepted: `same`, or where others
+    differ."""
+    if found.is_rest_same:
+        return 'same'
+    if found.accepted is None or not found.accepted.findings or not found.compared.findings:
+        return verdict
+    message = found.compared.findings[0].first or found.compared.findings[0].second
+    return f'differ at {message.place}' if message else verdict

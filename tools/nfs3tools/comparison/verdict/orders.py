@@ -2,7 +2,8 @@
 from __future__ import annotations
 
 from collections.abc import Sequence
-from dataclasses import dataclass
+from dataclasses import dataclass, replace
+from functools import cache
 from typing import Literal, Optional
 
 from ..exchanges.matching import Pair
@@ -10,8 +11,9 @@ from ..exchanges.overtaken import overtaken
 from ..exchanges.pairing import ASKING, Pairing
 from ..exchanges.unequal import Listed, ListedInPlace
 from ..values.classes import Mask, besides, with_class_of
+from .accepted import Accepted, Split
 from .excerpt import Around
-from .findings import Compared, Explaining, Run
+from .findings import Compared, Explaining, Finding, Run
 from .trial import Trial
 
 Order = Optional[Literal['strict', 'any']]
@@ -26,19 +28,29 @@ class Choices:
     masks: that of the comparison, and those of any order, each with more than the one before
     leaves_out: the procedures whose calls are left out in any order if one run alone has them
     around: how much is shown of both runs side by side, if that is asked for
+    accepted: the findings that were accepted before, if there is a file of them
     """
     order: Order
     masks: Sequence[Mask]
     leaves_out: frozenset[str] = ASKING
     around: Around | None = None
+    accepted: Accepted | None = None
 
 
 @dataclass(frozen=True)
 class Found:
     """What was found: all that differs and belongs together, and the mask under which the runs are
-    the same in another order, if they are."""
+    the same in another order, if they are.
+
+    accepted: the findings that were accepted, which are not among those of `compared`
+    is_rest_same: whether the runs are the same in their own order without the exchanges of these
+    whole: the comparison with all findings that count, accepted or not, if there are some
+    """
     compared: Compared
     same_under: Mask | None = None
+    accepted: Split | None = None
+    is_rest_same: bool = False
+    whole: Compared | None = None
 
 
 class NothingToCompare(Exception):
@@ -65,9 +77,44 @@ class Orders:
         self.explaining = Explaining(*self.runs, self.pairing, self.leaves_out, overtaken)
 
     def found(self) -> Found:
-        """Finds what differs, or that nothing does in another order."""
+        """Finds what differs, or that nothing does in another order, and what of it was
+        accepted."""
+        found = self.found_of_all()
+        found = replace(found, whole=found.compared if found.same_under is None else None)
+        if self.choices.accepted is None:
+            return found
+        compared, accepted = self.choices.accepted.split(found.compared)
+        is_all = bool(accepted.findings) and not compared.findings and found.same_under is None
+        found = replace(found, compared=compared, accepted=accepted)
+        return self.with_rest(found, accepted.findings) if is_all else found
+
+    def with_rest(self, found: Found, accepted: Sequence[Finding]) -> Found:
+        """Finds whether the runs are the same without the exchanges of all findings, which were
+        accepted. That is the word of the program, as without them."""
+        masks, mask = self.choices.masks, found.compared.mask
+        rest = self.pairing.without(pairs_of(self.pairing, accepted))
+        if not len(rest.order_of_first()):
+            return found
+        self.captures = self.trial.in_one_order(rest)
+        if self.is_in_own_order():
+            return replace(found, is_rest_same=self.has_like_connections() and self.is_same(mask))
+        return replace(found, same_under=self.least()[0]) if self.is_same(masks[-1]) else found
+
+    def is_in_own_order(self) -> bool:
+        """Whether the order counts, or makes no difference. Then calls in another turn are
+        findings."""
+        order = self.choices.order
+        return order == 'strict' or order is None and not self.explaining.has_another_order()
+
+    def has_like_connections(self) -> bool:
+        """Whether the connections of both runs belong together in their order."""
+        here, there = self.pairing.here.connections, self.pairing.there.connections
+        first, second = (len(taken.connections) for taken in self.trial.runs)
+        return first == second and here == there and self.pairing.homes == list(range(len(here)))
+
+    def found_of_all(self) -> Found:
         masks = self.choices.masks
-        if self.choices.order == 'strict' or self.choices.order is None and not self.explaining.has_another_order():
+        if self.is_in_own_order():
             return Found(self.explained(masks[0]))
         # (each mask has more than the one before, so what differs under the last one does under
         # all)
@@ -120,3 +167,14 @@ class Orders:
         differing = listed.unequal()
         return self.explaining.explained(differing, listed.turns_of_values(differing), mask,
                                          self.choices.order == 'strict', self.choices.around)
+
+
+def pairs_of(pairing: Pairing, findings: Sequence[Finding]) -> list[Pair]:
+    """Returns the exchanges that belong together and of which findings are."""
+    here, replies = pairing.here, cache(pairing.here.exchanges_of_replies)
+    some = set[int]()
+    for message in filter(None, (finding.first for finding in findings if finding.second)):
+        place = here.place_of(message.connection)
+        some.add(here.starts[place] + message.record - 1 if message.is_call
+                 else replies(place)[message.record])
+    return [(at, pairing.partners[at]) for at in sorted(some)]

@@ -6,6 +6,7 @@ from typing import NamedTuple
 
 from ...recordings.coverage import Allowed
 from ..values.classes import Mask
+from .accepted import Split
 from .cover import Cover, Size
 from .findings import Compared
 from .summary import IN_ANOTHER_ORDER
@@ -14,13 +15,15 @@ from .summary import IN_ANOTHER_ORDER
 class Report(NamedTuple):
     """What is said of two runs as a whole: what `same` says of them, what is masked, and of both
     their names and how much they have; the mask under which they are the same in another order, if
-    they are; and how much of both is compared, unless they are parts."""
+    they are; how much of both is compared, unless they are parts; and what was accepted, if there is
+    a file of that."""
     verdict: str
     mask: Mask
     names: tuple[str, str]
     sizes: tuple[Size, Size]
     same_under: Mask | None = None
     covers: tuple[Cover, Cover] | None = None
+    accepted: Split | None = None
 
     @property
     def is_in_part(self) -> bool:

@@ -1,20 +1,25 @@
 """Both runs as captures in a folder, and what the programs say of them."""
 from __future__ import annotations
 
+import os
 import re
-from collections.abc import Callable, Iterator, Sequence
+from collections.abc import Callable, Iterable, Iterator, Sequence
 from functools import partial
 from pathlib import Path
 
 from ...recordings.taken import Taken
+from ...shared.outputs import write_temporary
 from ...shared.places import Place
-from ...shared.programs import CHECKED, COMPARED, lines_of_program, run_program
+from ...shared.programs import (
+    CHECKED, COMPARED, lines_of_program, run_program, run_side_by_side)
+from ...shared.progress import Progress
 from ..exchanges.outlines import Outlines, When
 from ..exchanges.pairing import InOrder, Listing, Pairing, Relaxed, paired
 from ..exchanges.reordered import write_in_order
 from ..values.classes import Mask, told
-from ..values.masking import write_masked
+from ..values.masking import write_both_masked
 
+SMALL = 1 << 18  # bytes of a capture whose lines are kept
 RUNS = 'ab'  # begin the names of captures
 CONNECTION = re.compile(r'(?<=differ at )connection (\d+)')
 
@@ -31,15 +36,19 @@ class Trial:
     """Two runs, which are written as captures. What is made of them is written beside them, each
     once and under a new name."""
 
-    def __init__(self, program: str, folder: Path, runs: Sequence[Taken]) -> None:
+    def __init__(self, program: str, folder: Path, runs: Sequence[Taken],
+                 progress: Progress = Progress(False)) -> None:
         self.program, self.folder, self.runs, self.number = program, folder, runs, 0
+        self.progress = progress
         self.made = dict[tuple[str, ...], list[str]]()  # by how it was made, and of which captures
+        self.said = dict[tuple[str, str], str]()  # what `same` says of two
+        self.few = dict[str, list[str]]()  # the lines of small captures, which are listed once
         self.captures = self.named()
         self.write()
 
     def write(self) -> None:
         for taken, capture in zip(self.runs, self.captures):
-            taken.write_capture(capture)
+            write_temporary(capture, taken.capture())
 
     def named(self) -> list[str]:
         """Returns two new names."""
@@ -47,40 +56,54 @@ class Trial:
         return [str(self.folder / f'{letter}{self.number}') for letter in RUNS]
 
     def made_of(self, captures: Sequence[str], how: str,
-                make: Callable[[str, str], object]) -> list[str]:
+                make: Callable[[Sequence[str], Sequence[str]], object]) -> list[str]:
         """Returns the names of what is made of two captures in one way."""
         key = how, *captures
         if key not in self.made:
             names = self.named()
-            for capture, name in zip(captures, names):
-                make(capture, name)
+            make(captures, names)
             self.made[key] = names
         return self.made[key]
 
     def masked(self, captures: Sequence[str], mask: Mask) -> list[str]:
-        return self.made_of(captures, told(mask), lambda capture,
-                            name: self.mask(capture, name, mask))
+        return self.made_of(captures, told(mask),
+                            lambda captures, names: self.mask(captures, names, mask))
 
-    def mask(self, capture: str, name: str, mask: Mask) -> None:
-        write_masked(self.program, capture, name, mask)
+    def mask(self, captures: Sequence[str], names: Sequence[str], mask: Mask) -> None:
+        self.progress.begin('masking values')
+        write_both_masked(self.program, captures, names, mask)
 
     def same(self, captures: Sequence[str], mask: Mask) -> str:
         """Returns what the program says of two captures under a mask: `same`, or where they
         differ."""
-        return run_program(self.program, ['same', *self.masked(captures, mask)],
-                           COMPARED).out.strip()
+        masked = self.masked(captures, mask)
+        key = masked[0], masked[1]
+        if key not in self.said:
+            self.progress.begin('comparing both runs')
+            self.said[key] = run_program(self.program, ['same', *masked], COMPARED).out.strip()
+        return self.said[key]
 
     def listing(self, capture: str) -> Listing:
         """Returns the lines of a capture. Connections have the numbers that they have in the run,
         of which some may be left out."""
-        numbers = self.numbers_of(self.runs[RUNS.index(Path(capture).name[0])])
+        taken = self.runs[RUNS.index(Path(capture).name[0])]
+        numbers = self.numbers_of(taken)
         if numbers is None:
-            return lambda: lines_of_program(self.program, ['show', capture])
-        return partial(self.numbered, capture, numbers)
+            return partial(self.lines, capture, taken)
+        return partial(self.numbered, capture, taken, numbers)
 
-    def numbered(self, capture: str, numbers: Sequence[int]) -> Iterator[str]:
+    def lines(self, capture: str, taken: Taken) -> Iterable[str]:
+        """Returns the lines of a capture."""
+        if os.path.getsize(capture) <= SMALL:
+            if capture not in self.few:
+                self.few[capture] = list(lines_of_program(self.program, ['show', capture]))
+            return self.few[capture]
+        lines = lines_of_program(self.program, ['show', capture])
+        return self.progress.lines('reading the calls', lines, taken.count_records)
+
+    def numbered(self, capture: str, taken: Taken, numbers: Sequence[int]) -> Iterator[str]:
         """Yields the lines of a capture, whose connections get these numbers."""
-        for line in lines_of_program(self.program, ['show', capture]):
+        for line in self.lines(capture, taken):
             number, _, rest = line.partition(' ')
             yield f'{numbers[int(number) - 1]} {rest}'
 
@@ -103,9 +126,12 @@ class Trial:
                   mask: Mask | None = None) -> tuple[Listing, Listing]:
         """Returns the listings of two captures in canonical form, under a mask if there is one."""
         masked = captures if mask is None else self.masked(captures, mask)
-        names = self.made_of(masked, 'canon', lambda capture,
-                             name: run_program(self.program, ['canon', capture, name], CHECKED))
+        names = self.made_of(masked, 'canon', self.make_canonical)
         return self.listing(names[0]), self.listing(names[1])
+
+    def make_canonical(self, captures: Sequence[str], names: Sequence[str]) -> None:
+        self.progress.begin('making the canonical form')
+        run_side_by_side([[self.program, 'canon', *one] for one in zip(captures, names)], CHECKED)
 
     def paired(self, masks: Sequence[Mask], lonely: frozenset[str]) -> Pairing:
         """Brings the exchanges of both runs together, by what they have in common under the first
@@ -116,11 +142,13 @@ class Trial:
                        for listing, taken in zip(listings, self.runs))
         relaxed = (lambda: Relaxed(more[0],
                                    self.canonical(self.captures, more[0]))) if more else None
+        self.progress.begin(f'bringing {len(here) + len(there):,} calls together')
         return paired(here, there, listings, lonely, relaxed)
 
     def in_one_order(self, pairing: Pairing) -> list[str]:
         """Writes both runs in the order of the first one, without the exchanges that have no
         partner. Returns the captures' names."""
+        self.progress.begin('writing both runs in one order')
         names = self.named()
         sides = ((pairing.here, pairing.order_of_first(), pairing.only_first()),
                  (pairing.there, pairing.order_of_second(), pairing.only_second()))

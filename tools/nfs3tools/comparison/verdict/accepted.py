@@ -1,0 +1,209 @@
+"""Findings that somebody accepted, by a file: they are counted apart, and what is left decides."""
+from __future__ import annotations
+
+import argparse
+import glob
+import json
+import re
+from collections import defaultdict
+from collections.abc import Iterable, Iterator, Mapping, Sequence
+from dataclasses import replace
+from fnmatch import fnmatchcase
+from itertools import compress
+from typing import Any, NamedTuple
+
+from ...captures.whose import ANY
+from ...shared.layouts import BY_NAME
+from ...shared.printed import escaped, printable
+from ..values.bindings import RENAMED
+from ..values.classes import CLASSES, Mask, Way
+from .differences import Difference
+from .findings import Compared, Finding
+
+VERSION = 1  # of the form of the file
+SIDES = ('first', 'second')
+# What an entry says of the message, and the findings of which that is all.
+PLAIN = ('moved', 'replies')
+MEMBERS = {'procedure', 'path', 'is_call', 'field', 'first', 'second', 'only', 'kind'}
+WILD, ESCAPED = frozenset('*?['), re.compile(r'\[([*?[])\]')
+Entry = Mapping[str, Any]  # an object of the file
+
+
+class Split(NamedTuple):
+    """The findings of a comparison that were accepted, and the entries that fit none."""
+    findings: Sequence[Finding]
+    no_longer_found: Sequence[Entry]
+
+
+class Accepted:
+    """The entries of a file of accepted findings, and its path."""
+
+    def __init__(self, path: str, entries: Sequence[Entry]) -> None:
+        self.path, self.entries = path, entries
+        # By paths without wildcards, so that many entries cost no more than a few
+        self.by_path = defaultdict[object, list[int]](list)
+        for number, entry in enumerate(entries):
+            self.by_path[key_of(entry.get('path', ANY))].append(number)
+
+    def of(self, finding: Finding) -> list[int]:
+        """Returns the numbers of the entries that fit the message of a finding."""
+        some = [*self.by_path.get((finding.path,), ()), *self.by_path.get(ANY, ())]
+        return [number for number in some if fits(self.entries[number], finding)]
+
+    def split(self, compared: Compared) -> tuple[Compared, Split]:
+        """Returns what is left of a comparison, and what was accepted of it. A finding of which
+        some fields are accepted is in both, with its own fields in each."""
+        left, taken, used = list[Finding](), list[Finding](), set[int]()
+        for finding in compared.findings:
+            numbers = self.of(finding)
+            some = [said_by(self.entries, numbers, one) for one in finding.differences]
+            used.update(*some, () if finding.differences else numbers)
+            if not finding.differences:
+                (taken if numbers else left).append(finding)
+                continue
+            taken += with_fields(finding, map(bool, some))
+            left += with_fields(finding, (not by for by in some))
+        gone = [entry for number, entry in enumerate(self.entries) if number not in used]
+        rest = replace(compared, findings=left, lonely=lonely_without(compared, taken))
+        return rest, Split(taken, gone)
+
+
+def key_of(pattern: str | None) -> object:
+    """Returns the only path that a pattern fits, in a tuple, or `*` if there may be several."""
+    if pattern is not None and not WILD.isdisjoint(ESCAPED.sub('', pattern)):
+        return ANY
+    return (pattern and ESCAPED.sub(r'\1', pattern),)
+
+
+def with_fields(finding: Finding, wanted: Iterable[bool]) -> list[Finding]:
+    """Returns a finding with some of its fields, or nothing if there are none."""
+    its = tuple(compress(finding.differences, wanted))
+    return [replace(finding, differences=its)] if its else []
+
+
+def lonely_without(compared: Compared, taken: Iterable[Finding]) -> tuple[int, int]:
+    """Returns how many calls each run has alone, without some."""
+    sides = [one.first is None for one in taken if one.kind == 'only']
+    return compared.lonely[0] - sides.count(False), compared.lonely[1] - sides.count(True)
+
+
+def fits(entry: Entry, finding: Finding) -> bool:
+    """Whether an entry is about the message of a finding. None is about whole connections."""
+    message = finding.first or finding.second
+    if message is None or finding.kind in ('connection', 'order') or kind_of(entry) != finding.kind:
+        return False
+    if entry['procedure'] not in (ANY, message.procedure):
+        return False
+    if entry.get('is_call', message.is_call) != message.is_call:
+        return False
+    if finding.kind == 'only' and entry['only'] != SIDES[finding.first is None]:
+        return False
+    path = entry.get('path', ANY)
+    return path == finding.path or path == ANY or (
+        path is not None and finding.path is not None and fnmatchcase(finding.path, path))
+
+
+def kind_of(entry: Entry) -> str:
+    """Returns the kind of the findings that an entry is about."""
+    return 'only' if 'only' in entry else str(entry.get('kind', 'changed'))
+
+
+def said_by(entries: Sequence[Entry], numbers: Iterable[int], difference: Difference) -> list[int]:
+    """Returns which of some entries have a field and its values."""
+    values = {'first': difference.first, 'second': difference.second}
+    return [number for number in numbers
+            if entries[number].get('field') in (difference.label, difference.field)
+            and all(entries[number].get(side, value) == value for side, value in values.items())]
+
+
+# --- The file ---
+
+def accepted_of(path: str) -> Accepted:
+    """Reads a file of accepted findings. Raises `ArgumentTypeError` if it is none."""
+    with open(path, 'rb') as file:
+        content = file.read()
+    try:
+        whole = json.loads(content)
+        is_of_version = isinstance(whole, dict) and whole['version'] == VERSION
+        entries = whole['accepted'] if is_of_version else None
+    except (ValueError, KeyError, RecursionError):
+        entries = None
+    if not isinstance(entries, list):
+        raise refusal(path, f'it has no object with "version": {VERSION} and a list "accepted"')
+    for number, entry in enumerate(entries, 1):
+        wrong = fault_of(entry)
+        if wrong:
+            raise refusal(path, f'entry {number}: {wrong}')
+    return Accepted(path, entries)
+
+
+def refusal(path: str, why: str) -> argparse.ArgumentTypeError:
+    return argparse.ArgumentTypeError(printable(f'no accepted findings in {escaped(path)}: {why}'))
+
+
+def fault_of(entry: object) -> str | None:
+    """Returns what is wrong with an entry."""
+    if not isinstance(entry, dict):
+        return 'it is no object'
+    procedure, which = entry.get('procedure'), {'field', 'only', 'kind'} & entry.keys()
+    if procedure != ANY and (not isinstance(procedure, str) or procedure not in BY_NAME):
+        return f'no procedure: {procedure} (as in NFSPROC3_GETATTR, or *)'
+    if entry.keys() - MEMBERS:
+        return f'no member of an entry: {min(entry.keys() - MEMBERS)}'
+    if len(which) != 1:
+        return 'it needs one of field, only and kind'
+    if {'first', 'second'} & entry.keys() and 'field' not in entry:
+        return 'values need a field'
+    return next((f'{name} cannot be {json.dumps(value)}' for name, value in entry.items()
+                 if not is_value(name, value)), None)
+
+
+def is_value(name: str, value: object) -> bool:
+    """Whether a member of an entry may have a value."""
+    if name in ('path', 'first', 'second'):
+        return value is None or isinstance(value, str)
+    if name == 'is_call':
+        return isinstance(value, bool)
+    choices = {'only': SIDES, 'kind': PLAIN}.get(name)
+    return isinstance(value, str) and (choices is None or value in choices)
+
+
+def file_of(findings: Iterable[Finding], mask: Mask) -> bytes:
+    """Returns a file that accepts findings, those that can be, each entry once."""
+    lines = [json.dumps(entry) for finding in findings for entry in entries_of(finding, mask)]
+    entries = ','.join(f'\n  {line}' for line in dict.fromkeys(lines))
+    return f'{{"version": {VERSION}, "accepted": [{entries}\n]}}\n'.encode()
+
+
+def entries_of(finding: Finding, mask: Mask) -> Iterator[Entry]:
+    """Iterates over the entries that accept a finding. Whole connections are not accepted, nor is
+    the order of all replies of one."""
+    message = finding.first or finding.second
+    if message is None or finding.kind in ('connection', 'order'):
+        return
+    path = None if finding.path is None else glob.escape(finding.path)
+    entry = {'procedure': message.procedure, 'path': path}
+    if finding.kind == 'only':
+        yield {**entry, 'only': SIDES[finding.first is None]}
+    elif finding.kind in PLAIN:
+        yield {**entry, 'kind': finding.kind}
+    for one in finding.differences:
+        values = {'first': one.first, 'second': one.second}
+        if is_of_run(one, message.is_call, mask):
+            values = {}
+        yield {**entry, 'is_call': message.is_call, 'field': one.label, **values}
+
+
+def is_of_run(difference: Difference, is_call: bool, mask: Mask) -> bool:
+    """Whether each run has values of its own of an item, so that the next one has others."""
+    return difference.name in RENAMED or any(
+        mask.get(one.name) is Way.NUMBER and one.has(difference.name, is_call) for one in CLASSES)
+
+
+def words_of(entry: Entry) -> str:
+    """Returns an entry as it is printed."""
+    values = [f' {side}={entry[side]}' for side in SIDES if entry.get(side) is not None]
+    side = f' in the {entry["only"]} run' if 'only' in entry else ''
+    about = entry.get('field') or kind_of(entry) + side
+    where = [path] if (path := entry.get('path', ANY)) is not None else []
+    return printable(' '.join([entry['procedure'], *where, about]) + ''.join(values))
