@@ -5,6 +5,8 @@
     make.py long OUT            a raw call with the longest body that a record may have
     make.py mixed MEGABYTES OUT what a file server sees: attributes, names, folders, and data of 32 to 64 KiB
     make.py small MEGABYTES OUT GETATTR, LOOKUP and ACCESS alone
+    make.py recorded MEGABYTES OUT
+                                calls in the proportions and sizes of a recorded Linux client, with 400 files
     make.py interleaved MEGABYTES OUT
                                 the messages of `mixed` in version 2, each a chunk, in the order in which they are sent
     make.py xids OUT            one connection of 1,000,000 NULL calls with different xids, and their replies
@@ -26,8 +28,6 @@ from examples.messages import (
 
 LONGEST_BODY = 16_777_216
 CALLS = 2_000               # in a connection
-FILES = 10_000
-FOLDERS = 100               # the first of the files
 LATEST = 16                 # how many calls later a reply may come
 MOST_MEGABYTES = 1_000      # a capture's streams may have 1,073,741,824 bytes
 
@@ -40,8 +40,16 @@ COOKIE_VERIFIER = bytes.fromhex('00000000000000c7')
 T = TypeVar('T')
 # The chunks of a connection, those of the calls and those of the replies, which are made as they are asked for.
 Sides = tuple[Iterator[bytes], Iterator[bytes]]
-# Of a hundred calls, how many are of each procedure.
-Mix = dict[str, int]
+
+
+class Mix(NamedTuple):
+    """What is called: of a hundred calls, how many are of each procedure; and how many files there are. The first of them
+    are folders."""
+    shares: dict[str, int]
+    files: int = 10_000
+    folders: int = 100
+    least: int = 32 * 1_024  # of the bytes that are read or written at once
+    most: int = 64 * 1_024
 
 
 class Exchange(NamedTuple):
@@ -57,8 +65,8 @@ def handle(file: int) -> bytes:
     return bytes.fromhex('01000701') + bytes(7) + b'\x42' + hyper(file) + hyper(0x5dee1f00)
 
 
-def attributes(file: int) -> bytes:
-    if file < FOLDERS:
+def attributes(file: int, is_folder: bool) -> bytes:
+    if is_folder:
         return fattr(DIR, file, size=4096, mode=0o755, nlink=2)
     return fattr(REG, file, size=file * 977)
 
@@ -70,9 +78,10 @@ def name(file: int) -> bytes:
 class Server:
     """What a server would answer, with what many messages share made once."""
 
-    def __init__(self, chance: random.Random) -> None:
-        self.handles = [handle(file) for file in range(FILES)]
-        self.attributes = [attributes(file) for file in range(FILES)]
+    def __init__(self, chance: random.Random, mix: Mix) -> None:
+        self.files, self.folders = mix.files, mix.folders
+        self.handles = [handle(file) for file in range(mix.files)]
+        self.attributes = [attributes(file, file < mix.folders) for file in range(mix.files)]
         self.changes = [wcc(4096, known) for known in self.attributes]
         self.data = chance.randbytes(128 * KIB)
 
@@ -86,7 +95,7 @@ class Server:
             case 'GETATTR':
                 return this
             case 'LOOKUP':
-                return dirop(self.handles[exchange.file % FOLDERS], name(exchange.file))
+                return dirop(self.handles[exchange.file % self.folders], name(exchange.file))
             case 'ACCESS':
                 return this + word(0x1f)
             case 'READ':
@@ -96,7 +105,7 @@ class Server:
             case 'COMMIT':
                 return this + hyper(0) + word(0)
             case 'READDIRPLUS':
-                return fh(self.handles[exchange.file % FOLDERS]) + hyper(0) + bytes(8) + word(8 * KIB) + word(32 * KIB)
+                return fh(self.handles[exchange.file % self.folders]) + hyper(0) + bytes(8) + word(8 * KIB) + word(32 * KIB)
         raise ValueError(exchange.procedure)
 
     def results(self, exchange: Exchange) -> bytes:
@@ -106,7 +115,7 @@ class Server:
             case 'GETATTR':
                 return ok(self.attributes[file])
             case 'LOOKUP':
-                return ok(fh(self.handles[file]), known, post_op_attr(self.attributes[file % FOLDERS]))
+                return ok(fh(self.handles[file]), known, post_op_attr(self.attributes[file % self.folders]))
             case 'ACCESS':
                 return ok(known, word(0x1f))
             case 'READ':
@@ -116,19 +125,21 @@ class Server:
             case 'COMMIT':
                 return ok(self.changes[file], WRITE_VERIFIER)
             case 'READDIRPLUS':
-                return ok(self.listing(file % FOLDERS))
+                return ok(self.listing(file % self.folders))
         raise ValueError(exchange.procedure)
 
     def listing(self, folder: int) -> bytes:
         """The first 50 files of a folder."""
-        files = range(FOLDERS + folder, FILES, FOLDERS)[:50]
+        files = range(self.folders + folder, self.files, self.folders)[:50]
         items = [entryplus(file, name(file), cookie, self.attributes[file], self.handles[file])
                  for cookie, file in enumerate(files, 1)]
         return entries(self.attributes[folder], COOKIE_VERIFIER, items, is_end=False)
 
 
-MIXED: Mix = {'GETATTR': 26, 'LOOKUP': 20, 'ACCESS': 20, 'READ': 18, 'WRITE': 9, 'COMMIT': 4, 'READDIRPLUS': 3}
-SMALL: Mix = {'GETATTR': 40, 'LOOKUP': 35, 'ACCESS': 25}
+MIXED = Mix({'GETATTR': 26, 'LOOKUP': 20, 'ACCESS': 20, 'READ': 18, 'WRITE': 9, 'COMMIT': 4, 'READDIRPLUS': 3})
+SMALL = Mix({'GETATTR': 40, 'LOOKUP': 35, 'ACCESS': 25})
+RECORDED = Mix({'GETATTR': 54, 'LOOKUP': 26, 'ACCESS': 2, 'READ': 9, 'WRITE': 7, 'COMMIT': 1, 'READDIRPLUS': 1},
+               files=400, folders=20, least=4 * KIB, most=12 * KIB)
 
 # About how many bytes a call and its reply have, without data.
 BYTES = {'GETATTR': 260, 'LOOKUP': 390, 'ACCESS': 260, 'READ': 280, 'WRITE': 310, 'COMMIT': 300, 'READDIRPLUS': 8_000}
@@ -138,9 +149,9 @@ def exchanges(chance: random.Random, mix: Mix, room: int) -> tuple[list[Exchange
     """Returns a connection's exchanges, and about how many bytes they have. They end when the room is used up."""
     first_xid = chance.getrandbits(31)
     taken, used = list[Exchange](), 0
-    for procedure in chance.choices(list(mix), list(mix.values()), k=CALLS):
-        size = chance.randrange(32 * KIB, 64 * KIB + 1) if procedure in ('READ', 'WRITE') else 0
-        taken.append(Exchange(first_xid + len(taken), procedure, chance.randrange(FOLDERS, FILES), size))
+    for procedure in chance.choices(list(mix.shares), list(mix.shares.values()), k=CALLS):
+        size = chance.randrange(mix.least, mix.most + 1) if procedure in ('READ', 'WRITE') else 0
+        taken.append(Exchange(first_xid + len(taken), procedure, chance.randrange(mix.folders, mix.files), size))
         used += BYTES[procedure] + size
         if used >= room:
             break
@@ -156,7 +167,7 @@ def reordered(chance: random.Random, items: Sequence[T]) -> list[T]:
 def conversations(mix: Mix, megabytes: int) -> Iterator[Sides]:
     """Yields the chunks of each connection."""
     chance = random.Random(1)
-    server = Server(chance)
+    server = Server(chance, mix)
     room = megabytes * 1_000_000
     while room > 0:
         taken, used = exchanges(chance, mix, room)
@@ -212,7 +223,8 @@ def megabytes(text: str) -> int:
 # What writes each kind of capture. Those of so many megabytes are by themselves.
 WHOLE: dict[str, Callable[[BinaryIO], None]] = {'readdir': write_readdir, 'long': write_long, 'xids': write_xids}
 SIZED: dict[str, tuple[Callable[[BinaryIO, Mix, int], None], Mix]] = {
-    'mixed': (write_connections, MIXED), 'small': (write_connections, SMALL), 'interleaved': (write_interleaved, MIXED)}
+    'mixed': (write_connections, MIXED), 'small': (write_connections, SMALL), 'recorded': (write_connections, RECORDED),
+    'interleaved': (write_interleaved, MIXED)}
 
 
 def main() -> None:

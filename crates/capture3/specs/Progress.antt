@@ -30,7 +30,7 @@ pub record AreCounted (connections records : ℕ) (entries : List Entry) : Type 
   pub connections_are : connections ≡ begins entries
   pub records_are : records ≡ records_after 0 entries
 
--- after these entries
+-- the place and the counts after these entries
 pub record HasPassed (progress : Progress) (entries : List Entry) : Type 0 where
   pub place : AreCounted progress.connections progress.records entries
   pub calls_are : progress.calls ≡ calls_in entries

@@ -270,6 +270,7 @@ impl Container {
 
     /// Takes the bytes of `rest` that belong to the part of the capture that is open. The position
     /// stays.
+    #[inline(always)]
     fn step(&mut self, rest: &[u8]) -> Result<Transition, Error>
         requires some { 0 < length rest.now }
         requires ready { CanGoOn None self.old.joiner.taking self.old }

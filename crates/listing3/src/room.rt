@@ -297,7 +297,7 @@ fn split(bytes: &[u8], halves: &mut [u8])
     }
 }
 
-/// PutsBytes its digit in the place of each number.
+/// Puts its digit in the place of each number.
 #[inline(always)]
 fn spell(digits: &mut [u8])
     requires { AreHalves digits.old }

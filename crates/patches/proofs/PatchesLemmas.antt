@@ -3,7 +3,7 @@ use Rattle.std.proofs.Common.{◌≡◌, ℕ, ◌+◌, ◌<◌, ◌≤◌, List,
 use Rattle.std.proofs.lemmas.List.{append_assoc, drop_all, drop_more, take-take, take_min, append-nil, drop-append-le, take-append-le, take_all}
 use Rattle.std.proofs.Math.Seq.{take-append-add}
 use Rattle.patches.specs.declared.part.Part.{Part}
-use Rattle.patches.specs.Patches.{covered_by, patched_by, replacement, Makes, Noted}
+use Rattle.patches.specs.Patches.{covered_by, kept_by, patched_by, replacement, Makes, Noted}
 
 -- what is left of a body after a part, at least as long as what the other parts are of
 rest_length : (part : Part) (body : List ℕ) (n : ℕ) → length body ≡ part.keeps + (part.skips + n)
@@ -202,3 +202,22 @@ room-step body p =
     let rest = length-drop p.keeps body in
     let last = length-drop p.skips (drop p.keeps body) in
     omega (arith, front, rest, last)
+
+-- what the parts from an index on keep
+pub kept-more : (parts : List Part) (i : ℕ) (p : Part) → i < length parts → p ≡ get_or parts i p
+    → kept_by (drop i parts) ≡ p.keeps + kept_by (drop (i + 1) parts)
+kept-more parts i p l e =
+    ap kept_by (drop_more parts i p l)
+    ∙ ap (λ (q : Part). q.keeps + kept_by (drop (i + 1) parts)) (sym e)
+
+-- the same as `room-step` where the bytes that are left after all parts are not written
+pub front-step : (parts : List Part) (i : ℕ) (body : List ℕ) (p : Part) → i < length parts
+    → p ≡ get_or parts i p
+    → length (take p.keeps body)
+    + min (kept_by (drop (i + 1) parts)) (length (drop p.skips (drop p.keeps body)))
+    ≤ min (kept_by (drop i parts)) (length body)
+front-step parts i body p l e =
+    let front = length-take p.keeps body in
+    let rest = length-drop p.keeps body in
+    let last = length-drop p.skips (drop p.keeps body) in
+    omega (arith, front, rest, last, kept-more parts i p l e)

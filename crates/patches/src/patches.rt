@@ -1,12 +1,16 @@
 //! Replacements in a body of bytes, noted before the body is at hand.
 
 ghost use Rattle.std.specs.Prelude.{◌≡◌, ◌≤◌, ◌<◌, ◌+◌, ◌-◌, ◌*◌, ◌^◌, ◌++◌, ℕ, List, [], IfOk, IsTrue, OnErr, OnOk, drop, length, min, take, vec_capacity, vec_len};
-ghost use Rattle.patches.specs.Patches.{patched, replacement, Makes};
+ghost use Rattle.patches.specs.Patches.{patched, replacement, kept_by, Makes};
 
 use crate::part::{MOST, Part, after, front, is_alike, put_part};
 use std::alloc::{AllocError, Global};
 use std::marker::Model;
 use xdr3::room::{make_room, put_bytes};
+
+/// A body of at least so many bytes has no room of its own length, since most of it may stay after
+/// the last replacement.
+const LONG: usize = 16_384;
 
 /// Which bytes of a body stay and which are replaced. They are noted from the body's front to its
 /// end, before the body is at hand.
@@ -95,13 +99,25 @@ impl Patches {
         ensures short { OnErr result
             (vec_capacity room.old < at + (length body.now + 8 * length self.now.parts)) }
     {
-        let (end, rest) = self.write_front(body, room, at)?;
-        Ok(put_bytes(room, end, rest))
+        make_room(room, at, most_bytes(body.len(), self.parts.len()))?;
+        Ok(self.put_whole(body, room, at))
+    }
+
+    /// Writes the patched body at `at`, and returns the position after it.
+    fn put_whole(&self, body: &[u8], room: &mut [u8], at: usize) -> usize
+        requires { at + (length body.now + 8 * length self.now.parts) ≤ length room.old }
+        ensures within { result ≤ length room.new }
+        ensures written { take result room.new ≡ take at room.old ++ patched self.now body.now }
+        ensures kept { take at room.new ≡ take at room.old }
+        ensures len { length room.new ≡ length room.old }
+    {
+        let (end, rest) = self.put(body, room, at);
+        put_bytes(room, end, rest)
     }
 
     /// Writes the patched body into a buffer at `at`, but for the bytes that stay after the last
     /// replacement. Returns the position after what was written, and those bytes. The buffer is
-    /// made so long that they fit in too; what follows the position means nothing.
+    /// made longer if it is too short for what is written; what follows the position means nothing.
     ///
     /// # Errors
     ///
@@ -114,7 +130,7 @@ impl Patches {
         at: usize,
     ) -> Result<(usize, &'b [u8]), AllocError>
         requires { at ≤ vec_len room.old }
-        ensures within { IfOk result (λ r. r.0 + length r.1.now ≤ vec_len room.new) }
+        ensures within { IfOk result (λ r. r.0 ≤ vec_len room.new) }
         ensures written { IfOk result (λ r. take r.0 room.new.items ++ r.1.now
             ≡ take at room.old.items ++ patched self.now body.now) }
         ensures from { IfOk result (λ r. at ≤ r.0) }
@@ -122,15 +138,34 @@ impl Patches {
         ensures short { OnErr result
             (vec_capacity room.old < at + (length body.now + 8 * length self.now.parts)) }
     {
-        make_room(room, at, most_bytes(body.len(), self.parts.len()))?;
+        let front = self.most_before_last(body.len());
+        make_room(room, at, most_bytes(front, self.parts.len()))?;
         Ok(self.put(body, room, at))
+    }
+
+    /// Returns how many bytes of a body stay before the last replacement, or more if it is short.
+    fn most_before_last(&self, body: usize) -> usize
+        ensures most { result ≤ body }
+        ensures enough { min (kept_by self.now.parts) body ≤ result }
+    {
+        if body < LONG {
+            return body;
+        }
+        let mut front = 0usize;
+        for part in &self.parts {
+            front = front.saturating_add(part.keeps);
+        }
+        front.min(body)
     }
 
     /// Writes the patched body at `at`, but for the bytes that stay after the last replacement.
     /// Returns the position after what was written, and those bytes.
     fn put<'b>(&self, body: &'b [u8], room: &mut [u8], at: usize) -> (usize, &'b [u8])
-        requires { at + (length body.now + 8 * length self.now.parts) ≤ length room.old }
-        ensures within { result.0 + length result.1.now ≤ length room.new }
+        requires { at + (min (kept_by self.now.parts) (length body.now) + 8 * length self.now.parts)
+            ≤ length room.old }
+        ensures within { result.0 ≤ length room.new }
+        ensures most { result.0 + length result.1.now
+            ≤ at + (length body.now + 8 * length self.now.parts) }
         ensures written { take result.0 room.new ++ result.1.now
             ≡ take at room.old ++ patched self.now body.now }
         ensures from { at ≤ result.0 }

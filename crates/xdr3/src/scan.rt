@@ -9,6 +9,7 @@ ghost use Rattle.xdr3.specs.machinery.WindowScans.{ScansInside, StopsInside};
 ghost use Rattle.xdr3.specs.Shape.{Shape, counted, fixed, hyper, is_any, is_at_most, is_bool, is_listed, linked, opaque, optional, sized, write_verf};
 
 use crate::input::Input;
+use crate::pass;
 use crate::reason::{GetError, Reason, Stop};
 use crate::visit::Visit;
 
@@ -157,7 +158,7 @@ pub fn scan_write_verf<V: Visit>(
 }
 
 /// Reads opaque data of at most `max` bytes and visits it (RFC 4506, section 4.10).
-#[inline]
+#[inline(always)]
 #[tactic(auto, unfolding(crate::specs::Scan::Scans, crate::specs::Scan::Stops, crate::specs::Reading::reading))]
 pub fn scan_var<V: Visit>(
     name: &'static str,
@@ -169,7 +170,7 @@ pub fn scan_var<V: Visit>(
         visitor.old visitor.new) }
     ensures err { IfErr result (λ error. Stops (opaque Var name.now max) input.old error) }
 {
-    let bytes = input.var(max)?;
+    let bytes = pass!(input.var(max));
     visitor.var(name, bytes)?;
     Ok(())
 }
@@ -187,7 +188,7 @@ pub fn scan_text<V: Visit>(
         visitor.old visitor.new) }
     ensures err { IfErr result (λ error. Stops (opaque Text name.now max) input.old error) }
 {
-    let bytes = input.var(max)?;
+    let bytes = pass!(input.var(max));
     visitor.text(name, bytes)?;
     Ok(())
 }
@@ -204,7 +205,7 @@ pub fn scan_handle<V: Visit>(
         visitor.old visitor.new) }
     ensures err { IfErr result (λ error. Stops (opaque Handle name.now 64) input.old error) }
 {
-    let bytes = input.var(64)?;
+    let bytes = pass!(input.var(64));
     visitor.handle(name, bytes)?;
     Ok(())
 }

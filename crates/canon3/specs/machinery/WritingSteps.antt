@@ -1,5 +1,5 @@
 -- A reader and a writer under way, and what each step of them does.
-use Rattle.std.specs.Prelude.{ℕ, Bool, true, false, Option, List, ◌++◌, Result, Ok, Err}
+use Rattle.std.specs.Prelude.{ℕ, Option, List, ◌++◌, Result, Ok, Err}
 use Rattle.capture3.specs.Told.{Gave, IsSpent, Told}
 use Rattle.std.specs.Io.KnownBytes.{Appends}
 use Rattle.std.specs.declared.hash.BuildHasher as BuildHasher
@@ -78,13 +78,6 @@ module _ {T R S H : Type 0} {builds : BuildHasher.Ghosts S H} {hashes : Hasher.G
     pub ended : IsEnded first (told (source_of reader)) given (front ++ more)
     pub reads : StandsFor told reader given (front ++ more)
     pub writes : HasWritten form before rests going writer old new (front ++ more)
-
-  abbrev pub WritesOn : Entries R S H builds hashes → T → Option (List ℕ) → Result Bool Error
-      → Type 0
-  WritesOn reader writer new (Ok true) = IsWriting reader writer new
-  WritesOn reader writer new (Ok false) = IsDone reader writer new
-  WritesOn reader writer new (Err error) =
-      HasStopped form before rests going first old (told (source_of reader)) new error
 
   abbrev pub WritesToTheEnd : {X : Type 0} → Entries R S H builds hashes → T → Option (List ℕ)
       → Result X Error → Type 0

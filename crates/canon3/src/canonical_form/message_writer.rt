@@ -211,7 +211,7 @@ impl<S: BuildHasher + Drop> MessageWriter<S> {
         if rest.len() >= MANY {
             return Ok((end, rest));
         }
-        Ok((put_bytes(&mut self.room, end, rest), &[]))
+        Ok((append(&mut self.room, end, rest)?, &[]))
     }
 
     /// Notes that a file handle is replaced by a handle of its number.
@@ -263,6 +263,20 @@ impl<S: BuildHasher + Drop> MessageWriter<S> {
         }
         noted
     }
+}
+
+/// Writes the bytes at `at` into a buffer, which is made longer if it is too short, and returns the
+/// position after them.
+#[inline(always)]
+fn append(room: &mut Vec<u8>, at: usize, bytes: &[u8]) -> Result<usize, AllocError>
+    requires { at ≤ vec_len room.old }
+    ensures within { IfOk result (λ end. end ≤ vec_len room.new) }
+    ensures from { IfOk result (λ end. at ≤ end) }
+    ensures written { IfOk result (λ end. take end room.new.items
+        ≡ take at room.old.items ++ bytes.now) }
+{
+    make_room(room, at, bytes.len())?;
+    Ok(put_bytes(room, at, bytes))
 }
 
 #[tactic(auto, unfolding(xdr3::specs::Visit::Adds, xdr3::specs::Visit::Keeps))]

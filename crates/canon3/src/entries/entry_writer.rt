@@ -9,7 +9,7 @@ ghost use Rattle.capture3.specs.Entry as spec;
 ghost use Rattle.canon3.specs.EntryWriter.{KeepsPrefixes, WritesAll, WritesAllCounted, WritesGiven, WritesGivenCounted, WritesOne};
 ghost use Rattle.canon3.specs.Summary.{AreMessageCounts};
 ghost use Rattle.canon3.specs.machinery.Reading.{ReadsAndWrites};
-ghost use Rattle.canon3.specs.machinery.WritingSteps.{WritesOn, EndsWriting, WritesToTheEnd, IsWriting};
+ghost use Rattle.canon3.specs.machinery.WritingSteps.{EndsWriting, WritesToTheEnd, IsWriting};
 ghost use Rattle.capture3.specs.Rank.{distinct, number_limit};
 ghost use Rattle.canon3.specs.Values as values;
 ghost use Rattle.canon3.specs.WriteErrors.{CountsWriting, IsOfWriting};
@@ -143,7 +143,7 @@ pub fn write_form<R: Source, W: Sink, E: EntryWriter, S: BuildHasher + Drop>(
     Ok(counts_of(progress))
 }
 
-/// Writes the form of a capture's entries, and returns how far they came.
+/// Writes the form of a capture's entries, flushes the sink, and returns how far they came.
 fn write_whole<R: Source, W: Sink, E: EntryWriter, S: BuildHasher + Drop>(
     alloc: Global,
     hasher: S,
@@ -170,36 +170,12 @@ fn write_whole<R: Source, W: Sink, E: EntryWriter, S: BuildHasher + Drop>(
         Err(_) => return Err(Error::Memory),
     };
     let mut entries = Entries::through(alloc, hasher, source, block);
-    let result = write_new(&mut entries, sink, writer);
+    let written = write_rest(&mut entries, sink, writer);
+    let progress = entries.progress();
     entries.into_source();
-    result
-}
-
-/// Writes what a new reader returns, and flushes the sink.
-fn write_new<R: Source, W: Sink, E: EntryWriter, S: BuildHasher + Drop>(
-    entries: &mut Entries<'_, R, S>,
-    sink: &mut W,
-    writer: &mut E,
-) -> Result<Progress, Error>
-    requires begins { IsWriting E.form E.before E.rests E.going R.told
-        (R.told (source_of entries.old)) [] (W.written sink.old) entries.old writer.old
-        (W.written sink.old) }
-    requires going { failure_of entries.old ≡ None }
-    requires prefixes { KeepsPrefixes E.form }
-
-    // What is written.
-    ensures ends { EndsWriting E.form E.before E.rests E.going (R.told (source_of entries.old))
-        (W.written sink.old) (R.told (source_of entries.new)) writer.new (W.written sink.new)
-        result }
-    ensures flushes { OnOk result (IsFlushed (W.written sink.new) (W.flushed sink.new)) }
-
-    // The devices.
-    ensures devices { ReadsAndWrites R.failures entries.old entries.new (W.failures sink.old)
-        (W.failures sink.new) result }
-{
-    write_rest(entries, sink, writer)?;
+    written?;
     match sink.flush_all() {
-        Ok(()) => Ok(entries.progress()),
+        Ok(()) => Ok(progress),
         Err(_) => Err(Error::Write),
     }
 }
@@ -223,45 +199,14 @@ pub(crate) fn write_rest<R: Source, W: Sink, E: EntryWriter, S: BuildHasher + Dr
 {
     // Written out, since `?` takes more instructions for each message.
     loop {
-        match write_next(entries, sink, writer) {
-            Ok(true) => {}
-            Ok(false) => return Ok(()),
+        let progress = entries.progress();
+        match entries.visit(writer) {
+            Ok(Some(entry)) => match writer.write(progress, sink, entry) {
+                Ok(()) => {}
+                Err(error) => return Err(error),
+            },
+            Ok(None) => return Ok(()),
             Err(error) => return Err(error),
         }
-    }
-}
-
-/// Writes the next entry. Returns `false` at the end.
-fn write_next<R: Source, W: Sink, E: EntryWriter, S: BuildHasher + Drop>(
-    entries: &mut Entries<'_, R, S>,
-    sink: &mut W,
-    writer: &mut E,
-) -> Result<bool, Error>
-    requires going { failure_of entries.old ≡ None }
-    requires prefixes { KeepsPrefixes E.form }
-
-    // What is written.
-    ensures goes_on { (first : Told) (front : List spec.Entry) (old : Option (List ℕ))
-        → IsWriting E.form E.before E.rests E.going R.told first front old entries.old writer.old
-        (W.written sink.old)
-        → WritesOn E.form E.before E.rests E.going R.told first front old entries.new writer.new
-        (W.written sink.new) result }
-
-    // The reader goes on.
-    ensures fewer { IfOk result
-        (λ more. IsTrue more → entries_left entries.new < entries_left entries.old) }
-    ensures going { OnOk result (failure_of entries.new ≡ None) }
-
-    // The devices.
-    ensures devices { ReadsAndWrites R.failures entries.old entries.new (W.failures sink.old)
-        (W.failures sink.new) result }
-{
-    let progress = entries.progress();
-    match entries.visit(writer)? {
-        Some(entry) => {
-            writer.write(progress, sink, entry)?;
-            Ok(true)
-        }
-        None => Ok(false),
     }
 }

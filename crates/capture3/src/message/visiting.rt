@@ -17,6 +17,11 @@ pub trait MessageVisit: Visit {
     ghost rests: { Self → List Item → Type 0 };
 
     /// Begins a message with its xid and its mtype (RFC 5531, section 9).
+    ///
+    /// # Errors
+    ///
+    /// `AllocError` if an allocation failed. The contents of the visitor are unspecified then, as
+    /// they are after an error of the call that reads the message.
     fn begin(&mut self, start: Start) -> Result<(), AllocError>
         ensures { OnOk result
             (OpensMessage rests Self.stands self.old self.new (start_items start)) };

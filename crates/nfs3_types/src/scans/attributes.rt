@@ -7,7 +7,7 @@ ghost use Rattle.xdr3.specs.Scan.{Scans, Stops};
 use crate::values::attributes::{Fattr, PostOpAttr, Wcc, WccAttr};
 use xdr3::{GetError, Input, PlainField, Scan, Visit, scan_listed, scan_optional, scan_plain};
 
-/// Reads and visits the attributes after a file's type (RFC 1813, section 2.5).
+/// A file's attributes after its type (RFC 1813, section 2.5).
 const ATTRIBUTES: [PlainField; 16] = [
     PlainField::Word("mode"),
     PlainField::Word("nlink"),
@@ -61,7 +61,7 @@ impl Scan for PostOpAttr {
     }
 }
 
-/// Reads and visits a file's attributes before a change (RFC 1813, section 2.6).
+/// A file's attributes before a change (RFC 1813, section 2.6).
 const ATTRIBUTES_BEFORE: [PlainField; 5] = [
     PlainField::Hyper("size"),
     PlainField::Word("mtime_sec"),

@@ -1,47 +1,20 @@
 -- From what was handed out to what a capture has.
-use Rattle.std.proofs.Common.{◌≡◌, ℕ, ◌+◌, cond, min, Result, Ok, Err, List, [], ◌∷◌, ◌++◌, count_by, length, refl, subst, sym, append-nil, arith}
-use Rattle.canon3.proofs.Common.{bytes_eq, Gave, Told, IsPrefixOf, shown_of_all, flat_map-append, Error, Entry, Begin, items_of, Typed, distinct, number_limit, connections, handles, Summary}
+use Rattle.std.proofs.Common.{◌≡◌, ℕ, min, Result, Ok, Err, List, [], ◌∷◌, ◌++◌, length, refl, subst, sym, append-nil, arith}
+use Rattle.canon3.proofs.Common.{bytes_eq, Gave, Told, IsPrefixOf, shown_of_all, flat_map-append, Error, Entry, items_of, Typed, distinct, number_limit, handles, Summary}
 use Rattle.std.specs.Cmp.Lexicographic.{nat_list_eq_equiv}
-use Rattle.std.proofs.lemmas.List.Sums.{sum_by-cons}
 use Rattle.capture3.specs.declared.fault.Error.TheVariants as errors
-use Rattle.capture3.specs.Entry.{Call, Reply}
-use Rattle.capture3.specs.Progress.{calls_in, replies_in}
 use Rattle.capture3.specs.Reached.{Reached}
 use Rattle.std.specs.Prelude.{IfErr, Option, ◌≢◌}
 use Rattle.canon3.specs.EntryWriter.{WritesGiven}
 use Rattle.canon3.specs.HandleTable.{all_items, nothing}
 use Rattle.canon3.specs.WriteErrors.{CountsWriting}
-use Rattle.canon3.specs.Summary.{ConcludesAll, ConcludesGiven, is_begin, is_call, is_reply}
+use Rattle.canon3.specs.Summary.{ConcludesAll, ConcludesGiven}
 use Rattle.canon3.proofs.Lemmas.Order.InOrder.{typed_in_order}
 use Rattle.capture3.proofs.Lemmas.Connections.RankLemmas.{length-with_keys}
 
 pub items_with_last : (front : List Entry) (last : Entry)
     → all_items (front ++ last ∷ []) ≡ all_items front ++ items_of last
 items_with_last front last = simp (flat_map-append, append-nil)
-
-pub connections_counted : (entries : List Entry) → connections entries ≡ count_by is_begin entries
-connections_counted [] = refl
-connections_counted (Begin ∷ entries) =
-    let whole : count_by is_begin (Begin ∷ entries) ≡ 1 + count_by is_begin entries =
-    sum_by-cons (λ entry. cond (is_begin entry) 1 0) Begin entries in
-    omega (arith, whole, connections_counted entries)
-connections_counted (_ ∷ entries) = connections_counted entries
-
-pub calls_counted : (entries : List Entry) → calls_in entries ≡ count_by is_call entries
-calls_counted [] = refl
-calls_counted (Call items ∷ entries) =
-    let whole : count_by is_call (Call items ∷ entries) ≡ 1 + count_by is_call entries =
-    sum_by-cons (λ entry. cond (is_call entry) 1 0) (Call items) entries in
-    omega (arith, whole, calls_counted entries)
-calls_counted (_ ∷ entries) = calls_counted entries
-
-pub replies_counted : (entries : List Entry) → replies_in entries ≡ count_by is_reply entries
-replies_counted [] = refl
-replies_counted (Reply id items ∷ entries) =
-    let whole : count_by is_reply (Reply id items ∷ entries) ≡ 1 + count_by is_reply entries =
-    sum_by-cons (λ entry. cond (is_reply entry) 1 0) (Reply id items) entries in
-    omega (arith, whole, replies_counted entries)
-replies_counted (_ ∷ entries) = replies_counted entries
 
 -- there are few enough handles to be counted
 pub few_distinct : (bytes : List ℕ) (entries : List Entry) → Typed bytes entries

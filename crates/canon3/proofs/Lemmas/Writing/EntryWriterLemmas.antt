@@ -1,16 +1,21 @@
 -- What is written of the entries that a reader hands out.
-use Rattle.std.proofs.Common.{⊎_elim, ◌≡◌, ℕ, List, [], ◌∷◌, ◌++◌, refl, subst, sym, Option, Result, Ok, Err, arith, append_assoc}
-use Rattle.canon3.proofs.Common.{Gave, Told, IsPrefixOf, shown_of_all, Appends, Item, Entries, Error, Entry, Kind, AppendsFront, Appends-nil, IsMetBy, source_of, StandsFor, LentEntry, AreFirstReached, Reached, reached_by_machine}
+use Rattle.std.proofs.Common.{⊎_elim, ◌≡◌, ℕ, List, [], ◌∷◌, ◌++◌, refl, subst, sym, Option, Some, Result, Ok, Err, arith, append_assoc}
+use Rattle.canon3.proofs.Common.{Gave, Told, IsPrefixOf, shown_of_all, Appends, Item, Entries, Error, Entry, Kind, gave_none, gave_on, AppendsFront, Appends-nil, IsMetBy, source_of, StandsFor, LentEntry, AreFirstReached, Reached, reached_by_machine}
 use Rattle.std.specs.declared.hash.BuildHasher as BuildHasher
 use Rattle.std.specs.declared.hash.Hasher as Hasher
 use Rattle.capture3.specs.declared.fault.Error.TheVariants as errors
 use Rattle.capture3.specs.declared.reader.entry.LentEntry.TheVariants as lent
+use Rattle.capture3.specs.Handing.{HandsOutGiven}
 use Rattle.capture3.specs.Kept.{IsLent, kind_of}
+use Rattle.capture3.specs.Lending.{IsNextLent}
+use Rattle.capture3.specs.MessageVisit.{Hears}
+use Rattle.capture3.specs.Progress.{HasPassed}
+use Rattle.capture3.specs.declared.reader.progress.Progress.{Progress}
 use Rattle.capture3.specs.machinery.Stepping.{IsOfKind}
-use Rattle.canon3.specs.EntryWriter.{IsStoppedBy, KeepsPrefixes, WritesAllCounted, WritesGivenCounted}
-use Rattle.canon3.specs.machinery.WritingSteps.{IsWriting}
+use Rattle.canon3.specs.EntryWriter.{HasWrittenOrCut, IsStoppedBy, KeepsPrefixes, WritesAllCounted, WritesGivenCounted, WritesOne}
+use Rattle.canon3.specs.machinery.WritingSteps.{HasStopped, IsWriting}
 use Rattle.canon3.specs.WriteErrors.{IsOfWriting}
-use Rattle.canon3.proofs.Lemmas.Order.Reaching.{reached_first}
+use Rattle.canon3.proofs.Lemmas.Order.Reaching.{first_reached, reached_first}
 use Rattle.canon3.proofs.Lemmas.Writing.SinkWritesLemmas.{front_of_first, whole_front}
 
 -- a lent entry is of its kind
@@ -92,29 +97,76 @@ module _ (form : List Entry → List ℕ) (prefixes : KeepsPrefixes form) where
 
 -- ---- along a reader
 
+-- before the first entry
+pub new_writing : {R S H T : Type 0} {builds : BuildHasher.Ghosts S H} {hashes : Hasher.Ghosts H}
+    {form : List Entry → List ℕ} {before : List Entry → List Item}
+    {rests : T → List Item → Type 0} {going : T → Type 0} {old : Option (List ℕ)}
+    {reader : Entries R S H builds hashes} {writer : T} (told : R → Told)
+    → StandsFor told reader [] [] → going writer → rests writer (before []) → form [] ≡ []
+    → IsWriting form before rests going told (told (source_of reader)) [] old reader writer old
+new_writing {old = old} {reader = reader} told stands goes new empty = record {
+  given = [];
+  more = [];
+  consumed = gave_none (told (source_of reader));
+  reads = stands;
+  writes = record { goes = goes; stands_for = new; written = rw empty (Appends-nil old) };
+}
+
 module _ {R S H T : Type 0} {builds : BuildHasher.Ghosts S H} {hashes : Hasher.Ghosts H}
-    (form : List Entry → List ℕ) (before : List Entry → List Item) (rests : T → List Item → Type 0)
-    (going : T → Type 0) (told : R → Told) (first : Told) (front : List Entry)
-    (old : Option (List ℕ)) (reader : Entries R S H builds hashes) (writer : T)
-    (new : Option (List ℕ)) where
-  -- an entry was handed out and written
-  pub written_goes_on : (given : List ℕ) (more : List Entry) (one : Entry)
-      → Gave first (told (source_of reader)) given
-      → StandsFor told reader given ((front ++ more) ++ one ∷ [])
-      → going writer × rests writer (before ((front ++ more) ++ one ∷ []))
-      × Appends old new (form ((front ++ more) ++ one ∷ []))
-      → IsWriting form before rests going told first front old reader writer new
-  written_goes_on given more one consumed reads (goes, stands, written) =
-      let all : (front ++ more) ++ one ∷ [] ≡ front ++ (more ++ one ∷ []) =
-      append_assoc front more (one ∷ []) in
+    {form : List Entry → List ℕ} {before : List Entry → List Item}
+    {rests : T → List Item → Type 0} {going : T → Type 0} {told : R → Told} {first : Told}
+    {front : List Entry} {old between : Option (List ℕ)}
+    {reader later : Entries R S H builds hashes} {was heard : T} {progress : Progress}
+    {lent : LentEntry} (stands : T → List Item → Type 0)
+    (u : IsWriting form before rests going told first front old reader was between)
+    (a : HandsOutGiven told (IsNextLent rests stands was heard) reader later u.given
+    (front ++ u.more) (Ok (Some lent)))
+    (passed : HasPassed progress (front ++ u.more)) where
+  -- what came of the entry that was handed out, which the writer was told
+  came_of : {X : Type 0} (now : T) (new : Option (List ℕ)) (result : Result X Error)
+      → WritesOne form before rests stands going heard now progress lent between new result
+      → HasWrittenOrCut form before rests going now old new
+      ((front ++ u.more) ++ a.hands_out.0 ∷ []) result
+  unfolding Hears
+  came_of now new result wrote =
+      let (one, (is, adds), reached, reads) = a.hands_out in
+      let handed = front ++ u.more in
+      wrote old handed one is
+      (first_reached (u.given ++ a.more) (handed ++ one ∷ []) reached)
+      (omega (arith, reads.few)) passed (adds (before handed) u.writes.stands_for)
+      u.writes.written
+
+  -- it was written
+  pub writes_on : {X : Type 0} {now : T} {new : Option (List ℕ)} (x : X)
+      → WritesOne form before rests stands going heard now progress lent between new (Ok x)
+      → IsWriting form before rests going told first front old later now new
+  writes_on {now = now} {new = new} x wrote =
+      let one = a.hands_out.0 in
+      let (goes, stands_for, written) = came_of now new (Ok x) wrote in
+      let all : (front ++ u.more) ++ one ∷ [] ≡ front ++ (u.more ++ one ∷ []) =
+      append_assoc front u.more (one ∷ []) in
       record {
-        given = given;
-        more = more ++ one ∷ [];
-        consumed = consumed;
-        reads = subst (StandsFor told reader given) all reads;
+        given = u.given ++ a.more;
+        more = u.more ++ one ∷ [];
+        consumed = gave_on first u.consumed a;
+        reads = subst (StandsFor told later (u.given ++ a.more)) all a.hands_out.3;
         writes = record {
           goes = goes;
-          stands_for = subst (λ l. rests writer (before l)) all stands;
+          stands_for = subst (λ l. rests now (before l)) all stands_for;
           written = subst (λ l. Appends old new (form l)) all written;
         };
       }
+
+  -- it was cut
+  pub stops_at : {new : Option (List ℕ)} → KeepsPrefixes form → (error : Error)
+      → IsOfWriting error
+      → WritesOne form before rests stands going heard heard progress lent between new
+      {X = Unit {0}} (Err error)
+      → HasStopped form before rests going first old (told (source_of later)) new error
+  stops_at {new = new} prefixes error of wrote = record {
+    given = u.given ++ a.more;
+    consumed = gave_on first u.consumed a;
+    stopped =
+        cut_stops form prefixes error _ old new (u.given ++ a.more) (front ++ u.more)
+        a.hands_out.0 of a.hands_out.2 (came_of {X = Unit {0}} heard new (Err error) wrote);
+  }

@@ -1,13 +1,13 @@
 use Rattle.std.proofs.Common.{◌∙◌}
-use Rattle.canon3.proofs.Lemmas.Progress.SummaryLemmas.{calls_counted, connections_counted, few_distinct, replies_counted}
+use Rattle.canon3.proofs.Lemmas.Progress.SummaryLemmas.{few_distinct}
 use Rattle.canon3.proofs.summary.summary_of.Goals as goal
 
 pub returns : goal.returns
 returns c bytes entries typed passed handles = record {
   entries = entries;
   typed = typed;
-  connections = passed.place.connections_are ∙ connections_counted entries;
-  calls = passed.calls_are ∙ calls_counted entries;
-  replies = passed.replies_are ∙ replies_counted entries;
+  connections = passed.place.connections_are;
+  calls = passed.calls_are;
+  replies = passed.replies_are;
   handles = handles ∙ few_distinct bytes entries typed;
 }

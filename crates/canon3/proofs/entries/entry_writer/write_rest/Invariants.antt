@@ -2,8 +2,8 @@ use Rattle.canon3.proofs.Common.{◌≡◌, List, ℕ, None, Option, Told, failu
 use Rattle.canon3.specs.machinery.WritingSteps.{IsWriting}
 use Rattle.canon3.proofs.entries.entry_writer.write_rest.Given as goal
 
-abbrev pub invariant-loop-error : goal.invariant-loop-error
-invariant-loop-error g l = record {
+abbrev pub invariant-loop-entry : goal.invariant-loop-entry
+invariant-loop-entry g l = record {
   going : failure_of l.entries ≡ None;
   under_way : (first : Told) (front : List Entry) (old : Option (List ℕ))
       → IsWriting g.E.EntryWriter.form g.E.EntryWriter.before g.E.MessageVisit.rests
@@ -17,5 +17,5 @@ invariant-loop-error g l = record {
   same_reference : loan_of l.entries ≡ loan_of l.fn.entries;
 }
 
-abbrev pub decreases-loop-error : goal.decreases-loop-error
-decreases-loop-error g l = entries_left l.entries
+abbrev pub decreases-loop-entry : goal.decreases-loop-entry
+decreases-loop-entry g l = entries_left l.entries

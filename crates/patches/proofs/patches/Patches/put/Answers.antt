@@ -2,7 +2,7 @@ use Rattle.std.proofs.Common.{[], ◌≡◌, ◌+◌, ◌<◌, ◌++◌, ℕ, Li
 use Rattle.std.proofs.lemmas.List.{get_or_default}
 use Rattle.patches.specs.declared.part.Part.{Part}
 use Rattle.patches.specs.Patches.{patched_by, Noted}
-use Rattle.patches.proofs.PatchesLemmas.{kept_below, room-step, written-step}
+use Rattle.patches.proofs.PatchesLemmas.{front-step, kept_below, room-step, written-step}
 use Rattle.patches.proofs.patches.Patches.put.Goals as goal
 use Rattle.patches.proofs.patches.Patches.put.Goals.{After-after-rest}
 
@@ -42,6 +42,16 @@ loop-part-preserved c = record {
         c.loop-part.invariant.short,
         c.put_part-end.ensures.within,
         c.put_part-end.ensures.len,
+        front-step c.args.self.now.parts c.loop-part.part-index c.loop-part.rest.now (part_of c)
+            (within c) (is_part c),
+        ap length c.after-rest.ensures,
+        within c,
+      );
+  most =
+      omega (
+        arith,
+        c.loop-part.invariant.most,
+        c.put_part-end.ensures.within,
         room-step c.loop-part.rest.now (part_of c),
         ap length c.after-rest.ensures,
         within c,
