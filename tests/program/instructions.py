@@ -22,19 +22,24 @@ from tests.shared.running import command_of, ended, try_all, words_of
 
 # The most instructions, in millions.
 LIMITS = {
-    'check small': 7.0,
-    'canon small': 10.05,
-    'show small': 16.2,
-    'same small': 17.6,
+    'check small': 6.95,
+    'canon small': 9.7,
+    'show small': 15.5,
+    'same small': 17.25,
     'check mixed': 5.35,
     'canon mixed': 12.8,
-    'show mixed': 19.45,
+    'show mixed': 19.4,
     'same mixed': 12.7,
     'pack small': 0.39,
-    'nfs3mask small': 13.3,
+    'nfs3mask small': 13.25,
     'nfs3mask mixed': 15.1,
+    'check recorded': 3.6,
+    'canon recorded': 7.0,
+    'show recorded': 14.0,
+    'same recorded': 8.85,
+    'nfs3mask recorded': 8.25,
 }
-MIXES = {'small': (make.SMALL, 1), 'mixed': (make.MIXED, 4)}
+MIXES = {'small': (make.SMALL, 1), 'mixed': (make.MIXED, 4), 'recorded': (make.RECORDED, 2)}
 
 
 def make_inputs(folder: pathlib.Path) -> None:

@@ -3,7 +3,8 @@ use Rattle.std.proofs.Common.{◌≡◌, ℕ, ◌+◌, ◌<◌, ◌≤◌, List,
 use Rattle.std.proofs.lemmas.List.{append_assoc, drop_all, drop_more, take-take, take_min, append-nil, drop-append-le, take-append-le, take_all}
 use Rattle.std.proofs.Math.Seq.{take-append-add}
 use Rattle.patches.specs.declared.part.Part.{Part}
-use Rattle.patches.specs.Patches.{covered_by, kept_by, patched_by, replacement, Makes, Noted}
+use Rattle.patches.specs.Patches.{covered_by, patched_by, replacement, Makes, Noted}
+use Rattle.patches.specs.machinery.Room.{kept_by}
 
 -- what is left of a body after a part, at least as long as what the other parts are of
 rest_length : (part : Part) (body : List ℕ) (n : ℕ) → length body ≡ part.keeps + (part.skips + n)

@@ -1,2 +1,3 @@
 -- Replacements in a body of bytes.
 pub mod Patches
+pub mod machinery

@@ -37,11 +37,6 @@ abbrev pub covered_by : List Part → ℕ
 covered_by [] = 0
 covered_by (part ∷ parts) = part.keeps + (part.skips + covered_by parts)
 
--- how many bytes the parts keep
-abbrev pub kept_by : List Part → ℕ
-kept_by [] = 0
-kept_by (part ∷ parts) = part.keeps + kept_by parts
-
 -- What was noted is of the whole body, which is this form with its replacements.
 pub record Makes (noted : Noted) (body form : List ℕ) : Type 0 where
   pub covers : length body ≡ covered_by noted.parts + noted.kept

@@ -1,7 +1,8 @@
 //! Replacements in a body of bytes, noted before the body is at hand.
 
 ghost use Rattle.std.specs.Prelude.{◌≡◌, ◌≤◌, ◌<◌, ◌+◌, ◌-◌, ◌*◌, ◌^◌, ◌++◌, ℕ, List, [], IfOk, IsTrue, OnErr, OnOk, drop, length, min, take, vec_capacity, vec_len};
-ghost use Rattle.patches.specs.Patches.{patched, replacement, kept_by, Makes};
+ghost use Rattle.patches.specs.Patches.{patched, replacement, Makes};
+ghost use Rattle.patches.specs.machinery.Room.{kept_by};
 
 use crate::part::{MOST, Part, after, front, is_alike, put_part};
 use std::alloc::{AllocError, Global};

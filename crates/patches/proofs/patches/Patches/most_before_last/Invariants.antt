@@ -1,5 +1,5 @@
 use Rattle.std.proofs.Common.{◌≤◌, ◌+◌, drop, min}
-use Rattle.patches.specs.Patches.{kept_by}
+use Rattle.patches.specs.machinery.Room.{kept_by}
 use Rattle.patches.proofs.patches.Patches.most_before_last.Given as goal
 
 abbrev pub invariant-loop-part : goal.invariant-loop-part

@@ -1,5 +1,6 @@
 use Rattle.std.proofs.Common.{◌≡◌, ◌≤◌, ◌+◌, ◌*◌, ◌-◌, ◌++◌, length, min, take, drop}
-use Rattle.patches.specs.Patches.{kept_by, patched_by}
+use Rattle.patches.specs.Patches.{patched_by}
+use Rattle.patches.specs.machinery.Room.{kept_by}
 use Rattle.patches.proofs.patches.Patches.put.Given as goal
 
 abbrev pub invariant-loop-part : goal.invariant-loop-part
