@@ -228,6 +228,14 @@ def rooms_of_the_tools(tools: Tools) -> None:
     tools.want('tools/DESIGN.md', tool_rooms.not_in_the_design(), [])
 
 
+def lines_of_the_tools(tools: Tools) -> None:
+    """No line of tools/nfs3tools has more columns than tools/pyproject.toml says, which are 100."""
+    tools.want('columns', tool_rooms.columns(), 100)
+    for size, wrong in ((100, []), (101, ['a.py:2: ' + 'x' * 101])):
+        tools.want(f'a line of {size}', tool_rooms.longer_lines('a.py', '\n%s\n' % ('x' * size), 100), wrong)
+    tools.want('the tools', tool_rooms.long_lines(), [])
+
+
 def pages_are_plain(tools: Tools) -> None:
     """No sentence, bullet or section of a page is too long."""
     tools.want('pages', pages.long_ones(), [])
@@ -309,7 +317,7 @@ def pages_of_the_crates(tools: Tools) -> None:
 
 
 TESTS = [commands_of_the_pages, contract_of_the_readme, lines_for_many_captures, examples_are_used, answers_of_the_examples, examples_are_made_alike, pages_agree, pages_of_the_tools,
-         what_is_believed, rooms_stand_apart, rooms_of_the_tools, pages_are_plain, tables_are_whole, names_lead_somewhere, trees_are_of_the_code, what_is_not_proved, bugs_are_counted,
+         what_is_believed, rooms_stand_apart, rooms_of_the_tools, lines_of_the_tools, pages_are_plain, tables_are_whole, names_lead_somewhere, trees_are_of_the_code, what_is_not_proved, bugs_are_counted,
          clauses_of_each_function, pages_of_the_crates]
 
 

@@ -1,5 +1,6 @@
 """The rooms of tools/nfs3tools in their order: a module imports from its own room and from those below it, modules do not import each
-other in a circle, and tools/DESIGN.md has each in the table of its room."""
+other in a circle, and tools/DESIGN.md has each in the table of its room. And the lines of the tools: none is longer than
+tools/pyproject.toml has it."""
 import ast
 import pathlib
 import re
@@ -9,6 +10,7 @@ TOP = pathlib.Path(__file__).resolve().parents[2]
 PACKAGE = TOP / 'tools/nfs3tools'
 HEADING = re.compile(r'^### `([\w.]+)`$(.*?)(?=^#)', re.M | re.S)  # of a room
 ROW = re.compile(r'^\| `(\w+)` \|', re.M)
+COLUMNS = re.compile(r'^line-length = (\d+)$', re.M)
 # From the lowest to the highest.
 ROOMS = ('shared', 'recordings', 'captures', 'comparison.values', 'comparison.exchanges', 'comparison.verdict', 'comparison.parts',
          'reporting', 'judgement', 'commands')
@@ -72,3 +74,20 @@ def not_in_the_design() -> list[str]:
     rows = {f'{room}.{module}' for room, table in rooms for module in ROW.findall(table)}
     out_of_order = [] if [room for room, _ in rooms] == [*ROOMS] else ['the rooms of tools/DESIGN.md are in another order']
     return sorted(rows ^ modules(PACKAGE).keys()) + out_of_order
+
+
+def columns() -> int:
+    """Returns how many columns a line of the tools has at most, as tools/pyproject.toml says, or 0 if it does not."""
+    found = COLUMNS.search((TOP / 'tools/pyproject.toml').read_text())
+    return int(found[1]) if found else 0
+
+
+def longer_lines(name: str, text: str, most: int) -> list[str]:
+    """Returns the lines of a file that are longer, after its name and their numbers."""
+    return [f'{name}:{number}: {line}' for number, line in enumerate(text.splitlines(), 1) if len(line) > most]
+
+
+def long_lines() -> list[str]:
+    """Returns the lines of the tools that are too long."""
+    return [line for path in sorted(PACKAGE.rglob('*.py'))
+            for line in longer_lines(str(path.relative_to(PACKAGE)), path.read_text(), columns())]

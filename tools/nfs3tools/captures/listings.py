@@ -1,4 +1,5 @@
-"""The listing of a capture, as `nfs3canon show` prints it, read again: messages, and the exchanges that they make up."""
+"""The listing of a capture, as `nfs3canon show` prints it, read again: messages, and the exchanges
+that they make up."""
 from __future__ import annotations
 
 import re

@@ -1,10 +1,11 @@
 """Finds what a place names, in a capture or in a recording of which one could be made.
 
     with located('run.pcap', place, Options()) as within:
-        found = within.record(place)            # its bytes, the calls of its connection, and its frames
-        part = within.part(FilePlace(12))       # which part of the capture its byte 12 is in
+        found = within.record(place)       # its bytes, the calls of its connection, and its frames
+        part = within.part(FilePlace(12))  # which part of the capture its byte 12 is in
 
-A capture is read piece by piece, so memory grows neither with it nor with the record. Of a recording is in memory what `take` keeps there.
+A capture is read piece by piece, so memory grows neither with it nor with the record. Of a
+recording is in memory what `take` keeps there.
 """
 from __future__ import annotations
 
@@ -24,7 +25,8 @@ from ..recordings.unpacking import Damaged
 from ..shared.kinds import MAGICS
 from ..shared.places import SIDES, FilePlace, FramePlace, NoPlace, Place, Side
 
-HEAD_OF_CALL = 24  # bytes: the xid, mtype and rpcvers, and then the program, the version and the procedure
+# Bytes: the xid, mtype and rpcvers, and then the program, the version and the procedure.
+HEAD_OF_CALL = 24
 
 
 class Body:
@@ -42,7 +44,8 @@ class Body:
 
 
 class Found(typing.NamedTuple):
-    """A record: its body, the client's stream of its connection, and the frames that carry its place, of a recording."""
+    """A record: its body, the client's stream of its connection, and the frames that carry its
+    place, of a recording."""
     body: Body
     calls: TakenStream
     frames: list[FrameRef]
@@ -80,10 +83,12 @@ class Within:
         if self.taken is not None and 0 < connection <= len(self.taken.connections):
             taken = self.taken.connections[connection - 1]
             return taken.client, taken.server
-        stored = Container(self.source(), self.spool).connection(connection) if self.taken is None else None
+        stored = (Container(self.source(), self.spool).connection(connection)
+                  if self.taken is None else None)
         if stored is None:
             raise NoPlace(f'there is no connection {connection}')
-        return TakenStream(stored[0], None, whole(stored[0])), TakenStream(stored[1], None, whole(stored[1]))
+        return (TakenStream(stored[0], None, whole(stored[0])),
+                TakenStream(stored[1], None, whole(stored[1])))
 
     def record(self, place: Place) -> Found:
         """Returns what a place names. Raises `NoPlace` if there is no such record or byte."""
@@ -105,7 +110,8 @@ class Within:
         return Body(stored)
 
     def part(self, place: FilePlace) -> Part:
-        """Returns the part of the capture that a byte is in, or after which the file ends. Raises `NoPlace` if there is none."""
+        """Returns the part of the capture that a byte is in, or after which the file ends. Raises
+        `NoPlace` if there is none."""
         for part in Parts(self.source()).all():
             if part.begin <= place.byte < part.end and not skipped(self.source(), place.byte):
                 return part
@@ -125,7 +131,8 @@ class Within:
 
 
 def extent_of_record(stream: TakenStream, number: int) -> Extent | None:
-    """Returns where a record stands, if there is one of this number. Those before it leave nothing in memory."""
+    """Returns where a record stands, if there is one of this number. Those before it leave nothing
+    in memory."""
     numbered = enumerate(extents(Window(stream), 0, stream.size), 1)
     return next((extent for at, extent in numbered if at == number), None)
 
@@ -156,7 +163,8 @@ class Parts:
         self.source, self.at = source, 0
 
     def all(self) -> typing.Iterator[Part]:
-        parts_of_connection, number = self.in_turn if self.source.peek(8)[7:] == b'2' else self.of_streams, 0
+        parts_of_connection, number = (
+            self.in_turn if self.source.peek(8)[7:] == b'2' else self.of_streams, 0)
         yield self.part('the magic', 8)
         while self.word() == 1:
             number += 1
@@ -215,9 +223,10 @@ class Joined:
 
 
 @contextlib.contextmanager
-def located(path: str, place: Place | FilePlace | FramePlace, options: Options) -> typing.Iterator[Within]:
-    """Opens a capture, or takes a recording as `take` does. What begins as neither is taken as a capture for the place of a byte of the
-    file, which may be in its magic.
+def located(path: str, place: Place | FilePlace | FramePlace,
+            options: Options) -> typing.Iterator[Within]:
+    """Opens a capture, or takes a recording as `take` does. What begins as neither is taken as a
+    capture for the place of a byte of the file, which may be in its magic.
 
     Raises what `take` does.
     """
@@ -238,7 +247,8 @@ def located(path: str, place: Place | FilePlace | FramePlace, options: Options) 
 
 
 def is_capture(source: Source, may_be_any: bool) -> bool:
-    """Whether a file begins as a capture. One of any kind does so that is no recording and not compressed."""
+    """Whether a file begins as a capture. One of any kind does so that is no recording and not
+    compressed."""
     if source.peek(8) in MAGICS or not may_be_any:
         return source.peek(8) in MAGICS
     try:

@@ -1,6 +1,8 @@
-"""What file handles stand for, as far as a recording tells: the path by which each was made, or else first reached.
+"""What file handles stand for, as far as a recording tells: the path by which each was made, or
+else first reached.
 
-A handle has another value in each run, and its path the same. So exchanges of two runs are brought together by paths.
+A handle has another value in each run, and its path the same. So exchanges of two runs are brought
+together by paths.
 """
 from __future__ import annotations
 
@@ -10,7 +12,8 @@ from typing import NamedTuple
 from .listings import Exchange, Item
 
 MOUNTING, LISTING = 'MOUNTPROC3_MNT', 'NFSPROC3_READDIRPLUS'
-MAKING = {'NFSPROC3_LOOKUP', 'NFSPROC3_CREATE', 'NFSPROC3_MKDIR', 'NFSPROC3_SYMLINK', 'NFSPROC3_MKNOD'}
+MAKING = {
+    'NFSPROC3_LOOKUP', 'NFSPROC3_CREATE', 'NFSPROC3_MKDIR', 'NFSPROC3_SYMLINK', 'NFSPROC3_MKNOD'}
 DOTS = ('.', '..')  # the folder itself, and the one above it
 UNKNOWN = '?'  # a folder whose path is not known
 # Paths are cut in their middle, so that many deep ones take no more memory than their names do.
@@ -32,7 +35,8 @@ def below(folder: str, name: str) -> str:
 
 
 class Origin(NamedTuple):
-    """Where an object is: its folder's handle (None if its name is a whole path), its name, and whether it was made there."""
+    """Where an object is: its folder's handle (None if its name is a whole path), its name, and
+    whether it was made there."""
     folder: str | None
     name: str
     is_made: bool
@@ -46,12 +50,15 @@ class Paths:
         self.known: dict[str, str] = {}  # paths so far
 
     def of(self, handle: str) -> str | None:
-        """Returns the path of a handle, in hexadecimal, if one is known. A folder that is not known is `?`."""
+        """Returns the path of a handle, in hexadecimal, if one is known. A folder that is not known
+        is `?`."""
         if handle not in self.origins:
             return None
-        # (by steps, since a folder may be thousands of folders below the first; in a circle, as no file system has it, nothing is first)
+        # (by steps, since a folder may be thousands of folders below the first; in a circle, as no
+        # file system has it, nothing is first)
         way, at = dict[str, Origin](), handle
-        while at not in self.known and at not in way and (origin := self.origins.get(at)) and origin.folder is not None:
+        while (at not in self.known and at not in way and (origin := self.origins.get(at))
+               and origin.folder is not None):
             way[at] = origin
             at = origin.folder
         path = self.top(at)
@@ -68,7 +75,8 @@ class Paths:
 
     def learn(self, handle: str | None, origin: Origin) -> None:
         known = self.origins.get(handle or '')
-        if handle and origin.name not in DOTS and (known is None or origin.is_made and not known.is_made):
+        if handle and origin.name not in DOTS and (
+                known is None or origin.is_made and not known.is_made):
             self.origins[handle] = origin
             self.known.clear()
 
@@ -91,7 +99,8 @@ class Paths:
             self.take_entries(folder, items)
 
     def take_entries(self, folder: str, items: Iterable[Item]) -> None:
-        """Learns the handles of a READDIRPLUS reply, each of which comes after the name of its entry."""
+        """Learns the handles of a READDIRPLUS reply, each of which comes after the name of its
+        entry."""
         name = '.'
         for item in items:
             if item.name == 'name':

@@ -1,4 +1,5 @@
-"""Long values of listed messages, which are kept in a temporary file: of data that differ nobody reads the whole."""
+"""Long values of listed messages, which are kept in a temporary file: of data that differ nobody
+reads the whole."""
 from __future__ import annotations
 
 import hashlib
@@ -44,7 +45,8 @@ class Storage:
         content = bytes.fromhex(value)
         digest = hashlib.sha256(content).hexdigest()
         out = Stored(f'SHA-256 {digest}, {len(content)} bytes')
-        out.digest, out.size, out.file, out.begin = digest, len(content), self.file, self.file.seek(0, os.SEEK_END)
+        out.digest, out.size, out.file, out.begin = (
+            digest, len(content), self.file, self.file.seek(0, os.SEEK_END))
         self.file.write(value.encode())
         return out
 

@@ -1,8 +1,10 @@
-"""Whose the items of a message are: of the object or the folder, before or after a change, of which entry, or of the credential.
+"""Whose the items of a message are: of the object or the folder, before or after a change, of which
+entry, or of the credential.
 
-A message may have several items of one name, as `size` is one of the attributes of a folder before and after. So an item has a label:
-whose it is by the layouts, a dot, and its name in the listing, as in `dir after.size` or `entry "a".size`. Its field is the label
-without the names and numbers of entries: `entry.size`. Both are the name alone for items of which the layouts say nothing more.
+A message may have several items of one name, as `size` is one of the attributes of a folder before
+and after. So an item has a label: whose it is by the layouts, a dot, and its name in the listing,
+as in `dir after.size` or `entry "a".size`. Its field is the label without the names and numbers of
+entries: `entry.size`. Both are the name alone for items of which the layouts say nothing more.
 """
 from __future__ import annotations
 
@@ -126,7 +128,8 @@ class Labels:
     def slots(self) -> list[Slot]:
         """The names of the items say where each of them is, so messages that have the same names
         share their slots."""
-        shape = self.message.procedure, self.message.is_call, tuple(item.name for item in self.message.items)
+        shape = (self.message.procedure, self.message.is_call,
+                 tuple(item.name for item in self.message.items))
         if shape not in self.shapes:
             if len(self.shapes) == SHAPES_AT_MOST:
                 self.shapes.clear()

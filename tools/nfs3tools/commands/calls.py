@@ -369,7 +369,8 @@ def main(words: list[str]) -> int:
     chosen, verdicts = words_of(words), list[Verdict]()
     judge = Judge(program_path(chosen.program), options_of(chosen), CONNECTIONS_AT_ONCE, True)
     form: Json | Csv | Text
-    form = Json() if chosen.json else Csv() if chosen.csv else Text(len(chosen.recordings) == 1, screen_of(chosen.color))
+    form = (Json() if chosen.json else Csv() if chosen.csv
+            else Text(len(chosen.recordings) == 1, screen_of(chosen.color)))
     for recording in chosen.recordings:
         found = listed(judge, recording, wanted_by(chosen), chosen.sort == 'latency', verdicts)
         with contextlib.closing(found.kept):

@@ -1,47 +1,61 @@
-"""Compares two ordinary runs: are they the same but for what two runs never share, and if not, what differs.
+"""Compares two ordinary runs: are they the same but for what two runs never share, and if not, what
+differs.
 
-    tools/compare [--mask CLASS,..] [--order strict|any] [--ignore PROCEDURE.FIELD,..] [--accept FILE] [--accept-new FILE]
-                  [--marks PATTERN] [--all] [--brief] [--html FILE] [--json FILE] [--junit FILE] A B
+    tools/compare [--mask CLASS,..] [--order strict|any] [--ignore PROCEDURE.FIELD,..]
+                  [--accept FILE] [--accept-new FILE] [--marks PATTERN] [--all] [--brief]
+                  [--html FILE] [--json FILE] [--junit FILE] A B
 
-A and B are recordings (pcap, pcapng; a pattern in quotes names the parts of one) or captures. Values that each run has its own
-of are masked first: of the classes below, those marked with a star by default. What is masked is always printed. Then
-`nfs3canon same` compares the masked captures, up to a renaming of xids, file handles and write verifiers: `same` is its word, and
-how many calls were compared follows it. Then come the four counts of both runs: how many connections are judged, in part, left out and not
-checked. If something of a run is not compared, equal runs are `same in part`. A connection that is refused is not compared, and the others
-are. A run without a call that can be compared is an error.
+A and B are recordings (pcap, pcapng; a pattern in quotes names the parts of one) or captures.
+Values that each run has its own of are masked first: of the classes below, those marked with a star
+by default. What is masked is always printed. Then `nfs3canon same` compares the masked captures, up
+to a renaming of xids, file handles and write verifiers: `same` is its word, and how many calls were
+compared follows it. Then come the four counts of both runs: how many connections are judged, in
+part, left out and not checked. If something of a run is not compared, equal runs are
+`same in part`. A connection that is refused is not compared, and the others are. A run without a
+call that can be compared is an error.
 
-If the runs differ, calls are brought together over all connections and in any order. If nothing else than the order differs, they are
-`same in another order`: that is the word of `nfs3canon same` on both runs in the order of the first. File ids are zero then, and the classes
-createverfs, cookies, wcc and raw, of these only those that are needed. Calls that only ask (GETATTR, LOOKUP ..) and that one run alone has
-are left out, and so are questions about a folder that the calls of others overtook. All that is printed and listed. Otherwise each difference
-is printed as `diff` would: which call, which field and whose (`dir after.size`), both values, and the frames. Of values of over 60 characters
-it is the bytes round the first that differs; a call of one run alone has its arguments. Messages of one procedure that differ in the same
-way are printed once, with their number. --brief prints a line for each.
+If the runs differ, calls are brought together over all connections and in any order. If nothing
+else than the order differs, they are `same in another order`: that is the word of `nfs3canon same`
+on both runs in the order of the first. File ids are zero then, and the classes createverfs,
+cookies, wcc and raw, of these only those that are needed. Calls that only ask (GETATTR, LOOKUP ..)
+and that one run alone has are left out, and so are questions about a folder that the calls of
+others overtook. All that is printed and listed. Otherwise each difference is printed as `diff`
+would: which call, which field and whose (`dir after.size`), both values, and the frames. Of values
+of over 60 characters it is the bytes round the first that differs; a call of one run alone has its
+arguments. Messages of one procedure that differ in the same way are printed once, with their
+number. --brief prints a line for each.
 
---order strict tries no other order. With --order any the status of `same in another order` is 0. --extra none leaves out no calls.
+--order strict tries no other order. With --order any the status of `same in another order` is 0.
+--extra none leaves out no calls.
 
---mask times,ids masks these classes alone, --mask +owners one more, --mask=-times one less, --mask none nothing; NAME=zero and
-NAME=number say how. --ignore NFSPROC3_GETATTR.obj.nlink,*.eof leaves fields out of what is printed and written of the differences, by
-their labels, or by the name of items, as `nlink`, whose ever they are; the verdict is that of the mask all the same.
+--mask times,ids masks these classes alone, --mask +owners one more, --mask=-times one less,
+--mask none nothing; NAME=zero and NAME=number say how. --ignore NFSPROC3_GETATTR.obj.nlink,*.eof
+leaves fields out of what is printed and written of the differences, by their labels, or by the name
+of items, as `nlink`, whose ever they are; the verdict is that of the mask all the same.
 
---accept reads a file of findings that somebody accepted, and --accept-new writes one from all findings of this comparison. Accepted findings
-are counted apart, and the others decide. If there are no others, both runs are compared without the calls of the accepted ones, by the
-program. Entries of the file that fit nothing any more are printed. What of a run is not compared is never accepted by this.
+--accept reads a file of findings that somebody accepted, and --accept-new writes one from all
+findings of this comparison. Accepted findings are counted apart, and the others decide. If there
+are no others, both runs are compared without the calls of the accepted ones, by the program.
+Entries of the file that fit nothing any more are printed. What of a run is not compared is never
+accepted by this.
 
---marks compares the parts of a test run one by one, each as a run of its own. A part begins with a call of LOOKUP, CREATE or MKDIR whose
-name fits PATTERN (of the shell, as 'test_*'), and has that name. It has the calls that were sent up to the next mark, over all connections,
-and their replies. What is before the first mark is a part, too. It is an error if no call of both runs is a mark. A line for each part has
-its verdict. Then come the findings of those that differ, and last how many parts have which verdict. The status is 1 if a part differs, or
-is in one run alone.
+--marks compares the parts of a test run one by one, each as a run of its own. A part begins with a
+call of LOOKUP, CREATE or MKDIR whose name fits PATTERN (of the shell, as 'test_*'), and has that
+name. It has the calls that were sent up to the next mark, over all connections, and their replies.
+What is before the first mark is a part, too. It is an error if no call of both runs is a mark. A
+line for each part has its verdict. Then come the findings of those that differ, and last how many
+parts have which verdict. The status is 1 if a part differs, or is in one run alone.
 
---junit writes a test case for the verdict, which fails if the status is 1, and then one that fails for each difference. Runs that cannot
-be compared are a case with an error.
+--junit writes a test case for the verdict, which fails if the status is 1, and then one that fails
+for each difference. Runs that cannot be compared are a case with an error.
 
-FILE is written beside its name, and gets it once it is whole. It is refused if it is an input or another output, or begins as a recording
-or a capture; whether it can be written is tried before the work. If FILE is `-` it is standard output, and all else is printed on standard
-error. The status is 0 if the runs are the same under the mask, 1 if they differ, are the same in another order, or in part (which the options
---allow-losses and --allow-not-checked change), 2 if a recording, a connection, a capture, FILE or the command line is refused, or if there is
-nothing to compare, 3 if a file, a program or memory failed.
+FILE is written beside its name, and gets it once it is whole. It is refused if it is an input or
+another output, or begins as a recording or a capture; whether it can be written is tried before the
+work. If FILE is `-` it is standard output, and all else is printed on standard error.
+The status is 0 if the runs are the same under the mask, 1 if they differ, are the same in another
+order, or in part (which the options --allow-losses and --allow-not-checked change), 2 if a
+recording, a connection, a capture, FILE or the command line is refused, or if there is nothing to
+compare, 3 if a file, a program or memory failed.
 """
 from __future__ import annotations
 
@@ -110,7 +124,8 @@ def words_of(words: list[str]) -> argparse.Namespace:
     parser.add_argument('--order', choices=('strict', 'any'),
                         help='whether the order of calls counts; by default any is tried second')
     parser.add_argument('--extra', choices=('asking', 'none'), default='asking',
-                        help='what is left out in any order if one run alone has it: calls that ask and change nothing, or none')
+                        help='what is left out in any order if one run alone has it: '
+                             'calls that ask and change nothing, or none')
     parser.add_argument('--ignore', type=ignored_of, action='extend', default=[],
                         metavar='PROCEDURE.FIELD,..',
                         help='fields that are left out of the explanation; * is any procedure')
@@ -118,13 +133,13 @@ def words_of(words: list[str]) -> argparse.Namespace:
                         help='takes a file of accepted findings, which do not count')
     parser.add_argument('--accept-new', metavar='FILE',
                         help='writes a file that accepts the findings of this comparison')
-    parser.add_argument('--marks', metavar='PATTERN',
-                        help='compares the parts that begin at calls of LOOKUP, CREATE and MKDIR whose name fits a pattern of the shell')
-    parser.add_argument('--all', action='store_true',
-                        help=f'prints each finding by itself; by default, equal ones are one, and {FINDINGS_AT_MOST} are printed')
+    parser.add_argument('--marks', metavar='PATTERN', help='compares the parts that begin at calls '
+                        'of LOOKUP, CREATE and MKDIR whose name fits a pattern of the shell')
+    parser.add_argument('--all', action='store_true', help='prints each finding by itself; by '
+                        f'default, equal ones are one, and {FINDINGS_AT_MOST} are printed')
     parser.add_argument('--brief', action='store_true', help='prints a line for each finding')
-    parser.add_argument('--html', metavar='FILE',
-                        help='writes a page for a browser with what differs and the calls around it')
+    parser.add_argument('--html', metavar='FILE', help='writes a page for a browser with what '
+                        'differs and the calls around it')
     parser.add_argument('--json', metavar='FILE',
                         help='writes the verdict and all findings as JSON')
     parser.add_argument('--junit', metavar='FILE',
@@ -345,7 +360,8 @@ def compared_by_parts(words: argparse.Namespace, whole: Whole, choices: Choices,
         write_file(words.json, json_of_parts(words.marks, whole.covers, parts, whole.framings()),
                    whole.inputs)
     for part in parts:
-        if part.report and part.report.verdict != 'same' and (part.compared.silent or is_told(words, part.report)):
+        if part.report and part.report.verdict != 'same' and (
+                part.compared.silent or is_told(words, part.report)):
             print(part.label)
             print_found(words, whole, part.report, part.compared, part.left_out)
     if losses:

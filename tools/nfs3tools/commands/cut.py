@@ -3,28 +3,33 @@
     tools/cut [--origins] RECORDING|CAPTURE 'connection 1 server record 7 byte 24' OUT
     tools/cut [--origins] RECORDING 'frame 12' OUT.pcap
 
-OUT has all calls and replies of the connection that have the xid of the message at POSITION, as they were recorded. POSITION is a line of
-`check` or `same`, or of `show`, as tools/explain takes it. It names a record, of which any byte may be named.
+OUT has all calls and replies of the connection that have the xid of the message at POSITION, as
+they were recorded. POSITION is a line of `check` or `same`, or of `show`, as tools/explain takes
+it. It names a record, of which any byte may be named.
 
 A frame of a recording, as `frame 12`, stands for the records whose bytes it carries, and all their
 exchanges are taken.
 
---origins takes the exchanges too that gave the file handles of these calls, up to the MNT call that gave the first: of each handle the one
-that made its object, or else the first that reached it. They are on the connections on which they were recorded. RECORDING has to be one
-that `nfs3canon check` accepts.
+--origins takes the exchanges too that gave the file handles of these calls, up to the MNT call that
+gave the first: of each handle the one that made its object, or else the first that reached it. They
+are on the connections on which they were recorded. RECORDING has to be one that `nfs3canon check`
+accepts.
 
 If OUT ends in `.pcap`, it is a recording for Wireshark and the tools: the frames that brought the
 bytes of these records, as they were recorded, and those of the SYN of both ends. Other records may
 be in these frames, too. The bytes between them are left out, so a connection of OUT is mostly `ok
 in part`.
 
-Printed are a line for each record of OUT, which says where it was, with its frames, and what `nfs3canon check` says of OUT. That is `ok`,
-or the reason for which the message was refused before. If OUT is a recording, tools/verdicts judges it.
+Printed are a line for each record of OUT, which says where it was, with its frames, and what
+`nfs3canon check` says of OUT. That is `ok`, or the reason for which the message was refused before.
+If OUT is a recording, tools/verdicts judges it.
 
-A recording is taken as by tools/from_pcap (--midstream, --whole-records, --filter, a pattern in quotes for the parts of one recording).
-OUT is written beside its name, and gets it once it is whole. It is refused if it is an input or begins as a recording; an older capture is
-replaced. If OUT is `-` it is standard output, and the lines are printed on standard error. The status is 0 if OUT was written, 1 if there is
-no such position, 2 if POSITION, RECORDING, FILTER or OUT is refused or a program is missing, 3 if a file, a program or memory failed.
+A recording is taken as by tools/from_pcap (--midstream, --whole-records, --filter, a pattern in
+quotes for the parts of one recording). OUT is written beside its name, and gets it once it is
+whole. It is refused if it is an input or begins as a recording; an older capture is replaced. If
+OUT is `-` it is standard output, and the lines are printed on standard error. The status is 0 if
+OUT was written, 1 if there is no such position, 2 if POSITION, RECORDING, FILTER or OUT is refused
+or a program is missing, 3 if a file, a program or memory failed.
 """
 from __future__ import annotations
 
@@ -64,7 +69,8 @@ HEAD = 8  # bytes: the xid and mtype, without which a record has no xid
 
 
 class Wanted(NamedTuple):
-    """What is wanted of a connection: the records with some xids, and a record of a side that has none."""
+    """What is wanted of a connection: the records with some xids, and a record of a side that has
+    none."""
     xids: set[int]
     without: set[tuple[Side, int]]
 
@@ -75,7 +81,8 @@ class Cut(NamedTuple):
     records: dict[Side, dict[int, Extent]]
 
     def streams(self) -> tuple[TakenStream, TakenStream]:
-        client, server = (self.connection.stream(side).part(extent[:2] for extent in self.records[side].values()) for side in SIDES)
+        client, server = (self.connection.stream(side).part(
+            extent[:2] for extent in self.records[side].values()) for side in SIDES)
         return client, server
 
 
@@ -98,7 +105,8 @@ def head_at(taken: Taken, place: Place) -> bytes:
 
 
 def cut_of(connection: TakenConnection, wanted: Wanted) -> Cut:
-    return Cut(connection, {side: dict(picked(connection.stream(side), side, wanted)) for side in SIDES})
+    return Cut(connection, {side: dict(picked(connection.stream(side), side, wanted))
+                            for side in SIDES})
 
 
 def picked(stream: TakenStream, side: Side, wanted: Wanted) -> Iterator[tuple[int, Extent]]:
@@ -118,7 +126,8 @@ def origins_of(program: str, taken: Taken, places: Iterable[Place], name: str) -
         taken.write_capture(capture)
         answer = run_program(program, ['canon', capture, form], CHECKED)
         if answer.status:
-            raise NotTaken(f'{escaped(name)} is refused, so nothing tells where its handles are from: {answer.error.strip()}')
+            raise NotTaken(f'{escaped(name)} is refused, so nothing tells where its handles are '
+                           f'from: {answer.error.strip()}')
         outlines = Outlines(lines_of_program(program, ['show', form]), {}, when_of(taken))
     turns = [turn_of(outlines, place) for place in places]
     records = map(outlines.record_of, outlines.with_origins(turns))
@@ -135,7 +144,8 @@ def turn_of(outlines: Outlines, place: Place) -> int:
 
 def lines_of(taken: Taken, cuts: list[Cut]) -> Iterator[str]:
     """Iterates over a line for each record of the cut, which says where it was."""
-    pairs = ((Place(number, side, record), Place(cut.connection.number, side, old)) for number, cut in enumerate(cuts, 1)
+    pairs = ((Place(number, side, record), Place(cut.connection.number, side, old))
+             for number, cut in enumerate(cuts, 1)
              for side in SIDES for record, old in enumerate(cut.records[side], 1))
     return (line_of(taken, place, old) for place, old in pairs)
 
@@ -156,7 +166,8 @@ def words_of(words: list[str]) -> argparse.Namespace:
     parser.add_argument('recording', metavar='RECORDING|CAPTURE')
     parser.add_argument('place', metavar='POSITION')
     parser.add_argument('out', metavar='OUT')
-    parser.add_argument('--origins', action='store_true', help='takes the exchanges too that gave the file handles')
+    parser.add_argument('--origins', action='store_true',
+                        help='takes the exchanges too that gave the file handles')
     add_program(parser)
     add_options(parser)
     return parser.parse_args(words)

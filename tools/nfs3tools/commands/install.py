@@ -8,12 +8,15 @@ Under the prefix there are
     share/nfs3canon/tools/                       the tools
     share/nfs3canon/{CHANGELOG.md,LICENSE-*}     the version, and the licences
     share/nfs3canon/docs/schemas/                the schemas of JSON
-    share/nfs3canon/installed                    what was put there, which `--remove` takes away again
+    share/nfs3canon/installed                    what was put there, which `--remove` takes away
+                                                 again
     share/man/man1/                              the manual pages
     share/bash-completion/completions/, share/zsh/site-functions/, share/fish/vendor_completions.d/
-                                                 completions; bash and fish look for them under the name of each tool
+                                                 completions; bash and fish look for them under the
+                                                 name of each tool
 
-The manual pages have the names under which the tools are installed. Files and folders have the same permissions under every umask.
+The manual pages have the names under which the tools are installed. Files and folders have the same
+permissions under every umask.
 """
 from __future__ import annotations
 
@@ -40,10 +43,11 @@ COMPLETIONS = {file.format(name): place.format(name) for name in PROGRAMS for fi
     ('{}.fish', 'share/fish/vendor_completions.d/{}.fish'))}
 HOME = 'share/nfs3canon'
 PROGRAMS_HOME = 'libexec/nfs3canon'
-# The command lines of the programs are proved. None of them asks for the version, and help is printed
-# on standard error with the status 4 of a wrong line, which begins with `error:`.
+# The command lines of the programs are proved. None of them asks for the version, and help is
+# printed on standard error with the status 4 of a wrong line, which begins with `error:`.
 LAUNCHER = '''#!/bin/sh
-# Prints the version of the program that has the name of this script, or its help on standard output, or runs it.
+# Prints the version of the program that has the name of this script, or its help on standard \
+output, or runs it.
 own=$(readlink -f "$0")
 name=${{own##*/}}
 program=${{own%/*}}/../{home}/$name
@@ -81,16 +85,19 @@ exit "$status"
 LIST = f'{HOME}/installed'
 EXECUTABLE = 0o100
 FOR_ALL_TO_RUN, FOR_ALL_TO_READ, OF_A_LINK = 0o755, 0o644, 0o777  # permissions
-# The names of tools in manual pages: after these macros, and in examples at the beginning of a command.
+# The names of tools in manual pages: after these macros, and in examples at the beginning of a
+# command.
 ONE_OF_TOOLS = f'(?P<tool>{"|".join(TOOLS)})'
-IN_TEXT = rf'(?P<before>^(?:\.TH |\.BR? |(?:\.I )?tools/)?)(?i:{ONE_OF_TOOLS})(?= 1 | \(1\)| \\-|\n)'
+IN_TEXT = (rf'(?P<before>^(?:\.TH |\.BR? |(?:\.I )?tools/)?)(?i:{ONE_OF_TOOLS})'
+           r'(?= 1 | \(1\)| \\-|\n)')
 IN_EXAMPLES = rf'(?P<before>^|\| |tools/){ONE_OF_TOOLS}(?= )'
 
 
 def files(program: Path) -> Iterator[tuple[Path, str]]:
     """Returns each file that is copied, and where it goes under the prefix."""
     for name in PROGRAMS:
-        yield program if name == 'nfs3canon' else Path(program_beside(str(program), name)), f'{PROGRAMS_HOME}/{name}'
+        yield (program if name == 'nfs3canon' else Path(program_beside(str(program), name)),
+               f'{PROGRAMS_HOME}/{name}')
         yield TOP / 'man' / f'{name}.1', f'share/man/man1/{name}.1'
     for tool in TOOLS:
         yield TOP / 'tools' / tool, f'{HOME}/tools/{tool}'
@@ -115,28 +122,32 @@ def links() -> Iterator[tuple[str, str]]:
 
 def content_of(source: Path, place: str) -> bytes:
     """Returns what a file has that is installed."""
-    return page_of(source.read_text()).encode() if place.startswith('share/man/') else source.read_bytes()
+    return (page_of(source.read_text()).encode() if place.startswith('share/man/')
+            else source.read_bytes())
 
 
 def page_of(text: str) -> str:
-    """Returns a manual page with the names under which the tools are installed: in its head, where it is about the tool itself, where it
-    names other pages, and in the commands of examples."""
+    """Returns a manual page with the names under which the tools are installed: in its head, where
+    it is about the tool itself, where it names other pages, and in the commands of examples."""
     pieces = re.split(r'(^\.EX\n.*?^\.EE$)', text, flags=re.MULTILINE | re.DOTALL)
     patterns = (IN_EXAMPLES if piece.startswith('.EX') else IN_TEXT for piece in pieces)
-    return ''.join(re.sub(pattern, named_in_page, piece, flags=re.MULTILINE) for pattern, piece in zip(patterns, pieces))
+    return ''.join(re.sub(pattern, named_in_page, piece, flags=re.MULTILINE)
+                   for pattern, piece in zip(patterns, pieces))
 
 
 def named_in_page(found: re.Match[str]) -> str:
     """Returns the name of a tool as roff has it, in capitals if it was found so."""
     name = installed_name(found['tool'].lower()).replace('-', r'\-')
-    return found['before'].removesuffix('tools/') + (name.upper() if found['tool'].isupper() else name)
+    return found['before'].removesuffix('tools/') + (
+        name.upper() if found['tool'].isupper() else name)
 
 
 def install(prefix: Path, program: Path, is_listed: bool = True) -> None:
-    """Copies all files under a prefix. Each is made beside its name, and they get their names once all are whole; so nothing has
-    changed if that fails, and a program that runs goes on.
+    """Copies all files under a prefix. Each is made beside its name, and they get their names once
+    all are whole; so nothing has changed if that fails, and a program that runs goes on.
 
-    Raises `Missing` if a program is not there, `Refused` for a prefix that no program takes, and `OSError`.
+    Raises `Missing` if a program is not there, `Refused` for a prefix that no program takes, and
+    `OSError`.
     """
     if not is_utf8(prefix):
         raise Refused(f'{escaped(str(prefix))} is not UTF-8, and no program runs under such a name')
@@ -145,7 +156,8 @@ def install(prefix: Path, program: Path, is_listed: bool = True) -> None:
     with Made(prefix) as made:
         for source, place in files(program):
             is_run = source.stat().st_mode & EXECUTABLE
-            made.write(place, content_of(source, place), FOR_ALL_TO_RUN if is_run else FOR_ALL_TO_READ)
+            made.write(place, content_of(source, place),
+                       FOR_ALL_TO_RUN if is_run else FOR_ALL_TO_READ)
         for name in PROGRAMS:
             made.write(f'bin/{name}', launcher().encode(), FOR_ALL_TO_RUN)
         for place, target in links():
@@ -162,7 +174,8 @@ def launcher() -> str:
 
 
 def is_utf8(path: Path) -> bool:
-    """Whether the programs can be run below a path: they refuse a command line with another word, also if that is their own name."""
+    """Whether the programs can be run below a path: they refuse a command line with another word,
+    also if that is their own name."""
     try:
         str(path.absolute()).encode()
     except UnicodeEncodeError:
@@ -172,27 +185,32 @@ def is_utf8(path: Path) -> bool:
 
 def parser_for(name: str, what: str, target: str, default: str) -> argparse.ArgumentParser:
     parser = parser_of(what, name)
-    parser.add_argument('--program', type=Path, help='nfs3canon, if it is not the one of this repository; nfs3mask is looked for beside it')
+    parser.add_argument('--program', type=Path, help='nfs3canon, if it is not the one of this '
+                        'repository; nfs3mask is looked for beside it')
     parser.add_argument('target', nargs='?', type=Path, default=Path(default), metavar=target)
     return parser
 
 
 def program_of(asked: argparse.Namespace) -> Path:
-    """Returns the program that is named, else that of this repository, which its launcher makes if it is not there."""
+    """Returns the program that is named, else that of this repository, which its launcher makes if
+    it is not there."""
     if asked.program is None:
         made_programs(PROGRAMS)
     return asked.program or PROGRAM
 
 
 def main(words: list[str]) -> int:
-    parser = parser_for('install', 'Puts the programs, the tools, manual pages and completions under PREFIX. If that fails, nothing is '
-                        'changed there.', 'PREFIX', str(Path.home() / '.local'))
-    parser.add_argument('--remove', action='store_true', help='takes away what was put under PREFIX, and leaves what was changed since')
+    parser = parser_for('install', 'Puts the programs, the tools, manual pages and completions '
+                        'under PREFIX. If that fails, nothing is changed there.',
+                        'PREFIX', str(Path.home() / '.local'))
+    parser.add_argument('--remove', action='store_true', help='takes away what was put under '
+                        'PREFIX, and leaves what was changed since')
     asked = parser.parse_args(words)
     named = escaped(str(asked.target))
     if asked.remove:
         for place in Installed(asked.target, LIST).remove():
-            print(f'left, since it is not as it was installed: {escaped(str(asked.target / place))}')
+            print('left, since it is not as it was installed: '
+                  f'{escaped(str(asked.target / place))}')
         print(f'removed nfs3canon from {named}')
         return 0
     install(asked.target, program_of(asked))

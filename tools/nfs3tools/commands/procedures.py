@@ -1,29 +1,37 @@
 """Counts calls, errors, bytes and latencies by procedure.
 
-    tools/procedures [--total] [--sort COLUMN] [--width N] [--json FILE] [--csv FILE] [--html FILE] RECORDING|CAPTURE ..
+    tools/procedures [--total] [--sort COLUMN] [--width N] [--json FILE] [--csv FILE]
+                     [--html FILE] RECORDING|CAPTURE ..
     tools/procedures --beside A B
 
-Printed is a table for each connection, one for each recording in all, and one for all recordings if they are several. A row has the
-calls of a procedure as `nfs3canon check` counts them; how many of them were sent again (an earlier call of the connection has the same xid
-and the same items); the replies; the calls without a reply (a call and its retransmissions are one); the bytes of the records of calls and
-of replies, with their marks; the latencies in milliseconds; the call with the longest; and how many replies have which error.
+Printed is a table for each connection, one for each recording in all, and one for all recordings if
+they are several. A row has the calls of a procedure as `nfs3canon check` counts them; how many of
+them were sent again (an earlier call of the connection has the same xid and the same items); the
+replies; the calls without a reply (a call and its retransmissions are one); the bytes of the
+records of calls and of replies, with their marks; the latencies in milliseconds; the call with the
+longest; and how many replies have which error.
 
-A latency is the time from a call to its first reply. The time of a message is that of the frame that completed its record: of the frames
-that first brought its bytes the one with the largest number. That of a call which was sent again is the time of the first. The columns are
-the median and the 99th percentile, each the smallest latency that 50 or 99 % of all do not exceed, the longest, the mean and the sum. The
-longest is at CONNECTION:RECORD, the record of its call, with the frame that completed it. A capture has no times, and so no latencies. If
-the clock went back, latencies are negative; their number is told.
+A latency is the time from a call to its first reply. The time of a message is that of the frame
+that completed its record: of the frames that first brought its bytes the one with the largest
+number. That of a call which was sent again is the time of the first. The columns are the median and
+the 99th percentile, each the smallest latency that 50 or 99 % of all do not exceed, the longest,
+the mean and the sum. The longest is at CONNECTION:RECORD, the record of its call, with the frame
+that completed it. A capture has no times, and so no latencies. If the clock went back, latencies
+are negative; their number is told.
 
-Each connection is judged as by tools/verdicts, whose verdict is above its table: one of which bytes are missing is `ok in part`, and one
-that is refused is counted up to its fault. The counts of tools/verdicts stand above the table of a recording. --total leaves out the tables
-of the connections. --sort has the largest of a column first. --beside has two recordings in one table: a number that differs is `A -> B`, with the change in per cent for bytes and
-latencies. --json and --csv write all tables. --html writes a page for a browser, with the tables that are printed and a time line of the
-latencies of each recording: a dot for each call, with its path and its frame.
+Each connection is judged as by tools/verdicts, whose verdict is above its table: one of which bytes
+are missing is `ok in part`, and one that is refused is counted up to its fault. The counts of
+tools/verdicts stand above the table of a recording. --total leaves out the tables of the
+connections. --sort has the largest of a column first. --beside has two recordings in one table: a
+number that differs is `A -> B`, with the change in per cent for bytes and latencies. --json and
+--csv write all tables. --html writes a page for a browser, with the tables that are printed and a
+time line of the latencies of each recording: a dot for each call, with its path and its frame.
 
-The recordings are taken as by tools/from_pcap (--port, --no-midstream, --whole-records, --filter, patterns in quotes for the parts of one
-recording); `-` is standard input. FILE is written beside its name, and gets it once it is whole. It is refused if it is an input, or begins
-as a recording or a capture. The status is 0 if that of
-tools/verdicts is, and 1 to 3 as there; --allow-losses and --allow-not-checked are the same.
+The recordings are taken as by tools/from_pcap (--port, --no-midstream, --whole-records, --filter,
+patterns in quotes for the parts of one recording); `-` is standard input. FILE is written beside
+its name, and gets it once it is whole. It is refused if it is an input, or begins as a recording or
+a capture. The status is 0 if that of tools/verdicts is, and 1 to 3 as there; --allow-losses and
+--allow-not-checked are the same.
 """
 from __future__ import annotations
 
@@ -41,8 +49,8 @@ from functools import partial
 from ..judgement.seen import Seen, seen_in
 from ..judgement.tallies import Tallies, Tally, counted_of, in_order, milliseconds, sum_of
 from ..judgement.verdict import (
-    VERSION, Verdict, colour_of, counts_after, is_row, named, object_of as object_of_verdict, status_of,
-    sums_of, tell_notes)
+    VERSION, Verdict, colour_of, counts_after, is_row, named, object_of as object_of_verdict,
+    status_of, sums_of, tell_notes)
 from ..judgement.verdict_page import Content, Table as ShownTable, page, row_of_cells, said_of
 from ..recordings.parts import files_of
 from ..recordings.selection import plural
@@ -76,8 +84,8 @@ COLUMNS: dict[str, typing.Callable[[Tally], int | None]] = {
 
 
 class Table(typing.NamedTuple):
-    """What is counted of a connection, or of all of a recording (then the verdict is None), or of all recordings (then there is no
-    recording either)."""
+    """What is counted of a connection, or of all of a recording (then the verdict is None), or of
+    all recordings (then there is no recording either)."""
     recording: str | None
     verdict: Verdict | None
     tallies: Tallies
@@ -126,8 +134,8 @@ def counted(judge: Judge, recording: str, is_seen: bool) -> Counted:
 
     def look(taken: Taken, verdicts: list[Verdict]) -> None:
         judged = {verdict.connection: verdict for verdict in verdicts if verdict.state != 'error'}
-        tables.extend(table_of(judge, connection, judged[connection.number]) for connection in taken.connections
-                      if connection.number in judged)
+        tables.extend(table_of(judge, connection, judged[connection.number])
+                      for connection in taken.connections if connection.number in judged)
         if is_seen:
             seen.append(seen_in(judge.program, taken, recording, verdicts))
     verdicts = judge.verdicts(recording, look)
@@ -148,7 +156,8 @@ def row_of(name: str, tally: Tally, is_named: bool, screen: Screen) -> Styled:
     """A row. The longest latency is named by its recording, or not."""
     counts = (screen.number(getattr(tally, count)) for count in COUNTS)
     latencies = (milliseconds(rank, screen) for rank in latencies_of(tally))
-    cells = [name, *counts, *latencies, longest_of(tally, is_named), errors_of(tally.errors, screen)]
+    cells = [name, *counts, *latencies, longest_of(tally, is_named),
+             errors_of(tally.errors, screen)]
     return Styled(cells, Colour.RED if tally.errors else None)
 
 
@@ -287,7 +296,8 @@ def changed(first: str, second: str, change: str = '') -> str:
 
 def change_of(first: int | None, second: int | None) -> str:
     """The change in per cent, if there is something that it is of."""
-    return f' ({round(100 * (second - first) / first):+d} %)' if first and second is not None else ''
+    return (f' ({round(100 * (second - first) / first):+d} %)' if first and second is not None
+            else '')
 
 
 # --- The page ---
@@ -338,23 +348,28 @@ def whose(table: Table) -> dict[str, typing.Any]:
     """The recording and the connection of a table."""
     verdict = table.verdict
     name = None if table.recording is None else escaped(table.recording)
-    return {'recording': name, 'connection': verdict and verdict.connection, 'client': verdict.client if verdict else '',
+    return {'recording': name, 'connection': verdict and verdict.connection,
+            'client': verdict.client if verdict else '',
             'server': verdict.server if verdict else ''}
 
 
 def json_of(found: Sequence[Counted], column: str) -> bytes:
-    """The verdicts, as tools/verdicts writes them, and the tables; of each the last object of its procedures is the sum."""
+    """The verdicts, as tools/verdicts writes them, and the tables; of each the last object of its
+    procedures is the sum."""
     verdicts = [verdict for one in found for verdict in one.verdicts]
     tables = [{**whose(table), 'procedures': [object_of(*row) for row in table.rows(column)]}
               for one in found for table in (*one.tables, one.in_all)]
-    whole = {'version': VERSION, 'counts': counts_after(verdicts).members(), 'verdicts': [*map(object_of_verdict, verdicts)], 'tables': tables}
+    whole = {'version': VERSION, 'counts': counts_after(verdicts).members(),
+             'verdicts': [*map(object_of_verdict, verdicts)], 'tables': tables}
     return json.dumps(whole, indent=1).encode() + b'\n'
 
 
 def csv_of(found: Sequence[Counted], column: str) -> bytes:
-    """The tables in one, without the rows of sums. The rows of a recording in all have no connection."""
+    """The tables in one, without the rows of sums. The rows of a recording in all have no
+    connection."""
     text = io.StringIO()
-    rows = [{**whose(table), **object_of(*row), 'errors': ' '.join(f'{name}={number}' for name, number in most_first(row[1].errors))}
+    rows = [{**whose(table), **object_of(*row),
+             'errors': ' '.join(f'{name}={number}' for name, number in most_first(row[1].errors))}
             for one in found for table in (*one.tables, one.in_all) for row in table.rows(column)
             if row[0] != IN_ALL]
     heads = [*whose(Table(None, None, {})), *object_of('', Tally())]
@@ -369,7 +384,8 @@ def csv_of(found: Sequence[Counted], column: str) -> bytes:
 def words_of(words: list[str]) -> argparse.Namespace:
     parser = parser_of(__doc__, 'procedures')
     parser.add_argument('recordings', metavar='RECORDING|CAPTURE', nargs='+')
-    parser.add_argument('--beside', action='store_true', help='prints two recordings side by side, with what changed')
+    parser.add_argument('--beside', action='store_true',
+                        help='prints two recordings side by side, with what changed')
     parser.add_argument('--total', action='store_true', help='prints no tables of connections')
     parser.add_argument('--sort', metavar='COLUMN', choices=[BY_NAME, *COLUMNS], default=BY_NAME,
                         help=f'has the largest of a column first: {", ".join(COLUMNS)}')
@@ -378,7 +394,8 @@ def words_of(words: list[str]) -> argparse.Namespace:
     parser.add_argument('--html', metavar='FILE',
                         help='writes a page for a browser, with the tables and latencies')
     parser.add_argument('--width', metavar='N', type=positive,
-                        help='prints no line of a table wider than N columns; by default those of a terminal')
+                        help='prints no line of a table wider than N columns; '
+                             'by default those of a terminal')
     add_colour(parser)
     add_judging(parser)
     chosen = parser.parse_args(words)

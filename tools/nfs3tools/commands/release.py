@@ -1,5 +1,5 @@
-"""Makes the tar file of a release: what `tools/install` puts under a prefix, in a folder that has the version in its name. Or a package for
-Debian with the same under /usr, made by dpkg-deb.
+"""Makes the tar file of a release: what `tools/install` puts under a prefix, in a folder that has
+the version in its name. Or a package for Debian with the same under /usr, made by dpkg-deb.
 """
 from __future__ import annotations
 
@@ -32,7 +32,9 @@ def entry(info: tarfile.TarInfo) -> tarfile.TarInfo:
     info.uid = info.gid = 0
     info.uname = info.gname = ''
     info.mtime = RELEASED
-    info.mode = OF_A_LINK if info.issym() else FOR_ALL_TO_RUN if info.isdir() or info.mode & EXECUTABLE else FOR_ALL_TO_READ
+    info.mode = (OF_A_LINK if info.issym()
+                 else FOR_ALL_TO_RUN if info.isdir() or info.mode & EXECUTABLE
+                 else FOR_ALL_TO_READ)
     return info
 
 
@@ -40,7 +42,8 @@ def entry(info: tarfile.TarInfo) -> tarfile.TarInfo:
 
 PACKAGER = 'dpkg-deb'
 # Debian has pages packed, and looks for completions of zsh in a folder of its own.
-PAGES, ZSH, ZSH_OF_DEBIAN = 'usr/share/man', 'usr/share/zsh/site-functions', 'usr/share/zsh/vendor-completions'
+PAGES, ZSH, ZSH_OF_DEBIAN = (
+    'usr/share/man', 'usr/share/zsh/site-functions', 'usr/share/zsh/vendor-completions')
 DOCUMENTS = 'usr/share/doc/nfs3canon'
 CONTROL = """Package: nfs3canon
 Version: {version}
@@ -98,7 +101,8 @@ def arrange(tree: Path) -> None:
 
 def describe(tree: Path) -> None:
     """Writes what dpkg reads of a package."""
-    sizes = [path.stat().st_size for path in tree.rglob('*') if path.is_file() and not path.is_symlink()]
+    sizes = [path.stat().st_size for path in tree.rglob('*')
+             if path.is_file() and not path.is_symlink()]
     text = CONTROL.format(version=version(), kilobytes=-(-sum(sizes) // 1024))
     put(tree / 'DEBIAN/control', text.encode())
     put(tree / 'DEBIAN/prerm', PRERM.encode(), FOR_ALL_TO_RUN)
@@ -139,9 +143,10 @@ def with_checksum(archive: Path, content: bytes) -> Path:
 
 def main(words: list[str]) -> int:
     parser = parser_for('release',
-                        'Makes the tar file of a release, and its checksum, in FOLDER. Unpack it, and copy what '
-                        'is in it under a prefix.', 'FOLDER', '.')
-    parser.add_argument('--deb', action='store_true', help='makes a package for Debian in its place')
+                        'Makes the tar file of a release, and its checksum, in FOLDER. Unpack it, '
+                        'and copy what is in it under a prefix.', 'FOLDER', '.')
+    parser.add_argument('--deb', action='store_true',
+                        help='makes a package for Debian in its place')
     asked = parser.parse_args(words)
     make = package if asked.deb else release
     print(escaped(str(make(asked.target, program_of(asked)))))

@@ -1,41 +1,50 @@
 """Judges each connection of recordings and captures by itself.
 
-    tools/verdicts [-q] [--color WHEN] [--junit FILE] [--json FILE] [--html FILE] [-j N] RECORDING|CAPTURE ..
+    tools/verdicts [-q] [--color WHEN] [--junit FILE] [--json FILE] [--html FILE] [-j N]
+                   RECORDING|CAPTURE ..
     tcpdump -i any -U -w - port 2049 | tools/verdicts [-q] --follow -
 
-Each connection is a capture of its own, which `nfs3canon check` judges, so a fault in one hides nothing of another. A row is printed
-for each: the recording, the connection's number and ends, its calls and replies, and the verdict: `ok`, or the position and reason of
-its first fault with the frame that carries it. A recording that cannot be read has a row, too, and the others are judged still.
--q prints no row of what is `ok`, and no heads.
+Each connection is a capture of its own, which `nfs3canon check` judges, so a fault in one hides
+nothing of another. A row is printed for each: the recording, the connection's number and ends, its
+calls and replies, and the verdict: `ok`, or the position and reason of its first fault with the
+frame that carries it. A recording that cannot be read has a row, too, and the others are judged
+still. -q prints no row of what is `ok`, and no heads.
 
 The last line counts all of them. Each comes under one word:
 
     judged       the verdict is `ok`, or it is refused
-    in part      bytes of it are missing or were left out: `ok in part`, with the calls that were judged and the reason
+    in part      bytes of it are missing or were left out: `ok in part`, with the calls that were
+                 judged and the reason
     left out     nothing of it is judged, with the reason; some show no call at all
-    not checked  calls are NFS or MOUNT of another version, or it is a connection to a port of NFS without one call of version 3
+    not checked  calls are NFS or MOUNT of another version, or it is a connection to a port of NFS
+                 without one call of version 3
     errors       it could not be read
 
-What no connection stands for has a row as well: UDP at a port of NFS is left out, and a recording that ends inside a frame is in part.
-Calls of other programs are counted by name at the end of the line. What is missing is printed on standard error, and so are
-connections that show no call: those without payload, and those without RPC at another port than those of NFS.
+What no connection stands for has a row as well: UDP at a port of NFS is left out, and a recording
+that ends inside a frame is in part. Calls of other programs are counted by name at the end of the
+line. What is missing is printed on standard error, and so are connections that show no call: those
+without payload, and those without RPC at another port than those of NFS.
 
-The status is 0 only if every call of NFS and MOUNT version 3 that is recorded was judged, and is valid. --allow-losses also allows what
-is in part and what is left out, --allow-not-checked what is not checked. A connection that shows no call changes no status.
+The status is 0 only if every call of NFS and MOUNT version 3 that is recorded was judged, and is
+valid. --allow-losses also allows what is in part and what is left out, --allow-not-checked what is
+not checked. A connection that shows no call changes no status.
 
-The recordings are taken as by `tools/from_pcap` (--port, --no-midstream, --whole-records, --filter, patterns in quotes for the parts of
-one recording); `-` is standard input. --junit writes the verdicts as JUnit XML, as Jenkins and GitLab take it, and --json as an object
-with the counts and an object for each row and for each note on a recording. --html writes a page for a browser: the counts, the table,
-each fault with its fields, and a time line of the latencies of each recording. N recordings are judged at once, as many as there are
-processors if it is not said.
+The recordings are taken as by `tools/from_pcap` (--port, --no-midstream, --whole-records, --filter,
+patterns in quotes for the parts of one recording); `-` is standard input. --junit writes the
+verdicts as JUnit XML, as Jenkins and GitLab take it, and --json as an object with the counts and an
+object for each row and for each note on a recording. --html writes a page for a browser: the
+counts, the table, each fault with its fields, and a time line of the latencies of each recording. N
+recordings are judged at once, as many as there are processors if it is not said.
 
---follow judges one recording while it is made: `-`, a fifo or a file that grows. The line of a connection is printed once it is closed,
-or once a fault of it is seen; at the end, or at SIGINT or SIGTERM, the others are judged. The manual page says when a fault is seen.
-With --json - each line is an object of JSON: a row, or at the end the counts and the status.
+--follow judges one recording while it is made: `-`, a fifo or a file that grows. The line of a
+connection is printed once it is closed, or once a fault of it is seen; at the end, or at SIGINT or
+SIGTERM, the others are judged. The manual page says when a fault is seen. With --json - each line
+is an object of JSON: a row, or at the end the counts and the status.
 
-FILE is written beside its name, and gets it once it is whole. It is refused if it is an input, or begins as a recording or a capture. The
-other statuses are 1 if a verdict is not good, 2 if the command line or FILE is refused or the program is missing, 3 if FILE cannot be
-written or a program died.
+FILE is written beside its name, and gets it once it is whole. It is refused if it is an input, or
+begins as a recording or a capture. The other statuses are 1 if a verdict is not good, 2 if the
+command line or FILE is refused or the program is missing, 3 if FILE cannot be written or a program
+died.
 """
 from __future__ import annotations
 
@@ -163,8 +172,8 @@ def main(words: list[str]) -> int:
     parser.add_argument('--html', metavar='FILE',
                         help='writes a page for a browser, with faults and latencies')
     parser.add_argument('-j', metavar='N', type=positive, help='judges N recordings at once')
-    parser.add_argument('--follow', action='store_true',
-                        help='judges one recording while it is made, and prints each verdict at once')
+    parser.add_argument('--follow', action='store_true', help='judges one recording while it is '
+                        'made, and prints each verdict at once')
     add_colour(parser)
     add_judging(parser)
     chosen = parser.parse_args(words)
@@ -312,7 +321,8 @@ def tag_of(verdict: Verdict, allowed: Allowed) -> str | None:
 
 def name_of(verdict: Verdict) -> str:
     if verdict.connection is None:
-        return printable(verdict.message) if verdict.state in ('left out', 'in part') else 'as a whole'
+        return (printable(verdict.message) if verdict.state in ('left out', 'in part')
+                else 'as a whole')
     # (a client has another port in each run)
     ends = f' {verdict.client.rpartition(":")[0]} to {verdict.server}' if verdict.client else ''
     return f'connection {verdict.connection}{ends}'

@@ -1,8 +1,10 @@
-"""Judges the connections of a recording while it is made: each once it is closed, and open ones again and again, to see faults early.
+"""Judges the connections of a recording while it is made: each once it is closed, and open ones
+again and again, to see faults early.
 
-A connection that is open is judged in sections. The program is given all whole records of the section each time that it has twice the
-bytes, and in turn with the others. Once a section has 8 MiB and no fault, it is forgotten, but for the calls without a reply, which are
-put before the next section. So little is kept of a connection that is open for days.
+A connection that is open is judged in sections. The program is given all whole records of the
+section each time that it has twice the bytes, and in turn with the others. Once a section has 8 MiB
+and no fault, it is forgotten, but for the calls without a reply, which are put before the next
+section. So little is kept of a connection that is open for days.
 """
 from __future__ import annotations
 
@@ -94,7 +96,8 @@ class Growing:
     def piece(self, size: int) -> bytes:
         try:
             piece = os.read(self.number, size)
-            if not piece and self.is_waited_for and os.fstat(self.number).st_size < os.lseek(self.number, 0, os.SEEK_CUR):
+            if not piece and self.is_waited_for and (
+                    os.fstat(self.number).st_size < os.lseek(self.number, 0, os.SEEK_CUR)):
                 raise Damaged('the file has become shorter than what was read of it')
             return piece
         except OSError as failed:
@@ -293,7 +296,8 @@ class Following:
     def is_superseded(self, connection: Connection) -> bool:
         """Whether another connection of the same ends has begun, and has had payload."""
         newest = self.connections.sides.get(connection.key)
-        return newest is not None and newest[0] is not connection and newest[0].first_payload is not None
+        return (newest is not None and newest[0] is not connection
+                and newest[0].first_payload is not None)
 
     # --- Judging ---
 
@@ -301,7 +305,8 @@ class Following:
         """Judges the whole records of a section. A fault is the verdict on the connection, unless
         the call of a reply may come yet."""
         self.waiting.pop(one.connection.number, None)
-        one.next_size = one.size + SECTION // 8 if one.size >= SECTION else min(max(2 * one.size, FIRST_SIZE), SECTION)
+        one.next_size = (one.size + SECTION // 8 if one.size >= SECTION
+                         else min(max(2 * one.size, FIRST_SIZE), SECTION))
         is_begun = all(stream.is_begin for stream in one.connection.streams if stream.stored.size)
         if one.lacks or not one.number or not is_begun and one.size < FIRST_SIZE:
             return
@@ -380,7 +385,8 @@ class Following:
         self.say(verdict)
         one.connection.strays = []
         self.taken += verdict.connection is not None
-        is_lasting = verdict.state in ('refused', 'error') or not self.options.midstream and verdict.state == 'in part'
+        is_lasting = verdict.state in ('refused', 'error') or (
+            not self.options.midstream and verdict.state == 'in part')
         self.forget(one, not is_lasting and not verdict.message.endswith(NO_RPC))
 
     def forget(self, one: Open, is_told: bool) -> None:
@@ -408,8 +414,8 @@ class Following:
         if connection.after:
             told.append(f'{count(connection.after, "byte")} came after it was judged')
         if connection.shown_after:
-            told.append(
-                f'frame {connection.shown_after} shows bytes that did not come before it was judged')
+            told.append(f'frame {connection.shown_after} shows bytes that did not come before it '
+                        'was judged')
         if connection.is_told and told:
             self.say(of_covered(self.recording,
                                 Covered('in part', ', and '.join(reversed(told)),
@@ -540,7 +546,8 @@ def follow(recording: str, program: str, options: Options, allowed: Allowed, for
     lines = Lines(allowed, form)
     following = Following(recording, program, options, lines.say)
     try:
-        with contextlib.closing(following.connections.spool), opened_for_following(recording) as file, ended_by_signals() as wakes:
+        with contextlib.closing(following.connections.spool), opened_for_following(
+                recording) as file, ended_by_signals() as wakes:
             is_waited_for = recording != '-' and stat.S_ISREG(os.fstat(file.fileno()).st_mode)
             take_all(following,
                      Growing(file.fileno(), wakes, is_waited_for, following.judge_waiting))

@@ -1,10 +1,11 @@
-"""How often each procedure was called in a connection, how that ended, how many bytes it took, and how long.
+"""How often each procedure was called in a connection, how that ended, how many bytes it took, and
+how long.
 
     counted = counted_of(program, connection, is_refused=False)
     counted['NFSPROC3_READ'].ranked((0.5, 0.99))     # nanoseconds
 
-What the messages say is read from the listing of `nfs3canon show`. How many bytes they have, and when they were complete, is known from the
-recording.
+What the messages say is read from the listing of `nfs3canon show`. How many bytes they have, and
+when they were complete, is known from the recording.
 """
 from __future__ import annotations
 
@@ -45,7 +46,8 @@ class Tally:
     """What is counted of a procedure.
 
     calls: the records of calls, as `nfs3canon check` counts them
-    again: how many of those are retransmissions: an earlier call of the connection has the same xid and all the same items
+    again: how many of those are retransmissions: an earlier call of the connection has the same xid
+        and all the same items
     replies: the records of replies
     unanswered: the calls without a reply; a call and its retransmissions are one
     call_bytes, reply_bytes: of the records, with their marks
@@ -92,9 +94,11 @@ class Tally:
             self.took(other.longest)
 
     def ranked(self, parts: Iterable[float]) -> list[int | None]:
-        """Returns for each part the smallest latency that at least this part of the latencies does not exceed, `None` if there are none."""
+        """Returns for each part the smallest latency that at least this part of the latencies does
+        not exceed, `None` if there are none."""
         ordered = sorted(self.latencies)
-        return [ordered[max(0, math.ceil(part * len(ordered)) - 1)] if ordered else None for part in parts]
+        return [ordered[max(0, math.ceil(part * len(ordered)) - 1)] if ordered else None
+                for part in parts]
 
 
 Tallies = dict[str, Tally]  # by the names of procedures
@@ -193,7 +197,8 @@ def counted_of(program: str, recording: str, connection: TakenConnection,
                is_refused: bool) -> Tallies:
     """Counts a connection, which the program refuses or not; then up to the fault.
 
-    Raises `Died` if the program does not end as that says, and `OSError` if a temporary file cannot be written.
+    Raises `Died` if the program does not end as that says, and `OSError` if a temporary file cannot
+    be written.
     """
     counting = Counting(recording, connection.number)
     for line, completion in listed_of(program, connection, is_refused):
@@ -218,7 +223,8 @@ def listed_of(program: str, connection: TakenConnection,
     """
     calls, replies = connection.client.completions(), connection.server.completions()
     with captured(connection) as capture:
-        for line in lines_of_program(program, ['show', '/dev/stdin'], REFUSED if is_refused else 0, capture):
+        for line in lines_of_program(program, ['show', '/dev/stdin'],
+                                     REFUSED if is_refused else 0, capture):
             yield line, next(calls if is_call(line) else replies)
 
 
@@ -230,5 +236,6 @@ def captured(connection: TakenConnection) -> Iterator[IO[bytes]]:
             file.writelines(connection.capture())
             file.seek(0)
         except OSError as failed:
-            raise OSError(failed.errno, failed.strerror or str(failed), 'a temporary file') from failed
+            raise OSError(failed.errno, failed.strerror or str(failed),
+                          'a temporary file') from failed
         yield file

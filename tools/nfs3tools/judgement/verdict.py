@@ -1,4 +1,5 @@
-"""Verdicts on connections: what the program's answer says of one, and the row that is printed of it."""
+"""Verdicts on connections: what the program's answer says of one, and the row that is printed of
+it."""
 from __future__ import annotations
 
 import re
@@ -87,7 +88,8 @@ def verdict_of(recording: str, taken: Taken, connection: TakenConnection, answer
         calls = before.calls + int(counts[1]) - before.carried
         return with_word(verdict._replace(calls=calls, replies=before.replies + int(counts[2])),
                          covered)
-    calls, replies = before.calls + connection.client.count_records(), before.replies + connection.server.count_records()
+    calls, replies = (before.calls + connection.client.count_records(),
+                      before.replies + connection.server.count_records())
     verdict = verdict._replace(calls=calls, replies=replies)
     if answer.status != 2 or fault is None or isinstance(fault.place, FilePlace):
         return verdict._replace(state='error', message=told(answer))

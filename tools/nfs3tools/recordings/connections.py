@@ -14,12 +14,14 @@ class Connection:
     older: the connection of the same ends before this one, of which segments may come yet
     strays: frames of which nothing is taken, and why
     """
-    __slots__ = ('number', 'key', 'client', 'has_syn', 'first_payload', 'is_chosen', 'is_judged', 'is_closed_later', 'reset_at',
-                 'streams', 'older', 'begun_by', 'is_stray', 'strays', 'after', 'shown_after', 'is_told',
-                 'opened_by')
+    __slots__ = ('number', 'key', 'client', 'has_syn', 'first_payload', 'is_chosen', 'is_judged',
+                 'is_closed_later', 'reset_at', 'streams', 'older', 'begun_by', 'is_stray',
+                 'strays', 'after', 'shown_after', 'is_told', 'opened_by')
 
-    def __init__(self, number: int, key: bytes, spool: Spool, budget: Budget, keeps_frames: bool, begun_by: int = 0) -> None:
-        self.number, self.key, self.begun_by = number, key, begun_by  # the number as Wireshark counts tcp.stream, from 0
+    def __init__(self, number: int, key: bytes, spool: Spool, budget: Budget, keeps_frames: bool,
+                 begun_by: int = 0) -> None:
+        # (the number as Wireshark counts tcp.stream, from 0)
+        self.number, self.key, self.begun_by = number, key, begun_by
         self.client: int | None = None  # the end that sent SYN
         self.has_syn = [False, False]  # whether SYN of each end was recorded
         self.opened_by = [0, 0]  # and its frame
@@ -33,7 +35,8 @@ class Connection:
         self.older: Connection | None = None
         self.is_stray = False  # the older one went on
         self.strays: list[str] = []
-        self.streams = [Stream(spool, budget, Frames(spool) if keeps_frames else None) for _ in range(2)]
+        self.streams = [Stream(spool, budget, Frames(spool) if keeps_frames else None)
+                        for _ in range(2)]
 
     @property
     def ends(self) -> tuple[str, str]:
@@ -43,8 +46,8 @@ class Connection:
     @property
     def is_closed(self) -> bool:
         """Whether an end closed or reset it."""
-        return (self.streams[0].end is not None or self.streams[1].end is not None or self.is_reset_by(0) or self.is_reset_by(1)
-                or self.is_closed_later)
+        return (self.streams[0].end is not None or self.streams[1].end is not None
+                or self.is_reset_by(0) or self.is_reset_by(1) or self.is_closed_later)
 
     def is_reset_by(self, side: int) -> bool:
         """Whether an end reset it, and sent nothing after that."""
@@ -60,17 +63,20 @@ class Connection:
         own, other = self.streams[side], self.streams[1 - side]
         first = (segment.sequence + 1) % NUMBERS
         if own.first is None:
-            answers = not segment.flags & ACK or not other.is_begin or (segment.acknowledged - (other.first or 0)) % NUMBERS <= other.next
+            answers = not segment.flags & ACK or not other.is_begin or (
+                (segment.acknowledged - (other.first or 0)) % NUMBERS <= other.next)
             return self.is_judged or self.is_stray or not answers
         if own.first == first:
             return self.has_syn[side] and self.is_closed and not segment.flags & ACK
         return not own.may_begin_at(first)
 
     def distances(self, side: int, segment: Segment) -> tuple[int | None, int | None]:
-        """How far the numbers of a segment are from those that are expected of its end and of the other, if these are known."""
+        """How far the numbers of a segment are from those that are expected of its end and of the
+        other, if these are known."""
         own, other = self.streams[side].expected, self.streams[1 - side].expected
         return (None if own is None else apart(segment.sequence, own),
-                None if other is None or not segment.flags & ACK else apart(segment.acknowledged, other))
+                None if other is None or not segment.flags & ACK
+                else apart(segment.acknowledged, other))
 
     def repeats_syn(self, side: int, segment: Segment) -> bool:
         """Whether SYN has the number before the first byte of its end."""
@@ -88,7 +94,8 @@ class Connection:
             own.begun_late(sequence + 1, number)
             sequence += 1
         if flags & ACK and (acknowledged != other.acknowledged or flags & SYN):
-            is_first = bool(flags & SYN) or other.first is None and own.is_begin and sequence == own.first
+            is_first = bool(flags & SYN) or (
+                other.first is None and own.is_begin and sequence == own.first)
             self.acknowledge(other, acknowledged, is_first, number)
         if payload or missing:
             self.first_payload = side if self.first_payload is None else self.first_payload
@@ -97,8 +104,8 @@ class Connection:
             own.ends_at(own.position(sequence) + len(payload) + missing, number)
 
     def reset(self, side: int, segment: Segment, number: int) -> None:
-        """Takes RST, unless its receiver would not expect it (RFC 5961, section 3.2). It has the numbers of the next bytes of both ends.
-        Bytes in it are no part of the stream."""
+        """Takes RST, unless its receiver would not expect it (RFC 5961, section 3.2). It has the
+        numbers of the next bytes of both ends. Bytes in it are no part of the stream."""
         own, other = self.streams[side], self.streams[1 - side]
         position = own.position(segment.sequence) if own.first is not None else 0
         if own.first is not None and not (own.acked <= position and own.is_likely(position)):
@@ -115,14 +122,16 @@ class Connection:
             self.strays.append(text)
 
     def acknowledge(self, other: Stream, acknowledged: int, is_first: bool, number: int) -> None:
-        """Takes what an end says that it received. The first time this tells where the other's stream begins."""
+        """Takes what an end says that it received. The first time this tells where the other's
+        stream begins."""
         if is_first and self.client is not None:
             other.begun_late(acknowledged, number)
         if other.first is not None:
             other.is_acknowledged(acknowledged, number)
 
     def pass_by(self, side: int, segment: Segment, number: int) -> None:
-        """Counts the bytes of a segment that comes after the connection was judged, but for those that were taken before."""
+        """Counts the bytes of a segment that comes after the connection was judged, but for those
+        that were taken before."""
         own, size = self.streams[side], len(segment.payload) + segment.missing
         self.is_closed_later |= bool(segment.flags & (FIN | RST))
         if segment.flags & ACK and self.streams[1 - side].is_beyond(segment.acknowledged):
@@ -154,7 +163,8 @@ class Connections:
         self.sides: dict[bytes, tuple[Connection, int]] = {}
 
     def take(self, segment: Segment, number: int, time: int, is_chosen: bool) -> Connection:
-        """Takes a segment, and returns its connection. One that is not chosen only counts as one of its connection."""
+        """Takes a segment, and returns its connection. One that is not chosen only counts as one of
+        its connection."""
         found = self.sides.get(segment.key)
         if found is None:
             found = self.begin(segment.key, number), 0
@@ -168,17 +178,22 @@ class Connections:
                 found[0].take(found[1], segment, number, time)
         return found[0]
 
-    def among_two(self, found: tuple[Connection, int], segment: Segment, number: int) -> tuple[Connection, int]:
-        """The connection of a segment that may be one of the older connection of the same ends, or begin another."""
+    def among_two(self, found: tuple[Connection, int], segment: Segment,
+                  number: int) -> tuple[Connection, int]:
+        """The connection of a segment that may be one of the older connection of the same ends, or
+        begin another."""
         newer, older = found[0], found[0].older
         side = older.side_of(segment.key) if older is not None else 0
         if segment.flags & SYN:
-            if older is not None and older.repeats_syn(side, segment) and not newer.repeats_syn(found[1], segment):
+            if older is not None and older.repeats_syn(side, segment) and (
+                    not newer.repeats_syn(found[1], segment)):
                 return older, side
-            return (self.begin(segment.key, number, newer), 0) if newer.is_other(found[1], segment) else found
+            return ((self.begin(segment.key, number, newer), 0)
+                    if newer.is_other(found[1], segment) else found)
         assert older is not None
         here, there = newer.distances(found[1], segment), older.distances(side, segment)
-        known = [(one, other) for one, other in zip(here, there) if one is not None and other is not None]
+        known = [(one, other) for one, other in zip(here, there)
+                 if one is not None and other is not None]
         nearer = sum(one - other for one, other in known) if known else -1
         if nearer < 0 or nearer == 0 and older.is_closed:
             return found
@@ -186,8 +201,10 @@ class Connections:
         return older, side
 
     def begin(self, key: bytes, begun_by: int, older: Connection | None = None) -> Connection:
-        """Begins a connection. That of the same ends before it is not forgotten: one that has not had any payload gives way to its own."""
-        connection = self.all[self.count] = Connection(self.count, key, self.spool, self.budget, self.keeps_frames, begun_by)
+        """Begins a connection. That of the same ends before it is not forgotten: one that has not
+        had any payload gives way to its own."""
+        connection = self.all[self.count] = Connection(
+            self.count, key, self.spool, self.budget, self.keeps_frames, begun_by)
         if older is not None:
             is_kept = older.first_payload is not None or older.older is None
             connection.older = older if is_kept else older.older
@@ -207,8 +224,10 @@ class Connections:
                 self.sides[key][0].older = None
 
     def finish(self) -> list[Connection]:
-        """The connections of which a segment was chosen, but those of a SYN that fits none. Nothing is taken after this."""
-        chosen = [connection for connection in self.all.values() if connection.is_chosen and not is_of_stray(connection)]
+        """The connections of which a segment was chosen, but those of a SYN that fits none. Nothing
+        is taken after this."""
+        chosen = [connection for connection in self.all.values()
+                  if connection.is_chosen and not is_of_stray(connection)]
         for connection in chosen:
             connection.streams[0].finish()
             connection.streams[1].finish()
@@ -216,7 +235,8 @@ class Connections:
 
 
 def is_of_stray(connection: Connection) -> bool:
-    """Whether a connection is none, since the older one went on; if so, that is noted there, and what its frames show of missing bytes."""
+    """Whether a connection is none, since the older one went on; if so, that is noted there, and
+    what its frames show of missing bytes."""
     older = connection.older
     if not connection.is_stray or connection.first_payload is not None or older is None:
         return False

@@ -70,7 +70,8 @@ class Container:
 
     def pair_of_version(self) -> typing.Callable[[Streams], None]:
         """Returns what takes both streams of a connection in the version of this capture."""
-        return self.pair_of_version_1 if self.source.take(8) == MAGICS[0] else self.pair_of_version_2
+        return (self.pair_of_version_1 if self.source.take(8) == MAGICS[0]
+                else self.pair_of_version_2)
 
     def pair_of_version_1(self, streams: Streams) -> None:
         for stored in streams:

@@ -1,13 +1,16 @@
-"""How much of a recording was judged: each of its connections under one word, and what it shows besides connections that are taken.
+"""How much of a recording was judged: each of its connections under one word, and what it shows
+besides connections that are taken.
 
-    judged       all its NFSv3 and MOUNTv3 calls can be judged: the program's verdict is `ok`, or refuses it
+    judged       all its NFSv3 and MOUNTv3 calls can be judged: the program's verdict is `ok`, or
+                 refuses it
     in part      bytes of it are missing, or were left out
     left out     nothing of it is judged
-    not checked  it has calls that are carried raw, and are NFS or MOUNT of another version; or it is a connection to a port of NFS
-                 without one call of version 3
+    not checked  it has calls that are carried raw, and are NFS or MOUNT of another version; or it
+                 is a connection to a port of NFS without one call of version 3
 
-`Taken.covered` returns a `Covered` for each. What is not judged though no connection stands for it has one, too: datagrams of UDP, a
-recording that ends inside a frame. `Counts` is the sum of any number of them.
+`Taken.covered` returns a `Covered` for each. What is not judged though no connection stands for it
+has one, too: datagrams of UDP, a recording that ends inside a frame. `Counts` is the sum of any
+number of them.
 """
 from __future__ import annotations
 
@@ -92,7 +95,8 @@ class Covered(typing.NamedTuple):
 
     def is_good(self, allowed: Allowed) -> bool:
         """Whether the status may be 0 beside it."""
-        lost = self.shows_calls if self.word == 'left out' else self.word == 'in part' or not self.is_whole
+        lost = (self.shows_calls if self.word == 'left out'
+                else self.word == 'in part' or not self.is_whole)
         return (allowed.losses or not lost) and (allowed.not_checked or self.word != 'not checked')
 
 
@@ -125,7 +129,8 @@ class Counts(typing.NamedTuple):
         """The sum as all tools print it."""
         bare = f' ({self.without_calls} without a call)' if self.without_calls else ''
         raw = f'; {named(self.raw)} raw' if self.raw else ''
-        return (f'{self.judged} judged ({self.ok} ok, {self.refused} refused), {self.in_part} in part, {self.left_out} left out{bare}, '
+        return (f'{self.judged} judged ({self.ok} ok, {self.refused} refused), '
+                f'{self.in_part} in part, {self.left_out} left out{bare}, '
                 f'{self.not_checked} not checked, {self.errors} errors{raw}')
 
     def numbers(self) -> dict[str, int]:
@@ -215,7 +220,8 @@ def version_named(program: int, version: int, procedure: int) -> str:
 def call_named(program: int, version: int, procedure: int) -> str:
     """The name of a call of another program, as `NFSACL GETACL`."""
     procedures = PROCEDURES.get((program, version), ())
-    there = procedures[procedure] if procedure < len(procedures) else f'version {version} procedure {procedure}'
+    there = (procedures[procedure] if procedure < len(procedures)
+             else f'version {version} procedure {procedure}')
     return f'{PROGRAMS.get(program, f"program {program}")} {there}'
 
 
@@ -236,7 +242,8 @@ def of_connection(called: Called, server_port: int | None, ports: frozenset[int]
 def not_checked(called: Called, is_of_nfs: bool) -> str:
     """Why a connection is not checked; '' if it is."""
     if called.unchecked:
-        what = named(called.unchecked) if len(called.unchecked) > 1 else next(iter(called.unchecked))
+        what = (named(called.unchecked) if len(called.unchecked) > 1
+                else next(iter(called.unchecked)))
         return f'{sum(called.unchecked.values()):,} of {called.calls:,} calls ({what})'
     if is_of_nfs and not called.typed:
         return 'no call of NFS or MOUNT version 3' + (f' ({named(called.raw)})' if called.raw

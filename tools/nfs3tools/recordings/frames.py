@@ -169,7 +169,8 @@ class Recording:
     def of_block(self, fields: struct.Struct, scale: int, link: int) -> typing.Iterator[Frame]:
         """Iterates over the frames that stand whole in the block that was read; this is where the
         time goes."""
-        block, at, number, unpack = self.source.block, self.source.begin, self.count, fields.unpack_from
+        block, at, number, unpack = (
+            self.source.block, self.source.begin, self.count, fields.unpack_from)
         last = len(block) - 16
         while at <= last:
             seconds, fraction, kept, length = unpack(block, at)

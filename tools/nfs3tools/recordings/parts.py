@@ -1,6 +1,8 @@
-"""The files that an argument names: one, or the parts of one recording, as `tcpdump -C`, `-G` and `-W` write them.
+"""The files that an argument names: one, or the parts of one recording, as `tcpdump -C`, `-G` and
+`-W` write them.
 
-An argument that is the name of no file is a pattern, as `run.pcap*`. In quotes the shell leaves it to the tool.
+An argument that is the name of no file is a pattern, as `run.pcap*`. In quotes the shell leaves it
+to the tool.
 """
 from __future__ import annotations
 

@@ -1,4 +1,5 @@
-"""Records of a stream (RFC 5531, section 11): their marks, the heads of their messages, and where a run of them begins."""
+"""Records of a stream (RFC 5531, section 11): their marks, the heads of their messages, and where a
+run of them begins."""
 from __future__ import annotations
 
 import array
@@ -120,12 +121,14 @@ def has_head(head: bytes, side: Side) -> bool:
     if side == 'client':
         mtype, rpcvers, _, version, procedure, flavor, size = struct.unpack_from(
             '>7I', head.ljust(36, b'\xff'), 8)
-        return (mtype, rpcvers) == (0, 2) and version < 256 and procedure < 65_536 and flavor in FLAVORS and size <= LONGEST_AUTH
+        return ((mtype, rpcvers) == (0, 2) and version < 256 and procedure < 65_536
+                and flavor in FLAVORS and size <= LONGEST_AUTH)
     mtype, status, flavor, size = struct.unpack_from('>4I', head, 8)
     if (mtype, status) == (1, 1):
         return bool(flavor <= 1)
     at = 24 + size + -size % 4
-    return (mtype, status) == (1, 0) and flavor in FLAVORS and size <= LONGEST_AUTH and int.from_bytes(head[at:at + 4], 'big') <= 5
+    return ((mtype, status) == (1, 0) and flavor in FLAVORS and size <= LONGEST_AUTH
+            and int.from_bytes(head[at:at + 4], 'big') <= 5)
 
 
 class Walk(typing.NamedTuple):
@@ -139,7 +142,8 @@ class Walk(typing.NamedTuple):
     @property
     def rank(self) -> tuple[bool, bool, int]:
         """What makes it more convincing than another."""
-        return self.reaches_end, self.reaches_end and self.is_single, 0 if self.reaches_end else self.records
+        return (self.reaches_end, self.reaches_end and self.is_single,
+                0 if self.reaches_end else self.records)
 
 
 class Search:
@@ -233,7 +237,8 @@ def xids(window: Window, begin: int, end: int) -> typing.Iterator[tuple[Extent, 
         if len(head) < 8:
             head = body_of(window, extent, 8)
         whole = len(head) >= 8
-        yield extent, int.from_bytes(head[:4], 'big') if whole else -1, int.from_bytes(head[4:8], 'big') if whole else -1
+        yield (extent, int.from_bytes(head[:4], 'big') if whole else -1,
+               int.from_bytes(head[4:8], 'big') if whole else -1)
 
 
 def body_of(window: Window, extent: Extent, most: int = LONGEST_BODY) -> bytes:

@@ -1,4 +1,5 @@
-"""TCP segments out of frames: link layers, tunnels whose header has a fixed form, IPv4 and IPv6 with their fragments, TCP."""
+"""TCP segments out of frames: link layers, tunnels whose header has a fixed form, IPv4 and IPv6
+with their fragments, TCP."""
 from __future__ import annotations
 
 import ipaddress
@@ -39,9 +40,12 @@ PROTOCOLS = {1: 'ICMP', 2: 'IGMP', 58: 'ICMP', IP_IN_IP: 'IP in IP*', UDP: 'UDP'
 # Where the kind of the network layer stands (None: in the datagram itself), and where the datagram
 # begins, by link type.
 LINKS: dict[int, tuple[int | None, int]] = {
-    ETHERNET: (12, 14), 113: (14, 16), 276: (0, 20),  # Ethernet, and cooked as `tcpdump -i any` records it, in both versions
-    0: (None, 4), 108: (None, 4),  # the loopback of BSD, in the byte order of the machine and of the network
-    12: (None, 0), 14: (None, 0), 101: (None, 0), 228: (None, 0), 229: (None, 0)}  # raw IP
+    # Ethernet, and cooked as `tcpdump -i any` records it, in both versions
+    ETHERNET: (12, 14), 113: (14, 16), 276: (0, 20),
+    # the loopback of BSD, in the byte order of the machine and of the network
+    0: (None, 4), 108: (None, 4),
+    # raw IP
+    12: (None, 0), 14: (None, 0), 101: (None, 0), 228: (None, 0), 229: (None, 0)}
 
 # Version and length, total length, identification, fragment, protocol
 IPV4_HEADER = struct.Struct('>BxHHHxB')
@@ -66,7 +70,8 @@ class Segment(typing.NamedTuple):
 
     def has_port(self, ports: frozenset[int]) -> bool:
         """Whether the port of its source or target is one of these."""
-        return int.from_bytes(self.key[-4:-2], 'big') in ports or int.from_bytes(self.key[-2:], 'big') in ports
+        return (int.from_bytes(self.key[-4:-2], 'big') in ports
+                or int.from_bytes(self.key[-2:], 'big') in ports)
 
 
 def turned(key: bytes) -> bytes:
@@ -112,7 +117,8 @@ class Pending:
     def has(self, begin: int, piece: bytes, is_last: bool) -> bool:
         """Whether a fragment is one of a datagram that is whole."""
         end = begin + len(piece)
-        return self.is_done and (end == self.size) == is_last and end <= (self.size or 0) and self.held.add(begin, piece, 0, 0)
+        return (self.is_done and (end == self.size) == is_last and end <= (self.size or 0)
+                and self.held.add(begin, piece, 0, 0))
 
     def add(self, begin: int, piece: bytes, is_last: bool) -> None:
         self.count += 1
@@ -380,13 +386,15 @@ def in_tunnel(protocol: int, data: bytes, begin: int, end: int) -> tuple[int, in
         if port in VXLAN and data[head] & 0x08:  # RFC 7348
             return BRIDGED, head + 8
         if port == GENEVE and not data[head] >> 6:  # RFC 8926
-            return int.from_bytes(data[head + 2:head + 4], 'big'), head + 8 + (data[head] & 0x3f) * 4
+            return (int.from_bytes(data[head + 2:head + 4], 'big'),
+                    head + 8 + (data[head] & 0x3f) * 4)
     return None
 
 
 def in_gre(data: bytes, begin: int) -> tuple[int, int] | None:
     """The same of GRE (RFC 2784, 2890) without routing."""
-    flags, kind = int.from_bytes(data[begin:begin + 2], 'big'), int.from_bytes(data[begin + 2:begin + 4], 'big')
+    flags, kind = (int.from_bytes(data[begin:begin + 2], 'big'),
+                   int.from_bytes(data[begin + 2:begin + 4], 'big'))
     if flags & 0x4007:  # routing, or another version
         return None
     return kind, begin + 4 + 4 * bin(flags >> 12 & 0b1011).count('1')

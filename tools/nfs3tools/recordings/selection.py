@@ -1,4 +1,5 @@
-"""Which bytes of a connection are kept: what to do without its beginning, and about bytes that are missing."""
+"""Which bytes of a connection are kept: what to do without its beginning, and about bytes that are
+missing."""
 from __future__ import annotations
 
 import dataclasses
@@ -113,15 +114,20 @@ def add_uncertain(stream: Stream, kept: Kept, side: Side) -> None:
     """Adds what is told of bytes that are recorded and not taken, and of others that may be
     missing."""
     if stream.conflicts:
-        kept.notes.append(f'{count(stream.conflicts, "frame")} {plural(stream.conflicts, "repeats", "repeat")} bytes with '
-                          f'other content, first frame {stream.conflict}; the bytes that came first are taken')
+        kept.notes.append(
+            f'{count(stream.conflicts, "frame")} {plural(stream.conflicts, "repeats", "repeat")} '
+            f'bytes with other content, first frame {stream.conflict}; '
+            'the bytes that came first are taken')
         kept.reasons.append(f'{count(stream.conflicts, "frame")} with other content')
     if stream.unplaced:
-        kept.notes.append(f'{side}: {count(stream.unplaced, "byte")} {plural(stream.unplaced, "fits", "fit")} nowhere in the stream, and '
-                          f'{plural(stream.unplaced, "is", "are")} left out, first frame {stream.unplaced_by}')
+        kept.notes.append(
+            f'{side}: {count(stream.unplaced, "byte")} {plural(stream.unplaced, "fits", "fit")} '
+            f'nowhere in the stream, and {plural(stream.unplaced, "is", "are")} left out, '
+            f'first frame {stream.unplaced_by}')
         kept.reasons.append(f'{count(stream.unplaced, "byte")} left out')
     if stream.far is not None:
-        kept.notes.append(f'{side}: frame {stream.far_by} shows bytes far beyond the last that is known, and no other frame does')
+        kept.notes.append(f'{side}: frame {stream.far_by} shows bytes far beyond the last that is '
+                          'known, and no other frame does')
         kept.reasons.append('bytes far beyond the last may be missing')
 
 
@@ -145,7 +151,8 @@ def client_of(connection: Connection, options: Options) -> tuple[int, str]:
         for side in (likely, 1 - likely):
             if has_calls(connection.streams[side]):
                 return side, 'by its calls'
-    return (guess, 'by the ports') if guess is not None else (connection.first_payload or 0, 'by the first payload')
+    return ((guess, 'by the ports') if guess is not None
+            else (connection.first_payload or 0, 'by the first payload'))
 
 
 def is_of_rpc(connection: Connection, ports: frozenset[int]) -> bool:
@@ -171,7 +178,8 @@ def keep_front(stream: Stream, side: Side, options: Options, cut: str) -> Kept:
     if not stream.is_begin:
         if stream.stored.size:
             kept.missing += stream.stored.size
-            kept.notes.append(f'{side}: its beginning is not in the recording, so nothing of it is taken (as --no-midstream asks)')
+            kept.notes.append(f'{side}: its beginning is not in the recording, so nothing of it is '
+                              'taken (as --no-midstream asks)')
         return kept
     if gaps:
         kept.lacks = True
@@ -190,11 +198,13 @@ def keep_midstream(stream: Stream, side: Side, options: Options, cut: str) -> Ke
         kept.reasons.append(BEGUN_BEFORE)
     for part in parts:
         is_first = part is parts[0] and not stream.runs[0].gap
-        begin = part.begin if is_first and stream.is_begin else Search(stream.stored, side, part.begin, part.end).first()
+        begin = (part.begin if is_first and stream.is_begin
+                 else Search(stream.stored, side, part.begin, part.end).first())
         if is_first and begin != part.begin:
             skipped = part.end if begin is None else begin
             kept.notes.append(f'{side}: the first {count(skipped, "byte")} '
-                              f'{plural(skipped, "is", "are")} left out, since no record of a whole run begins there')
+                              f'{plural(skipped, "is", "are")} left out, since no record of a '
+                              'whole run begins there')
         elif begin is None:
             left_out += part.end - part.begin
         else:
@@ -272,11 +282,12 @@ def count(number: int, one: str) -> str:
 
 
 def told_of(gap: Gap) -> str:
-    return (f'{count(gap.size, "byte")} {plural(gap.size, "is", "are")} missing from the recording after the first '
-            f'{gap.position:,}, before frame {gap.frame}')
+    return (f'{count(gap.size, "byte")} {plural(gap.size, "is", "are")} missing from the '
+            f'recording after the first {gap.position:,}, before frame {gap.frame}')
 
 
 def told_of_all(gaps: list[Gap]) -> str:
     if len(gaps) == 1:
         return told_of(gaps[0])
-    return f'{told_of(gaps[0])}, and {sum(gap.size for gap in gaps[1:]):,} more in {count(len(gaps) - 1, "place")}'
+    return (f'{told_of(gaps[0])}, and {sum(gap.size for gap in gaps[1:]):,} more '
+            f'in {count(len(gaps) - 1, "place")}')

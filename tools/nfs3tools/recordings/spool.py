@@ -152,7 +152,8 @@ class Stored:
     def drop(self, end: int) -> None:
         """Forgets the bytes before a position, as far as whole parts go. They must not be read
         again."""
-        parts = len(self.begins) if end >= self.written else max(0, bisect.bisect_right(self.begins, end) - 1)
+        parts = (len(self.begins) if end >= self.written
+                 else max(0, bisect.bisect_right(self.begins, end) - 1))
         ends = [*self.begins[1:parts + 1], self.written][:parts]
         for begin, part_end, place in zip(self.begins, ends, self.places):
             self.spool.free(place, part_end - begin)

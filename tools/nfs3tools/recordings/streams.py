@@ -105,7 +105,8 @@ class Stream:
 
     def may_begin_at(self, sequence: int) -> bool:
         """Whether SYN with this number may be that of the stream, though it comes after bytes."""
-        return not self.is_begin and self.first is not None and (self.first - sequence) % NUMBERS <= LIKELY_AT_MOST
+        return (not self.is_begin and self.first is not None
+                and (self.first - sequence) % NUMBERS <= LIKELY_AT_MOST)
 
     def move(self, before: int, number: int) -> None:
         """Bytes are missing before the first that was known."""
@@ -164,7 +165,8 @@ class Stream:
     def is_beyond(self, acknowledged: int) -> bool:
         """Whether an acknowledgement shows bytes after all that are known. FIN is acknowledged as
         one more."""
-        return self.first is not None and self.position(acknowledged) > max(self.next, self.known_end) + 1
+        return (self.first is not None
+                and self.position(acknowledged) > max(self.next, self.known_end) + 1)
 
     def ends_at(self, end: int, number: int) -> None:
         """The position of the end is known, unless bytes beyond it were sent."""
@@ -239,7 +241,8 @@ class Stream:
         if payload and not self.held.add(position, payload, number, time):
             self.differs(number)
         self.budget.held += self.held.cost - cost
-        if self.held.cost > HELD_AT_MOST or self.budget.held > self.budget.most and self.held.begins:
+        if self.held.cost > HELD_AT_MOST or (
+                self.budget.held > self.budget.most and self.held.begins):
             self.give_up_gap()
 
     def take_late(self, position: int, payload: bytes, number: int, time: int) -> None:
@@ -265,7 +268,8 @@ class Stream:
             low, high = max(position, begin), min(end, begin + size)
             if low < high:
                 compared += high - low
-                is_other |= self.stored.read(at + low - begin, high - low) != old[low - position:high - position]
+                is_other |= (self.stored.read(at + low - begin, high - low)
+                             != old[low - position:high - position])
         if is_other:
             self.differs(number)
         self.leave_out(len(old) - compared, number)
@@ -277,7 +281,8 @@ class Stream:
         if self.compared < self.begin and self.runs and position < self.runs[0].position:
             size = self.begin - self.compared
             yield self.runs[0].position - size, self.compared, size
-        for at in range(max(0, bisect.bisect_right(Keys(self.runs, lambda run: run.position), position) - 1), len(self.runs)):
+        for at in range(max(0, bisect.bisect_right(Keys(self.runs, lambda run: run.position),
+                                                   position) - 1), len(self.runs)):
             end = self.runs[at + 1].begin if at + 1 < len(self.runs) else self.stored.size
             yield self.runs[at].position, self.runs[at].begin, end - self.runs[at].begin
 
@@ -341,7 +346,8 @@ class Stream:
             return 0
         first = self.tail_end - len(self.tail)
         low, high = max(position, first), min(position + len(payload), self.tail_end)
-        if low < high and self.tail[low - first:high - first] == payload[low - position:high - position]:
+        if low < high and (
+                self.tail[low - first:high - first] == payload[low - position:high - position]):
             return len(payload) - (high - low)
         return len(payload)
 

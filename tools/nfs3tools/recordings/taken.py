@@ -1,15 +1,17 @@
-"""What is taken of a recording or of a capture: its connections, each with the streams of both sides.
+"""What is taken of a recording or of a capture: its connections, each with the streams of both
+sides.
 
     with take('run.pcap', Options(midstream=False)) as taken:
         for connection in taken.connections:
-            print(connection.number, connection.client_end, connection.server_end, connection.client.size)
+            print(connection.number, connection.client_end, connection.server_end,
+                  connection.client.size)
         taken.write_capture('run.nfs3cap')
-        taken.frames(Place(1, 'server', 7, 24))     # the frames of the recording that carry this byte
+        taken.frames(Place(1, 'server', 7, 24))  # the frames of the recording that carry this byte
 
-`take` reads pcap and pcapng (also compressed, `-` for standard input, and the parts of one recording by a pattern) and captures
-(`NFS3CAP1`, `NFS3CAP2`). Positions of
-`check`, `show` and `same` on the file that `write_capture` writes are positions of `taken`: connections have the numbers of
-`TakenConnection.number`, and records are those of its streams.
+`take` reads pcap and pcapng (also compressed, `-` for standard input, and the parts of one
+recording by a pattern) and captures (`NFS3CAP1`, `NFS3CAP2`). Positions of `check`, `show` and
+`same` on the file that `write_capture` writes are positions of `taken`: connections have the
+numbers of `TakenConnection.number`, and records are those of its streams.
 """
 from __future__ import annotations
 
@@ -44,12 +46,13 @@ from .unpacking import READ_AT_ONCE, Damaged, Readable
 FRAMES_A_STEP = 1_000
 NO_RPC = 'no RPC'  # is why a connection is left out
 NOTHING, NOTHING_MORE = Brought(0, 0, 0), Brought(sys.maxsize, 0, 0)
-__all__ = ['FrameRef', 'LeftOut', 'NotTaken', 'Options', 'Record', 'Taken', 'TakenConnection', 'TakenStream', 'take']
+__all__ = ['FrameRef', 'LeftOut', 'NotTaken', 'Options', 'Record', 'Taken', 'TakenConnection',
+           'TakenStream', 'take']
 
 
 class NotTaken(Exception):
-    """The file is no recording or capture; its text is the message for the user. `packed_by` is the program that compressed it, if that
-    is known and the file is not one of several parts."""
+    """The file is no recording or capture; its text is the message for the user. `packed_by` is the
+    program that compressed it, if that is known and the file is not one of several parts."""
 
     def __init__(self, text: str, packed_by: str | None = None) -> None:
         super().__init__(text)
@@ -57,8 +60,8 @@ class NotTaken(Exception):
 
 
 class FrameRef(typing.NamedTuple):
-    """A frame of the recording: its number, from 1 as Wireshark counts, also through all parts of a recording, and its time in
-    nanoseconds since 1970 (UTC), 0 if it has none."""
+    """A frame of the recording: its number, from 1 as Wireshark counts, also through all parts of a
+    recording, and its time in nanoseconds since 1970 (UTC), 0 if it has none."""
     number: int
     time: int
 
@@ -78,10 +81,12 @@ class Record(typing.NamedTuple):
 
 
 class TakenStream:
-    """The bytes of one side that are taken. They stay in memory if they are few, else in a temporary file."""
+    """The bytes of one side that are taken. They stay in memory if they are few, else in a
+    temporary file."""
     __slots__ = 'stored', 'noted', 'ranges', 'begins', 'size', 'index'
 
-    def __init__(self, stored: Stored, frames: Frames | None, ranges: list[tuple[int, int]]) -> None:
+    def __init__(self, stored: Stored, frames: Frames | None,
+                 ranges: list[tuple[int, int]]) -> None:
         self.stored, self.noted, self.ranges = stored, frames, ranges
         self.begins = list(itertools.accumulate((end - begin for begin, end in ranges), initial=0))
         self.size = self.begins[-1]  # bytes
@@ -89,7 +94,8 @@ class TakenStream:
 
     def read(self, begin: int, size: int) -> bytes:
         """Returns the bytes from `begin` on: `size` of them, or fewer at the stream's end."""
-        return b''.join(self.stored.read(low, high - low) for low, high in self.ranges_of(begin, begin + size))
+        return b''.join(self.stored.read(low, high - low)
+                        for low, high in self.ranges_of(begin, begin + size))
 
     def ranges_of(self, begin: int, end: int) -> typing.Iterator[tuple[int, int]]:
         """Iterates over the ranges of the stored bytes in which these bytes are."""
@@ -101,7 +107,8 @@ class TakenStream:
             begin, part = part_end, part + 1
 
     def part(self, runs: typing.Iterable[tuple[int, int]]) -> 'TakenStream':
-        """Returns a stream of some of the bytes: of runs from where each begins to where it ends, in their order."""
+        """Returns a stream of some of the bytes: of runs from where each begins to where it ends,
+        in their order."""
         ranges = [piece for begin, end in runs for piece in self.ranges_of(begin, end)]
         return TakenStream(self.stored, self.noted, ranges)
 
@@ -120,16 +127,20 @@ class TakenStream:
         """Returns where a record stands, if there is one of this number, from 1."""
         window = Window(self)
         if self.index is None:
-            self.index = array.array('Q', (extent.begin for extent in extents(window, 0, self.size)))
-        return extent_of(window, self.index[number - 1], self.size) if 0 < number <= len(self.index) else None
+            self.index = array.array(
+                'Q', (extent.begin for extent in extents(window, 0, self.size)))
+        return (extent_of(window, self.index[number - 1], self.size)
+                if 0 < number <= len(self.index) else None)
 
     def brought(self) -> typing.Iterator[Brought]:
-        """Iterates over the frames that brought the bytes, in order of the bytes, if frames are noted. Each has the place of its first byte
-        in the stream, which for the first of them may be before the stream."""
+        """Iterates over the frames that brought the bytes, in order of the bytes, if frames are
+        noted. Each has the place of its first byte in the stream, which for the first of them may
+        be before the stream."""
         for (low, high), at in zip(self.ranges, self.begins):
             if self.noted is not None:
                 shift, found = at - low, self.noted.between(low, high)
-                yield from found if not shift else (brought._replace(begin=brought.begin + shift) for brought in found)
+                yield from found if not shift else (
+                    brought._replace(begin=brought.begin + shift) for brought in found)
 
     def completions(self) -> typing.Iterator[Completion]:
         """Iterates over the records in order: what completed each. Of the frames that brought bytes
@@ -145,7 +156,8 @@ class TakenStream:
             yield Completion(end - begin, last.number, last.time)
 
     def first_frames(self) -> typing.Iterator[int]:
-        """Iterates over the records in order: the number of the frame that brought the first byte of each, 0 if frames are not noted."""
+        """Iterates over the records in order: the number of the frame that brought the first byte
+        of each, 0 if frames are not noted."""
         brought, held = self.brought(), NOTHING
         following = next(brought, NOTHING_MORE)
         for extent in extents(Window(self), 0, self.size):
@@ -161,7 +173,8 @@ class TakenStream:
         """Returns the frames that brought the bytes, in order of their numbers, each once."""
         if self.noted is None:
             return []
-        brought = itertools.chain.from_iterable(self.noted.between(*piece) for piece in self.ranges_of(begin, end))
+        brought = itertools.chain.from_iterable(
+            self.noted.between(*piece) for piece in self.ranges_of(begin, end))
         return sorted({FrameRef(one.number, one.time) for one in brought})
 
 
@@ -173,7 +186,8 @@ class TakenConnection(typing.NamedTuple):
     client_end, server_end: as '192.0.2.7:700' or '[2001:db8::7]:700'; '' if read from a capture
     ends: both, first the one that sent the first segment, as '192.0.2.7:700 and 192.0.2.1:2049'
     why: how it is known which end is the client, as 'by the SYN'; '' if read from a capture
-    notes: what was left out of its streams, each beginning with the side, as 'client: 12 bytes are missing ..'
+    notes: what was left out of its streams, each beginning with the side, as
+        'client: 12 bytes are missing ..'
     missing: the bytes of both sides that were sent and are not in the recording, as far as it shows
     lacks: why it is in part, other than for these bytes
     is_closed: whether the recording shows that an end closed or reset it
@@ -207,8 +221,8 @@ class TakenConnection(typing.NamedTuple):
 
 
 class LeftOut(typing.NamedTuple):
-    """A connection that is not taken: its ends, why, how many bytes are missing if that is why, else 0, whether it begins before the
-    recording, and whether calls may be in it."""
+    """A connection that is not taken: its ends, why, how many bytes are missing if that is why,
+    else 0, whether it begins before the recording, and whether calls may be in it."""
     ends: str
     why: str
     missing: int = 0
@@ -219,16 +233,19 @@ class LeftOut(typing.NamedTuple):
         return f'{self.ends}: {self.why}'
 
     def covered(self) -> Covered:
-        return Covered('left out', self.why, ends=self.ends, missing=self.missing, shows_calls=self.shows_calls)
+        return Covered('left out', self.why, ends=self.ends, missing=self.missing,
+                       shows_calls=self.shows_calls)
 
 
 class Taken:
-    """The connections of a recording or capture. As a context manager it removes the temporary files at its end.
+    """The connections of a recording or capture. As a context manager it removes the temporary
+    files at its end.
 
     left_out: the connections that are not taken
     remarks: what else is not judged, though no connection stands for it
     notes: what is told of the whole recording or capture, a sentence each, without these
-    damage: why what follows could not be read, or None; a recording that ends in the middle of a frame is not damaged
+    damage: why what follows could not be read, or None; a recording that ends in the middle of a
+        frame is not damaged
     nothing: what is said if there is no connection
     is_recording: False if read from a capture
     has_frames: whether the frames of bytes are noted
@@ -237,8 +254,10 @@ class Taken:
     begun: the time of the first frame of a recording that has one, in nanoseconds since 1970
     """
 
-    def __init__(self, spool: Spool, is_recording: bool, has_frames: bool, ports: frozenset[int] = NFS_PORTS) -> None:
-        self.spool, self.is_recording, self.has_frames, self.ports = spool, is_recording, has_frames, ports
+    def __init__(self, spool: Spool, is_recording: bool, has_frames: bool,
+                 ports: frozenset[int] = NFS_PORTS) -> None:
+        self.spool, self.is_recording, self.has_frames, self.ports = (
+            spool, is_recording, has_frames, ports)
         self.connections: list[TakenConnection] = []
         self.left_out: list[LeftOut] = []
         self.remarks: list[Covered] = []
@@ -251,11 +270,13 @@ class Taken:
     @property
     def missing(self) -> int:
         """The bytes of all connections that are missing from the recording."""
-        return sum(one.missing for one in self.connections) + sum(one.missing for one in self.left_out)
+        return (sum(one.missing for one in self.connections)
+                + sum(one.missing for one in self.left_out))
 
     def covered_connection(self, connection: TakenConnection) -> Covered:
         """Returns under which word a connection that is taken comes."""
-        covered = of_connection(called_in(connection.client), connection.server_port, self.ports, connection.missing, connection.lacks)
+        covered = of_connection(called_in(connection.client), connection.server_port, self.ports,
+                                connection.missing, connection.lacks)
         return covered._replace(number=connection.number, ends=connection.ends)
 
     def covered(self) -> typing.Iterator[Covered]:
@@ -292,31 +313,36 @@ class Taken:
         """
         size = sum(stream.size for pair in self.pairs() for stream in pair)
         if len(self.connections) > MOST_CONNECTIONS:
-            raise NotTaken(f'{len(self.connections)} connections are more than the {MOST_CONNECTIONS} of a capture')
+            raise NotTaken(f'{len(self.connections)} connections are more than the '
+                           f'{MOST_CONNECTIONS} of a capture')
         if size > MOST_BYTES:
             raise NotTaken(f'{size} bytes of streams are more than the {MOST_BYTES} of a capture')
         return capture_of(self.pairs())
 
     def frames(self, place: Place | FilePlace) -> list[FrameRef]:
-        """Returns the frames that carry a byte, or all frames that carry a record if the place names no byte.
+        """Returns the frames that carry a byte, or all frames that carry a record if the place
+        names no byte.
 
-        The frame of a byte is the first that brought it, not a retransmission. At the end of a body it is that of the
-        last byte. Returns an empty list if no frames are noted.
+        The frame of a byte is the first that brought it, not a retransmission. At the end of a body
+        it is that of the last byte. Returns an empty list if no frames are noted.
 
         Raises `NoPlace` if there is no such record or byte.
         """
         if isinstance(place, FilePlace):
             found = place_in(self.pairs(), place.byte)
             if found is None:
-                raise NoPlace(f'byte {place.byte} of the capture is not of a stream, so no frame carries it')
+                raise NoPlace(f'byte {place.byte} of the capture is not of a stream, '
+                              'so no frame carries it')
             index, side, at = found
             return self.connections[index].stream(SIDES[side]).frames(at, at + 1)
         stream, extent = self.record_at(place)
         return stream.frames(*bytes_of(stream, extent, place))
 
     def record_at(self, place: Place) -> tuple[TakenStream, Extent]:
-        """Returns the stream of a record, and where the record is in it. Raises `NoPlace` if there is no such record."""
-        at = bisect.bisect_left(Keys(self.connections, lambda one: one.number), place.connection)  # (some may be left out)
+        """Returns the stream of a record, and where the record is in it. Raises `NoPlace` if there
+        is no such record."""
+        # (some may be left out)
+        at = bisect.bisect_left(Keys(self.connections, lambda one: one.number), place.connection)
         if at == len(self.connections) or self.connections[at].number != place.connection:
             raise NoPlace(f'there is no connection {place.connection}')
         stream = self.connections[at].stream(place.side)
@@ -326,10 +352,12 @@ class Taken:
         return stream, extent
 
     def all_frames(self) -> typing.Iterator[FrameRef]:
-        """Iterates over the frames that brought bytes of the connections, stream by stream, if frames are noted."""
+        """Iterates over the frames that brought bytes of the connections, stream by stream, if
+        frames are noted."""
         for stream in itertools.chain.from_iterable(self.pairs()):
             if stream.noted is not None:
-                yield from (FrameRef(brought.number, brought.time) for brought in stream.noted.noted_from(0))
+                yield from (FrameRef(brought.number, brought.time)
+                            for brought in stream.noted.noted_from(0))
 
     def ends(self) -> tuple[FrameRef, FrameRef] | None:
         """Returns the first and the last of these frames, if there are some."""
@@ -359,25 +387,29 @@ def bytes_of(stream: TakenStream, extent: Extent, place: Place) -> tuple[int, in
 
 # --- Taking ---
 
-def take(path: str, options: Options = Options(), frames: bool = True, shows_progress: bool = True) -> Taken:
-    """Reads a recording or a capture, `-` for standard input. A path that is the name of no file is a pattern, whose files are parts of
-    one recording, in the order of the times of their first frames. `frames` says whether the frames of bytes are noted, which
-    takes 24 bytes of a temporary file for each frame; `shows_progress` whether their number is shown on a terminal meanwhile.
+def take(path: str, options: Options = Options(), frames: bool = True,
+         shows_progress: bool = True) -> Taken:
+    """Reads a recording or a capture, `-` for standard input. A path that is the name of no file is
+    a pattern, whose files are parts of one recording, in the order of the times of their first
+    frames. `frames` says whether the frames of bytes are noted, which takes 24 bytes of a temporary
+    file for each frame; `shows_progress` whether their number is shown on a terminal meanwhile.
 
-    Raises `NotTaken`, `Missing` and `FilterRefused` (of `programs`), and `OSError` if a file cannot be read or a temporary
-    file not be written.
+    Raises `NotTaken`, `Missing` and `FilterRefused` (of `programs`), and `OSError` if a file cannot
+    be read or a temporary file not be written.
     """
     progress, files = Progress(shows_progress), files_of(path)
     if len(files) > 1:
         return take_parts(files, options, frames, progress)
     with contextlib.ExitStack() as stack:
         source, chosen = opened_for(files[0], options, stack)
-        taken = take_from(source, chosen, options, frames, progress, share_of(source, 0, size_of(files)))
+        taken = take_from(source, chosen, options, frames, progress,
+                          share_of(source, 0, size_of(files)))
     begun = sum(left_out.is_begun_before for left_out in taken.left_out)
     pattern = pattern_beside(files[0]) if begun else None
     if pattern:
-        taken.notes.append(f'it begins in the middle of {count(begun, "connection")}: if it is a part of a recording, as of '
-                           f'`tcpdump -C`, name all parts in its place, as {pattern}')
+        taken.notes.append(f'it begins in the middle of {count(begun, "connection")}: if it is a '
+                           'part of a recording, as of `tcpdump -C`, name all parts in its place, '
+                           f'as {pattern}')
     return taken
 
 
@@ -387,7 +419,8 @@ def size_of(files: typing.Iterable[str]) -> int | None:
 
 
 def share_of(source: Source, before: int, size: int | None) -> Share | None:
-    """Returns what tells the share of files that was read, if their size is known: of this one, and of the bytes of those before it."""
+    """Returns what tells the share of files that was read, if their size is known: of this one, and
+    of the bytes of those before it."""
     if not size:
         return None
     all_bytes = size
@@ -409,9 +442,11 @@ def take_parts(files: list[str], options: Options, keeps_frames: bool, progress:
     return taking.ended()
 
 
-def opened_for(path: str, options: Options, stack: contextlib.ExitStack) -> tuple[Source, set[int] | None]:
-    """Opens a recording, and asks tshark for the frames that a filter chooses, if there is one. It reads a copy if that is of standard
-    input or compressed. Raises `NotTaken` if what is compressed cannot be copied as a whole."""
+def opened_for(path: str, options: Options,
+               stack: contextlib.ExitStack) -> tuple[Source, set[int] | None]:
+    """Opens a recording, and asks tshark for the frames that a filter chooses, if there is one. It
+    reads a copy if that is of standard input or compressed. Raises `NotTaken` if what is compressed
+    cannot be copied as a whole."""
     source = Source(stack.enter_context(opened(path)))
     if options.filter is None:
         return source, None
@@ -435,9 +470,10 @@ def copied(content: Readable) -> typing.Iterator[typing.IO[bytes]]:
         yield copy
 
 
-def take_from(source: Source, chosen: set[int] | None, options: Options, keeps_frames: bool, progress: Progress,
-              share: Share | None = None) -> Taken:
-    """Takes what is read; of a recording only the frames that are chosen, if `chosen` is not None."""
+def take_from(source: Source, chosen: set[int] | None, options: Options, keeps_frames: bool,
+              progress: Progress, share: Share | None = None) -> Taken:
+    """Takes what is read; of a recording only the frames that are chosen, if `chosen` is not
+    None."""
     try:
         if source.peek(8) in MAGICS:
             return of_capture(source)
@@ -456,7 +492,8 @@ def of_capture(source: Source) -> Taken:
     try:
         for streams in Container(source, taken.spool).connections():
             client, server = (TakenStream(stored, None, whole(stored)) for stored in streams)
-            taken.connections.append(TakenConnection(len(taken.connections) + 1, None, '', '', '', '', client, server, []))
+            taken.connections.append(TakenConnection(
+                len(taken.connections) + 1, None, '', '', '', '', client, server, []))
     except BadCapture:
         taken.damage = 'the capture is not whole, or has a word that cannot stand there'
     except Damaged as damaged:
@@ -477,9 +514,12 @@ class Taking:
         self.segments = Segments(self.taken.ports)
         self.count = 0  # frames
 
-    def add(self, recording: Recording, chosen: set[int] | None, name: str = '', share: Share | None = None) -> None:
-        """Takes a part, of which only the frames that are chosen count, if `chosen` is not None. A name stands before what is told."""
-        before, segments, connections, ports = self.count, self.segments, self.connections, self.options.ports
+    def add(self, recording: Recording, chosen: set[int] | None, name: str = '',
+            share: Share | None = None) -> None:
+        """Takes a part, of which only the frames that are chosen count, if `chosen` is not None. A
+        name stands before what is told."""
+        before, segments, connections, ports = (
+            self.count, self.segments, self.connections, self.options.ports)
         for frame in recording.frames():
             self.taken.begun = self.taken.begun or frame.time
             is_chosen = chosen is None or frame.number in chosen
@@ -524,29 +564,34 @@ def add(taken: Taken, connection: Connection, selected: Selected, options: Optio
 def left_out_of(connection: Connection, selected: Selected, options: Options) -> LeftOut | None:
     """Why a connection is left out, or `None` if it is not."""
     ends = ' and '.join(connection.ends)
-    if connection.first_payload is None and not any(stream.gap_at_end() for stream in connection.streams):
+    if connection.first_payload is None and not any(
+            stream.gap_at_end() for stream in connection.streams):
         return LeftOut(ends, 'no payload', shows_calls=False)
     if not is_of_rpc(connection, options.ports):
         return LeftOut(ends, NO_RPC, shows_calls=False)
     if any(kept.ranges for kept in selected.kept):
         return None
     is_for_losses = connection.client is not None or options.midstream
-    return LeftOut(ends, why_left_out(connection, options), selected.missing if is_for_losses else 0, connection.client is None)
+    return LeftOut(ends, why_left_out(connection, options),
+                   selected.missing if is_for_losses else 0, connection.client is None)
 
 
 def taken_connection(number: int, connection: Connection, selected: Selected) -> TakenConnection:
     """What is taken of a connection."""
     streams = connection.streams[selected.client], connection.streams[1 - selected.client]
-    client, server = (TakenStream(stream.stored, stream.frames, kept.ranges) for stream, kept in zip(streams, selected.kept))
-    return TakenConnection(number, connection.number, connection.ends[selected.client], connection.ends[1 - selected.client],
-                           ' and '.join(connection.ends), selected.why, client, server, [*selected.notes, *connection.strays],
-                           selected.missing, selected.lacks, connection.is_closed,
-                           tuple(filter(None, connection.opened_by)))
+    client, server = (TakenStream(stream.stored, stream.frames, kept.ranges)
+                      for stream, kept in zip(streams, selected.kept))
+    return TakenConnection(
+        number, connection.number, connection.ends[selected.client],
+        connection.ends[1 - selected.client], ' and '.join(connection.ends), selected.why, client,
+        server, [*selected.notes, *connection.strays], selected.missing, selected.lacks,
+        connection.is_closed, tuple(filter(None, connection.opened_by)))
 
 
 def why_left_out(connection: Connection, options: Options) -> str:
     if connection.client is None and not options.midstream:
-        return 'no SYN in the recording, so its streams may begin inside a record (--no-midstream leaves it out)'
+        return ('no SYN in the recording, so its streams may begin inside a record '
+                '(--no-midstream leaves it out)')
     if options.midstream:
         return 'no position was found from which its records follow one another'
     return 'its first bytes are missing from the recording'

@@ -1,4 +1,5 @@
-"""What is in compressed files: gzip, xz and bzip2 by the standard library, zstd by its program. What stands before damage is read."""
+"""What is in compressed files: gzip, xz and bzip2 by the standard library, zstd by its program.
+What stands before damage is read."""
 from __future__ import annotations
 
 import bz2
@@ -65,8 +66,8 @@ class Packed:
             self.at += len(rest) - len(rest.lstrip(b'\0'))
         found = self.peek(len(magic))
         if found and found != magic:
-            self.damage = Damaged(
-                'the compressed file is damaged: what follows its end is not compressed in this way')
+            self.damage = Damaged('the compressed file is damaged: what follows its end is not '
+                                  'compressed in this way')
         return found == magic
 
 
@@ -181,7 +182,8 @@ class Piped:
 
     def __init__(self, file: Readable, begun_with: bytes, command: list[str]) -> None:
         self.command, self.damage = command, None
-        self.copy, self.error = tempfile.TemporaryFile(prefix='nfs3canon'), tempfile.TemporaryFile(prefix='nfs3canon')
+        self.copy, self.error = (tempfile.TemporaryFile(prefix='nfs3canon'),
+                                 tempfile.TemporaryFile(prefix='nfs3canon'))
         try:
             self.copy.write(begun_with)
             while block := file.read(READ_AT_ONCE):

@@ -26,7 +26,8 @@ def lines_of(taken: Taken, place: Place | FilePlace,
     for frame in frames[:SHOWN_AT_MOST]:
         yield f'frame {frame.number}, {time_of(frame)}'
     if len(frames) > SHOWN_AT_MOST:
-        yield f'and {len(frames) - SHOWN_AT_MOST} more, the last of them frame {frames[-1].number}, {time_of(frames[-1])}'
+        yield (f'and {len(frames) - SHOWN_AT_MOST} more, the last of them '
+               f'frame {frames[-1].number}, {time_of(frames[-1])}')
     for name, text in filters_of(taken.parts, [frame.number for frame in frames]):
         yield f'{name}: {text}' if name else text
 

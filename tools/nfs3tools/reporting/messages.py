@@ -26,8 +26,9 @@ OPTION = re.compile(r' \[-[^]]*\]')  # in a usage
 
 
 def run(name: str, main: typing.Callable[[list[str]], int]) -> int:
-    """Runs a tool with the words of its command line, and returns its status: 2 if an input or an output is refused, 3 if a file, a
-    device, a program or memory fails, also one of the standard streams."""
+    """Runs a tool with the words of its command line, and returns its status: 2 if an input or an
+    output is refused, 3 if a file, a device, a program or memory fails, also one of the standard
+    streams."""
     try:
         end_by_signals()
         status = status_of(name, main)
@@ -39,7 +40,8 @@ def run(name: str, main: typing.Callable[[list[str]], int]) -> int:
 
 
 def status_of(name: str, main: typing.Callable[[list[str]], int]) -> int:
-    closed = [named for named, stream in (('standard output', sys.stdout), ('standard error', sys.stderr)) if stream is None]
+    closed = [named for named, stream in (('standard output', sys.stdout),
+                                          ('standard error', sys.stderr)) if stream is None]
     occupy_closed_streams()
     if closed:
         return ended(name, f'{closed[0]} is closed', FAILED)
@@ -72,7 +74,8 @@ def exit_status(main: typing.Callable[[list[str]], int]) -> int:
 # --- The standard streams ---
 
 def occupy_closed_streams() -> None:
-    """Makes sure that no other file gets the number of a standard stream. Standard input that is closed cannot be read."""
+    """Makes sure that no other file gets the number of a standard stream. Standard input that is
+    closed cannot be read."""
     while (number := os.open(os.devnull, os.O_WRONLY)) <= 2:
         pass
     os.close(number)
@@ -102,18 +105,21 @@ def drop_unwritten() -> None:
 
 
 def end_by_signals() -> None:
-    """The tool ends by these signals as after a failure, unless whoever started it has them ignored."""
+    """The tool ends by these signals as after a failure, unless whoever started it has them
+    ignored."""
     for number in ENDING:
         if signal.getsignal(number) is not signal.SIG_IGN:
             signal.signal(number, interrupted)
 
 
 def advice_on(refused: NotTaken, name: str) -> str:
-    """Why a file is not taken, and what to type if it is compressed: for the tool that was called, by the name by which it was."""
+    """Why a file is not taken, and what to type if it is compressed: for the tool that was called,
+    by the name by which it was."""
     if not refused.packed_by:
         return str(refused)
     tool, unpack = as_called(f'tools/{name}'), f'{refused.packed_by} -dc'
-    line = f'{unpack} FILE | {tool} {READING[name]}' if name in READING else f'{tool} <({unpack} A) <({unpack} B)'
+    line = (f'{unpack} FILE | {tool} {READING[name]}' if name in READING
+            else f'{tool} <({unpack} A) <({unpack} B)')
     return f'{refused}: decompress it first, as in `{line}`'
 
 
@@ -133,11 +139,13 @@ def ignore_signals() -> None:
 def words_of(failed: OSError) -> str:
     """What failed, with the name of the file if there is one."""
     words = failed.strerror or str(failed)
-    return f'{escaped(os.fsdecode(failed.filename))}: {words}' if isinstance(failed.filename, (str, bytes)) and failed.filename else words
+    return (f'{escaped(os.fsdecode(failed.filename))}: {words}'
+            if isinstance(failed.filename, (str, bytes)) and failed.filename else words)
 
 
 def ended(name: str, message: str, status: int) -> int:
-    """Prints how a tool ends, and returns its status, which is another if that cannot be printed."""
+    """Prints how a tool ends, and returns its status, which is another if that cannot be
+    printed."""
     try:
         print(f'{called(name)}: {printable(message)}', file=sys.stderr, flush=True)
     except OSError:
@@ -146,7 +154,8 @@ def ended(name: str, message: str, status: int) -> int:
 
 
 class Parser(argparse.ArgumentParser):
-    """A parser of command lines that repeats no control characters, and fails if it cannot print."""
+    """A parser of command lines that repeats no control characters, and fails if it cannot
+    print."""
 
     def error(self, message: str) -> typing.NoReturn:
         """Prints the usage as one line, which leaves the options to the help, and what is wrong."""
@@ -160,20 +169,25 @@ class Parser(argparse.ArgumentParser):
 
 def parser_of(text: str | None, name: str) -> argparse.ArgumentParser:
     """A parser of command lines, whose help is the text of a module."""
-    parser = Parser(prog=called(name), description=as_called(text or ''), formatter_class=argparse.RawDescriptionHelpFormatter)
+    parser = Parser(prog=called(name), description=as_called(text or ''),
+                    formatter_class=argparse.RawDescriptionHelpFormatter)
     parser.add_argument('--version', action='version', version=f'{called(name)} {version()}')
     return parser
 
 
 def add_options(parser: argparse.ArgumentParser) -> None:
     """The options of how a recording is taken."""
-    parser.add_argument('--filter', metavar='FILTER', help='takes the connections for which a display filter of Wireshark is true')
+    parser.add_argument('--filter', metavar='FILTER', help='takes the connections for which a '
+                        'display filter of Wireshark is true')
     parser.add_argument('--port', metavar='PORT,..', type=ports_of, default=frozenset(),
                         help='takes the connections that have one of these ports')
-    parser.add_argument('--midstream', action='store_true', default=True, help=argparse.SUPPRESS)  # is the default; scripts may have it still
+    parser.add_argument('--midstream', action='store_true', default=True,
+                        help=argparse.SUPPRESS)  # is the default; scripts may have it still
     parser.add_argument('--no-midstream', action='store_false', dest='midstream',
-                        help='leaves out connections whose beginning was not recorded, and ends streams before missing bytes')
-    parser.add_argument('--whole-records', action='store_true', help='ends each stream after its last whole record')
+                        help='leaves out connections whose beginning was not recorded, '
+                             'and ends streams before missing bytes')
+    parser.add_argument('--whole-records', action='store_true',
+                        help='ends each stream after its last whole record')
 
 
 def ports_of(word: str) -> frozenset[int]:
@@ -186,7 +200,8 @@ def ports_of(word: str) -> frozenset[int]:
 
 def add_program(parser: argparse.ArgumentParser) -> None:
     """The option that names the program."""
-    parser.add_argument('--program', metavar='PROGRAM', help='the nfs3canon to run, if it is not the one of this folder')
+    parser.add_argument('--program', metavar='PROGRAM',
+                        help='the nfs3canon to run, if it is not the one of this folder')
 
 
 def add_judging(parser: argparse.ArgumentParser) -> None:
@@ -205,8 +220,8 @@ def allowed_of(chosen: argparse.Namespace) -> Allowed:
 
 
 def position_text(word: str | None, file: str, what: str) -> str:
-    """The text of a position: an argument, or else what standard input has. Raises `NoPlace` if that
-    is the file as well."""
+    """The text of a position: an argument, or else what standard input has. Raises `NoPlace` if
+    that is the file as well."""
     if word is None and file == '-':
         raise NoPlace(f'POSITION has to be an argument if {what} is standard input')
     return word if word is not None else sys.stdin.buffer.read().decode(errors='replace')
@@ -217,13 +232,16 @@ def options_of(chosen: argparse.Namespace) -> Options:
 
 
 def lines_of(taken: Taken) -> list[str]:
-    """What is told of a recording: a line for each connection that is taken or left out, and for what is missing."""
+    """What is told of a recording: a line for each connection that is taken or left out, and for
+    what is missing."""
     lines = [*taken.notes]
     for connection in taken.connections:
         sizes = f'{connection.client.size} and {connection.server.size} bytes'
-        lines.append(f'connection {connection.number}: {connection.ends}: client {connection.client_end} {connection.why}, {sizes}')
+        lines.append(f'connection {connection.number}: {connection.ends}: '
+                     f'client {connection.client_end} {connection.why}, {sizes}')
         lines += [f'connection {connection.number} {note}' for note in connection.notes]
-    return lines + [f'left out: {line}' for line in taken.left_out] + [f'{remark.word}: {remark.reason}' for remark in taken.remarks]
+    return (lines + [f'left out: {line}' for line in taken.left_out]
+            + [f'{remark.word}: {remark.reason}' for remark in taken.remarks])
 
 
 def tell(taken: Taken) -> None:

@@ -123,7 +123,8 @@ def facts(content: Content) -> Iterator[str]:
     """Both runs, how their calls belong together, what is masked, and what else does not count."""
     yield ''.join(f'<p>{code(line)}</p>' for line in content.line.splitlines())
     yield f'<p>{escape(summary.of_compared(content.compared))}.</p>'
-    yield '<table class=runs><thead><tr><th></th><th>- first run</th><th>+ second run</th></tr></thead>'
+    yield ('<table class=runs><thead><tr><th></th><th>- first run</th><th>+ second run</th></tr>'
+           '</thead>')
     for what, values in rows_of_runs(content):
         yield f'<tr><th>{what}</th>{"".join(f"<td>{escape(value)}</td>" for value in values)}</tr>'
     yield '</table><dl>'
@@ -174,14 +175,16 @@ def said_of(row: NotJudged) -> str:
 
 
 def more_of(some: Sequence[str]) -> str:
-    more = f'; .. and {len(some) - NOT_JUDGED_AT_MOST:,} more' if len(some) > NOT_JUDGED_AT_MOST else ''
+    more = (f'; .. and {len(some) - NOT_JUDGED_AT_MOST:,} more'
+            if len(some) > NOT_JUDGED_AT_MOST else '')
     return '; '.join(some[:NOT_JUDGED_AT_MOST]) + more if some else 'nothing'
 
 
 def words_of_masks(content: Content) -> Iterator[tuple[str, str]]:
     """What does not count, as HTML."""
     report = content.report
-    yield 'masked', f'{code(told(report.mask).replace(",", ", "))}. Xids, file handles and write verifiers are renamed one to one.'
+    yield 'masked', (f'{code(told(report.mask).replace(",", ", "))}. '
+                     'Xids, file handles and write verifiers are renamed one to one.')
     is_turned = report.same_under is not None
     more = besides(report.same_under or content.compared.mask, report.mask)
     if more:
@@ -189,7 +192,8 @@ def words_of_masks(content: Content) -> Iterator[tuple[str, str]]:
             'in another order.' if is_turned
             else 'since any order was tried. What differs in these alone is not told.'))
     if content.compared.silent:
-        yield 'left out', 'Calls that only ask, which one run alone has, or which the calls of others overtook.'
+        yield 'left out', ('Calls that only ask, which one run alone has, or which the calls of '
+                           'others overtook.')
     if content.ignored:
         often = f': {telling.told(content.left_out.most_common())}' if content.left_out else ''
         yield 'ignored', f'{", ".join(code(str(one)) for one in content.ignored)}{escape(often)}.'
@@ -216,7 +220,8 @@ def kind_of(finding: Finding) -> tuple[str, str]:
     said = {'only': f'only in the {run_of(finding)} run',
             'connection': f'only in the {run_of(finding)} run', 'moved': finding.remark,
             'replies': 'another number of replies', 'order': 'replies in another order'}
-    return 'connections' if is_told_of_connections(finding) else message.procedure, said.get(finding.kind, finding.kind)
+    return ('connections' if is_told_of_connections(finding) else message.procedure,
+            said.get(finding.kind, finding.kind))
 
 
 def keys_of(finding: Finding) -> list[tuple[str, str]]:
@@ -250,7 +255,8 @@ class Body:
     def all(self) -> Iterator[str]:
         """All parts. What does not count is folded, and comes last."""
         if self.is_counted or not self.groups:
-            for part in (self.fields(), self.findings(), self.silent(), self.accepted(), self.calls()):
+            for part in (self.fields(), self.findings(), self.silent(), self.accepted(),
+                         self.calls()):
                 yield from part
             return
         yield from chain(self.silent(), self.accepted())
@@ -307,10 +313,11 @@ class Body:
         names = markup.heads(['procedure', 'field', 'path', 'how often'])
         yield f'<section><h2>What differs</h2><table>{names}'
         where, before = self.where(), ''
-        for (procedure, field), number in sorted(counts.items(),
-                                                 key=lambda item: (item[0][0], -item[1], item[0][1])):
+        for (procedure, field), number in sorted(
+                counts.items(), key=lambda item: (item[0][0], -item[1], item[0][1])):
             first, paths = where[procedure, field]
-            often = f'<a href=#f{first}>{number:,}</a>' if first <= len(self.shown) else f'{number:,}'
+            often = (f'<a href=#f{first}>{number:,}</a>' if first <= len(self.shown)
+                     else f'{number:,}')
             path = code(min(paths)) if len(paths) == 1 else f'{len(paths):,} paths' if paths else ''
             same = '' if procedure == before else escape(summary.short(procedure))
             yield (f'<tr><td>{same}</td><td>{escape(field)}</td><td>{path}</td>'
@@ -340,16 +347,19 @@ class Body:
 
     def remarks(self) -> Iterator[str]:
         """What is to be known of the findings, or of there being none."""
-        is_turned, is_same = self.content.report.same_under is not None, self.content.report.verdict == 'same'
+        is_turned, is_same = (self.content.report.same_under is not None,
+                              self.content.report.verdict == 'same')
         if self.groups and is_turned:
-            yield 'These fields differ in the runs as they are. They do not count in another order, for they are masked besides.'
+            yield ('These fields differ in the runs as they are. They do not count in another '
+                   'order, for they are masked besides.')
         if not self.groups and is_turned:
             yield 'Nothing differs but the order.'
         if not self.groups and is_same:
             yield 'Nothing differs but what is masked.'
         if not self.groups and not is_turned and not is_same:
             yield ('All fields that differ are ignored.' if self.content.left_out else
-                   'No field of messages that belong together differs. Only which messages share a value, or empty connections, can.')
+                   'No field of messages that belong together differs. '
+                   'Only which messages share a value, or empty connections, can.')
 
     def article(self, number: int, group: Sequence[Finding]) -> Iterator[str]:
         """A finding, and the places of those that say the same."""
@@ -377,12 +387,15 @@ class Body:
         message = finding.first or finding.second
         assert message
         if telling.is_summed(group):
-            return f'{len(group):,} messages have values that are equal in both runs, and that stand for others elsewhere'
-        only = f'only in the {run_of(finding)} run: ' if finding.first is None or finding.second is None else ''
+            return (f'{len(group):,} messages have values that are equal in both runs, '
+                    'and that stand for others elsewhere')
+        only = (f'only in the {run_of(finding)} run: '
+                if finding.first is None or finding.second is None else '')
         if is_told_of_connections(finding):
             return f'{only if finding.kind == "connection" else ""}connection {message.connection}'
         one, some = ('call', 'calls') if message.is_call else ('reply', 'replies')
-        what = f'{message.procedure} {one}' if len(group) == 1 else f'{len(group):,} {some} of {message.procedure}'
+        what = (f'{message.procedure} {one}' if len(group) == 1
+                else f'{len(group):,} {some} of {message.procedure}')
         path = f' {code(finding.path)}' if finding.path else ''
         return f'{only}{what}{path}' + (f', the first of {len(paths):,} paths' if len(paths) > 1
                                         else '')
@@ -395,7 +408,8 @@ class Body:
 
     def others(self, group: Sequence[Finding]) -> Iterator[str]:
         """The places of the findings that say the same as the first."""
-        yield f'<details class=others><summary>{count(len(group) - 1, "position")} more</summary><ol start=2>'
+        yield (f'<details class=others><summary>{count(len(group) - 1, "position")} more</summary>'
+               '<ol start=2>')
         for finding in group[1:1 + self.others_at_most]:
             both = ((finding.first, self.runs[0]), (finding.second, self.runs[1]))
             places = ' | '.join(f'{message.place}{telling.frames_of(message, run.frames)}'
@@ -425,7 +439,8 @@ class Body:
         for line in lines[len(shown):]:
             yield f'<p class=accepted>{escape(line)}</p>'
         if shown:
-            yield f'<details class=others><summary>{count(len(shown), "accepted finding")}</summary>'
+            yield ('<details class=others>'
+                   f'<summary>{count(len(shown), "accepted finding")}</summary>')
             yield from (f'<p>{escape(line)}</p>' for line in shown[:OTHERS_AT_MOST])
             yield '</details>'
 
@@ -436,7 +451,8 @@ class Body:
         # (a browser lays out many rows only as they come into sight)
         yield f'<section id=calls{" class=many" if len(self.anchors) > MANY else ""}><h2>Calls</h2>'
         if self.beside.connections:
-            yield '<p class=quiet>In the order of the first run. A click opens the fields of a call and its replies.</p>'
+            yield ('<p class=quiet>In the order of the first run. '
+                   'A click opens the fields of a call and its replies.</p>')
         number = 0
         for connection in self.beside.connections:
             yield f'<div class=connection><h3>{heading_of(connection)}</h3>'
@@ -449,7 +465,8 @@ class Body:
                           'other connection' if self.beside.connections else 'connection')
             yield from gap(self.beside.rest, f' in {which}')
         if self.beside.cut:
-            yield f'<p class=gap>{count(self.beside.cut, "call")} more {plural(self.beside.cut, "is", "are")} only in the second run</p>'
+            yield (f'<p class=gap>{count(self.beside.cut, "call")} more '
+                   f'{plural(self.beside.cut, "is", "are")} only in the second run</p>')
         yield '</section>'
 
     def row(self, row: Row, connection: Connection, number: int) -> Iterator[str]:
@@ -461,8 +478,10 @@ class Body:
                             for one, own, run in zip((row.first, row.second),
                                                      (connection.first, connection.second),
                                                      self.runs) if one)
-        yield (f'<details class="row{" told" if mark != "=" else ""}" id=r{number}><summary><b class=mark>{mark}</b> {exchange.procedure}'
-               f'{f" {code(row.path)}" if row.path else ""} <span class=quiet>{places}</span>{said}</summary>')
+        yield (f'<details class="row{" told" if mark != "=" else ""}" id=r{number}>'
+               f'<summary><b class=mark>{mark}</b> {exchange.procedure}'
+               f'{f" {code(row.path)}" if row.path else ""} '
+               f'<span class=quiet>{places}</span>{said}</summary>')
         for first, second in together(row):
             yield from self.message(first, second)
         yield '</details>'
@@ -474,7 +493,8 @@ class Body:
         links = ', '.join(f'<a href=#f{number}>finding {number}</a>' for number in numbers
                           if number <= len(self.shown))
         if row.first is None or row.second is None:
-            return SIGNS[row.first is None], f' <span>{links or f"only in the {RUNS[row.first is None]} run"}</span>'
+            return (SIGNS[row.first is None],
+                    f' <span>{links or f"only in the {RUNS[row.first is None]} run"}</span>')
         if numbers:
             return '≠', f' <span>{links or "differs"}</span>'
         return ('≠', ' <span>differs in what is ignored</span>') if row.is_told else ('=', '')

@@ -33,7 +33,8 @@ def json_of(report: Report, compared: Compared, left_out: Counter[tuple[str, str
     covers = [members_of(cover) for cover in report.covers] if report.covers else [{}, {}]
     runs = zip(report.names, report.sizes, covers, compared.lonely, compared.left_out)
     head = {
-        'version': VERSION, 'verdict': report.word(), 'position': report.verdict.partition(' at ')[2] or None,
+        'version': VERSION, 'verdict': report.word(),
+        'position': report.verdict.partition(' at ')[2] or None,
         'mask': words_of(report.mask),
         'same_under': report.same_under and words_of(report.same_under),
         'runs': [{'name': escaped(name), **size._asdict(), **cover, 'only': only,
@@ -65,11 +66,13 @@ def json_of_parts(marks: str, covers: Sequence[Cover], parts: Sequence[PartRepor
                   framings: Sequence[Framing]) -> Iterator[bytes]:
     """The comparison of parts, in pieces: an object with a list of the parts. What is said of a
     part is an object as of whole runs."""
-    yield json.dumps({'version': VERSION, 'marks': escaped(marks), 'runs': [*map(members_of, covers)]},
+    yield json.dumps({'version': VERSION, 'marks': escaped(marks),
+                      'runs': [*map(members_of, covers)]},
                      indent=1).removesuffix('\n}').encode() + b',\n "parts": ['
     for turn, part in enumerate(parts):
         head = {'name': part.name, 'number': part.number, 'verdict': part.word(), 'only': part.only}
-        yield (b',\n' if turn else b'\n') + json.dumps(head).removesuffix('}').encode() + b', "comparison": '
+        yield ((b',\n' if turn else b'\n') + json.dumps(head).removesuffix('}').encode()
+               + b', "comparison": ')
         yield from json_of(part.report, part.compared, part.left_out,
                            framings) if part.report else [b'null\n']
         yield b'}'
@@ -193,7 +196,8 @@ def junit_of(line: str, report: Report, compared: Compared, framings: Sequence[F
     suite = Suite(report.names, report.covers or (), report.accepted)
     silent = [*telling.of_accepted(report.accepted, framings, True),
               *of_silent(compared, framings, CASES_AT_MOST)]
-    more = [f'{len(groups) - CASES_AT_MOST:,} more findings have no case'] if len(groups) > CASES_AT_MOST else []
+    more = ([f'{len(groups) - CASES_AT_MOST:,} more findings have no case']
+            if len(groups) > CASES_AT_MOST else [])
     if is_good:
         suite.add('the runs are the same', text=[line, *silent])
     else:
@@ -207,7 +211,9 @@ def junit_of(line: str, report: Report, compared: Compared, framings: Sequence[F
 def case_name(group: Sequence[Finding]) -> str:
     """Returns the name of a case. It is the same in the next run if that differs in the same way:
     it has no numbers of records and frames, no ports, and does not say how many there are."""
-    finding, paths, is_one_run = group[0], {one.path for one in group}, (group[0].first is None) != (group[0].second is None)
+    finding, paths, is_one_run = (
+        group[0], {one.path for one in group},
+        (group[0].first is None) != (group[0].second is None))
     message = finding.first or finding.second
     assert message
     if finding.kind == 'order':
@@ -242,7 +248,8 @@ def junit_of_parts(names: Sequence[str], covers: Sequence[Cover], losses: str,
             groups = folded(part.compared.findings)
             texts = [line for group in groups[:CASES_AT_MOST]
                      for line in of_group(group, *framings)] + silent
-            more = [f'{len(groups) - CASES_AT_MOST:,} more findings'] if len(groups) > CASES_AT_MOST else []
+            more = ([f'{len(groups) - CASES_AT_MOST:,} more findings']
+                    if len(groups) > CASES_AT_MOST else [])
             suite.add(part.label, 'failure', part.line, [*texts, *more], type=part.word())
     return suite.written()
 

@@ -1,10 +1,12 @@
-"""How a page of a comparison looks, and what its keys and buttons do. Without the script the page can be read all the same."""
+"""How a page of a comparison looks, and what its keys and buttons do. Without the script the page
+can be read all the same."""
 
 from __future__ import annotations
 
 STYLE = '''
 :root {
-  color-scheme: light dark; --line: #8885; --soft: #8881; --quiet: #57606a; --link: #0550ae; --here: #0969da;
+  color-scheme: light dark;
+  --line: #8885; --soft: #8881; --quiet: #57606a; --link: #0550ae; --here: #0969da;
   --minus: #a1260d; --minus-back: #d1242f1f; --plus: #0b5e3b; --plus-back: #1a7f371f;
   --part: #7d4e00; --dot: #0969da; --mark: #f5c51899;
   --mono: ui-monospace, SFMono-Regular, Menlo, Consolas, "DejaVu Sans Mono", monospace;
@@ -18,7 +20,10 @@ STYLE = '''
 }
 * { box-sizing: border-box }
 [hidden] { display: none !important }
-body { font: 15px/1.5 system-ui, sans-serif; margin: 0 auto; max-width: 1240px; padding: 0 20px 60px; overflow-wrap: anywhere }
+body {
+  font: 15px/1.5 system-ui, sans-serif; margin: 0 auto; max-width: 1240px; padding: 0 20px 60px;
+  overflow-wrap: anywhere
+}
 a { color: var(--link) }
 h1 { font-size: 26px; line-height: 1.2; margin: 24px 0 8px }
 h1.same { color: var(--plus) }
@@ -37,12 +42,18 @@ code, pre, .change, .fields { font-family: var(--mono); font-size: 13px }
 .about { margin: 14px 0 }
 .uncounted > summary { font-size: 17px; margin: 32px 0 8px }
 mark { color: inherit; background: var(--mark); border-radius: 2px; font-weight: 700 }
-.text { color: CanvasText; border: 1px solid var(--line); border-radius: 4px; padding: 0 5px; white-space: pre-wrap; display: inline-block }
+.text {
+  color: CanvasText; border: 1px solid var(--line); border-radius: 4px; padding: 0 5px;
+  white-space: pre-wrap; display: inline-block
+}
 summary { cursor: pointer }
 button { font: inherit; font-size: 13px; padding: 3px 10px; cursor: pointer }
 
 table { border-collapse: collapse }
-td, th { border: 1px solid var(--line); padding: 3px 10px; text-align: left; vertical-align: top; font-weight: normal }
+td, th {
+  border: 1px solid var(--line); padding: 3px 10px; text-align: left; vertical-align: top;
+  font-weight: normal
+}
 thead th { background: var(--soft); font-weight: 600; overflow-wrap: normal }
 td.count { text-align: right }
 .runs { table-layout: fixed; width: 100%; margin: 14px 0 }
@@ -50,7 +61,10 @@ td.count { text-align: right }
 dl { display: grid; grid-template-columns: 8.5em 1fr; gap: 4px 10px; margin: 14px 0 }
 dd { margin: 0 }
 
-.bar { display: none; position: sticky; top: 0; z-index: 1; background: Canvas; border-bottom: 1px solid var(--line) }
+.bar {
+  display: none; position: sticky; top: 0; z-index: 1; background: Canvas;
+  border-bottom: 1px solid var(--line)
+}
 .bar { padding: 8px 0; margin-top: 24px; gap: 6px 8px; flex-wrap: wrap; align-items: center }
 .bar input { flex: 1 1 16em; min-width: 0; font: inherit; padding: 4px 8px }
 .copy { display: none; font-size: 12px; padding: 0 7px }
@@ -65,13 +79,20 @@ article.here, article:target, .row:target { outline: 2px solid var(--here); outl
 .place { display: grid; grid-template-columns: 1.3em 1fr; align-items: baseline }
 .sign { font-family: var(--mono); font-weight: 700 }
 .filter { user-select: all; border: 1px solid var(--line); border-radius: 4px; padding: 0 5px }
-.js .filter { position: absolute; width: 1px; height: 1px; padding: 0; border: 0; overflow: hidden; clip-path: inset(50%); white-space: nowrap }
+.js .filter {
+  position: absolute; width: 1px; height: 1px; padding: 0; border: 0; overflow: hidden;
+  clip-path: inset(50%); white-space: nowrap
+}
 .change { margin: 6px 0; white-space: pre-wrap }
 .change div { padding: 0 6px }
 .change .minus { background: var(--minus-back) }
 .change .plus { background: var(--plus-back) }
-.counts { list-style: none; display: flex; flex-wrap: wrap; gap: 6px 10px; padding: 0; margin: 14px 0 }
-.counts li { border: 1px solid var(--line); border-radius: 6px; padding: 4px 12px; color: var(--quiet) }
+.counts {
+  list-style: none; display: flex; flex-wrap: wrap; gap: 6px 10px; padding: 0; margin: 14px 0
+}
+.counts li {
+  border: 1px solid var(--line); border-radius: 6px; padding: 4px 12px; color: var(--quiet)
+}
 .counts b { font-size: 19px }
 .counts .plus { color: var(--plus) }
 .counts .part { color: var(--part) }
@@ -79,12 +100,17 @@ article.here, article:target, .row:target { outline: 2px solid var(--here); outl
 .wide { overflow-x: auto; margin: 8px 0 }
 .wide td, .wide th { overflow-wrap: normal; white-space: nowrap; padding: 3px 6px; font-size: 13px }
 .wide td:last-child { white-space: normal; min-width: 20em }
-.wide td:first-child, .wide th:first-child { position: sticky; left: -1px; background: Canvas; box-shadow: -2px 0 Canvas }
+.wide td:first-child, .wide th:first-child {
+  position: sticky; left: -1px; background: Canvas; box-shadow: -2px 0 Canvas
+}
 .cards { overflow-x: auto }
 .cards td:not(:first-child):not(:last-child) { overflow-wrap: normal }
 td.minus a { color: var(--minus) }
 pre { overflow-x: auto; font-size: 13px; margin: 6px 0; line-height: 1.4; white-space: pre-wrap }
-.line { display: block; width: calc(100% - 84px); margin: 10px 20px 0 64px; overflow: visible; font-size: 12px }
+.line {
+  display: block; width: calc(100% - 84px); margin: 10px 20px 0 64px; overflow: visible;
+  font-size: 12px
+}
 .forms { position: absolute; width: 0; height: 0 }
 .line text { fill: var(--quiet) }
 .line line { stroke: var(--line) }
@@ -96,7 +122,9 @@ pre { overflow-x: auto; font-size: 13px; margin: 6px 0; line-height: 1.4; white-
 .key { width: 16px; height: 16px; vertical-align: -3px; margin-left: 8px }
 
 /* what does not count is neither red nor green */
-.uncounted .minus, .uncounted .plus, .uncounted .change .minus, .uncounted .change .plus { color: inherit; background: none }
+.uncounted .minus, .uncounted .plus, .uncounted .change .minus, .uncounted .change .plus {
+  color: inherit; background: none
+}
 details ol { margin: 6px 0; padding-left: 3.5em }
 
 .connection { margin: 14px 0 }
@@ -123,7 +151,10 @@ details ol { margin: 6px 0; padding-left: 3.5em }
   pre { white-space: pre }
   .cards thead { display: none }
   .cards table, .cards tbody { display: block }
-  .cards tr { display: flex; flex-wrap: wrap; gap: 0 14px; border: 1px solid var(--line); border-radius: 6px; margin: 6px 0; padding: 4px 10px }
+  .cards tr {
+    display: flex; flex-wrap: wrap; gap: 0 14px; border: 1px solid var(--line); border-radius: 6px;
+    margin: 6px 0; padding: 4px 10px
+  }
   .cards td { border: 0; padding: 0; overflow-wrap: anywhere !important }
   .cards td::before { content: attr(data-head) " "; color: var(--quiet) }
   .cards td:last-child { flex-basis: 100%; font-weight: 600 }
@@ -134,8 +165,10 @@ details ol { margin: 6px 0; padding-left: 3.5em }
 SCRIPT = '''
 'use strict';
 document.documentElement.className = 'js';
-const every = selector => [...document.querySelectorAll(selector)], findings = every('article'), rows = every('.row');
-const find = document.getElementById('find'), found = document.getElementById('found'), texts = new Map();
+const every = selector => [...document.querySelectorAll(selector)], \
+  findings = every('article'), rows = every('.row');
+const find = document.getElementById('find'), found = document.getElementById('found'), \
+  texts = new Map();
 const heading = document.querySelector('#findings h2'), whole = heading && heading.textContent;
 let here = null;
 
@@ -163,9 +196,11 @@ function search() {
     one.hidden = !isAll && !isFound(one, text);
     one.open ||= !isAll && !one.hidden;
   }
-  const seen = findings.filter(one => !one.hidden), messages = seen.reduce((sum, one) => sum + Number(one.dataset.messages), 0);
+  const seen = findings.filter(one => !one.hidden), \
+    messages = seen.reduce((sum, one) => sum + Number(one.dataset.messages), 0);
   const differing = counted(seen.length, find.parentElement.dataset.found);
-  if (heading) heading.textContent = isAll ? whole : `${differing} in ${counted(messages, 'message')}`;
+  if (heading) \
+    heading.textContent = isAll ? whole : `${differing} in ${counted(messages, 'message')}`;
   tell();
 }
 
@@ -174,7 +209,8 @@ function counted(number, word) {
 }
 
 function tell() {
-  const seen = findings.filter(one => !one.hidden), at = seen.indexOf(here), words = find.parentElement.dataset;
+  const seen = findings.filter(one => !one.hidden), at = seen.indexOf(here), \
+    words = find.parentElement.dataset;
   const others = counted(rows.filter(one => !one.hidden).length, words.rows);
   const all = findings.length ? `${counted(seen.length, words.found)}, ${others}` : others;
   found.textContent = `${at < 0 ? '' : `${at + 1} of `}${all}`;
@@ -188,14 +224,16 @@ function stay(element) {
 }
 
 function show(element) {
-  for (let one = element.parentElement.closest('details'); one; one = one.parentElement.closest('details')) one.open = true;
+  for (let one = element.parentElement.closest('details'); one; \
+    one = one.parentElement.closest('details')) one.open = true;
   element.scrollIntoView({block: 'start'});
 }
 
 function go(step) {
   const seen = findings.filter(one => !one.hidden), at = seen.indexOf(here);
   if (!seen.length) return;
-  stay(seen[at < 0 ? (step > 0 ? 0 : seen.length - 1) : Math.min(Math.max(at + step, 0), seen.length - 1)]);
+  stay(seen[at < 0 ? (step > 0 ? 0 : seen.length - 1) \
+    : Math.min(Math.max(at + step, 0), seen.length - 1)]);
   show(here);
 }
 

@@ -50,7 +50,8 @@ def of_difference(difference: Difference) -> Iterator[str]:
         yield f'  = {difference.label}={value_of(difference, 0)}{remark}'
         return
     if difference.first is not None:
-        yield f'  - {difference.label}={value_of(difference, 0)}' + (remark if difference.second is None else '')
+        yield (f'  - {difference.label}={value_of(difference, 0)}'
+               + (remark if difference.second is None else ''))
     if difference.second is not None:
         yield f'  + {difference.label}={value_of(difference, 1)}{remark}'
 
@@ -82,7 +83,8 @@ def of_arguments(finding: Finding) -> Iterator[str]:
     sign = '+' if finding.first is None else '-'
     for argument in finding.arguments:
         if not argument.is_of_path or finding.path is None:
-            yield f'{sign} {argument.label}={named(argument.name, argument.value, argument.meaning)}'
+            yield (f'{sign} {argument.label}='
+                   f'{named(argument.name, argument.value, argument.meaning)}')
 
 
 def folded(findings: Iterable[Finding]) -> list[list[Finding]]:
@@ -96,7 +98,8 @@ def folded(findings: Iterable[Finding]) -> list[list[Finding]]:
 
 def is_of_equal_values(finding: Finding) -> bool:
     """Whether all that a finding says is that values stand for others elsewhere."""
-    return bool(finding.differences) and not finding.remark and all(difference.is_equal for difference in finding.differences)
+    return (bool(finding.differences) and not finding.remark
+            and all(difference.is_equal for difference in finding.differences))
 
 
 def said_by(finding: Finding) -> object:
@@ -112,7 +115,8 @@ def said_by(finding: Finding) -> object:
                  else (one.label, one.first, one.second, one.remark) for one in finding.differences)
     path = finding.path if finding.kind == 'only' else None
     asked = tuple((one.label, one.value) for one in finding.arguments if one.name not in PLACES)
-    return finding.kind, finding.first is None, message.procedure, message.is_call, path, finding.remark, said, asked
+    return (finding.kind, finding.first is None, message.procedure, message.is_call, path,
+            finding.remark, said, asked)
 
 
 def is_summed(findings: Sequence[Finding]) -> bool:
@@ -127,7 +131,8 @@ def what_of(findings: Sequence[Finding]) -> str:
     assert message
     path = f' {finding.path}' if finding.path else ''
     if is_summed(findings):
-        return f'{len(findings):,} messages have values that are equal in both runs, and that stand for others elsewhere, first'
+        return (f'{len(findings):,} messages have values that are equal in both runs, '
+                'and that stand for others elsewhere, first')
     if len(findings) == 1:
         return f'{message.procedure}{"" if message.is_call else " reply"}{path}'
     what = f'{len(findings):,} {"calls" if message.is_call else "replies"} of {message.procedure}'
@@ -147,7 +152,8 @@ def heading_of(findings: Sequence[Finding], first: Framing, second: Framing) -> 
         return f'{what_of(findings)}: {places_of(one, other, first, second)}'
     if finding.kind == 'connection':
         return f'only in the {run} run: connection {message.connection}'
-    return f'only in the {run} run: {what_of(findings)}: {message.place}{frames_of(message, first if one else second)}'
+    return (f'only in the {run} run: {what_of(findings)}: '
+            f'{message.place}{frames_of(message, first if one else second)}')
 
 
 def of_group(findings: Sequence[Finding], first: Framing, second: Framing) -> Iterator[str]:
@@ -196,14 +202,16 @@ def of_silent(compared: Compared, framings: Sequence[Framing], most: int | None)
         key = call.first is None, call.second is None, call.call.procedure, call.path
         groups[number if most is None else key].append(call)
     for some in list(groups.values())[:most]:
-        yield f'left out{of_whom(some[0])}: {silent_of(some)}: {places_of(some[0].first, some[0].second, first, second)}'
+        yield (f'left out{of_whom(some[0])}: {silent_of(some)}: '
+               f'{places_of(some[0].first, some[0].second, first, second)}')
     if most is not None and len(groups) > most:
         yield f'.. and {len(groups) - most:,} more left out (--all prints them)'
 
 
 def of_whom(call: Silent) -> str:
     """Returns which run has a call that is left out."""
-    return '' if call.first and call.second else f' of the {"first" if call.first else "second"} run'
+    return ('' if call.first and call.second
+            else f' of the {"first" if call.first else "second"} run')
 
 
 def silent_of(some: Sequence[Silent]) -> str:
@@ -238,7 +246,8 @@ def of_compared(compared: Compared, first: Framing, second: Framing, most: int |
     if left_out:
         yield f'left out by --ignore, and how often: {told(left_out.most_common())}'
     elif not compared.findings:
-        yield 'no field of messages that belong together differs; only which messages share a value, or empty connections, can'
+        yield ('no field of messages that belong together differs; '
+               'only which messages share a value, or empty connections, can')
 
 
 def of_accepted(accepted: Split | None, framings: Sequence[Framing],

@@ -1,7 +1,7 @@
 """Files that get their names together, and a list of them by which they are removed again.
 
-A line of the list is `file PLACE SHA256`, `link PLACE TARGET` or `folder PLACE`, for what was made under the prefix. A folder that was
-made above it has the place `..`, or more of them.
+A line of the list is `file PLACE SHA256`, `link PLACE TARGET` or `folder PLACE`, for what was made
+under the prefix. A folder that was made above it has the place `..`, or more of them.
 """
 from __future__ import annotations
 
@@ -76,7 +76,8 @@ def take_away(path: Path, kind: str, told: str) -> bool:
     if told != (os.readlink(path) if kind == 'link' else checksum(path.read_bytes())):
         return False
     path.unlink()
-    for compiled in path.parent.glob(f'__pycache__/{path.stem}.*.pyc') if path.suffix == '.py' else ():
+    for compiled in (path.parent.glob(f'__pycache__/{path.stem}.*.pyc') if path.suffix == '.py'
+                     else ()):
         compiled.unlink()
     with contextlib.suppress(OSError):
         os.rmdir(path.parent / '__pycache__')

@@ -1,4 +1,5 @@
-"""The layouts of NFS version 3 and MOUNT version 3 messages, as docs/FORMATS.md has them, with the names of the listing."""
+"""The layouts of NFS version 3 and MOUNT version 3 messages, as docs/FORMATS.md has them, with the
+names of the listing."""
 from __future__ import annotations
 
 import contextlib
@@ -59,11 +60,12 @@ BITS = {
 PARTS = {
     'atime': 'w:atime_sec w:atime_nsec', 'mtime': 'w:mtime_sec w:mtime_nsec',
     'ctime': 'w:ctime_sec w:ctime_nsec',
-    'fattr3': 'e:type w:mode w:nlink w:uid w:gid h:size h:used w:rdev1 w:rdev2 h:fsid h:fileid atime mtime ctime',
+    'fattr3': 'e:type w:mode w:nlink w:uid w:gid h:size h:used w:rdev1 w:rdev2 h:fsid h:fileid '
+              'atime mtime ctime',
     'poa': 'opt:attr=fattr3', 'wcc_attr': 'h:size mtime ctime',
     'wcc': 'opt:before=before@wcc_attr after@poa', 'pofh': 'opt:handle=fh',
-    'sattr3': 'opt:set_mode=set@w:mode opt:set_uid=set@w:uid opt:set_gid=set@w:gid opt:set_size=set@h:size '
-              'case:set_atime=2:set@atime case:set_mtime=2:set@mtime',
+    'sattr3': 'opt:set_mode=set@w:mode opt:set_uid=set@w:uid opt:set_gid=set@w:gid '
+              'opt:set_size=set@h:size case:set_atime=2:set@atime case:set_mtime=2:set@mtime',
     'guard': 'opt:check=guard@ctime', 'dirop': 'fh t:name', 'made': 'pofh obj@poa dir@wcc',
     'createhow': 'case:how=0:sattr3,1:sattr3,2:create', 'create': 'x:createverf',
     'node': 'case:type=3:device,4:device,6:sattr3,7:sattr3', 'device': 'sattr3 w:spec1 w:spec2',
@@ -105,11 +107,12 @@ NFS_PROCEDURES = [
      'dir@poa x:cookieverf list:entry=entryplus3 b:eof', 'dir@poa'),
     ('FSSTAT', 'fh', 'obj@poa h:tbytes h:fbytes h:abytes h:tfiles h:ffiles h:afiles w:invarsec',
      'obj@poa'),
-    ('FSINFO',
-     'fh', 'obj@poa w:rtmax w:rtpref w:rtmult w:wtmax w:wtpref w:wtmult w:dtpref h:maxfilesize w:delta_sec w:delta_nsec '
-     'w:properties', 'obj@poa'),
-    ('PATHCONF',
-     'fh', 'obj@poa w:linkmax w:name_max b:no_trunc b:chown_restricted b:case_insensitive b:case_preserving', 'obj@poa'),
+    ('FSINFO', 'fh',
+     'obj@poa w:rtmax w:rtpref w:rtmult w:wtmax w:wtpref w:wtmult w:dtpref h:maxfilesize '
+     'w:delta_sec w:delta_nsec w:properties', 'obj@poa'),
+    ('PATHCONF', 'fh',
+     'obj@poa w:linkmax w:name_max b:no_trunc b:chown_restricted b:case_insensitive '
+     'b:case_preserving', 'obj@poa'),
     ('COMMIT', 'fh h:offset w:count', 'obj@wcc x:verf', 'obj@wcc')]
 # The name, the arguments and the results, of MOUNT version 3.
 MOUNT_PROCEDURES = [
@@ -280,7 +283,8 @@ class Walk:
     def results(self) -> None:
         """The results of a call that was accepted."""
         assert self.procedure
-        is_failed = self.procedure.statuses is not None and self.word('status', self.procedure.statuses)
+        is_failed = (self.procedure.statuses is not None
+                     and self.word('status', self.procedure.statuses))
         self.part(self.procedure.failed if is_failed else self.procedure.done)
 
 
@@ -338,7 +342,8 @@ class Message(Walk):
 
     def word(self, name: str, values: Mapping[int, str] | None = None,
              most: int = 0xffffffff) -> int:
-        allowed = 'any word' if values is None else ', '.join('%d %s' % value for value in values.items())
+        allowed = ('any word' if values is None
+                   else ', '.join('%d %s' % value for value in values.items()))
         allowed = allowed if most == 0xffffffff else 'at most %d' % most
         value = int.from_bytes(self.taken(4, name, allowed, number,
                                           lambda text: meaning_of(name, text, values)), 'big')

@@ -1,8 +1,9 @@
-"""Files that the tools write. `write_file` is the only way, and has the manners of OUT of nfs3canon.
+"""Files that the tools write. `write_file` is the only way, and has the manners of OUT of
+nfs3canon.
 
-A regular file is written beside its name, where its owner alone may open it, and gets the name once it is whole and safe on the disk.
-A device, a pipe and the tool's own standard output, which is also called `-`, are written as they are. Inputs, recordings and captures are
-never replaced.
+A regular file is written beside its name, where its owner alone may open it, and gets the name once
+it is whole and safe on the disk. A device, a pipe and the tool's own standard output, which is also
+called `-`, are written as they are. Inputs, recordings and captures are never replaced.
 """
 from __future__ import annotations
 
@@ -26,7 +27,8 @@ ACCESS_LIST = 'system.posix_acl_access'  # an extended attribute
 OWNER_ALONE, EVERYBODY, PERMISSIONS, WRITERS = 0o600, 0o666, 0o777, 0o222
 ENDING = {signal.SIGHUP, signal.SIGINT, signal.SIGTERM}
 # What a file may be that is not to be lost by a slip of the hand.
-RECORDING, CAPTURE, COMPRESSED = 'a recording', 'a capture', 'a compressed file, which may be a recording'
+RECORDING, CAPTURE, COMPRESSED = (
+    'a recording', 'a capture', 'a compressed file, which may be a recording')
 
 
 class Refused(Exception):
@@ -114,7 +116,8 @@ def try_outputs(paths: typing.Iterable[str | None], inputs: typing.Iterable[str]
         found = check_output(path, inputs, replaces)
         first = known.setdefault(identity_of(path, found), number)
         if first != number:
-            raise Refused(f'{escaped(outputs[first])} and {escaped(path)} are one file, and each output needs its own')
+            raise Refused(f'{escaped(outputs[first])} and {escaped(path)} are one file, '
+                          'and each output needs its own')
         with named(path):
             try_output(path, found)
 
@@ -144,7 +147,8 @@ def try_output(path: str, found: os.stat_result | None) -> None:
 def printed_beside(outputs: typing.Iterable[str | None]) -> typing.Iterator[None]:
     """What is printed goes to standard error if an output is standard output, which then has that
     alone."""
-    with contextlib.redirect_stdout(sys.stderr) if STANDARD_OUTPUT in outputs else contextlib.nullcontext():
+    with (contextlib.redirect_stdout(sys.stderr) if STANDARD_OUTPUT in outputs
+          else contextlib.nullcontext()):
         yield
 
 
@@ -201,7 +205,8 @@ def is_the_same(now: os.stat_result, found: os.stat_result) -> bool:
     """Whether a file that was opened is the one that was found. overlayfs gives a file of its lower
     layer that has several links another number once it is opened for writing."""
     kept = ('st_mode', 'st_uid', 'st_gid', 'st_size', 'st_mtime_ns')
-    return os.path.samestat(now, found) or found.st_nlink > 1 and all(getattr(now, name) == getattr(found, name) for name in kept)
+    return os.path.samestat(now, found) or (
+        found.st_nlink > 1 and all(getattr(now, name) == getattr(found, name) for name in kept))
 
 
 def another(path: str) -> OSError:

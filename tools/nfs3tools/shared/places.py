@@ -13,7 +13,8 @@ class NoPlace(Exception):
 
 
 class Place(typing.NamedTuple):
-    """A record, or a byte of its body. Connections and records are numbered from 1, bytes from 0."""
+    """A record, or a byte of its body. Connections and records are numbered from 1, bytes from
+    0."""
     connection: int
     side: Side
     record: int
@@ -62,8 +63,9 @@ def parse_place(text: str) -> Place | FilePlace | FramePlace:
     """Reads a position from a line of `check`, of `same`, or of `show`, or a frame. Of several
     lines the first that is one counts.
 
-    A line of `check` or `same` may have `first: `, `second: ` or `differ at ` before the position, and a reason after it. A
-    line of `show` begins with the numbers of its connection and record. Nothing else may be before or after a position.
+    A line of `check` or `same` may have `first: `, `second: ` or `differ at ` before the position,
+    and a reason after it. A line of `show` begins with the numbers of its connection and record.
+    Nothing else may be before or after a position.
 
     Raises `NoPlace` if there is none.
     """
@@ -81,7 +83,8 @@ def parse_place(text: str) -> Place | FilePlace | FramePlace:
 def place_of(found: re.Match[str]) -> Place | FilePlace:
     if found[5] is not None:
         return FilePlace(int(found[5]))
-    return Place(int(found[1]), side_of(found[2]), int(found[3]), None if found[4] is None else int(found[4]))
+    return Place(int(found[1]), side_of(found[2]), int(found[3]),
+                 None if found[4] is None else int(found[4]))
 
 
 def parse_fault(text: str) -> Fault | None:

@@ -1,4 +1,5 @@
-"""How names and foreign texts are printed: without what a terminal or a page would take for its own."""
+"""How names and foreign texts are printed: without what a terminal or a page would take for its
+own."""
 from __future__ import annotations
 
 from collections.abc import Container, Iterator, Sequence

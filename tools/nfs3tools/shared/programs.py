@@ -169,7 +169,8 @@ def died(command: list[str], status: int, error: str) -> Died:
     """Says which program ended how, and what it said last."""
     name = ' '.join([pathlib.Path(command[0]).name,
                      *(word for word in command[1:2] if word in COMMANDS)])
-    how = f'was killed by signal {-status} ({signal.strsignal(-status)})' if status < 0 else f'ended with status {status}'
+    how = (f'was killed by signal {-status} ({signal.strsignal(-status)})' if status < 0
+           else f'ended with status {status}')
     return Died(f'{escaped(name)} {how}'
                 + ''.join(f': {printable(line)}' for line in error.splitlines()[-1:]))
 

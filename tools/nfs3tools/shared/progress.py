@@ -1,4 +1,5 @@
-"""How far a tool is, on standard error if that is a terminal: one line, which is written anew and is gone in the end."""
+"""How far a tool is, on standard error if that is a terminal: one line, which is written anew and
+is gone in the end."""
 from __future__ import annotations
 
 import contextlib

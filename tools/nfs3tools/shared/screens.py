@@ -1,4 +1,5 @@
-"""What is printed for people: in colours, and no wider than the terminal. Elsewhere neither is done, so that programs read one form.
+"""What is printed for people: in colours, and no wider than the terminal. Elsewhere neither is
+done, so that programs read one form.
 
 Names are escaped before they come here, so the only control characters are those that are put here.
 """
@@ -51,7 +52,8 @@ class Screen(NamedTuple):
 def add_colour(parser: argparse.ArgumentParser) -> None:
     """The option that says when there are colours."""
     parser.add_argument('--color', choices=('auto', 'always', 'never'), default='auto',
-                        help='whether there are colours; by default on a terminal, if NO_COLOR is not set')
+                        help='whether there are colours; by default on a terminal, '
+                             'if NO_COLOR is not set')
 
 
 def screen_of(when: str, width: int | None = None) -> Screen:

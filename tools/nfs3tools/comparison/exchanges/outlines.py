@@ -1,7 +1,8 @@
 """What is kept of a run in place of its texts: a few numbers for each call.
 
-They come from the listing of the masked capture in canonical form. A call with its replies is an exchange. Exchanges of two runs are
-equal if their texts are, without the values that each run has its own of, and if their handles lead to the same objects.
+They come from the listing of the masked capture in canonical form. A call with its replies is an
+exchange. Exchanges of two runs are equal if their texts are, without the values that each run has
+its own of, and if their handles lead to the same objects.
 """
 from __future__ import annotations
 
@@ -76,7 +77,8 @@ class Objects:
     first."""
 
     def __init__(self) -> None:
-        self.folders, self.names, self.known, self.origins = array('I'), array('q'), bytearray(), array('I')
+        self.folders, self.names, self.known, self.origins = (
+            array('I'), array('q'), bytearray(), array('I'))
         # Other folders and names, with their exchanges
         self.rivals: dict[int, list[tuple[int, int, int]]] = {}
 
@@ -93,7 +95,8 @@ class Objects:
             self.rivals.pop(handle, None)
             self.place(handle, exchange, folder, name)
             self.known[handle] = known
-        elif known == self.known[handle] and (folder, name) != (self.folders[handle], self.names[handle]):
+        elif known == self.known[handle] and (
+                (folder, name) != (self.folders[handle], self.names[handle])):
             self.rivals.setdefault(handle, []).append((exchange, folder, name))
 
     def place(self, handle: int, exchange: int, folder: int, name: int) -> None:
@@ -222,9 +225,11 @@ class Outlines:
         """Handles have another number in each run. So what a call asks has the objects in their
         place."""
         identities = self.objects.identities(when)
-        identities.extend([0] * (1 + max(max(self.folders, default=0), max(self.seconds.values(), default=0),
-                                         max(self.found, default=0)) - len(identities)))
-        for at, (asked, said, folder, found) in enumerate(zip(self.asked, self.said, self.folders, self.found)):
+        identities.extend([0] * (1 + max(
+            max(self.folders, default=0), max(self.seconds.values(), default=0),
+            max(self.found, default=0)) - len(identities)))
+        for at, (asked, said, folder, found) in enumerate(
+                zip(self.asked, self.said, self.folders, self.found)):
             second = identities[self.seconds[at]] if at in self.seconds else 0
             self.asked[at] = asked = hash((asked, identities[folder], second))
             self.said[at] = hash((said, asked, identities[found]))

@@ -1,7 +1,9 @@
-"""Questions about folders in which others work meanwhile. What such a question is answered depends on whose call came first.
+"""Questions about folders in which others work meanwhile. What such a question is answered depends
+on whose call came first.
 
-A question is overtaken if its answer is not that of its partner, and other changes had come before it, or while it was answered, than in the
-other run. Which calls came first is known by their frames. Changes are those that the server made: what failed has changed nothing.
+A question is overtaken if its answer is not that of its partner, and other changes had come before
+it, or while it was answered, than in the other run. Which calls came first is known by their
+frames. Changes are those that the server made: what failed has changed nothing.
 
     READDIR, GETATTR of a folder     changes in the folder, and of it
     READDIRPLUS                      these, and changes of what is in the folder
@@ -60,7 +62,8 @@ class Changes:
         together."""
         self.taken, self.outlines = taken, outlines
         self.keys = dict[int, list[Key]]()  # of the questions
-        called, answered = defaultdict[Key, list[tuple[int, int]]](list), defaultdict[Key, list[tuple[int, int]]](list)
+        called, answered = (defaultdict[Key, list[tuple[int, int]]](list),
+                            defaultdict[Key, list[tuple[int, int]]](list))
         changing = dict[int, list[Key]]()
         for at, line in outlines.calls_of(lines):
             if at in questions:
@@ -101,7 +104,8 @@ class Changes:
     def frames_of(self, at: int) -> tuple[int, int]:
         """Returns the first frame of a call, and that of its reply."""
         connection, record = self.outlines.record_of(at)
-        return self.frame_of(connection, 'client', record), self.frame_of(connection, 'server', self.outlines.replies[at])
+        return (self.frame_of(connection, 'client', record),
+                self.frame_of(connection, 'server', self.outlines.replies[at]))
 
     def frame_of(self, connection: int, side: Side, record: int) -> int:
         return min((frame.number for frame in self.taken.frames(Place(connection, side, record))),

@@ -1,4 +1,5 @@
-"""Which exchange of one run belongs to which of the other, over all connections and in any order."""
+"""Which exchange of one run belongs to which of the other, over all connections and in any
+order."""
 from __future__ import annotations
 
 from array import array
@@ -86,7 +87,8 @@ class Pairing:
     def home_of(self, place: int) -> range:
         """Returns the exchanges of the connection to which one of the first run belongs, by its
         place among all."""
-        return self.there.exchanges_of(self.homes[place]) if self.homes[place] != NOBODY else range(0)
+        return (self.there.exchanges_of(self.homes[place]) if self.homes[place] != NOBODY
+                else range(0))
 
     @cached_property
     def elsewhere(self) -> list[Pair]:
@@ -247,7 +249,8 @@ class Pairs:
             here = [at for _, at in run]
             place = self.here.connection_of(here[0])
             own = self.here.exchanges_of(place)
-            its = self.there.exchanges_of(self.homes[place]) if self.homes[place] != NOBODY else range(0)
+            its = (self.there.exchanges_of(self.homes[place]) if self.homes[place] != NOBODY
+                   else range(0))
             before = self.partners[here[0] - 1] if here[0] > own.start else its.start - 1
             after = self.partners[here[-1] + 1] if here[-1] + 1 < own.stop else its.stop
             if before + 1 in its and after - 1 in its and after - before - 1 <= len(here) + more:
@@ -325,7 +328,8 @@ def paired(here: Outlines, there: Outlines, listings: tuple[Listing, Listing],
     left, others = ({at for at in some if outlines.procedure_of(at) not in lonely}
                     for some, outlines in zip(pairs.left(), (here, there)))
     if left and others:
-        alike, like = here.calls_alike(listings[0](), left), there.calls_alike(listings[1](), others)
+        alike, like = (here.calls_alike(listings[0](), left),
+                       there.calls_alike(listings[1](), others))
         pairs.by_key(lambda at: alike.get(at, ('first', at)),
                      lambda to: like.get(to, ('second', to)))
         pairs.in_gaps(lambda at: here.procedure_of(at) if at in left else ('first', at),

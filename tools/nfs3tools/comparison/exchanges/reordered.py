@@ -1,8 +1,9 @@
 """A run written anew: the same exchanges in another order.
 
-`same in another order` is the word of `nfs3canon same` on two captures that are written here. So beside the programs only this module has
-to be believed: what it writes of a run are its calls, each with its replies, in one connection and in any order. The xid of a call and of
-its replies is the call's turn. An exchange is written or named as left out, and each once. Nothing else is changed.
+`same in another order` is the word of `nfs3canon same` on two captures that are written here. So
+beside the programs only this module has to be believed: what it writes of a run are its calls, each
+with its replies, in one connection and in any order. The xid of a call and of its replies is the
+call's turn. An exchange is written or named as left out, and each once. Nothing else is changed.
 """
 from __future__ import annotations
 
@@ -92,8 +93,10 @@ class Rewriting:
                 if side == 'client':
                     self.xids.append(xid)
                 elif xid != self.xids[turn - 1]:
-                    raise WrongOrder(f'a reply to record {exchange.call} of connection {exchange.connection} has another xid')
-                yield (LAST_FRAGMENT | len(body)).to_bytes(4, 'big') + turn.to_bytes(4, 'big') + body[4:]
+                    raise WrongOrder(f'a reply to record {exchange.call} of connection '
+                                     f'{exchange.connection} has another xid')
+                yield ((LAST_FRAGMENT | len(body)).to_bytes(4, 'big') + turn.to_bytes(4, 'big')
+                       + body[4:])
 
     def leave_out(self, exchanges: Iterable[Exchange]) -> None:
         for exchange in exchanges:

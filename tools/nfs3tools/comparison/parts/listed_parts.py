@@ -1,6 +1,7 @@
 """Parts of two runs that are listed at once, as one capture with the connections of all.
 
-The lines of a part are those that it has alone, but for its connections and for the numbers of renamed values, which are given anew.
+The lines of a part are those that it has alone, but for its connections and for the numbers of
+renamed values, which are given anew.
 """
 from __future__ import annotations
 

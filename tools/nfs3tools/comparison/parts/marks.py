@@ -1,8 +1,8 @@
 """A run cut at marks: calls of LOOKUP, CREATE and MKDIR whose names say which test begins.
 
-Each part has the calls that were sent from its mark on and before the next one, over all connections, and the replies to them. Connections
-keep their calls in order. Frames say when a call was sent. If they are not noted, as of a capture, each connection comes after the one
-before.
+Each part has the calls that were sent from its mark on and before the next one, over all
+connections, and the replies to them. Connections keep their calls in order. Frames say when a call
+was sent. If they are not noted, as of a capture, each connection comes after the one before.
 """
 from __future__ import annotations
 

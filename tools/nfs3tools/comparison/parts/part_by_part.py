@@ -1,8 +1,9 @@
 """Two runs compared part by part, each part as a run of its own.
 
-Parts of one name belong together. The program judges each under a renaming of its own, so which objects were reached before a part does not
-matter. Many parts are judged at once, as one capture with the connections of all: if these are the same under one renaming, each part is.
-Those that are not are listed at once, and then each is judged by itself.
+Parts of one name belong together. The program judges each under a renaming of its own, so which
+objects were reached before a part does not matter. Many parts are judged at once, as one capture
+with the connections of all: if these are the same under one renaming, each part is. Those that are
+not are listed at once, and then each is judged by itself.
 """
 from __future__ import annotations
 
@@ -60,7 +61,8 @@ class PartByPart:
         self.are_wholes_same = whole.same(whole.captures, choices.masks[0]) == 'same'
         listings = whole.canonical(whole.captures)
         first = MarkedRun(whole.runs[0], listings[0], pattern)
-        is_cut_alike = self.are_wholes_same and not first.has_silly_names() and all(map(is_cut_by_records, whole.runs))
+        is_cut_alike = (self.are_wholes_same and not first.has_silly_names()
+                        and all(map(is_cut_by_records, whole.runs)))
         self.marked = first, first if is_cut_alike else MarkedRun(whole.runs[1], listings[1],
                                                                   pattern)
         if not any(marked.has_marks() for marked in self.marked):
@@ -186,7 +188,8 @@ class PartByPart:
             return places[is_second].path(message)
 
         def with_path(finding: Finding) -> Finding:
-            return finding if finding.kind in ('order', 'connection') else replace(finding, path=path_of(finding))
+            return (finding if finding.kind in ('order', 'connection')
+                    else replace(finding, path=path_of(finding)))
         return [replace(one, findings=list(map(with_path, one.findings)),
                         silent=[replace(call, path=path_of(call)) for call in one.silent])
                 for one in compared]

@@ -1,1 +1,2 @@
-"""The classes of values: which there are, how they are masked, which stand for which, and where long ones part."""
+"""The classes of values: which there are, how they are masked, which stand for which, and where
+long ones part."""

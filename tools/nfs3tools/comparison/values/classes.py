@@ -42,8 +42,8 @@ class ValueClass:
     def has(self, name: str, is_call: bool) -> bool:
         """Returns whether an item of this name in a call, or in a reply, may be one of the
         class."""
-        return name in self.items and (is_call
-                                       or name not in self.only_in_calls) and not (is_call and self.is_of_changes)
+        return (name in self.items and (is_call or name not in self.only_in_calls)
+                and not (is_call and self.is_of_changes))
 
     def has_value(self, value: str) -> bool:
         """Returns whether a value, as the listing spells it, may be one of the class."""

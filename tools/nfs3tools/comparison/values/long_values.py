@@ -1,4 +1,5 @@
-"""Where two long values part: data, names and other runs of bytes, of which nobody reads the whole."""
+"""Where two long values part: data, names and other runs of bytes, of which nobody reads the
+whole."""
 from __future__ import annotations
 
 import re
@@ -38,7 +39,8 @@ class Content:
         self.size = len(self.bytes) if self.stored is None else self.stored.size
 
     def read(self, begin: int, end: int) -> bytes:
-        return self.bytes[begin:end] if self.stored is None else bytes.fromhex(self.stored.digits(begin, end))
+        return (self.bytes[begin:end] if self.stored is None
+                else bytes.fromhex(self.stored.digits(begin, end)))
 
 
 def is_long(value: str) -> bool:
@@ -80,7 +82,9 @@ def shown(content: Content, at: int, is_text: bool) -> str:
     """Returns the bytes round a place: of a name as the listing spells it, of others in
     hexadecimal, with a space before the place."""
     begin = max(0, at - SHOWN // 2)
-    piece, before, after = content.read(begin, begin + SHOWN), '..' * (begin > 0), '..' * (begin + SHOWN < content.size)
+    piece, before, after = (
+        content.read(begin, begin + SHOWN), '..' * (begin > 0),
+        '..' * (begin + SHOWN < content.size))
     if is_text:
         return f'{before}"{spelled(piece)}"{after}'
     gap = ' ' if begin < at < begin + len(piece) else ''
@@ -96,7 +100,8 @@ def spelled(content: bytes) -> str:
 def told(parting: Apart) -> str:
     """Returns where two values part and how much differs, in words."""
     same, (first, second) = min(parting.sizes), parting.sizes
-    where = f'byte {parting.at}' if parting.offset is None else f'offset {parting.offset} of the file (byte {parting.at} of the data)'
+    where = (f'byte {parting.at}' if parting.offset is None
+             else f'offset {parting.offset} of the file (byte {parting.at} of the data)')
     lengths = '' if first == second else f'their lengths are {first:,} and {second:,}'
     if not same:
         return lengths

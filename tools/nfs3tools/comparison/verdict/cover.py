@@ -1,4 +1,5 @@
-"""How much of two runs is compared: the connections of each under the words of `coverage`, and those that the program refuses.
+"""How much of two runs is compared: the connections of each under the words of `coverage`, and
+those that the program refuses.
 
 A connection that is refused is not compared, and the others are. They keep their numbers.
 """
@@ -70,7 +71,8 @@ class Cover:
         return 'refused' if covered.number in self.refused else covered.word
 
     def counts(self) -> Counts:
-        damaged: list[tuple[Counted, bool, dict[str, int]]] = [('error', True, {})] if self.taken.damage else []
+        damaged: list[tuple[Counted, bool, dict[str, int]]] = (
+            [('error', True, {})] if self.taken.damage else [])
         return counts_of([*((self.word_of(one), one.shows_calls, one.called.raw)
                             for one in self.covered), *damaged])
 

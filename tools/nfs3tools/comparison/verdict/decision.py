@@ -59,7 +59,8 @@ def line_of(verdict: str, compared: Size | str, losses: str, accepted: int) -> s
     if verdict.startswith('differ'):
         return f'{verdict}\ncompared in part: {losses}' if losses else verdict
     but = f' but for {accepted:,} accepted' if accepted else ''
-    return f'{verdict}{" in part" if losses else ""}{but}: {compared}{f", {losses}" if losses else ""}'
+    return (f'{verdict}{" in part" if losses else ""}{but}: '
+            f'{compared}{f", {losses}" if losses else ""}')
 
 
 def run_of(trial: Trial, taken: Taken, capture: str, name: str) -> Run:

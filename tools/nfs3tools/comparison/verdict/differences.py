@@ -100,12 +100,14 @@ class Comparison:
             return self.of_renamed(renaming, owner, here, at, there, to)
         if name == 'rest':
             return self.of_raw(here, at, there, to)
-        return None if first == second or self.is_length_of_a_machine(here.items[at]) else difference_of(here, at, there, to)
+        return (None if first == second or self.is_length_of_a_machine(here.items[at])
+                else difference_of(here, at, there, to))
 
     def of_lengths(self, here: Side, at: int, there: Side, to: int) -> Difference | None:
         """Raw bytes that are masked differ only in their number."""
         sizes = [Content(side.items[place].value).size for side, place in ((here, at), (there, to))]
-        return None if sizes[0] == sizes[1] else difference_of(here, at, there, to, remark='only the lengths count')
+        return (None if sizes[0] == sizes[1]
+                else difference_of(here, at, there, to, remark='only the lengths count'))
 
     def of_raw(self, here: Side, at: int, there: Side, to: int) -> Difference | None:
         """Handles in raw bytes are those of the other run where they are known."""
@@ -113,7 +115,8 @@ class Comparison:
         renamed = self.bindings.renamed(first)
         if renamed == second:
             return None
-        remark = '' if renamed == first else 'the file handles of the first are written as those of the second'
+        remark = ('' if renamed == first
+                  else 'the file handles of the first are written as those of the second')
         return difference_of(here, at, there, to, remark=remark, first=renamed)
 
     def of_renamed(self, name: str, owner: ValueClass | None, here: Side, at: int, there: Side,

@@ -1,5 +1,5 @@
-"""Which exchanges of two runs are shown side by side: those that differ, some pairs before and after each of them, and how many calls
-are between these."""
+"""Which exchanges of two runs are shown side by side: those that differ, some pairs before and
+after each of them, and how many calls are between these."""
 from __future__ import annotations
 
 from array import array
@@ -94,7 +94,8 @@ class Shown:
         belong together: as many exchanges of both runs are before it as in the second run. (Calls
         before it may have another turn.)"""
         place = self.there.connection_of(to)
-        own, home = self.there.exchanges_of(place), self.here.exchanges_of(self.place_of((NOBODY, to)))
+        own, home = (self.there.exchanges_of(place),
+                     self.here.exchanges_of(self.place_of((NOBODY, to))))
         if place not in self.followed:
             paired = [at in home for at in self.partners[own.start:own.stop]]
             before = [home.start - 1, *sorted(filter(home.__contains__,
@@ -124,8 +125,9 @@ class Shown:
     def near(self, pair: Pair, number: int) -> Iterator[Pair]:
         """Returns the pairs of the same connection that are at most so many before or after one."""
         at, to = pair
-        outlines, middle, partners = (self.here, at,
-                                      self.pairing.partners) if at != NOBODY else (self.there, to, self.partners)
+        outlines, middle, partners = (
+            (self.here, at, self.pairing.partners) if at != NOBODY
+            else (self.there, to, self.partners))
         own = outlines.exchanges_of(outlines.connection_of(middle))
         some = range(max(own.start, middle - number), min(own.stop, middle + number + 1))
         return ((one, partners[one]) if at != NOBODY else (partners[one], one) for one in some

@@ -248,8 +248,9 @@ class Explaining:
 
     def of_late(self) -> Iterator[Finding]:
         for connection, number, among in self.pairing.late_replies:
-            yield Finding('order', Message(connection, 'server', 1, 0, '', ()), None,
-                          remark=f'{number} of {among} replies of the connection come in another order')
+            yield Finding(
+                'order', Message(connection, 'server', 1, 0, '', ()), None,
+                remark=f'{number} of {among} replies of the connection come in another order')
 
     def of_the_lonely(self, mask: Mask) -> Iterator[Finding]:
         for at in self.lonely.told:
@@ -315,4 +316,5 @@ def of_pair(one: Exchange, other: Exchange, path: str | None,
             yield Finding('changed', message, its, path, tuple(found))
     if len(one.replies) != len(other.replies):
         yield Finding('replies', one.call, other.call, path,
-                      remark=f'{len(one.replies)} replies in the first run, {len(other.replies)} in the second')
+                      remark=f'{len(one.replies)} replies in the first run, '
+                             f'{len(other.replies)} in the second')

@@ -1,4 +1,5 @@
-"""Fields that a user knows to differ, and has left out of what is said of a comparison. They count for its verdict all the same."""
+"""Fields that a user knows to differ, and has left out of what is said of a comparison. They count
+for its verdict all the same."""
 from __future__ import annotations
 
 import argparse
@@ -29,7 +30,8 @@ class Ignored(NamedTuple):
         return f'{self.procedure}.{self.field}'
 
     def has(self, procedure: str, difference: Difference) -> bool:
-        return self.procedure in (ANY, procedure) and self.field in (difference.label, difference.field, difference.name)
+        return self.procedure in (ANY, procedure) and (
+            self.field in (difference.label, difference.field, difference.name))
 
 
 def ignored_of(text: str) -> list[Ignored]:

@@ -1,4 +1,5 @@
-"""Two runs that differ in their own order: what differs, and whether they are the same in another."""
+"""Two runs that differ in their own order: what differs, and whether they are the same in
+another."""
 from __future__ import annotations
 
 from collections.abc import Sequence
@@ -73,7 +74,8 @@ class Orders:
         overtaken."""
         self.pairing = pairing.without(overtaken) if overtaken else pairing
         self.is_in_place = self.pairing.is_in_place
-        self.captures = self.trial.captures if self.is_in_place else self.trial.in_one_order(self.pairing)
+        self.captures = (self.trial.captures if self.is_in_place
+                         else self.trial.in_one_order(self.pairing))
         self.explaining = Explaining(*self.runs, self.pairing, self.leaves_out, overtaken)
 
     def found(self) -> Found:
@@ -133,8 +135,9 @@ class Orders:
         firsts, seconds = self.explaining.firsts, self.explaining.seconds
         unequal = [(firsts[turn], seconds[turn])
                    for turn in sorted(self.listed(self.choices.masks[-1]).unequal())]
-        runs, listings = (self.trial.runs[0],
-                          self.trial.runs[1]), self.trial.canonical(self.trial.captures, self.choices.masks[0])
+        runs, listings = (
+            (self.trial.runs[0], self.trial.runs[1]),
+            self.trial.canonical(self.trial.captures, self.choices.masks[0]))
         some = [pair for pair in overtaken(runs, self.pairing, listings, unequal)
                 if self.pairing.here.procedure_of(pair[0]) in self.leaves_out]
         if some:

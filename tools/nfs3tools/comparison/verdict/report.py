@@ -15,8 +15,8 @@ from .summary import IN_ANOTHER_ORDER
 class Report(NamedTuple):
     """What is said of two runs as a whole: what `same` says of them, what is masked, and of both
     their names and how much they have; the mask under which they are the same in another order, if
-    they are; how much of both is compared, unless they are parts; and what was accepted, if there is
-    a file of that."""
+    they are; how much of both is compared, unless they are parts; and what was accepted, if there
+    is a file of that."""
     verdict: str
     mask: Mask
     names: tuple[str, str]
@@ -33,7 +33,8 @@ class Report(NamedTuple):
 
     def word(self) -> str:
         """Returns the verdict as a word."""
-        verdict = IN_ANOTHER_ORDER if self.same_under is not None else self.verdict.partition(' at ')[0]
+        verdict = (IN_ANOTHER_ORDER if self.same_under is not None
+                   else self.verdict.partition(' at ')[0])
         return f'{verdict} in part' if verdict.startswith('same') and self.is_in_part else verdict
 
 
