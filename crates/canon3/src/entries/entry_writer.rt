@@ -1,10 +1,9 @@
 //! What is written of a capture while it is read, from a source to a sink.
 
-ghost use Rattle.std.specs.Prelude.{◌≡◌, ◌<◌, ◌≤◌, ◌+◌, ◌^◌, ◌++◌, ◌∷◌, ℕ, List, [], Option, None, bytes_eq, length, min, IfErr, IfOk, IsTrue, OnOk};
+ghost use Rattle.std.specs.Prelude.{◌≡◌, ℕ, List, [], Option, None, bytes_eq, length, min, IfErr, OnOk};
 ghost use Rattle.capture3.specs.Told.{GavePrefix, Told};
 ghost use Rattle.xdr3.specs.Item.{Item};
-ghost use Rattle.capture3.specs.Entries.{CountsReading, failure_of, source_of};
-ghost use Rattle.capture3.specs.machinery.EntriesHistory.{entries_left};
+ghost use Rattle.capture3.specs.Entries.{CountsReading, failure_of};
 ghost use Rattle.capture3.specs.Entry as spec;
 ghost use Rattle.canon3.specs.EntryWriter.{KeepsPrefixes, WritesAll, WritesAllCounted, WritesGiven, WritesGivenCounted, WritesOne};
 ghost use Rattle.canon3.specs.Summary.{AreMessageCounts};
