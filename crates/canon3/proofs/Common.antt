@@ -3,7 +3,7 @@ pub use Rattle.byteorder.specs.Endian.{big_bytes, big_number}
 pub use Rattle.capture3.proofs.Lemmas.Container.BytesOf.{AreBytes-append, AreBytes-nil, checked}
 pub use Rattle.capture3.proofs.Lemmas.Reached.EmittedEntries.{reached_by_machine}
 pub use Rattle.capture3.proofs.Lemmas.Reader.PassedOn.{error_is}
-pub use Rattle.capture3.proofs.Lemmas.Reader.ToldLemmas.{IsPrefixOf, gave_none, gave_on, prefix_of_kept, prefix_of_told, shown_of_all}
+pub use Rattle.capture3.proofs.Lemmas.Reader.ObservedLemmas.{IsPrefixOf, gave_none, gave_on, prefix_of_kept, prefix_of_observed, shown_of_all}
 pub use Rattle.capture3.specs.Bodies.{IsCall, IsReply, ReplyItems, xid_in}
 pub use Rattle.capture3.specs.Capture.{One, magic}
 pub use Rattle.capture3.specs.Chunks.{max_bytes}
@@ -13,7 +13,7 @@ pub use Rattle.capture3.specs.machinery.Stepping.{IsOfKind}
 pub use Rattle.capture3.specs.Laws.{most_entries}
 pub use Rattle.capture3.specs.Reached.{AreFirstReached, Reached}
 pub use Rattle.capture3.specs.SidedChunks.{Streams, size}
-pub use Rattle.capture3.specs.Told.{Gave, Told}
+pub use Rattle.capture3.specs.Observed.{Gave, Observed}
 pub use Rattle.capture3.specs.Typed.{AnswerCalls, AreEach, Converses, HaveEntries, HaveOneProcedure, IsIn, Typed, connection_entries, reply_entry}
 pub use Rattle.capture3.specs.declared.fault.Error.{Error}
 pub use Rattle.capture3.specs.declared.fault.Place.{Place}
@@ -74,7 +74,7 @@ pub use Rattle.capture3.specs.declared.reader.progress.Progress.{Progress}
 pub use Rattle.canon3.specs.declared.summary.Summary.{Summary}
 pub use Rattle.canon3.specs.machinery.ComparisonSteps.{Agree, HasGivenOn, PartWith}
 pub use Rattle.canon3.specs.machinery.FormSteps.{are_some, magic_unless, values_before}
-pub use Rattle.canon3.specs.machinery.MessageWriter.{AreFew, Before, HoldsBefore, IsGoing, IsNotedAs, IsWithinMessage, Notes, WriterRests, WriterStands, told_after, values_of}
+pub use Rattle.canon3.specs.machinery.MessageWriter.{AreFew, Before, HoldsBefore, IsGoing, IsNotedAs, IsWithinMessage, Notes, WriterRests, WriterStands, items_of_writer, values_of}
 pub use Rattle.capture3.specs.OpenXids.{open_xids}
 pub use Rattle.canon3.specs.machinery.PartialWrites.{TookUpTo}
 pub use Rattle.canon3.specs.machinery.ProgressSteps.{place_from, side_in}

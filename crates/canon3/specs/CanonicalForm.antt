@@ -2,7 +2,7 @@
 use Rattle.std.specs.Prelude.{ℕ, Option, List, Result, Ok, Err}
 use Rattle.std.specs.Io.KnownBytes.{Appends}
 use Rattle.capture3.specs.Capture.{total_size}
-use Rattle.capture3.specs.Told.{Told}
+use Rattle.capture3.specs.Observed.{Observed}
 use Rattle.capture3.specs.declared.fault.Error.{Error}
 use Rattle.capture3.specs.Entry.{Entry}
 use Rattle.capture3.specs.Typed.{Typed}
@@ -17,9 +17,9 @@ abbrev pub canonical_bytes : List Entry → List ℕ
 canonical_bytes entries = bytes_of (canonical entries)
 
 -- the source gave some bytes, and the canonical form of their entries was written
-abbrev pub RewritesGiven : (before told : Told) (old new : Option (List ℕ)) → Result Summary Error
+abbrev pub RewritesGiven : (before observed : Observed) (old new : Option (List ℕ)) → Result Summary Error
     → Type 0
-RewritesGiven before told old new result = WritesGiven canonical_bytes before told old new result
+RewritesGiven before observed old new result = WritesGiven canonical_bytes before observed old new result
 
 -- All bytes are a capture's, and the canonical form of its entries was written: a file with these
 -- entries, which has no more stream bytes than the capture.

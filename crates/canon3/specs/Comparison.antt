@@ -1,6 +1,6 @@
 -- What a comparison of two captures answers.
 use Rattle.std.specs.Prelude.{◌≡◌, ℕ, ◌+◌, ◌-◌, ◌^◌, Bool, true, false, cond, min, List, Result, Ok, Err}
-use Rattle.capture3.specs.Told.{Gave, IsSpent, Told}
+use Rattle.capture3.specs.Observed.{Gave, IsSpent, Observed}
 use Rattle.capture3.specs.declared.fault.Error.{Error}
 use Rattle.capture3.specs.declared.fault.Error.TheVariants as errors
 use Rattle.capture3.specs.declared.fault.Fault.{Fault}
@@ -35,21 +35,21 @@ DecidesSame file other (Ok (verdicts.Differ place)) = (a : List Entry) × (b : L
 DecidesSame file other (Err error) = StopsComparing file other error.error error.which
 
 -- the source gave a capture with these entries, and no byte is left
-pub record GaveAll (old new : Told) (entries : List Entry) : Type 0 where
+pub record GaveAll (old new : Observed) (entries : List Entry) : Type 0 where
   pub given : List ℕ
   pub gave : Gave old new given
   pub ended : IsSpent new
   pub typed : Typed given entries
 
 -- the source gave bytes that show this fault
-pub record GaveFault (old new : Told) (fault : Fault) : Type 0 where
+pub record GaveFault (old new : Observed) (fault : Fault) : Type 0 where
   pub given : List ℕ
   pub handed : List Entry
   pub gave : Gave old new given
   pub shown : IsShownBy new given handed fault
 
 -- two sources, what each told before the call, and what it tells now
-module _ (old new old_other new_other : Told) where
+module _ (old new old_other new_other : Observed) where
   -- The fault is shown by what the first gave, or by what the second gave if the first gave a whole
   -- capture. No other error says anything.
   abbrev pub StopsGiven : Error → Which → Type 0

@@ -1,7 +1,7 @@
 -- What is written of a capture's entries while it is read. A form says which bytes a list of
 -- entries is written as.
 use Rattle.std.specs.Prelude.{◌≡◌, ℕ, ◌<◌, ◌^◌, Option, List, [], ◌∷◌, ◌++◌, length, Result, Ok, Err}
-use Rattle.capture3.specs.Told.{Gave, IsSpent, Told}
+use Rattle.capture3.specs.Observed.{Gave, IsSpent, Observed}
 use Rattle.std.specs.Io.KnownBytes.{Appends}
 use Rattle.xdr3.specs.Item.{Item}
 use Rattle.capture3.specs.declared.fault.Error.{Error}
@@ -27,32 +27,32 @@ module _ (form : List Entry → List ℕ) where
   -- that these reach was written; or a read failed, and the form of the entries that the bytes
   -- given reach before a capture's end; or a write failed or memory ran out, and a front was
   -- written of the form of the entries that the bytes given reach.
-  abbrev pub IsStoppedBy : Error → (told : Told) (given : List ℕ) (old new : Option (List ℕ))
+  abbrev pub IsStoppedBy : Error → (observed : Observed) (given : List ℕ) (old new : Option (List ℕ))
       → Type 0
-  IsStoppedBy (errors.Refused fault) told given old new = (entries : List Entry)
-      × IsMetBy (errors.Refused fault) told given entries × Appends old new (form entries)
-  IsStoppedBy errors.Read told given old new = (entries : List Entry)
-      × IsMetBy errors.Read told given entries × Appends old new (form entries)
-  IsStoppedBy errors.Write told given old new = (entries : List Entry) × Reached given entries
+  IsStoppedBy (errors.Refused fault) observed given old new = (entries : List Entry)
+      × IsMetBy (errors.Refused fault) observed given entries × Appends old new (form entries)
+  IsStoppedBy errors.Read observed given old new = (entries : List Entry)
+      × IsMetBy errors.Read observed given entries × Appends old new (form entries)
+  IsStoppedBy errors.Write observed given old new = (entries : List Entry) × Reached given entries
       × AppendsFront old new (form entries)
-  IsStoppedBy errors.Memory told given old new = (entries : List Entry) × Reached given entries
+  IsStoppedBy errors.Memory observed given old new = (entries : List Entry) × Reached given entries
       × AppendsFront old new (form entries)
 
 -- what is counted of a capture's bytes, and the form of its entries
 module _ {C : Type 0} (AreCountsOf : List ℕ → C → Type 0) (form : List Entry → List ℕ) where
   -- all bytes were a capture's, these are its counts, and the form of its entries was written; or
   -- an error came
-  abbrev pub WritesCounted : (told : Told) (given : List ℕ) (old new : Option (List ℕ))
+  abbrev pub WritesCounted : (observed : Observed) (given : List ℕ) (old new : Option (List ℕ))
       → Result C Error → Type 0
-  WritesCounted told given old new (Ok counts) = (entries : List Entry) × IsSpent told
+  WritesCounted observed given old new (Ok counts) = (entries : List Entry) × IsSpent observed
       × Typed given entries × AreCountsOf given counts × Appends old new (form entries)
-  WritesCounted told given old new (Err error) = IsStoppedBy form error told given old new
+  WritesCounted observed given old new (Err error) = IsStoppedBy form error observed given old new
 
   -- the source gave some bytes, and the form of their entries was written
-  abbrev pub WritesGivenCounted : (before told : Told) (old new : Option (List ℕ))
+  abbrev pub WritesGivenCounted : (before observed : Observed) (old new : Option (List ℕ))
       → Result C Error → Type 0
-  WritesGivenCounted before told old new result = (given : List ℕ) × Gave before told given
-      × WritesCounted told given old new result
+  WritesGivenCounted before observed old new result = (given : List ℕ) × Gave before observed given
+      × WritesCounted observed given old new result
 
   -- What is written of all bytes of a capture, of which the source gave a prefix. They are well
   -- formed, these are their counts, and the form of their entries was written; or this is their
@@ -68,10 +68,10 @@ module _ {C : Type 0} (AreCountsOf : List ℕ → C → Type 0) (form : List Ent
 
 -- the same with the summary of a capture
 module _ (form : List Entry → List ℕ) where
-  abbrev pub WritesGiven : (before told : Told) (old new : Option (List ℕ)) → Result Summary Error
+  abbrev pub WritesGiven : (before observed : Observed) (old new : Option (List ℕ)) → Result Summary Error
       → Type 0
-  WritesGiven before told old new result =
-      WritesGivenCounted IsSummary form before told old new result
+  WritesGiven before observed old new result =
+      WritesGivenCounted IsSummary form before observed old new result
 
   abbrev pub WritesAll : (bytes : List ℕ) (old new : Option (List ℕ)) → Result Summary Error
       → Type 0

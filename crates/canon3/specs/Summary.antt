@@ -1,6 +1,6 @@
 -- What a capture has of each kind.
 use Rattle.std.specs.Prelude.{◌≡◌, ℕ, List, IfOk, bytes_eq, length, Result, Ok, Err}
-use Rattle.capture3.specs.Told.{Gave, IsSpent, Told}
+use Rattle.capture3.specs.Observed.{Gave, IsSpent, Observed}
 use Rattle.capture3.specs.declared.fault.Error.{Error}
 use Rattle.capture3.specs.Entries.{IsMetBy, OnRefused}
 use Rattle.capture3.specs.Entry.{Entry}
@@ -33,14 +33,14 @@ pub record IsSummary (bytes : List ℕ) (summary : Summary) : Type 0 where
 
 -- What is concluded of the bytes that the source gave, where it tells this: all were a capture's,
 -- and this is its summary; or they met the error, after just these entries.
-abbrev pub Concludes : (told : Told) (given : List ℕ) → Result Summary Error → Type 0
-Concludes told given (Ok summary) = IsSpent told × IsSummary given summary
-Concludes told given (Err error) = (entries : List Entry) × IsMetBy error told given entries
+abbrev pub Concludes : (observed : Observed) (given : List ℕ) → Result Summary Error → Type 0
+Concludes observed given (Ok summary) = IsSpent observed × IsSummary given summary
+Concludes observed given (Err error) = (entries : List Entry) × IsMetBy error observed given entries
 
 -- the source gave some bytes, and this is concluded of them
-abbrev pub ConcludesGiven : (before told : Told) → Result Summary Error → Type 0
-ConcludesGiven before told result = (given : List ℕ) × Gave before told given
-    × Concludes told given result
+abbrev pub ConcludesGiven : (before observed : Observed) → Result Summary Error → Type 0
+ConcludesGiven before observed result = (given : List ℕ) × Gave before observed given
+    × Concludes observed given result
 
 -- What is concluded of all bytes of a capture, of which the source gave a prefix: they are well
 -- formed, and this is their summary; or this is their first fault. No other error says anything of

@@ -8,7 +8,7 @@ ghost use Rattle.capture3.specs.Entries.{CountsReading};
 ghost use Rattle.capture3.specs.Entry as spec;
 ghost use Rattle.canon3.specs.Laws.{AreFirst};
 ghost use Rattle.canon3.specs.machinery.MessageWriter.{WriterRests, WriterStands};
-ghost use Rattle.capture3.specs.Told.{GavePrefix};
+ghost use Rattle.capture3.specs.Observed.{GavePrefix};
 ghost use Rattle.canon3.specs.CanonicalForm.{canonical_bytes, RewritesGiven, WritesNoMore};
 ghost use Rattle.canon3.specs.EntryWriter.{WritesAll};
 ghost use Rattle.canon3.specs.machinery.FormSteps.{Follows, values_before};
@@ -49,12 +49,12 @@ pub fn canon<R: Source, W: Sink, S: BuildHasher + Drop>(
     sink: &mut W,
 ) -> Result<Summary, Error>
     // What is written.
-    ensures rewrites { RewritesGiven (R.told source.old) (R.told source.new) (W.written sink.old)
+    ensures rewrites { RewritesGiven (R.observed source.old) (R.observed source.new) (W.written sink.old)
         (W.written sink.new) result }
-    ensures whole { (bytes : List ℕ) → GavePrefix (R.told source.old) (R.told source.new) bytes
+    ensures whole { (bytes : List ℕ) → GavePrefix (R.observed source.old) (R.observed source.new) bytes
         → WritesAll canonical_bytes bytes (W.written sink.old) (W.written sink.new) result }
     ensures no_longer { (bytes : List ℕ)
-        → GavePrefix (R.told source.old) (R.told source.new) bytes
+        → GavePrefix (R.observed source.old) (R.observed source.new) bytes
         → WritesNoMore bytes (W.written sink.old) (W.written sink.new) result }
     ensures flushes { OnOk result (IsFlushed (W.written sink.new) (W.flushed sink.new)) }
 

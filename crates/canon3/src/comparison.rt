@@ -3,12 +3,12 @@
 pub(crate) mod verdict;
 
 ghost use Rattle.std.specs.Prelude.{◌≡◌, ◌≢◌, ◌<◌, ◌≤◌, ◌+◌, ◌^◌, ◌++◌, ◌∷◌, ℕ, List, [], length, None, Some, IfErr, IfOk, IsTrue, OnOk};
-ghost use Rattle.capture3.specs.Told.{GavePrefix, Told};
+ghost use Rattle.capture3.specs.Observed.{GavePrefix, Observed};
 ghost use Rattle.capture3.specs.Entries.{failure_of, source_of};
 ghost use Rattle.capture3.specs.machinery.EntriesHistory.{entries_left};
 ghost use Rattle.capture3.specs.Entry as spec;
 ghost use Rattle.canon3.specs.Comparison.{CountsReadingOf, DecidesGiven, DecidesSame};
-ghost use Rattle.canon3.specs.machinery.ComparisonSteps.{Compares, FindsOut, HasGiven, HasGivenOn, IsFound, IsReadAfter, IsReadOut, IsTold, IsComparing, Meets, met_second, refusal_in, StepsOn};
+ghost use Rattle.canon3.specs.machinery.ComparisonSteps.{Compares, FindsOut, HasGiven, HasGivenOn, IsFound, IsReadAfter, IsReadOut, HaveReceived, IsComparing, Meets, met_second, refusal_in, StepsOn};
 ghost use Rattle.canon3.specs.machinery.Reading.{ReadsBoth, ReadsOne, ReadsSecond};
 ghost use Rattle.canon3.specs.Laws.{AreFirst};
 ghost use Rattle.capture3.specs.Numbering.{IsLentAfter};
@@ -46,12 +46,12 @@ pub fn same<A: Source, B: Source, S: BuildHasher + Drop>(
     second: &mut B,
 ) -> Result<Verdict, SameError>
     // The verdict.
-    ensures decides { (file other : List ℕ) → (A.told first.old).left ≡ Some file
-        → (B.told second.old).left ≡ Some other → DecidesSame file other result }
-    ensures gave { DecidesGiven (A.told first.old) (A.told first.new)
-        (B.told second.old) (B.told second.new) result }
-    ensures whole { (file other : List ℕ) → GavePrefix (A.told first.old) (A.told first.new) file
-        → GavePrefix (B.told second.old) (B.told second.new) other
+    ensures decides { (file other : List ℕ) → (A.observed first.old).left ≡ Some file
+        → (B.observed second.old).left ≡ Some other → DecidesSame file other result }
+    ensures gave { DecidesGiven (A.observed first.old) (A.observed first.new)
+        (B.observed second.old) (B.observed second.new) result }
+    ensures whole { (file other : List ℕ) → GavePrefix (A.observed first.old) (A.observed first.new) file
+        → GavePrefix (B.observed second.old) (B.observed second.new) other
         → DecidesSame file other result }
 
     // The devices.
@@ -100,10 +100,10 @@ fn conclude<A: Source, B: Source, S: BuildHasher + Drop>(
 ) -> Result<Verdict, SameError>
     requires going_first { failure_of first.old ≡ None }
     requires going_second { failure_of second.old ≡ refusal_in (Some finding) }
-    ensures gave { (start other_start : Told)
-        → IsFound A.told B.told start other_start first.old second.old finding
-        → DecidesGiven start (A.told (source_of first.new))
-        other_start (B.told (source_of second.new)) result }
+    ensures gave { (start other_start : Observed)
+        → IsFound A.observed B.observed start other_start first.old second.old finding
+        → DecidesGiven start (A.observed (source_of first.new))
+        other_start (B.observed (source_of second.new)) result }
     ensures reads { ReadsBoth A.failures B.failures first.old first.new
         second.old second.new result }
 {
@@ -129,9 +129,9 @@ fn read_second<R: Source, S: BuildHasher + Drop>(
     verdict: Verdict,
 ) -> Result<Verdict, SameError>
     requires going { failure_of entries.old ≡ None }
-    ensures out { (start : Told) (handed : List spec.Entry)
-        → HasGiven R.told start entries.old handed
-        → IsReadAfter start (R.told (source_of entries.new)) handed verdict result }
+    ensures out { (start : Observed) (handed : List spec.Entry)
+        → HasGiven R.observed start entries.old handed
+        → IsReadAfter start (R.observed (source_of entries.new)) handed verdict result }
     ensures reads { ReadsSecond R.failures entries.old entries.new result }
 {
     match drain(entries) {
@@ -146,9 +146,9 @@ fn read_second<R: Source, S: BuildHasher + Drop>(
 /// Reads all entries that are left.
 fn drain<R: Source, S: BuildHasher + Drop>(entries: &mut Entries<'_, R, S>) -> Result<(), Error>
     requires going { failure_of entries.old ≡ None }
-    ensures out { (start : Told) (handed : List spec.Entry)
-        → HasGivenOn R.told start entries.old handed
-        → IsReadOut start (R.told (source_of entries.new)) handed result }
+    ensures out { (start : Observed) (handed : List spec.Entry)
+        → HasGivenOn R.observed start entries.old handed
+        → IsReadOut start (R.observed (source_of entries.new)) handed result }
     ensures reads { ReadsOne R.failures entries.old entries.new result }
 {
     write_rest(entries, &mut Nowhere, &mut Silent)
@@ -168,14 +168,14 @@ impl<S: BuildHasher + Drop> Comparison<S> {
         first: &mut Entries<'_, A, S>,
         second: &mut Entries<'_, B, S>,
     ) -> Result<Verdict, SameError>
-        requires begins { IsComparing A.told B.told (A.told (source_of first.old))
-            (B.told (source_of second.old)) first.old second.old self.old }
+        requires begins { IsComparing A.observed B.observed (A.observed (source_of first.old))
+            (B.observed (source_of second.old)) first.old second.old self.old }
         requires going_first { failure_of first.old ≡ None }
         requires going_second { failure_of second.old ≡ None }
 
         // The verdict.
-        ensures gave { DecidesGiven (A.told (source_of first.old)) (A.told (source_of first.new))
-            (B.told (source_of second.old)) (B.told (source_of second.new)) result }
+        ensures gave { DecidesGiven (A.observed (source_of first.old)) (A.observed (source_of first.new))
+            (B.observed (source_of second.old)) (B.observed (source_of second.new)) result }
 
         // The devices.
         ensures reads { ReadsBoth A.failures B.failures first.old first.new
@@ -195,9 +195,9 @@ impl<S: BuildHasher + Drop> Comparison<S> {
         requires going_second { failure_of second.old ≡ None }
 
         // What is found.
-        ensures found { (start other_start : Told)
-            → IsComparing A.told B.told start other_start first.old second.old self.old
-            → FindsOut A.told B.told start other_start first.new second.new result }
+        ensures found { (start other_start : Observed)
+            → IsComparing A.observed B.observed start other_start first.old second.old self.old
+            → FindsOut A.observed B.observed start other_start first.new second.new result }
         ensures going_first { OnOk result (failure_of first.new ≡ None) }
         ensures going_second { IfOk result
             (λ finding. failure_of second.new ≡ refusal_in (Some finding)) }
@@ -226,9 +226,9 @@ impl<S: BuildHasher + Drop> Comparison<S> {
         requires going_second { failure_of second.old ≡ None }
 
         // What came of the two entries.
-        ensures steps { (start other_start : Told)
-            → IsComparing A.told B.told start other_start first.old second.old self.old
-            → StepsOn A.told B.told start other_start first.new second.new self.new result }
+        ensures steps { (start other_start : Observed)
+            → IsComparing A.observed B.observed start other_start first.old second.old self.old
+            → StepsOn A.observed B.observed start other_start first.new second.new self.new result }
 
         // The readers go on.
         ensures fewer { IfOk result (λ next. next ≡ None
@@ -262,11 +262,11 @@ impl<S: BuildHasher + Drop> Comparison<S> {
         requires going { failure_of second.old ≡ None }
 
         // What came of the two entries.
-        ensures meets { (first now start : Told) (a b : List spec.Entry) (e : spec.Entry)
+        ensures meets { (first now start : Observed) (a b : List spec.Entry) (e : spec.Entry)
             → IsLentAfter a entry.entry e → AreFirst (a ++ e ∷ [])
             → HasPassed before a → length a + 1 < 2 ^ 32
-            → IsTold self.old a b (Some e) None → HasGiven B.told start second.old b
-            → Meets B.told first now start second.new self.new a b e result }
+            → HaveReceived self.old a b (Some e) None → HasGiven B.observed start second.old b
+            → Meets B.observed first now start second.new self.new a b e result }
 
         // What stays.
         ensures going { IfOk result (λ next. failure_of second.new ≡ refusal_in next) }
@@ -293,7 +293,7 @@ impl<S: BuildHasher + Drop> Comparison<S> {
             → IsLentAfter a entry.entry e → IsLentAfter b other.entry f
             → AreFirst (a ++ e ∷ []) → AreFirst (b ++ f ∷ [])
             → HasPassed before a → length a + 1 < 2 ^ 32
-            → IsTold self.old a b (Some e) (Some f)
+            → HaveReceived self.old a b (Some e) (Some f)
             → IfOk result (Compares self.new a b e f) }
         ensures memory { IfErr result (λ error. error.error ≡ Error.Memory) }
     {

@@ -1,7 +1,7 @@
 //! Whether a capture is well formed, and what it has.
 
 ghost use Rattle.std.specs.Prelude.{◌≡◌, ◌≢◌, ℕ, List, Some, IfErr, IfOk, bytes_eq, length, min};
-ghost use Rattle.capture3.specs.Told.{GavePrefix};
+ghost use Rattle.capture3.specs.Observed.{GavePrefix};
 ghost use Rattle.capture3.specs.Entries.{CountsReading, OnRefused};
 ghost use Rattle.capture3.specs.Entry as spec;
 ghost use Rattle.capture3.specs.FirstFault.{FirstFault};
@@ -52,12 +52,12 @@ pub fn check<R: Source, S: BuildHasher + Drop>(
     source: &mut R,
 ) -> Result<Summary, Error>
     // What is concluded.
-    ensures ok { (bytes : List ℕ) → (R.told source.old).left ≡ Some bytes
+    ensures ok { (bytes : List ℕ) → (R.observed source.old).left ≡ Some bytes
         → IfOk result (IsSummary bytes) }
-    ensures refused { (bytes : List ℕ) → (R.told source.old).left ≡ Some bytes
+    ensures refused { (bytes : List ℕ) → (R.observed source.old).left ≡ Some bytes
         → OnRefused result (FirstFault bytes) }
-    ensures concludes { ConcludesGiven (R.told source.old) (R.told source.new) result }
-    ensures whole { (bytes : List ℕ) → GavePrefix (R.told source.old) (R.told source.new) bytes
+    ensures concludes { ConcludesGiven (R.observed source.old) (R.observed source.new) result }
+    ensures whole { (bytes : List ℕ) → GavePrefix (R.observed source.old) (R.observed source.new) bytes
         → ConcludesAll bytes result }
 
     // The device.

@@ -49,7 +49,7 @@ pub use Rattle.capture3.specs.BodyProgram.{agreed, agrees, all_of_body, answerin
 unfoldable pub use Rattle.capture3.specs.BodyProgram.{judge_call, judge_reply}
 pub use Rattle.capture3.specs.Capture.{AreStreams, IsCapture, IsConnection, One, Two, Version, digit, magic, magic_front, max_connections, total_size, AreInTurn}
 pub use Rattle.capture3.specs.Chunks.{AreChunks, BeginsStream, IsChunk, IsStream, max_bytes, WithinChunk}
-pub use Rattle.capture3.specs.ConnectionMachine.{Closes, Closing, InClient, InMixed, InServer, Opening, Refuses, client_said, conversing, ending, judge_replies, opened, opening_next, server_said, turning, opening_entries}
+pub use Rattle.capture3.specs.ConnectionMachine.{Closes, Closing, InClient, InMixed, InServer, Opening, Refuses, after_client, conversing, ending, judge_replies, opened, opening_next, after_server, turning, opening_entries}
 pub use Rattle.capture3.specs.Connections.{BadSide, ConnectionShows, Context, InClientStream, InServerStream, MixedShows, NoLength, ShownFault, StreamsShow, TooMuch, calls_in_turn, client_position, client_refusal, refusal, replies_to, server_position, server_refusal, AfterLength, ServerShows}
 pub use Rattle.capture3.specs.Entry.{End, Entry}
 pub use Rattle.capture3.specs.FileMachine.{Parsing, concluded, emitted, file_next, file_start, last_entries, parsed, parsing_in, reached, verdict, verdict_of, marked}
@@ -62,7 +62,7 @@ pub use Rattle.capture3.specs.SidedChunks.{AreMixed, BeginsMixed, IsSidedChunk, 
 pub use Rattle.capture3.specs.SidedChunksMachine.{MixedCloses, MixedEnd, MixedRefuses, Mixing, SideChunk, SideLength, SideWord, awaiting_side, measured, mixed_next, mixed_step, mixing_from, mixing_in, sided}
 pub use Rattle.capture3.specs.Sides.{Position, SideShows, file_fault, place_at, place_in, CutsRecord, ShowsRecord}
 pub use Rattle.capture3.specs.StreamMachine.{Faulty, Held, Judge, Reading, StreamEnd, end_of, judged, left_in, reading_with, recorded, rest_end, stream_end, stream_next, unread}
-pub use Rattle.capture3.specs.Told.{Gave, IsSpent, Told}
+pub use Rattle.capture3.specs.Observed.{Gave, IsSpent, Observed}
 pub use Rattle.capture3.specs.Typed.{Converses, HaveEntries, IsWellFormed, Typed, connection_entries, reply_entry, AnswerCalls, AreEach, HaveOneProcedure, IsIn}
 pub use Rattle.capture3.specs.declared.container.Container.{Container}
 pub use Rattle.capture3.specs.declared.container.Cursor.{Cursor}

@@ -39,23 +39,23 @@ ending calls (SideCloses at total replies) =
 ending calls (SideRefuses fault) = Ends (Refuses (refusal fault))
 
 -- in version 2: the server stream has been judged, after these calls
-abbrev pub server_said : ℕ → ℕ → ℕ → List (List Item) → StreamEnd ReplyItems → Next Opening Closing
-server_said number at total calls (Held replies) =
+abbrev pub after_server : ℕ → ℕ → ℕ → List (List Item) → StreamEnd ReplyItems → Next Opening Closing
+after_server number at total calls (Held replies) =
     Ends (Closes at total (connection_entries calls replies))
-server_said number at total calls (Faulty replies fault) =
+after_server number at total calls (Faulty replies fault) =
     Ends (Refuses (server_refusal number calls replies fault))
 
 -- the client stream has been judged
-abbrev pub client_said : ℕ → ℕ → ℕ → List ℕ → StreamEnd (List Item) → Next Opening Closing
-client_said number at total server (Held calls) =
-    server_said number at total calls (stream_end (judge_replies calls) server)
-client_said number at total server (Faulty calls fault) =
+abbrev pub after_client : ℕ → ℕ → ℕ → List ℕ → StreamEnd (List Item) → Next Opening Closing
+after_client number at total server (Held calls) =
+    after_server number at total calls (stream_end (judge_replies calls) server)
+after_client number at total server (Faulty calls fault) =
     Ends (Refuses (client_refusal number calls fault))
 
 -- the side word 0 has come, or a fault of the chunks
 abbrev pub conversing : ℕ → MixedEnd → Next Opening Closing
 conversing number (MixedCloses at total streams) =
-    client_said number at total streams.server (stream_end judge_call streams.client)
+    after_client number at total streams.server (stream_end judge_call streams.client)
 conversing number (MixedRefuses fault) = Ends (Refuses (refusal fault))
 
 abbrev pub opening_next : ℕ → Opening → ℕ → Next Opening Closing

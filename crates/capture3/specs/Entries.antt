@@ -2,7 +2,7 @@
 -- out.
 use Rattle.std.specs.Prelude.{◌≡◌, ◌⊎◌, ℕ, ◌+◌, ◌-◌, ◌≤◌, ◌^◌, min, Option, Some, None, Result, Err, List, [], ◌∷◌, ◌++◌, length, vec_len, ◌≢◌, IfErr, OnErr, OnOk}
 use Rattle.std.specs.Borrow.{GName}
-use Rattle.capture3.specs.Told.{Told, IsSpent}
+use Rattle.capture3.specs.Observed.{Observed, IsSpent}
 use Rattle.std.specs.declared.hash.BuildHasher as BuildHasher
 use Rattle.std.specs.declared.hash.Hasher as Hasher
 use Rattle.capture3.specs.declared.reader.entries.Entries.{Entries}
@@ -38,19 +38,19 @@ AreAllBeforeEnd bytes entries = Typed bytes (entries ++ End ∷ [])
 -- After the bytes given, where the source tells this: whatever follows them, the fault is the
 -- first, and these entries are reached before it; or nothing follows them, and the same holds of
 -- them alone.
-abbrev pub IsShownBy : (told : Told) (given : List ℕ) (handed : List Entry) → Fault → Type 0
-IsShownBy told given handed fault =
+abbrev pub IsShownBy : (observed : Observed) (given : List ℕ) (handed : List Entry) → Fault → Type 0
+IsShownBy observed given handed fault =
     ((rest : List ℕ) → FirstFault (given ++ rest) fault × Reached (given ++ rest) handed)
-    ⊎ (IsSpent told × FirstFault given fault × Reached given handed)
+    ⊎ (IsSpent observed × FirstFault given fault × Reached given handed)
 
 -- What an error says, after the bytes given and the entries handed out, where the source tells
 -- this: the bytes given show the fault, and just these entries are reached; or a read failed, and
 -- what the bytes given reach was handed out; or memory ran out.
-abbrev pub IsMetBy : Error → Told → List ℕ → List Entry → Type 0
-IsMetBy (errors.Refused fault) told given handed = IsShownBy told given handed fault
-IsMetBy errors.Read told given handed = AreAllBeforeEnd given handed
-IsMetBy errors.Write told given handed = ⊥
-IsMetBy errors.Memory told given handed = AreFirstReached given handed
+abbrev pub IsMetBy : Error → Observed → List ℕ → List Entry → Type 0
+IsMetBy (errors.Refused fault) observed given handed = IsShownBy observed given handed fault
+IsMetBy errors.Read observed given handed = AreAllBeforeEnd given handed
+IsMetBy errors.Write observed given handed = ⊥
+IsMetBy errors.Memory observed given handed = AreFirstReached given handed
 
 -- the error that is answered for good
 abbrev pub failure_in : Stage → Option Error

@@ -4,7 +4,7 @@ use Rattle.std.specs.Prelude.{◌≡◌, ℕ, ◌<◌, Option, Some, None, Resul
 use Rattle.std.specs.Borrow.{Fml, RattleType, MutBor}
 use Rattle.std.specs.Io.BufRead.{Rests}
 use mir.Syntax.{named}
-use Rattle.capture3.specs.Told.{Told}
+use Rattle.capture3.specs.Observed.{Observed}
 use Rattle.xdr3.specs.Item.{Item}
 use Rattle.std.specs.declared.hash.BuildHasher as BuildHasher
 use Rattle.std.specs.declared.hash.Hasher as Hasher
@@ -28,11 +28,11 @@ IsNextLent rests stands was now handed lent entry =
 
 -- what a call leaves of a reader, for each history for which it stood, and what it lent of it
 pub record LendsNext {R S H V : Type 0} {builds : BuildHasher.Ghosts S H}
-    {hashes : Hasher.Ghosts H} (told : R → Told) (rests stands : V → List Item → Type 0)
+    {hashes : Hasher.Ghosts H} (observed : R → Observed) (rests stands : V → List Item → Type 0)
     (failures : R → ℕ) (old : Entries R S H builds hashes) (was now : V)
     (result : Result (Option LentEntry) Error) (new : Entries R S H builds hashes) : Type 0 where
-  pub answers : (given : List ℕ) (handed : List Entry) → StandsFor told old given handed
-      → HandsOutGiven told (IsNextLent rests stands was now) old new given handed result
+  pub answers : (given : List ℕ) (handed : List Entry) → StandsFor observed old given handed
+      → HandsOutGiven observed (IsNextLent rests stands was now) old new given handed result
   pub end : result ≡ Ok (Some End) → IsOver new
   pub over : IsOver old → (result ≡ Ok None) × (new ≡ old)
   pub fewer : IfOk result (λ next. IsSome next → entries_left new < entries_left old)
@@ -42,9 +42,9 @@ pub record LendsNext {R S H V : Type 0} {builds : BuildHasher.Ghosts S H}
 -- the reader ends as this, once what it lent is no longer used
 module _ (R S H : RattleType) {V : Type 0} (builds : BuildHasher.Ghosts S.Denot H.Denot)
     (hashes : Hasher.Ghosts H.Denot) where
-  abbrev pub EndsAs : (told : R.Denot → Told) (rests stands : V → List Item → Type 0)
+  abbrev pub EndsAs : (observed : R.Denot → Observed) (rests stands : V → List Item → Type 0)
       (failures : R.Denot → ℕ) → MutBor (Entries R.Denot S.Denot H.Denot builds hashes)
       → (was now : V) → Result (Option LentEntry) Error → Fml
-  EndsAs told rests stands failures reader was now result =
+  EndsAs observed rests stands failures reader was now result =
       Rests (the_row (record { mir = named 0; lft = [] }) R S H builds hashes) reader
-      (λ new. LendsNext told rests stands failures reader.now was now result new)
+      (λ new. LendsNext observed rests stands failures reader.now was now result new)

@@ -1,5 +1,5 @@
 pub mod Device
-pub mod Told
+pub mod Observed
 pub mod MemSource
 pub mod Entry
 pub mod Bodies

@@ -6,14 +6,14 @@ use Rattle.capture3.specs.Bodies.{IsCall, IsReply}
 use Rattle.capture3.specs.MessageVisit.{OpensMessage}
 
 -- a visitor was told the items of the call that the body spells
-abbrev pub TellsCall : {V : Type 0} → (rests stands : V → List Item → Type 0) → List ℕ → V → V
+abbrev pub PassesCall : {V : Type 0} → (rests stands : V → List Item → Type 0) → List ℕ → V → V
     → Type 0
-TellsCall rests stands body old new = (items : List Item) × IsCall body items
+PassesCall rests stands body old new = (items : List Item) × IsCall body items
     × OpensMessage rests stands old new items
 
 -- a visitor was told the items of the reply that the body spells, with the results of this
 -- procedure
-abbrev pub TellsReply : {V : Type 0} → (rests stands : V → List Item → Type 0) → List ℕ → ProcId
+abbrev pub PassesReply : {V : Type 0} → (rests stands : V → List Item → Type 0) → List ℕ → ProcId
     → V → V → Type 0
-TellsReply rests stands body id old new = (items : List Item)
+PassesReply rests stands body id old new = (items : List Item)
     × IsReply body (record { id = id; items = items }) × OpensMessage rests stands old new items

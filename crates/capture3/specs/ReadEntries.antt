@@ -4,7 +4,7 @@ use Rattle.std.specs.Prelude.{◌≡◌, ◌⊎◌, ℕ, ◌<◌, Option, Some, 
 use Rattle.std.specs.Borrow.{Fml, RattleType, MutBor}
 use Rattle.std.specs.Io.BufRead.{Rests}
 use mir.Syntax.{named}
-use Rattle.capture3.specs.Told.{Gave, Told}
+use Rattle.capture3.specs.Observed.{Gave, Observed}
 use Rattle.std.specs.declared.hash.BuildHasher as BuildHasher
 use Rattle.std.specs.declared.hash.Hasher as Hasher
 use Rattle.capture3.specs.declared.reader.entries.Entries.{Entries}
@@ -22,13 +22,13 @@ use Rattle.capture3.specs.machinery.EntriesHistory.{entries_left, StandsFor}
 
 module _ {R S H : Type 0} {builds : BuildHasher.Ghosts S H} {hashes : Hasher.Ghosts H} where
   -- Memory ran out for the value of a call, and the reader goes on after that entry.
-  pub record PassesOver (told : R → Told) (old new : Entries R S H builds hashes)
+  pub record PassesOver (observed : R → Observed) (old new : Entries R S H builds hashes)
       (given : List ℕ) (handed : List Entry) : Type 0 where
     pub more : List ℕ
-    pub consumed : Gave (told (source_of old)) (told (source_of new)) more
+    pub consumed : Gave (observed (source_of old)) (observed (source_of new)) more
     pub entry : Entry
     pub reached : AreFirstReached (given ++ more) (handed ++ entry ∷ [])
-    pub stands : StandsFor told new (given ++ more) (handed ++ entry ∷ [])
+    pub stands : StandsFor observed new (given ++ more) (handed ++ entry ∷ [])
 
   -- errors stay, but if memory ran out for a value
   abbrev pub KeepsOrPasses : {X : Type 0} → (old new : Entries R S H builds hashes)
@@ -37,11 +37,11 @@ module _ {R S H : Type 0} {builds : BuildHasher.Ghosts S H} {hashes : Hasher.Gho
       ⊎ ((result ≡ Err Memory) × (failure_of old ≡ None) × (failure_of new ≡ None))
 
   -- what a call leaves of a reader, for each history for which it stood, and what it lent of it
-  pub record ReadsNext (told : R → Told) (failures : R → ℕ) (old : Entries R S H builds hashes)
+  pub record ReadsNext (observed : R → Observed) (failures : R → ℕ) (old : Entries R S H builds hashes)
       (result : Result (Option EntryRef) Error) (new : Entries R S H builds hashes) : Type 0 where
-    pub answers : (given : List ℕ) (handed : List Entry) → StandsFor told old given handed
-        → HandsOutGiven told (λ before. IsReadAs) old new given handed result
-        ⊎ ((result ≡ Err Memory) × PassesOver told old new given handed)
+    pub answers : (given : List ℕ) (handed : List Entry) → StandsFor observed old given handed
+        → HandsOutGiven observed (λ before. IsReadAs) old new given handed result
+        ⊎ ((result ≡ Err Memory) × PassesOver observed old new given handed)
     pub end : result ≡ Ok (Some End) → IsOver new
     pub over : IsOver old → (result ≡ Ok None) × (new ≡ old)
     pub fewer : IfOk result (λ next. IsSome next → entries_left new < entries_left old)
@@ -51,9 +51,9 @@ module _ {R S H : Type 0} {builds : BuildHasher.Ghosts S H} {hashes : Hasher.Gho
 -- the reader ends as this, once what it lent is no longer used
 module _ (R S H : RattleType) (builds : BuildHasher.Ghosts S.Denot H.Denot)
     (hashes : Hasher.Ghosts H.Denot) where
-  abbrev pub EndsRead : (told : R.Denot → Told)
+  abbrev pub EndsRead : (observed : R.Denot → Observed)
       (failures : R.Denot → ℕ) → MutBor (Entries R.Denot S.Denot H.Denot builds hashes)
       → Result (Option EntryRef) Error → Fml
-  EndsRead told failures reader result =
+  EndsRead observed failures reader result =
       Rests (the_row (record { mir = named 0; lft = [] }) R S H builds hashes) reader
-      (λ new. ReadsNext told failures reader.now result new)
+      (λ new. ReadsNext observed failures reader.now result new)

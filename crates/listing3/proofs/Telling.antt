@@ -7,7 +7,7 @@ use Rattle.canon3.specs.Bytes.{record_bytes}
 use Rattle.canon3.proofs.Lemmas.WellFormed.Files.{all_of, entries_of, holds, total_weight}
 use Rattle.canon3.proofs.Lemmas.Renaming.RenamingLemmas.{all_weaker}
 use Rattle.listing3.specs.Laws.{AreEqualUpToSilence, silent}
-use Rattle.listing3.proofs.Lines.LineTexts.{all_text, IsTold, IsToldConversation, IsToldReply, lines_all, quiet, same_text}
+use Rattle.listing3.proofs.Lines.LineTexts.{all_text, IsDetermined, IsDeterminedConversation, IsDeterminedReply, lines_all, quiet, same_text}
 use Rattle.listing3.proofs.ListingLemmas.{lines-append}
 use Rattle.listing3.proofs.NamedItems.{call_named, reply_named}
 use Rattle.listing3.proofs.Texts.{spellable}
@@ -19,14 +19,14 @@ begins_some items b e =
     let no : [] ≡ Word b.name b.number ∷ b.more = sym e ∙ b.is in
     absurd cc
 
-told_call : (items : List Item) → IsSpelledCall items → IsTold items
+told_call : (items : List Item) → IsSpelledCall items → IsDetermined items
 told_call items h = record {
   are_named = call_named items h.0.0;
   spell = spellable items (zero_spelling items) h.0.1;
   some = begins_some items (call_begins items h.0.0);
 }
 
-told_reply : (r : ReplyItems) → IsSpelledReply r → IsTold r.items
+told_reply : (r : ReplyItems) → IsSpelledReply r → IsDetermined r.items
 told_reply r h = record {
   are_named = reply_named r.id r.items h.0.0;
   spell = spellable r.items (zero_spelling r.items) h.0.1;
@@ -50,11 +50,11 @@ as_many [] = refl
 as_many (r ∷ replies) = ap suc (as_many replies)
 
 told_conversation : (c : Conversation) → AreConversing c → weight c ≤ max_bytes
-    → IsToldConversation c
+    → IsDeterminedConversation c
 told_conversation c h small = record {
-  calls_told = all_weaker IsSpelledCall IsTold told_call c.calls h.calls_are;
+  calls_told = all_weaker IsSpelledCall IsDetermined told_call c.calls h.calls_are;
   replies_told =
-      all_in (IsToldReply c.calls) c.replies (λ r p.
+      all_in (IsDeterminedReply c.calls) c.replies (λ r p.
       (told_reply r (of_all IsSpelledReply c.replies r h.replies_are p), h.answers r p));
   one_procedure = h.one_procedure;
   few_calls = omega (arith, small, few_messages c.calls);
@@ -62,7 +62,7 @@ told_conversation c h small = record {
 }
 
 told_all : (cs : List Conversation) → AllByRecursion AreConversing cs → total_weight cs ≤ max_bytes
-    → AllByRecursion IsToldConversation cs
+    → AllByRecursion IsDeterminedConversation cs
 told_all [] h small = tt
 told_all (c ∷ cs) h small = (told_conversation c h.0 (omega arith), told_all cs h.1 (omega arith))
 

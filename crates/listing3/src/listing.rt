@@ -2,7 +2,7 @@
 
 ghost use Rattle.std.specs.Prelude.{ℕ, List, OnOk};
 ghost use Rattle.capture3.specs.Entries.{CountsReading};
-ghost use Rattle.capture3.specs.Told.{GavePrefix};
+ghost use Rattle.capture3.specs.Observed.{GavePrefix};
 ghost use Rattle.canon3.specs.EntryWriter.{WritesAll, WritesAllCounted, WritesGiven, WritesGivenCounted};
 ghost use Rattle.canon3.specs.Summary.{AreMessageCounts};
 ghost use Rattle.canon3.specs.WriteErrors.{CountsWriting};
@@ -40,9 +40,9 @@ pub fn show<R: Source, W: Sink, S: BuildHasher + Drop>(
     source: &mut R,
     sink: &mut W,
 ) -> Result<Summary, Error>
-    ensures lists { WritesGiven shown (R.told source.old) (R.told source.new) (W.written sink.old)
+    ensures lists { WritesGiven shown (R.observed source.old) (R.observed source.new) (W.written sink.old)
         (W.written sink.new) result }
-    ensures whole { (bytes : List ℕ) → GavePrefix (R.told source.old) (R.told source.new) bytes
+    ensures whole { (bytes : List ℕ) → GavePrefix (R.observed source.old) (R.observed source.new) bytes
         → WritesAll shown bytes (W.written sink.old) (W.written sink.new) result }
     ensures flushes { OnOk result (IsFlushed (W.written sink.new) (W.flushed sink.new)) }
     ensures read { CountsReading (R.failures source.old) (R.failures source.new) result }
@@ -61,9 +61,9 @@ pub fn list<R: Source, W: Sink, S: BuildHasher + Drop>(
     source: &mut R,
     sink: &mut W,
 ) -> Result<MessageCounts, Error>
-    ensures lists { WritesGivenCounted AreMessageCounts shown (R.told source.old)
-        (R.told source.new) (W.written sink.old) (W.written sink.new) result }
-    ensures whole { (bytes : List ℕ) → GavePrefix (R.told source.old) (R.told source.new) bytes
+    ensures lists { WritesGivenCounted AreMessageCounts shown (R.observed source.old)
+        (R.observed source.new) (W.written sink.old) (W.written sink.new) result }
+    ensures whole { (bytes : List ℕ) → GavePrefix (R.observed source.old) (R.observed source.new) bytes
         → WritesAllCounted AreMessageCounts shown bytes (W.written sink.old) (W.written sink.new)
         result }
     ensures flushes { OnOk result (IsFlushed (W.written sink.new) (W.flushed sink.new)) }

@@ -1,5 +1,5 @@
 -- Words that change a mask one after another.
-use Rattle.mask_line3.proofs.Common.{sym, ap, ap₂, arith, zero, suc, ◌≡◌, ◌<◌, ◌∙◌, ◌+◌, ◌++◌, ℕ, List, [], ◌∷◌, length, map, slice_index_or, string_bytes, take, drop, ◌-◌, ◌≤◌, String, Global, append-nil, Change, change_told, change_word, with_change, AreChanges, flat_map}
+use Rattle.mask_line3.proofs.Common.{sym, ap, ap₂, arith, zero, suc, ◌≡◌, ◌<◌, ◌∙◌, ◌+◌, ◌++◌, ℕ, List, [], ◌∷◌, length, map, slice_index_or, string_bytes, take, drop, ◌-◌, ◌≤◌, String, Global, append-nil, Change, change_text, change_word, with_change, AreChanges, flat_map}
 use Rattle.std.proofs.Math.Seq.{take-length, take-suc}
 use Rattle.std.proofs.lemmas.Grind.{flat_map-append}
 use Rattle.std.proofs.lemmas.List.{map-append}
@@ -59,9 +59,9 @@ names_first (x ∷ y ∷ z ∷ more) a b input output low is_a is_b of_a of_b =
 
 -- a text of the words for some changes, and the word for one more
 pub told_more : (changes : List Change) (c : Change) (before after : List ℕ)
-    → before ≡ flat_map change_told changes → after ≡ before ++ change_told c
-    → after ≡ flat_map change_told (changes ++ c ∷ [])
+    → before ≡ flat_map change_text changes → after ≡ before ++ change_text c
+    → after ≡ flat_map change_text (changes ++ c ∷ [])
 told_more changes c before after is e =
-    e ∙ ap (λ t. t ++ change_told c) is
-    ∙ ap (λ t. flat_map change_told changes ++ t) (sym (append-nil (change_told c)))
-    ∙ sym (flat_map-append change_told changes (c ∷ []))
+    e ∙ ap (λ t. t ++ change_text c) is
+    ∙ ap (λ t. flat_map change_text changes ++ t) (sym (append-nil (change_text c)))
+    ∙ sym (flat_map-append change_text changes (c ∷ []))

@@ -41,20 +41,20 @@ abbrev pub ways_after : List Change → Ways
 ways_after changes = fold with_change usual changes
 
 -- what becomes of a class
-abbrev pub way_told : Ways → MaskClass → Way
-way_told ways Times = ways.times
-way_told ways Stamps = ways.stamps
-way_told ways Machines = ways.machines
-way_told ways Space = ways.space
-way_told ways Ids = ways.ids
-way_told ways Fsids = ways.fsids
-way_told ways Cookies = ways.cookies
-way_told ways CookieVerifiers = ways.cookie_verifiers
-way_told ways CreateVerifiers = ways.create_verifiers
-way_told ways Owners = ways.owners
-way_told ways Wcc = ways.wcc
-way_told ways SillyNames = ways.silly_names
-way_told ways Raw = ways.raw
+abbrev pub way_for : Ways → MaskClass → Way
+way_for ways Times = ways.times
+way_for ways Stamps = ways.stamps
+way_for ways Machines = ways.machines
+way_for ways Space = ways.space
+way_for ways Ids = ways.ids
+way_for ways Fsids = ways.fsids
+way_for ways Cookies = ways.cookies
+way_for ways CookieVerifiers = ways.cookie_verifiers
+way_for ways CreateVerifiers = ways.create_verifiers
+way_for ways Owners = ways.owners
+way_for ways Wcc = ways.wcc
+way_for ways SillyNames = ways.silly_names
+way_for ways Raw = ways.raw
 
 -- every class
 abbrev pub classes : List MaskClass
@@ -66,12 +66,12 @@ change_of class way = record { class = class; way = way }
 
 -- what becomes of every class
 abbrev pub changes_of : Ways → List Change
-changes_of ways = map (λ class. change_of class (way_told ways class)) classes
+changes_of ways = map (λ class. change_of class (way_for ways class)) classes
 
 -- the word for a change, with a space before it
-abbrev pub change_told : Change → List ℕ
-change_told change = concat (codes " " ∷ change_parts change)
+abbrev pub change_text : Change → List ℕ
+change_text change = concat (codes " " ∷ change_parts change)
 
 -- the words for what becomes of every class
-abbrev pub mask_told : Ways → List ℕ
-mask_told ways = flat_map change_told (changes_of ways)
+abbrev pub mask_text : Ways → List ℕ
+mask_text ways = flat_map change_text (changes_of ways)

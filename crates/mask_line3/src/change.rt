@@ -2,7 +2,7 @@
 
 ghost use Rattle.std.specs.Prelude.{◌≡◌, ◌≢◌, ◌++◌, IfErr, IfOk, List, MatchOption, OnOk, map, string_bytes};
 ghost use Rattle.masking3.specs.Ways.{usual};
-ghost use Rattle.mask_line3.specs.Changes.{change_of, change_told, change_word, changes_of, mask_told, with_way, ways_after};
+ghost use Rattle.mask_line3.specs.Changes.{change_of, change_text, change_word, changes_of, mask_text, with_way, ways_after};
 ghost use Rattle.mask_line3.specs.machinery.ChangeWords.{AreChanges};
 
 use crate::asked::{Change, MaskClass};
@@ -86,8 +86,8 @@ pub(crate) fn changed<'a>(words: &'a [String]) -> Result<Ways, &'a str>
 /// # Errors
 ///
 /// `AllocError` if memory ran out for the text.
-pub fn ways_told(alloc: Global, ways: &Ways) -> Result<String, AllocError>
-    ensures told { IfOk result (λ text. string_bytes text ≡ mask_told ways.now) }
+pub fn ways_text(alloc: Global, ways: &Ways) -> Result<String, AllocError>
+    ensures text { IfOk result (λ text. string_bytes text ≡ mask_text ways.now) }
     ensures again { ways_after (changes_of ways.now) ≡ ways.now }
 {
     let mut text = String::new(alloc);
@@ -110,7 +110,7 @@ pub fn ways_told(alloc: Global, ways: &Ways) -> Result<String, AllocError>
 /// Appends the word for a change, with a space before it.
 fn push_change(text: &mut String, class: MaskClass, way: Way) -> Result<(), AllocError>
     ensures { OnOk result
-        (string_bytes text.new ≡ string_bytes text.old ++ change_told (change_of class way)) }
+        (string_bytes text.new ≡ string_bytes text.old ++ change_text (change_of class way)) }
 {
     text.push(' ')?;
     text.push_str(class_name(class))?;

@@ -8,5 +8,5 @@ mod grammar;
 mod names;
 
 pub use asked::{Change, MaskClass, MaskJob};
-pub use change::ways_told;
+pub use change::ways_text;
 pub use command::{mask_job, taken};

@@ -50,7 +50,7 @@ pub use Rattle.xdr3.specs.Layout.{FitsLayout, Layout, after, exactly, number_of_
 pub use Rattle.xdr3.specs.Shape.{Fits, Shape, both, choose, counted, fixed, hyper, is_listed, joined, linked, links, listed, nothing, opaque, sized, word, write_verf, ◌then◌}
 unfoldable pub use Rattle.xdr3.specs.Visit.{Adds, Keeps}
 pub use Rattle.masking3.specs.Classes.{class_of, class_of_fixed, class_of_hyper, class_of_word, class_value, position, zero_stays}
-pub use Rattle.masking3.specs.Laws.{HasRoomForNumbers, KeepsAll, KeepsValues, MaskedBytesDecide, MaskedFormsDecide, StaysMasked, TellsNoMore}
+pub use Rattle.masking3.specs.Laws.{HasRoomForNumbers, KeepsAll, KeepsValues, MaskedBytesDecide, MaskedFormsDecide, StaysMasked, RevealsNoMore}
 pub use Rattle.masking3.specs.Masked.{by_way, is_zero_that_stays, masked, masked_bytes, masked_entry, masked_item, masked_items, masked_values, number_among, substitute, value_in, value_where, values, values_in, values_in_entry, with_value}
 pub use Rattle.masking3.specs.SameBut.{AreAlike, ArePartners, ChangesBy, ChangesEntry, ChangesItem, ChangesItems, ChangesOf, IsNumbered, SameBut, SameButValues, along, begin, call, close, eights, end, hypers, over, reply, turn, words}
 pub use Rattle.masking3.specs.Spots.{after_word, next_spot}
@@ -64,6 +64,6 @@ pub use Rattle.masking3.specs.declared.ways.Way.{Way}
 pub use Rattle.masking3.specs.declared.ways.Way.TheVariants.{Keep, Number, Zero}
 pub use Rattle.masking3.specs.declared.ways.Ways.{Ways}
 pub use Rattle.masking3.specs.machinery.ClassTables.{HoldsAt, HoldsValues, no_values, tables_in, with_one}
-pub use Rattle.masking3.specs.machinery.MaskingWriter.{HasMaskedUnderWay, HasMemory, HasNoneUnderWay, HoldsMasked, MaskRests, MaskStands, after_messages, told_entry, told_item, told_items, told_value, values_so_far, written_as}
+pub use Rattle.masking3.specs.machinery.MaskingWriter.{HasMaskedUnderWay, HasMemory, HasNoneUnderWay, HoldsMasked, MaskRests, MaskStands, after_messages, visited_entry, visited_item, visited_items, visited_value, values_so_far, written_as}
 pub use Rattle.masking3.specs.machinery.MessageSpot.{BeginsOn, first_spot, mtype_of, side_by, spot_after}
 pub use Rattle.masking3.specs.machinery.UnnamedBody.{body_by, has_name, head_less_by, name_room, unnamed_body}

@@ -229,14 +229,14 @@ getattrs_of_two first second sec =
 abbrev pub list_from : ℕ → List Entry
 list_from cookie = one (readdir 7 cookie zeros ∷ []) []
 
-abbrev pub AreTold : List Entry → List Entry → Type 0
-AreTold a b = SameBut usual a b → ⊥
+abbrev pub AreRevealed : List Entry → List Entry → Type 0
+AreRevealed a b = SameBut usual a b → ⊥
 
 pub record ComparesRuns : Type 0 where
   -- other ids and other times
   pub renamed : SameBut usual (getattrs_of_two 77 78 1700000000) (getattrs_of_two 6 5 1800000000)
   -- two ids become one, or one becomes two
-  pub merged : AreTold (getattrs_of_two 77 78 1700000000) (getattrs_of_two 5 5 1700000000)
-  pub split : AreTold (getattrs_of_two 77 77 1700000000) (getattrs_of_two 5 6 1700000000)
+  pub merged : AreRevealed (getattrs_of_two 77 78 1700000000) (getattrs_of_two 5 5 1700000000)
+  pub split : AreRevealed (getattrs_of_two 77 77 1700000000) (getattrs_of_two 5 6 1700000000)
   -- the first cookie is no other one
-  pub first_cookie : AreTold (list_from 0) (list_from 512)
+  pub first_cookie : AreRevealed (list_from 0) (list_from 512)

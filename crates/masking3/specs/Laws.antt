@@ -30,23 +30,23 @@ KeepsAll ways = KeepsValues ways × (ways.machines ≡ Keep) × (ways.silly_name
     × (ways.raw ≡ Keep)
 
 -- what the second way leaves of a value is no more than what the first one does
-abbrev pub TellsNoMore : Way → Way → Type 0
-TellsNoMore Keep way = ⊤
-TellsNoMore Number Keep = ⊥
-TellsNoMore Number way = ⊤
-TellsNoMore Zero Zero = ⊤
-TellsNoMore Zero way = ⊥
+abbrev pub RevealsNoMore : Way → Way → Type 0
+RevealsNoMore Keep way = ⊤
+RevealsNoMore Number Keep = ⊥
+RevealsNoMore Number way = ⊤
+RevealsNoMore Zero Zero = ⊤
+RevealsNoMore Zero way = ⊥
 
 -- so for each class
 abbrev pub MasksValuesAsMuch : Ways → Ways → Type 0
 MasksValuesAsMuch ways others =
-    (class : Class) → TellsNoMore (way_of ways class) (way_of others class)
+    (class : Class) → RevealsNoMore (way_of ways class) (way_of others class)
 
 -- and so for the names and the bodies
 abbrev pub MasksAsMuch : Ways → Ways → Type 0
 MasksAsMuch ways others =
-    MasksValuesAsMuch ways others × TellsNoMore ways.machines others.machines
-    × TellsNoMore ways.silly_names others.silly_names × TellsNoMore ways.raw others.raw
+    MasksValuesAsMuch ways others × RevealsNoMore ways.machines others.machines
+    × RevealsNoMore ways.silly_names others.silly_names × RevealsNoMore ways.raw others.raw
 
 -- the form of the first entries is the first entries of the form
 abbrev pub MasksFronts : Ways → List Entry → List Entry → Type 0

@@ -2,7 +2,7 @@
 
 ghost use Rattle.std.specs.Prelude.{◌≡◌, ℕ, List, OnOk};
 ghost use Rattle.capture3.specs.Entries.{CountsReading};
-ghost use Rattle.capture3.specs.Told.{GavePrefix};
+ghost use Rattle.capture3.specs.Observed.{GavePrefix};
 ghost use Rattle.canon3.specs.EntryWriter.{WritesAll, WritesGiven};
 ghost use Rattle.canon3.specs.WriteErrors.{CountsWriting};
 ghost use Rattle.canon3.specs.SinkWrites.{IsFlushed};
@@ -45,9 +45,9 @@ pub fn mask<R: Source, W: Sink, S: BuildHasher + Drop>(
     source: &mut R,
     sink: &mut W,
 ) -> Result<Summary, Error>
-    ensures masks { WritesGiven (masked_bytes ways) (R.told source.old) (R.told source.new)
+    ensures masks { WritesGiven (masked_bytes ways) (R.observed source.old) (R.observed source.new)
         (W.written sink.old) (W.written sink.new) result }
-    ensures whole { (bytes : List ℕ) → GavePrefix (R.told source.old) (R.told source.new) bytes
+    ensures whole { (bytes : List ℕ) → GavePrefix (R.observed source.old) (R.observed source.new) bytes
         → WritesAll (masked_bytes ways) bytes (W.written sink.old) (W.written sink.new) result }
     ensures flushes { OnOk result (IsFlushed (W.written sink.new) (W.flushed sink.new)) }
     ensures read { CountsReading (R.failures source.old) (R.failures source.new) result }
@@ -65,9 +65,9 @@ fn mask_by_plan<P: Plan, R: Source, W: Sink, S: BuildHasher + Drop>(
     sink: &mut W,
 ) -> Result<Summary, Error>
     requires { ways ≡ P.ways }
-    ensures masks { WritesGiven (masked_bytes P.ways) (R.told source.old) (R.told source.new)
+    ensures masks { WritesGiven (masked_bytes P.ways) (R.observed source.old) (R.observed source.new)
         (W.written sink.old) (W.written sink.new) result }
-    ensures whole { (bytes : List ℕ) → GavePrefix (R.told source.old) (R.told source.new) bytes
+    ensures whole { (bytes : List ℕ) → GavePrefix (R.observed source.old) (R.observed source.new) bytes
         → WritesAll (masked_bytes P.ways) bytes (W.written sink.old) (W.written sink.new) result }
     ensures flushes { OnOk result (IsFlushed (W.written sink.new) (W.flushed sink.new)) }
     ensures read { CountsReading (R.failures source.old) (R.failures source.new) result }
@@ -79,11 +79,11 @@ fn mask_by_plan<P: Plan, R: Source, W: Sink, S: BuildHasher + Drop>(
 
 impl<P: Plan, S: BuildHasher + Drop> EntryWriter for MaskingWriter<P, S> {
     ghost use Rattle.masking3.specs.Masked.{masked_bytes};
-    ghost use Rattle.masking3.specs.machinery.MaskingWriter.{HasMemory, told_before};
+    ghost use Rattle.masking3.specs.machinery.MaskingWriter.{HasMemory, visited_before};
 
     ghost form = { masked_bytes P.ways };
 
-    ghost before = { told_before };
+    ghost before = { visited_before };
 
     ghost going = { HasMemory };
 

@@ -11,7 +11,7 @@ ghost use Rattle.canon3.specs.SinkWrites.{AppendsFront};
 ghost use Rattle.canon3.specs.WriteErrors.{CountsWriting, IsOfWriting};
 ghost use Rattle.masking3.specs.Ways.{usual};
 ghost use Rattle.capture3.specs.declared.fault.Side.{Side};
-ghost use Rattle.masking3.specs.machinery.MaskingWriter.{HasMemory, HoldsMasked, MaskRests, MaskStands, after_messages, told_items, written_as};
+ghost use Rattle.masking3.specs.machinery.MaskingWriter.{HasMemory, HoldsMasked, MaskRests, MaskStands, after_messages, visited_items, written_as};
 ghost use Rattle.masking3.specs.machinery.MessageSpot.{first_spot};
 ghost use Rattle.masking3.specs.machinery.UnnamedBody.{body_by};
 
@@ -86,7 +86,7 @@ impl<P: Plan, S: BuildHasher + Drop> MaskingWriter<P, S> {
         ensures rests { (front items : List Item) (side : Side)
             → HoldsMasked P.ways self.old front side items
             → MaskRests P.ways self.new
-            (after_messages (front ++ told_items (first_spot side) items) []) }
+            (after_messages (front ++ visited_items (first_spot side) items) []) }
         ensures going { HasMemory self.old → HasMemory self.new }
     {
         self.writer.clear();

@@ -5,7 +5,7 @@ use crate::commands::{Run, agree};
 use canon3::MemSink;
 use capture3::MemSource;
 use line3::LineFault;
-use mask_line3::{mask_job, taken, ways_told};
+use mask_line3::{mask_job, taken, ways_text};
 use masking3::{ClassHashers, MaskHashers, Way, Ways, mask};
 use std::hash::{BuildHasherDefault, FoldHasher};
 use std::test::Fail;
@@ -85,7 +85,7 @@ fn a_line_of_a_mask_is_read(rt: HostRuntime) -> Result<(), Fail> {
 /// The words are all there, or memory ran out.
 #[test]
 fn a_mask_is_told(rt: HostRuntime) {
-    if let Ok(text) = ways_told(rt.alloc(), &Ways::usual()) {
+    if let Ok(text) = ways_text(rt.alloc(), &Ways::usual()) {
         assert!(rt; text.as_str().starts_with(" times=zero "));
         assert!(rt; text.as_str().ends_with(" raw=keep"));
     }

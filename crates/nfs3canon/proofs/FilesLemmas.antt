@@ -1,8 +1,8 @@
 -- What came of files, by what was read of them.
-use Rattle.nfs3canon.proofs.Common.{◌≡◌, ◌≢◌, ◌⊎◌, ℕ, List, [], ◌∷◌, Option, Some, Result, Err, IfErr, inl, inr, refl, subst, sym, TracedReader, Gave, GavePrefix, Error, IsUnread, MayContain, FileReading, reading_under, Outcome, one_failed, prefix_of, told_of, ComparesFiles, CountsFile, ListsFile}
+use Rattle.nfs3canon.proofs.Common.{◌≡◌, ◌≢◌, ◌⊎◌, ℕ, List, [], ◌∷◌, Option, Some, Result, Err, IfErr, inl, inr, refl, subst, sym, TracedReader, Gave, GavePrefix, Error, IsUnread, MayContain, FileReading, reading_under, Outcome, one_failed, prefix_of, observed_of, ComparesFiles, CountsFile, ListsFile}
 use Rattle.capture3.specs.Entries.{CountsReading}
 use Rattle.capture3.specs.declared.fault.Error.TheVariants as errors
-use Rattle.capture3.proofs.Lemmas.Reader.ToldLemmas.{IsPrefixOf, prefix_of_kept}
+use Rattle.capture3.proofs.Lemmas.Reader.ObservedLemmas.{IsPrefixOf, prefix_of_kept}
 use Rattle.canon3.specs.Comparison.{CountsReadingOf, DecidesGiven}
 use Rattle.canon3.specs.Summary.{ConcludesAll, ConcludesGiven}
 use Rattle.canon3.specs.declared.comparison.verdict.SameError.{SameError}
@@ -11,7 +11,7 @@ use Rattle.canon3.specs.declared.comparison.verdict.Which.{Which}
 use Rattle.canon3.specs.declared.comparison.verdict.Which.TheVariants.{First, Second}
 use Rattle.canon3.specs.declared.summary.Summary.{Summary}
 use Rattle.canon3.proofs.Lemmas.Comparison.ComparisonLemmas.{decides_all}
-use Rattle.program3.specs.Opening.{IsOfName, TellsOf}
+use Rattle.program3.specs.Opening.{IsOfName, ReportsUnopened}
 use Rattle.program3.specs.declared.opening.OpenError.{OpenError}
 use Rattle.program3.specs.declared.opening.OpenError.TheVariants as causes
 use Rattle.program3.specs.declared.outcome.Outcome.TheVariants as outcomes
@@ -29,13 +29,13 @@ module _ (holds : List ℕ → Option (List ℕ)) (name : List ℕ) (readings : 
   counts_none (outcomes.Packed came) named = absurd named
   counts_none (outcomes.Line fault) named = absurd named
 
-  pub uncounted_tells : (error : OpenError) (outcome : Outcome)
-      → TellsOf name error (outcomes.Counted (Err errors.Memory)) outcome
+  pub uncounted_reports : (error : OpenError) (outcome : Outcome)
+      → ReportsUnopened name error (outcomes.Counted (Err errors.Memory)) outcome
       → CountsFile holds readings name outcome
-  uncounted_tells causes.Unopened outcome (inl named) = counts_none outcome named
-  uncounted_tells causes.Unopened outcome (inr is) =
+  uncounted_reports causes.Unopened outcome (inl named) = counts_none outcome named
+  uncounted_reports causes.Unopened outcome (inr is) =
       subst (CountsFile holds readings name) (sym is) (inr (none, refl))
-  uncounted_tells causes.Memory outcome is =
+  uncounted_reports causes.Memory outcome is =
       subst (CountsFile holds readings name) (sym is) (inr (none, refl))
 
   module _ {W : Type 0} (contents : W → Option (List ℕ)) (output : W) where
@@ -54,12 +54,12 @@ module _ (holds : List ℕ → Option (List ℕ)) (name : List ℕ) (readings : 
     no_lines outcome is = subst (λ o. ListsFile holds readings contents name output o (Some output))
         (sym is) (inr (none, refl, refl))
 
-    pub unlisted_tells : (error : OpenError) (outcome : Outcome)
-        → TellsOf name error (outcomes.Listed (Err errors.Memory)) outcome
+    pub unlisted_reports : (error : OpenError) (outcome : Outcome)
+        → ReportsUnopened name error (outcomes.Listed (Err errors.Memory)) outcome
         → ListsFile holds readings contents name output outcome (Some output)
-    unlisted_tells causes.Unopened outcome (inl named) = lists_none outcome named
-    unlisted_tells causes.Unopened outcome (inr is) = no_lines outcome is
-    unlisted_tells causes.Memory outcome is = no_lines outcome is
+    unlisted_reports causes.Unopened outcome (inl named) = lists_none outcome named
+    unlisted_reports causes.Unopened outcome (inr is) = no_lines outcome is
+    unlisted_reports causes.Memory outcome is = no_lines outcome is
 
 module _ (holds : List ℕ → Option (List ℕ)) (first second : List ℕ) (readings : List FileReading)
     (none : readings ≡ [])
@@ -87,7 +87,7 @@ module _ (holds : List ℕ → Option (List ℕ)) (first second : List ℕ) (rea
       subst (ComparesFiles holds readings first second) (sym is) (inr (none, (which, refl)))
 
   pub first_uncompared : (error : OpenError) (outcome : Outcome)
-      → TellsOf first error
+      → ReportsUnopened first error
       (outcomes.Compared (Err (record { which = which; error = errors.Memory }))) outcome
       → ComparesFiles holds readings first second outcome
   first_uncompared causes.Unopened outcome (inl named) = compares_none outcome (inl named)
@@ -95,7 +95,7 @@ module _ (holds : List ℕ → Option (List ℕ)) (first second : List ℕ) (rea
   first_uncompared causes.Memory outcome is = no_memory outcome is
 
   pub second_uncompared : (error : OpenError) (outcome : Outcome)
-      → TellsOf second error
+      → ReportsUnopened second error
       (outcomes.Compared (Err (record { which = which; error = errors.Memory }))) outcome
       → ComparesFiles holds readings first second outcome
   second_uncompared causes.Unopened outcome (inl named) = compares_none outcome (inr named)
@@ -108,10 +108,10 @@ module _ {R : Type 0} (remaining : R → Option (List ℕ)) (whole : Option (Lis
     (was now : TracedReader R) (unread : IsUnread remaining whole was) (bytes : List ℕ)
     (may : MayContain whole (reading_under name now) bytes) where
   -- what a call took of the file is a prefix of all that it may contain
-  pub taken : (given : List ℕ) → Gave (told_of remaining was) (told_of remaining now) given
-      → IsPrefixOf (told_of remaining now) given bytes
+  pub taken : (given : List ℕ) → Gave (observed_of remaining was) (observed_of remaining now) given
+      → IsPrefixOf (observed_of remaining now) given bytes
   taken given gave =
-      prefix_of_kept (told_of remaining was) (told_of remaining now) given bytes
+      prefix_of_kept (observed_of remaining was) (observed_of remaining now) given bytes
       (prefix_of remaining whole name was now unread given bytes gave may) gave
 
 module _ {R : Type 0} (remaining : R → Option (List ℕ)) (holds : List ℕ → Option (List ℕ))
@@ -120,8 +120,8 @@ module _ {R : Type 0} (remaining : R → Option (List ℕ)) (holds : List ℕ �
       → IsUnread remaining (holds name) was → (came : Result Summary Error)
       → readings ≡ reading_under name now ∷ [] → CountsReading was.failures now.failures came
       → IfErr came (λ error. error ≢ errors.Write)
-      → ConcludesGiven (told_of remaining was) (told_of remaining now) came
-      → ((bytes : List ℕ) → GavePrefix (told_of remaining was) (told_of remaining now) bytes
+      → ConcludesGiven (observed_of remaining was) (observed_of remaining now) came
+      → ((bytes : List ℕ) → GavePrefix (observed_of remaining was) (observed_of remaining now) bytes
       → ConcludesAll bytes came)
       → CountsFile holds readings name (outcomes.Counted came)
   counts_read name was now unread came is counts written (given, gave, concludes) all = inl (
@@ -141,8 +141,8 @@ module _ {R : Type 0} (remaining : R → Option (List ℕ)) (holds : List ℕ �
       → CountsReadingOf First was.failures now.failures came
       → CountsReadingOf Second other.failures other_now.failures came
       → IfErr came (λ error. error.error ≢ errors.Write)
-      → DecidesGiven (told_of remaining was) (told_of remaining now) (told_of remaining other)
-      (told_of remaining other_now) came
+      → DecidesGiven (observed_of remaining was) (observed_of remaining now) (observed_of remaining other)
+      (observed_of remaining other_now) came
       → ComparesFiles holds readings first second (outcomes.Compared came)
   compares_read first second was now other other_now unread other_unread came is counts other_counts
       written decides = inl (
@@ -156,8 +156,8 @@ module _ {R : Type 0} (remaining : R → Option (List ℕ)) (holds : List ℕ �
             other_counts,
         written,
         λ file others may others_may.
-            decides_all (told_of remaining was) (told_of remaining now) (told_of remaining other)
-            (told_of remaining other_now) file others
+            decides_all (observed_of remaining was) (observed_of remaining now) (observed_of remaining other)
+            (observed_of remaining other_now) file others
             (taken remaining (holds first) first was now unread file may)
             (taken remaining (holds second) second other other_now other_unread others others_may)
             came decides,

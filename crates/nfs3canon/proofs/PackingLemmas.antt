@@ -1,7 +1,7 @@
 -- Streams that are packed pair by pair.
-use Rattle.nfs3canon.proofs.Common.{◌≡◌, ◌<◌, ◌+◌, ◌*◌, ◌/◌, ap, ap₂, sym, refl, subst, inl, inr, arith, false, is_ok, is_err, if◌then◌else◌, append_assoc, ◌∙◌, zero, suc, ℕ, List, [], ◌∷◌, ◌++◌, Option, Result, Ok, Err, Any, String, Global, length, map, take, slice_index_or, string_bytes, length-map, map-append, take_more, TracedReader, Streams, Gave, IsSpent, Error, CountsReadings, IsUnread, FileReading, reading_in, reading_under, Outcome, one_failed, told_of, AreReadStreams, OneHasFailed, IsReadWhole, PacksFile}
+use Rattle.nfs3canon.proofs.Common.{◌≡◌, ◌<◌, ◌+◌, ◌*◌, ◌/◌, ap, ap₂, sym, refl, subst, inl, inr, arith, false, is_ok, is_err, if◌then◌else◌, append_assoc, ◌∙◌, zero, suc, ℕ, List, [], ◌∷◌, ◌++◌, Option, Result, Ok, Err, Any, String, Global, length, map, take, slice_index_or, string_bytes, length-map, map-append, take_more, TracedReader, Streams, Gave, IsSpent, Error, CountsReadings, IsUnread, FileReading, reading_in, reading_under, Outcome, one_failed, observed_of, AreReadStreams, OneHasFailed, IsReadWhole, PacksFile}
 use Rattle.capture3.specs.declared.fault.Error.TheVariants as errors
-use Rattle.capture3.proofs.Lemmas.Reader.ToldLemmas.{prefix_of_told}
+use Rattle.capture3.proofs.Lemmas.Reader.ObservedLemmas.{prefix_of_observed}
 use Rattle.program3.specs.Files.{FailsToMake, FailsToOpenStream, WrittenFile}
 use Rattle.program3.specs.declared.reading.Closed.{Closed}
 use Rattle.program3.specs.declared.outcome.Outcome.TheVariants as outcomes
@@ -162,8 +162,8 @@ pushed (Err error) old new value not_failed is = absurd (cc)
 -- a file that was read to its end
 pub whole : {R : Type 0} (remaining : R → Option (List ℕ)) (holds : List ℕ → Option (List ℕ))
     (name : List ℕ) (was now : TracedReader R) → IsUnread remaining (holds name) was
-    → (given : List ℕ) → Gave (told_of remaining was) (told_of remaining now) given
-    → IsSpent (told_of remaining now) → IsReadWhole holds (reading_under name now) name given
+    → (given : List ℕ) → Gave (observed_of remaining was) (observed_of remaining now) given
+    → IsSpent (observed_of remaining now) → IsReadWhole holds (reading_under name now) name given
 whole remaining holds name was now unread given gave spent = record {
   named = refl;
   given =
@@ -171,7 +171,7 @@ whole remaining holds name was now unread given gave spent = record {
   spent = spent.0;
   held =
       λ content is.
-      let p = prefix_of_told (told_of remaining was) (told_of remaining now) given content
+      let p = prefix_of_observed (observed_of remaining was) (observed_of remaining now) given content
       (unread.left ∙ is) gave in
       sym (p.all spent);
 }

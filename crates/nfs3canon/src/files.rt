@@ -2,7 +2,7 @@
 
 ghost use Rattle.std.specs.Prelude.{◌≡◌, Err};
 ghost use Rattle.capture3.specs.declared.fault.Error.TheVariants as errors;
-ghost use Rattle.program3.specs.Opening.{TellsOf};
+ghost use Rattle.program3.specs.Opening.{ReportsUnopened};
 ghost use Rattle.program3.specs.Readings.{readings_in};
 ghost use Rattle.program3.specs.declared.outcome.Outcome.TheVariants.{Compared};
 ghost use Rattle.nfs3canon.specs.Files.{ComparesFiles, CountsFile};
@@ -75,7 +75,7 @@ pub fn run_same<F: Files, S: BuildHasher + Drop>(
 
 /// If memory ran out for the name of one of two captures, that one is told.
 fn uncompared(alloc: Global, which: Which, name: &str, error: OpenError) -> Outcome
-    ensures { TellsOf name.now error
+    ensures { ReportsUnopened name.now error
         (Compared (Err (record { which = which; error = errors.Memory }))) result }
 {
     let out_of_memory = SameError {

@@ -2,7 +2,7 @@
 
 ghost use Rattle.std.specs.Prelude.{◌≡◌, Err};
 ghost use Rattle.capture3.specs.declared.fault.Error.TheVariants as errors;
-ghost use Rattle.program3.specs.Opening.{TellsOf};
+ghost use Rattle.program3.specs.Opening.{ReportsUnopened};
 ghost use Rattle.program3.specs.Readings.{readings_in};
 ghost use Rattle.program3.specs.declared.outcome.Outcome.TheVariants as outcomes;
 ghost use Rattle.nfs3canon.specs.Files.{ListsFile};
@@ -59,7 +59,7 @@ pub fn run_show<F: Files, W: Write + Drop, S: BuildHasher + Drop>(
 }
 
 fn unlisted(alloc: Global, name: &str, error: OpenError) -> Outcome
-    ensures { TellsOf name.now error (outcomes.Listed (Err errors.Memory)) result }
+    ensures { ReportsUnopened name.now error (outcomes.Listed (Err errors.Memory)) result }
 {
     unopened(alloc, name, error, Outcome::Listed(Err(Error::Memory)))
 }

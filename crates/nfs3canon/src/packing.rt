@@ -68,7 +68,7 @@ fn streams_packed<F: Files>(
     ensures written { length streams.now % 2 ≡ 0 → F.Output.contents file ≡ Some []
         → IfOk result (λ file. WritesStreams (F.holds files.now) (map string_bytes streams.now)
         (map reading_in closed.new.items) (F.Output.contents file)) }
-    ensures told { IfErr result (StopsPacking (map string_bytes streams.now)
+    ensures failed { IfErr result (StopsPacking (map string_bytes streams.now)
         (map reading_in closed.new.items)) }
 {
     let mut packing = match Packing::start(alloc, ToWrite::new(file)) {

@@ -2,7 +2,7 @@
 use Rattle.std.proofs.Common.{◌≡◌, ℕ, Option, List, inl, inr, Ok, String, Global, string_bytes}
 use Rattle.canon3.specs.Summary.{IsSummary}
 use Rattle.canon3.specs.declared.summary.Summary.{Summary}
-use Rattle.mask_line3.specs.Changes.{mask_told}
+use Rattle.mask_line3.specs.Changes.{mask_text}
 use Rattle.masking3.specs.Masked.{masked_bytes}
 use Rattle.masking3.specs.declared.ways.Ways.{Ways}
 use Rattle.program3.specs.Files.{RewritesFile, WrittenFile}
@@ -15,7 +15,7 @@ module _ (holds : List ℕ → Option (List ℕ)) (ways : Ways) (input output : 
     (old new : List WrittenFile) where
   -- the counts are told with the mask
   pub masks_counted : (summary : Summary) (told : String Global)
-      → string_bytes told ≡ mask_told ways
+      → string_bytes told ≡ mask_text ways
       → RewritesFile IsSummary (masked_bytes ways) holds input output readings old new
       (outcomes.Counted (Ok summary))
       → MasksFile holds ways input output readings old new (outcomes.Masked summary told)

@@ -3,7 +3,7 @@ use Rattle.std.specs.Prelude.{◌≡◌, ◌⊎◌, ℕ, List, [], ◌∷◌, Op
 use Rattle.capture3.specs.declared.fault.Error.TheVariants as errors
 use Rattle.canon3.specs.Summary.{IsSummary}
 use Rattle.line3.specs.declared.asked.LineFault.{LineFault}
-use Rattle.mask_line3.specs.Changes.{mask_told}
+use Rattle.mask_line3.specs.Changes.{mask_text}
 use Rattle.mask_line3.specs.MaskLine.{AreMaskWordsRefused, AsksForMask}
 use Rattle.mask_line3.specs.declared.asked.MaskJob.{MaskJob}
 use Rattle.masking3.specs.Masked.{masked_bytes}
@@ -19,7 +19,7 @@ use Rattle.program3.specs.declared.outcome.Outcome.TheVariants as outcomes
 module _ (holds : List ℕ → Option (List ℕ)) (ways : Ways) (input output : List ℕ)
     (readings : List FileReading) (old new : List WrittenFile) where
   abbrev pub MasksFile : Outcome → Type 0
-  MasksFile (outcomes.Masked summary words) = (string_bytes words ≡ mask_told ways)
+  MasksFile (outcomes.Masked summary words) = (string_bytes words ≡ mask_text ways)
       × ((reading : FileReading) × (readings ≡ reading ∷ []) × (reading.name ≡ input)
       × KeepsWhatever IsSummary (masked_bytes ways) holds input output readings old new reading
       (Ok summary))

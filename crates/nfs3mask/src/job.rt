@@ -3,7 +3,7 @@
 ghost use Rattle.std.specs.Prelude.{◌≡◌, ◌⊎◌, ℕ, List, is_none, true, Option, map, string_bytes};
 ghost use Rattle.canon3.specs.Summary.{IsSummary};
 ghost use Rattle.line3.specs.Asked.{without_end};
-ghost use Rattle.mask_line3.specs.Changes.{mask_told};
+ghost use Rattle.mask_line3.specs.Changes.{mask_text};
 ghost use Rattle.masking3.specs.Masked.{masked_bytes};
 ghost use Rattle.masking3.specs.declared.ways.Ways.{Ways};
 ghost use Rattle.program3.specs.Files.{RewritesFile, WrittenFile};
@@ -15,7 +15,7 @@ ghost use Rattle.nfs3mask.specs.Masking.{AnswersMaskJob, AnswersMaskLine, MasksF
 use canon3::{Sink, Summary};
 use capture3::{Error, Source};
 use line3::LineFault;
-use mask_line3::{MaskJob, mask_job, taken, ways_told};
+use mask_line3::{MaskJob, mask_job, taken, ways_text};
 use masking3::{MaskHashers, Ways, mask};
 use program3::{Ended, Files, Outcome, Readings, Rewriting, run_rewriting};
 use std::alloc::Global;
@@ -135,7 +135,7 @@ fn run_mask<F: Files, S: BuildHasher + Drop>(
         result.0.outcome }
 {
     let ways = job.ways;
-    let Ok(told) = ways_told(alloc, &ways) else {
+    let Ok(words) = ways_text(alloc, &ways) else {
         let ended = Ended::printing(Outcome::Counted(Err(Error::Memory)));
         return (ended, Readings::Nothing);
     };
@@ -144,16 +144,16 @@ fn run_mask<F: Files, S: BuildHasher + Drop>(
     let Ended { outcome, is_aside } = ended;
     let ended = Ended {
         is_aside,
-        outcome: with_mask_told(outcome, told),
+        outcome: with_mask_text(outcome, words),
     };
     (ended, readings)
 }
 
 /// Tells the mask with the counts. What came of it stays.
-fn with_mask_told(outcome: Outcome, told: String) -> Outcome
+fn with_mask_text(outcome: Outcome, told: String) -> Outcome
     ensures { (holds : List ℕ → Option (List ℕ)) (ways : Ways) (input output : List ℕ)
         (readings : List FileReading) (old new : List WrittenFile)
-        → string_bytes told ≡ mask_told ways
+        → string_bytes told ≡ mask_text ways
         → RewritesFile IsSummary (masked_bytes ways) holds input output readings old new outcome
         → MasksFile holds ways input output readings old new result }
 {

@@ -1,5 +1,5 @@
 -- Chunks of a stream, one after another.
-use Rattle.packing3.proofs.Common.{arith, ap, sym, refl, subst, append-nil, ◌≡◌, ◌∙◌, ◌≤◌, ◌<◌, ◌+◌, ℕ, List, [], ◌∷◌, ◌++◌, length, length-append, Option, gave_both, Appends, word_bytes, Error, max_bytes, chunk_bytes, AppendsFront, Extent, AreCut, IsPackedStream, full_size, concat, flat_map, Gave, IsSpent, Told, Appends-nil, Appends-trans, ChunkPassesLimit, Tells, AreFull, Grows, HasChunk, HasFull, HasStream, IsStopped, StopsInChunk, StopsInStream, last_chunk}
+use Rattle.packing3.proofs.Common.{arith, ap, sym, refl, subst, append-nil, ◌≡◌, ◌∙◌, ◌≤◌, ◌<◌, ◌+◌, ℕ, List, [], ◌∷◌, ◌++◌, length, length-append, Option, gave_both, Appends, word_bytes, Error, max_bytes, chunk_bytes, AppendsFront, Extent, AreCut, IsPackedStream, full_size, concat, flat_map, Gave, IsSpent, Observed, Appends-nil, Appends-trans, ChunkPassesLimit, Explains, AreFull, Grows, HasChunk, HasFull, HasStream, IsStopped, StopsInChunk, StopsInStream, last_chunk}
 use Rattle.std.proofs.lemmas.Grind.{flat_map-append}
 use Rattle.record_mark.proofs.Words.{concat-snoc}
 use Rattle.capture3.specs.declared.fault.Error.TheVariants as errors
@@ -73,7 +73,7 @@ one_word n a b at streamed = record {
   streamed_is = omega (arith, streamed);
 }
 
-pub none_full : (l0 : Told) (w0 : Option (List ℕ)) (e0 : Extent) → Gave l0 l0 []
+pub none_full : (l0 : Observed) (w0 : Option (List ℕ)) (e0 : Extent) → Gave l0 l0 []
     → HasFull l0 l0 w0 w0 e0 e0
 none_full l0 w0 e0 consumed = record {
   full = [];
@@ -83,7 +83,7 @@ none_full l0 w0 e0 consumed = record {
   grows = record { at = omega arith; streamed_is = omega arith };
 }
 
-pub more_full : (l0 l1 l2 : Told) (w0 w1 w2 : Option (List ℕ)) (e0 e1 e2 : Extent) (n : ℕ)
+pub more_full : (l0 l1 l2 : Observed) (w0 w1 w2 : Option (List ℕ)) (e0 e1 e2 : Extent) (n : ℕ)
     → HasFull l0 l1 w0 w1 e0 e1 → HasChunk l1 l2 w1 w2 e1 e2 n → full_size ≤ n
     → HasFull l0 l2 w0 w2 e0 e2
 more_full l0 l1 l2 w0 w1 w2 e0 e1 e2 n before it whole =
@@ -110,7 +110,7 @@ more_full l0 l1 l2 w0 w1 w2 e0 e1 e2 n before it whole =
           (grows_more e0 e1 e2 _ _ (length (concat before.full)) n before.grows it.grows));
     }
 
-pub whole_stream : (l0 l1 l2 : Told) (w0 w1 w2 w3 : Option (List ℕ)) (e0 e1 e2 e3 : Extent) (n : ℕ)
+pub whole_stream : (l0 l1 l2 : Observed) (w0 w1 w2 w3 : Option (List ℕ)) (e0 e1 e2 e3 : Extent) (n : ℕ)
     → HasFull l0 l1 w0 w1 e0 e1 → HasChunk l1 l2 w1 w2 e1 e2 n → n < full_size
     → Appends w2 w3 (word_bytes 0) → Grows e2 e3 (word_bytes 0) 0 → HasStream l0 l2 w0 w3 e0 e3
 whole_stream l0 l1 l2 w0 w1 w2 w3 e0 e1 e2 e3 n full it less word grown =
@@ -133,7 +133,7 @@ whole_stream l0 l1 l2 w0 w1 w2 w3 e0 e1 e2 e3 n full it less word grown =
 
 -- ---- where packing stops
 
-pub stops_in_chunk : (l0 l1 l2 : Told) (w0 w1 w2 : Option (List ℕ)) (e0 e1 : Extent) (error : Error)
+pub stops_in_chunk : (l0 l1 l2 : Observed) (w0 w1 w2 : Option (List ℕ)) (e0 e1 : Extent) (error : Error)
     → HasFull l0 l1 w0 w1 e0 e1 → StopsInChunk l1 l2 w1 w2 e1 error
     → StopsInStream l0 l2 w0 w2 e0 error
 stops_in_chunk l0 l1 l2 w0 w1 w2 e0 e1 error full it =
@@ -154,7 +154,7 @@ stops_in_chunk l0 l1 l2 w0 w1 w2 e0 e1 error full it =
           full.appended full.grows.at it.stopped));
     }
 
-pub stops_at_end : (l0 l1 l2 : Told) (w0 w1 w2 w3 : Option (List ℕ)) (e0 e1 e2 : Extent) (n : ℕ)
+pub stops_at_end : (l0 l1 l2 : Observed) (w0 w1 w2 w3 : Option (List ℕ)) (e0 e1 e2 : Extent) (n : ℕ)
     (error : Error) → HasFull l0 l1 w0 w1 e0 e1 → HasChunk l1 l2 w1 w2 e1 e2 n
     → error ≡ errors.Write → AppendsFront w2 w3 (word_bytes 0) → StopsInStream l0 l2 w0 w3 e0 error
 stops_at_end l0 l1 l2 w0 w1 w2 w3 e0 e1 e2 n error full it is front =
@@ -183,7 +183,7 @@ chunk_of chunk n many some =
     ap (flat_map chunk_bytes) (last_of chunk (omega (arith, many, some)))
     ∙ append-nil (chunk_bytes chunk) ∙ ap (λ m. word_bytes m ++ chunk) many
 
-pub chunk_some : (l0 l1 : Told) (w0 w1 w2 : Option (List ℕ)) (e0 e1 : Extent) (chunk : List ℕ)
+pub chunk_some : (l0 l1 : Observed) (w0 w1 w2 : Option (List ℕ)) (e0 e1 : Extent) (chunk : List ℕ)
     (n : ℕ) → Gave l0 l1 chunk → length chunk ≡ n → 0 < n → n ≤ full_size
     → (n < full_size → IsSpent l1)
     → Appends w0 w1 (word_bytes n) → Appends w1 w2 chunk → e1.at ≡ e0.at + (4 + n)
@@ -209,7 +209,7 @@ chunk_some l0 l1 w0 w1 w2 e0 e1 chunk n consumed many some within ended word byt
     }
 
 -- the chunk passes the limit
-pub chunk_refused : (l0 l1 : Told) (w0 : Option (List ℕ)) (e0 : Extent) (error : Error)
+pub chunk_refused : (l0 l1 : Observed) (w0 : Option (List ℕ)) (e0 : Extent) (error : Error)
     (chunk : List ℕ) (n : ℕ) → Gave l0 l1 chunk → length chunk ≡ n → n ≤ full_size
     → e0.streamed ≤ max_bytes → max_bytes < e0.streamed + n
     → error ≡ errors.Refused (record { place = places.File e0.at; reason = reasons.TooManyBytes })
@@ -217,7 +217,7 @@ pub chunk_refused : (l0 l1 : Told) (w0 : Option (List ℕ)) (e0 : Extent) (error
 chunk_refused l0 l1 w0 e0 error chunk n consumed many within room over is =
     let are : flat_map chunk_bytes (last_chunk chunk) ≡ chunk_bytes chunk ++ [] =
     ap (flat_map chunk_bytes) (last_of chunk (omega (arith, many, room, over))) in
-    let told : ChunkPassesLimit
+    let observed : ChunkPassesLimit
     (record { place = places.File e0.at; reason = reasons.TooManyBytes })
     (e0.at + length {A = ℕ} []) (flat_map chunk_bytes (last_chunk chunk))
     (e0.streamed + length chunk) = record {
@@ -239,16 +239,16 @@ chunk_refused l0 l1 w0 e0 error chunk n consumed many within room over is =
         next = flat_map chunk_bytes (last_chunk chunk);
         split = refl;
         appended = Appends-nil w0;
-        told =
+        observed =
             subst
             (λ e.
-            Tells e (e0.at + length {A = ℕ} []) (flat_map chunk_bytes (last_chunk chunk))
-            (e0.streamed + length chunk)) (sym is) told;
+            Explains e (e0.at + length {A = ℕ} []) (flat_map chunk_bytes (last_chunk chunk))
+            (e0.streamed + length chunk)) (sym is) observed;
       };
     }
 
 -- a front of its bytes is written
-pub chunk_cut : (l0 l1 : Told) (w0 w1 : Option (List ℕ)) (e0 : Extent) (error : Error)
+pub chunk_cut : (l0 l1 : Observed) (w0 w1 : Option (List ℕ)) (e0 : Extent) (error : Error)
     (chunk : List ℕ) (n : ℕ) → Gave l0 l1 chunk → length chunk ≡ n → 0 < n → n ≤ full_size
     → error ≡ errors.Write
     → AppendsFront w0 w1 (word_bytes n ++ chunk) → StopsInChunk l0 l1 w0 w1 e0 error

@@ -3,11 +3,11 @@ pub use Rattle.canon3.proofs.Lemmas.Writing.SinkWritesLemmas.{front_of_first, fr
 pub use Rattle.canon3.specs.Bytes.{chunk_bytes}
 pub use Rattle.canon3.specs.SinkWrites.{AppendsFront}
 pub use Rattle.capture3.proofs.Lemmas.Reader.PassedOn.{error_is}
-pub use Rattle.capture3.proofs.Lemmas.Reader.ToldLemmas.{gave_both, gave_none, prefix_of_kept}
+pub use Rattle.capture3.proofs.Lemmas.Reader.ObservedLemmas.{gave_both, gave_none, prefix_of_kept}
 pub use Rattle.capture3.specs.Capture.{IsCapture, IsConnection, One, magic, max_connections, total_size}
 pub use Rattle.capture3.specs.Chunks.{IsChunk, IsStream, max_bytes}
 pub use Rattle.capture3.specs.SidedChunks.{Streams, size}
-pub use Rattle.capture3.specs.Told.{Gave, GavePrefix, IsSpent, Told}
+pub use Rattle.capture3.specs.Observed.{Gave, GavePrefix, IsSpent, Observed}
 pub use Rattle.capture3.specs.declared.fault.Error.{Error}
 pub use Rattle.std.proofs.Common.{Err, IfErr, List, None, Ok, OnErr, OnOk, Result, [], ap, append-nil, append_assoc, arith, inl, inr, length, length-append, refl, rules, subst, sym, take, ℕ, ◌++◌, ◌+◌, ◌-◌, ◌<◌, ◌∙◌, ◌∷◌, ◌≡◌, ◌≤◌}
 pub use Rattle.std.proofs.KnownBytes.{Appends-nil, Appends-trans}
@@ -17,6 +17,6 @@ pub use Rattle.std.specs.List.{concat, flat_map}
 pub use Rattle.std.specs.Prelude.{Option}
 pub use Rattle.xdr3.specs.Item.{word_bytes}
 pub use Rattle.packing3.specs.Packed.{AreCut, ArePacked, IsPackedConnection, IsPackedStream, full_size}
-pub use Rattle.packing3.specs.Stopped.{BreaksOff, ChunkPassesLimit, HasNoRoom, Tells}
+pub use Rattle.packing3.specs.Stopped.{BreaksOff, ChunkPassesLimit, HasNoRoom, Explains}
 pub use Rattle.packing3.specs.declared.stream.Extent.{Extent}
 pub use Rattle.packing3.specs.machinery.Streaming.{AreFull, Grows, GrowsLittle, HasChunk, HasConnection, HasFull, HasStream, IsStopped, StopsInChunk, StopsInConnection, StopsInStream, last_chunk}

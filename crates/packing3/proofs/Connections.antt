@@ -1,10 +1,10 @@
 -- The streams of a connection, after its word 1.
-use Rattle.packing3.proofs.Common.{arith, refl, subst, ◌≡◌, ◌+◌, ℕ, List, [], ◌++◌, length, Option, Told, gave_none, Appends, Appends-trans, word_bytes, Error, AppendsFront, front_of_first, Extent, Grows, HasConnection, HasStream, IsStopped, StopsInConnection, StopsInStream}
+use Rattle.packing3.proofs.Common.{arith, refl, subst, ◌≡◌, ◌+◌, ℕ, List, [], ◌++◌, length, Option, Observed, gave_none, Appends, Appends-trans, word_bytes, Error, AppendsFront, front_of_first, Extent, Grows, HasConnection, HasStream, IsStopped, StopsInConnection, StopsInStream}
 use Rattle.capture3.specs.declared.fault.Error.TheVariants as errors
 use Rattle.packing3.proofs.Chunks.{grows_more, packed_none}
 use Rattle.packing3.proofs.Stops.{stopped_after, stopped_before, stopped_writing}
 
-pub whole_connection : (c0 c1 s0 s1 : Told) (w0 w1 w2 w3 : Option (List ℕ)) (e0 e1 e2 e3 : Extent)
+pub whole_connection : (c0 c1 s0 s1 : Observed) (w0 w1 w2 w3 : Option (List ℕ)) (e0 e1 e2 e3 : Extent)
     → Appends w0 w1 (word_bytes 1) → Grows e0 e1 (word_bytes 1) 0 → HasStream c0 c1 w1 w2 e1 e2
     → HasStream s0 s1 w2 w3 e2 e3 → HasConnection c0 c1 s0 s1 w0 w3 e0 e3
 whole_connection c0 c1 s0 s1 w0 w1 w2 w3 e0 e1 e2 e3 word begun client server =
@@ -35,7 +35,7 @@ whole_connection c0 c1 s0 s1 w0 w1 w2 w3 e0 e1 e2 e3 word begun client server =
           server.grows));
     }
 
-pub stops_at_mark : (c0 s0 : Told) (w0 w1 : Option (List ℕ)) (e0 : Extent) (error : Error)
+pub stops_at_mark : (c0 s0 : Observed) (w0 w1 : Option (List ℕ)) (e0 : Extent) (error : Error)
     → error ≡ errors.Write → AppendsFront w0 w1 (word_bytes 1)
     → StopsInConnection c0 c0 s0 s0 w0 w1 e0 error
 stops_at_mark c0 s0 w0 w1 e0 error is front =
@@ -58,7 +58,7 @@ stops_at_mark c0 s0 w0 w1 e0 error is front =
           (front_of_first w0 w1 (word_bytes 1) more (word_bytes 1 ++ more) refl front);
     }
 
-pub stops_in_client : (c0 c1 s0 : Told) (w0 w1 w2 : Option (List ℕ)) (e0 e1 : Extent)
+pub stops_in_client : (c0 c1 s0 : Observed) (w0 w1 w2 : Option (List ℕ)) (e0 e1 : Extent)
     (error : Error) → Appends w0 w1 (word_bytes 1) → Grows e0 e1 (word_bytes 1) 0
     → StopsInStream c0 c1 w1 w2 e1 error → StopsInConnection c0 c1 s0 s0 w0 w2 e0 error
 stops_in_client c0 c1 s0 w0 w1 w2 e0 e1 error word begun it =
@@ -85,7 +85,7 @@ stops_in_client c0 c1 s0 w0 w1 w2 e0 e1 error word begun it =
           begun.at (stopped_before w1 w2 it.bytes more e1.at all error it.stopped));
     }
 
-pub stops_in_server : (c0 c1 s0 s1 : Told) (w0 w1 w2 w3 : Option (List ℕ)) (e0 e1 e2 : Extent)
+pub stops_in_server : (c0 c1 s0 s1 : Observed) (w0 w1 w2 w3 : Option (List ℕ)) (e0 e1 e2 : Extent)
     (error : Error) → Appends w0 w1 (word_bytes 1) → Grows e0 e1 (word_bytes 1) 0
     → HasStream c0 c1 w1 w2 e1 e2 → StopsInStream s0 s1 w2 w3 e2 error
     → StopsInConnection c0 c1 s0 s1 w0 w3 e0 error

@@ -1,5 +1,5 @@
 -- What each call makes of the pairs for which a packing stood.
-use Rattle.packing3.proofs.Common.{arith, refl, sym, ap, subst, inl, inr, ◌≡◌, ◌∙◌, ◌≤◌, ◌+◌, ℕ, List, [], ◌∷◌, ◌++◌, length, length-append, append_assoc, Option, None, Result, Ok, Err, OnOk, OnErr, IfErr, Gave, GavePrefix, Told, gave_none, prefix_of_kept, Appends, Appends-trans, word_bytes, Error, max_bytes, AppendsFront, front_of_second, ArePacked, IsPackedConnection, HasConnection, IsStopped, StopsInConnection, One, magic, max_connections, total_size, Streams, size, HasNoRoom, BreaksOff, Tells}
+use Rattle.packing3.proofs.Common.{arith, refl, sym, ap, subst, inl, inr, ◌≡◌, ◌∙◌, ◌≤◌, ◌+◌, ℕ, List, [], ◌∷◌, ◌++◌, length, length-append, append_assoc, Option, None, Result, Ok, Err, OnOk, OnErr, IfErr, Gave, GavePrefix, Observed, gave_none, prefix_of_kept, Appends, Appends-trans, word_bytes, Error, max_bytes, AppendsFront, front_of_second, ArePacked, IsPackedConnection, HasConnection, IsStopped, StopsInConnection, One, magic, max_connections, total_size, Streams, size, HasNoRoom, BreaksOff, Explains}
 use Rattle.record_mark.proofs.Words.{Joins-snoc}
 use Rattle.xdr3.specs.declared.reason.Reason.TheVariants as reasons
 use Rattle.capture3.specs.declared.fault.Error.TheVariants as errors
@@ -28,7 +28,7 @@ total_more [] streams = omega arith
 total_more (p ∷ pairs) streams = omega (arith, total_more pairs streams)
 
 module _ {W : Type 0} (written : W → Option (List ℕ)) where
-  pub added : (old new : Packing W) (first : Option (List ℕ)) (c0 c1 s0 s1 : Told)
+  pub added : (old new : Packing W) (first : Option (List ℕ)) (c0 c1 s0 s1 : Observed)
       (pairs : List Streams)
       → HasConnection c0 c1 s0 s1 (written old.sink) (written new.sink) old.extent new.extent
       → new.connections ≡ old.connections + 1 → ending_of new ≡ None
@@ -56,7 +56,7 @@ module _ {W : Type 0} (written : W → Option (List ℕ)) where
   }
 
   -- of all bytes of both streams, of which the sources gave prefixes
-  pub added_all : (new : Packing W) (first : Option (List ℕ)) (c0 c1 s0 s1 : Told)
+  pub added_all : (new : Packing W) (first : Option (List ℕ)) (c0 c1 s0 s1 : Observed)
       (pairs : List Streams) (streams : Streams) → GavePrefix c0 c1 streams.client
       → GavePrefix s0 s1 streams.server
       → AddsPair written new first c0 c1 s0 s1 pairs (Ok (tt {0}))
@@ -76,7 +76,7 @@ module _ {W : Type 0} (written : W → Option (List ℕ)) where
       HasAdded written new first
       (pairs ++ record { client = l; server = it.streams.server } ∷ [])) client has)
 
-  broken_off : (old : Packing W) (first : Option (List ℕ)) (c0 c1 s0 s1 : Told)
+  broken_off : (old : Packing W) (first : Option (List ℕ)) (c0 c1 s0 s1 : Observed)
       (w1 : Option (List ℕ)) (pairs : List Streams) (error : Error)
       (it : StopsInConnection c0 c1 s0 s1 (written old.sink) w1 old.extent error)
       → HasAdded written old first pairs → BreaksOff first w1 (pairs ++ it.streams ∷ []) error
@@ -101,12 +101,12 @@ module _ {W : Type 0} (written : W → Option (List ℕ)) where
             };
         split = all.split;
         appended = all.appended;
-        told =
-            subst (λ n. Tells error (length all.front) all.next n) total
-            (subst (λ n. Tells error n all.next before) at all.told);
+        observed =
+            subst (λ n. Explains error (length all.front) all.next n) total
+            (subst (λ n. Explains error n all.next before) at all.observed);
       }
 
-  no_room : (old : Packing W) (first : Option (List ℕ)) (c0 c1 s0 s1 : Told) (w1 : Option (List ℕ))
+  no_room : (old : Packing W) (first : Option (List ℕ)) (c0 c1 s0 s1 : Observed) (w1 : Option (List ℕ))
       (pairs : List Streams) (error : Error)
       → IsFull old c0 c1 s0 s1 (written old.sink) w1 error
       → HasAdded written old first pairs → HasNoRoom first w1 pairs error
@@ -124,7 +124,7 @@ module _ {W : Type 0} (written : W → Option (List ℕ)) where
         h.at;
   }
 
-  pub not_added : (old new : Packing W) (first : Option (List ℕ)) (c0 c1 s0 s1 : Told)
+  pub not_added : (old new : Packing W) (first : Option (List ℕ)) (c0 c1 s0 s1 : Observed)
       (pairs : List Streams) (error : Error)
       → FailsToAdd old c0 c1 s0 s1 (written old.sink) (written new.sink) error
       → HasAdded written old first pairs → AddsPair written new first c0 c1 s0 s1 pairs (Err error)

@@ -1,23 +1,23 @@
 -- Where packing has stopped, in a part of the bytes and in the whole.
-use Rattle.packing3.proofs.Common.{◌≡◌, ℕ, ◌+◌, List, ◌++◌, length, length-append, ap, sym, subst, ◌∙◌, append_assoc, arith, Option, Appends, Appends-trans, Error, chunk_bytes, AppendsFront, Tells, IsStopped}
+use Rattle.packing3.proofs.Common.{◌≡◌, ℕ, ◌+◌, List, ◌++◌, length, length-append, ap, sym, subst, ◌∙◌, append_assoc, arith, Option, Appends, Appends-trans, Error, chunk_bytes, AppendsFront, Explains, IsStopped}
 use Rattle.capture3.specs.declared.fault.Error.TheVariants as errors
 
 -- more bytes come at the end
-pub tells_with : (error : Error) (at total : ℕ) (next more : List ℕ) → Tells error at next total
-    → Tells error at (next ++ more) total
-tells_with (errors.Refused fault) at total next more told = record {
-  chunk = told.chunk;
-  more = told.more ++ more;
+pub explains_with : (error : Error) (at total : ℕ) (next more : List ℕ) → Explains error at next total
+    → Explains error at (next ++ more) total
+explains_with (errors.Refused fault) at total next more observed = record {
+  chunk = observed.chunk;
+  more = observed.more ++ more;
   begins =
-      ap (λ (l : List ℕ). l ++ more) told.begins
-      ∙ append_assoc (chunk_bytes told.chunk) told.more more;
-  over = told.over;
-  within = told.within;
-  is = told.is;
+      ap (λ (l : List ℕ). l ++ more) observed.begins
+      ∙ append_assoc (chunk_bytes observed.chunk) observed.more more;
+  over = observed.over;
+  within = observed.within;
+  is = observed.is;
 }
-tells_with errors.Read at total next more told = tt
-tells_with errors.Write at total next more told = tt
-tells_with errors.Memory at total next more told = absurd told
+explains_with errors.Read at total next more observed = tt
+explains_with errors.Write at total next more observed = tt
+explains_with errors.Memory at total next more observed = absurd observed
 
 pub stopped_before : (old new : Option (List ℕ)) (bytes more : List ℕ) (at total : ℕ)
     (error : Error) → IsStopped old new bytes at total error
@@ -27,7 +27,7 @@ stopped_before old new bytes more at total error s = record {
   next = s.next ++ more;
   split = ap (λ (l : List ℕ). l ++ more) s.split ∙ append_assoc s.front s.next more;
   appended = s.appended;
-  told = tells_with error (at + length s.front) total s.next more s.told;
+  observed = explains_with error (at + length s.front) total s.next more s.observed;
 }
 
 -- what was written before stands at the front
@@ -39,9 +39,9 @@ stopped_after first old new done bytes start at total error before is s = record
   next = s.next;
   split = ap (λ (l : List ℕ). done ++ l) s.split ∙ sym (append_assoc done s.front s.next);
   appended = Appends-trans first old new done s.front before s.appended;
-  told =
-      subst (λ n. Tells error n s.next total) (omega (arith, length-append done s.front, is))
-      s.told;
+  observed =
+      subst (λ n. Explains error n s.next total) (omega (arith, length-append done s.front, is))
+      s.observed;
 }
 
 pub stopped_writing : (old new : Option (List ℕ)) (bytes : List ℕ) (at total : ℕ) (error : Error)
@@ -52,5 +52,5 @@ stopped_writing old new bytes at total error is (front, back, split, appended) =
       next = back;
       split = split;
       appended = appended;
-      told = subst (λ e. Tells e (at + length front) back total) (sym is) tt;
+      observed = subst (λ e. Explains e (at + length front) back total) (sym is) tt;
     }

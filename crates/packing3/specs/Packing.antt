@@ -1,7 +1,7 @@
 -- A packing, and the histories for which it stands: what its sink held before, and the pairs of
 -- streams that were added.
 use Rattle.std.specs.Prelude.{◌≡◌, ◌⊎◌, ℕ, List, [], ◌∷◌, ◌++◌, length, Option, None, Result, Ok, Err}
-use Rattle.capture3.specs.Told.{Gave, IsSpent, Told}
+use Rattle.capture3.specs.Observed.{Gave, IsSpent, Observed}
 use Rattle.std.specs.Io.KnownBytes.{Appends}
 use Rattle.capture3.specs.declared.fault.Error.{Error}
 use Rattle.capture3.specs.declared.fault.Error.TheVariants as errors
@@ -61,7 +61,7 @@ module _ {W : Type 0} where
   -- One pair more is added, whose sources are read to their ends. Or no pair has room, and nothing
   -- was read or written. Or an error came while the pair was read and written.
   abbrev pub AddsStreams : (W → Option (List ℕ)) → Packing W
-      → (old : Option (List ℕ)) (client server : Told) → List Streams → Streams
+      → (old : Option (List ℕ)) (client server : Observed) → List Streams → Streams
       → Result (Unit {0}) Error → Type 0
   AddsStreams written new old client server pairs streams (Ok done) = IsSpent client
       × IsSpent server × HasAdded written new old (pairs ++ streams ∷ [])
@@ -72,7 +72,7 @@ module _ {W : Type 0} where
 
   -- the same, with the streams that the sources gave in the call
   pub record AddsPair (written : W → Option (List ℕ)) (new : Packing W) (old : Option (List ℕ))
-      (old_client client old_server server : Told) (pairs : List Streams)
+      (old_client client old_server server : Observed) (pairs : List Streams)
       (result : Result (Unit {0}) Error) : Type 0 where
     pub streams : Streams
     pub from_client : Gave old_client client streams.client

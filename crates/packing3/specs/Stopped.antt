@@ -23,11 +23,11 @@ pub record ChunkPassesLimit (fault : Fault) (at : ℕ) (next : List ℕ) (total 
   pub is : fault ≡ record { place = places.File at; reason = reasons.TooManyBytes }
 
 -- What an error says where `at` bytes of the file are written, and `next` are its other bytes.
-abbrev pub Tells : Error → (at : ℕ) (next : List ℕ) (total : ℕ) → Type 0
-Tells (errors.Refused fault) at next total = ChunkPassesLimit fault at next total
-Tells errors.Read at next total = ⊤
-Tells errors.Write at next total = ⊤
-Tells errors.Memory at next total = ⊥
+abbrev pub Explains : Error → (at : ℕ) (next : List ℕ) (total : ℕ) → Type 0
+Explains (errors.Refused fault) at next total = ChunkPassesLimit fault at next total
+Explains errors.Read at next total = ⊤
+Explains errors.Write at next total = ⊤
+Explains errors.Memory at next total = ⊥
 
 -- A front is written of the capture of all that was read: of what was added, and of the pair that
 -- an error stopped.
@@ -39,7 +39,7 @@ pub record BreaksOff (old new : Option (List ℕ)) (pairs : List Streams)
   pub packed : IsPacked file pairs
   pub split : file ≡ front ++ next
   pub appended : Appends old new front
-  pub told : Tells error (length front) next (total_size pairs)
+  pub observed : Explains error (length front) next (total_size pairs)
 
 -- The pairs are as many as a capture may have. They are written, and the fault is at the byte after
 -- them.

@@ -1,7 +1,7 @@
 //! A block of a source's bytes.
 
 ghost use Rattle.std.specs.Prelude.{◌≡◌, ◌≤◌, ◌<◌, length, take, vec_len, IfOk, OnErr};
-ghost use Rattle.capture3.specs.Told.{Gave, IsSpent};
+ghost use Rattle.capture3.specs.Observed.{Gave, IsSpent};
 ghost use Rattle.capture3.specs.Device.{Counts};
 ghost use Rattle.packing3.specs.machinery.Streaming.{GaveFewer};
 
@@ -21,10 +21,10 @@ pub(crate) fn fill<R: Source>(source: &mut R, block: &mut [u8]) -> Result<usize,
     ensures size { length block.new ≡ length block.old }
     ensures within { IfOk result (λ n. n ≤ length block.new) }
     ensures bytes { IfOk result
-        (λ n. Gave (R.told source.old) (R.told source.new) (take n block.new)) }
-    ensures end { IfOk result (λ n. n < length block.new → IsSpent (R.told source.new)) }
+        (λ n. Gave (R.observed source.old) (R.observed source.new) (take n block.new)) }
+    ensures end { IfOk result (λ n. n < length block.new → IsSpent (R.observed source.new)) }
     ensures err { OnErr result
-        (GaveFewer (R.told source.old) (R.told source.new) (length block.old)) }
+        (GaveFewer (R.observed source.old) (R.observed source.new) (length block.old)) }
     ensures count { Counts (R.failures source.old) (R.failures source.new) result }
 {
     let mut filled = 0;

@@ -5,7 +5,7 @@ ghost use Rattle.std.specs.Io.KnownBytes.{Appends};
 ghost use Rattle.xdr3.specs.Item.{word_bytes};
 ghost use Rattle.capture3.specs.Capture.{max_connections};
 ghost use Rattle.capture3.specs.SidedChunks.{Streams};
-ghost use Rattle.capture3.specs.Told.{GavePrefix};
+ghost use Rattle.capture3.specs.Observed.{GavePrefix};
 ghost use Rattle.capture3.specs.Chunks.{max_bytes};
 ghost use Rattle.canon3.specs.SinkWrites.{AppendsFront, IsFlushed};
 ghost use Rattle.packing3.specs.Packed.{full_size};
@@ -104,12 +104,12 @@ impl<W: Sink> Packing<W> {
         ensures adds { (old : Option (List ℕ)) (pairs : List Streams)
             → HasAdded W.written self.old old pairs
             → AddsPair W.written self.new old
-            (C.told client.old) (C.told client.new) (S.told server.old) (S.told server.new)
+            (C.observed client.old) (C.observed client.new) (S.observed server.old) (S.observed server.new)
             pairs result }
         ensures whole { (old : Option (List ℕ)) (pairs : List Streams) (streams : Streams)
             → HasAdded W.written self.old old pairs
-            → GavePrefix (C.told client.old) (C.told client.new) streams.client
-            → GavePrefix (S.told server.old) (S.told server.new) streams.server
+            → GavePrefix (C.observed client.old) (C.observed client.new) streams.client
+            → GavePrefix (S.observed server.old) (S.observed server.new) streams.server
             → OnOk result (HasAdded W.written self.new old (pairs ++ streams ∷ [])) }
         ensures ended { ending_of self.old ≡ None
             → MatchResult result
@@ -172,12 +172,12 @@ impl<W: Sink> Packing<W> {
         server: &mut S,
     ) -> Result<(), Error>
         ensures ok { OnOk result (HasConnection
-            (C.told client.old) (C.told client.new) (S.told server.old) (S.told server.new)
+            (C.observed client.old) (C.observed client.new) (S.observed server.old) (S.observed server.new)
             (W.written (sink_of self.old)) (W.written (sink_of self.new))
             self.old.extent self.new.extent) }
         ensures one_more { OnOk result (self.new.connections ≡ self.old.connections + 1) }
         ensures err { IfErr result (FailsToAdd self.old
-            (C.told client.old) (C.told client.new) (S.told server.old) (S.told server.new)
+            (C.observed client.old) (C.observed client.new) (S.observed server.old) (S.observed server.new)
             (W.written (sink_of self.old)) (W.written (sink_of self.new))) }
         ensures same_ending { ending_of self.new ≡ ending_of self.old }
         ensures read { CountsReadings

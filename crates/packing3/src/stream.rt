@@ -58,10 +58,10 @@ pub(crate) fn write_connection<C: Source, S: Source, W: Sink>(
     ensures room { extent.new.streamed ≤ max_bytes }
     ensures small { GrowsLittle 12 extent.old extent.new }
     ensures ok { OnOk result (HasConnection
-        (C.told client.old) (C.told client.new) (S.told server.old) (S.told server.new)
+        (C.observed client.old) (C.observed client.new) (S.observed server.old) (S.observed server.new)
         (W.written sink.old) (W.written sink.new) extent.old extent.new) }
     ensures err { IfErr result (StopsInConnection
-        (C.told client.old) (C.told client.new) (S.told server.old) (S.told server.new)
+        (C.observed client.old) (C.observed client.new) (S.observed server.old) (S.observed server.new)
         (W.written sink.old) (W.written sink.new) extent.old) }
     ensures read { CountsReadings
         (C.failures client.old) (C.failures client.new)
@@ -94,10 +94,10 @@ fn write_stream<R: Source, W: Sink>(
     ensures room { extent.new.streamed ≤ max_bytes }
     ensures small { GrowsLittle 4 extent.old extent.new }
     ensures ok { OnOk result (HasStream
-        (R.told source.old) (R.told source.new) (W.written sink.old) (W.written sink.new)
+        (R.observed source.old) (R.observed source.new) (W.written sink.old) (W.written sink.new)
         extent.old extent.new) }
     ensures err { IfErr result (StopsInStream
-        (R.told source.old) (R.told source.new) (W.written sink.old) (W.written sink.new)
+        (R.observed source.old) (R.observed source.new) (W.written sink.old) (W.written sink.new)
         extent.old) }
     ensures read { CountsReading (R.failures source.old) (R.failures source.new) result }
     ensures write { CountsWriting (W.failures sink.old) (W.failures sink.new) result }
@@ -127,10 +127,10 @@ fn write_chunk<R: Source, W: Sink>(
     ensures room { extent.new.streamed ≤ max_bytes }
     ensures small { GrowsLittle 0 extent.old extent.new }
     ensures ok { IfOk result (HasChunk
-        (R.told source.old) (R.told source.new) (W.written sink.old) (W.written sink.new)
+        (R.observed source.old) (R.observed source.new) (W.written sink.old) (W.written sink.new)
         extent.old extent.new) }
     ensures err { IfErr result (StopsInChunk
-        (R.told source.old) (R.told source.new) (W.written sink.old) (W.written sink.new)
+        (R.observed source.old) (R.observed source.new) (W.written sink.old) (W.written sink.new)
         extent.old) }
     ensures read { CountsReading (R.failures source.old) (R.failures source.new) result }
     ensures write { CountsWriting (W.failures sink.old) (W.failures sink.new) result }

@@ -6,8 +6,8 @@ use Rattle.capture3.specs.Entries.{CountsReading}
 use Rattle.capture3.specs.declared.fault.Error.{Error}
 use Rattle.capture3.specs.declared.fault.Error.TheVariants as errors
 use Rattle.capture3.specs.Entry.{Entry}
-use Rattle.capture3.specs.Told.{Told, Gave, GavePrefix}
-use Rattle.capture3.proofs.Lemmas.Reader.ToldLemmas.{IsPrefixOf, prefix_of_told}
+use Rattle.capture3.specs.Observed.{Observed, Gave, GavePrefix}
+use Rattle.capture3.proofs.Lemmas.Reader.ObservedLemmas.{IsPrefixOf, prefix_of_observed}
 use Rattle.canon3.specs.WriteErrors.{IsOfWriting}
 use Rattle.canon3.specs.declared.summary.Summary.{Summary}
 use Rattle.program3.specs.Files.{FailsToOpen, KeepsForm, RewritesFile, WrittenFile}
@@ -15,14 +15,14 @@ use Rattle.program3.specs.Writing.{WritesOut}
 use Rattle.program3.specs.declared.outcome.Outcome.TheVariants as outcomes
 
 -- a source that tells what is left, and gave nothing yet, gives a prefix of that
-pub gave_prefix : (old new : Told) (given bytes : List ℕ) → old.left ≡ Some bytes
+pub gave_prefix : (old new : Observed) (given bytes : List ℕ) → old.left ≡ Some bytes
     → old.given ≡ Some [] → Gave old new given → GavePrefix old new bytes
 gave_prefix old new given bytes tells fresh gave =
     by_given new.given refl
     (subst (λ (o : Option (List ℕ)). Appends o new.given given) fresh gave.1)
   where
     p : IsPrefixOf new given bytes
-    p = prefix_of_told old new given bytes tells gave
+    p = prefix_of_observed old new given bytes tells gave
 
     no_rest : (xs rest : List ℕ) → (bytes ≡ xs) × (bytes ≡ xs ++ rest) → rest ≡ []
     no_rest xs rest (whole, split) =
@@ -44,8 +44,8 @@ gave_prefix old new given bytes tells fresh gave =
 -- ---- what was read of a file
 
 -- what a source tells that reads a file
-abbrev pub told_of : {R : Type 0} → (remaining : R → Option (List ℕ)) → TracedReader R → Told
-told_of remaining source = record {
+abbrev pub observed_of : {R : Type 0} → (remaining : R → Option (List ℕ)) → TracedReader R → Observed
+observed_of remaining source = record {
   left = remaining source.device;
   given = Some source.given;
   is_spent = source.is_spent;
@@ -55,9 +55,9 @@ told_of remaining source = record {
 -- contain
 pub prefix_of : {R : Type 0} (remaining : R → Option (List ℕ)) (whole : Option (List ℕ))
     (name : List ℕ) (was now : TracedReader R) → IsUnread remaining whole was
-    → (given bytes : List ℕ) → Gave (told_of remaining was) (told_of remaining now) given
+    → (given bytes : List ℕ) → Gave (observed_of remaining was) (observed_of remaining now) given
     → MayContain whole (reading_under name now) bytes
-    → GavePrefix (told_of remaining was) (told_of remaining now) bytes
+    → GavePrefix (observed_of remaining was) (observed_of remaining now) bytes
 prefix_of remaining whole name was now unread given bytes gave (inl begins) = record {
   start = [];
   given = now.given;
@@ -68,7 +68,7 @@ prefix_of remaining whole name was now unread given bytes gave (inl begins) = re
   all = λ spent. begins.all spent.0;
 }
 prefix_of remaining whole name was now unread given bytes gave (inr is) =
-    gave_prefix (told_of remaining was) (told_of remaining now) given bytes (unread.left ∙ is)
+    gave_prefix (observed_of remaining was) (observed_of remaining now) given bytes (unread.left ∙ is)
     (ap Some unread.given) gave
 
 -- a read that failed is the only one

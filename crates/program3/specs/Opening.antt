@@ -18,6 +18,6 @@ IsOfName name (Unopened text) = string_bytes text ≡ name
 IsOfName name _ = ⊥
 
 -- the file by its name, or that memory ran out
-abbrev pub TellsOf : List ℕ → OpenError → Outcome → Outcome → Type 0
-TellsOf name causes.Unopened out_of_memory told = IsOfName name told ⊎ (told ≡ out_of_memory)
-TellsOf name causes.Memory out_of_memory told = told ≡ out_of_memory
+abbrev pub ReportsUnopened : List ℕ → OpenError → Outcome → Outcome → Type 0
+ReportsUnopened name causes.Unopened out_of_memory told = IsOfName name told ⊎ (told ≡ out_of_memory)
+ReportsUnopened name causes.Memory out_of_memory told = told ≡ out_of_memory

@@ -2,7 +2,7 @@
 
 ghost use Rattle.std.specs.Prelude.{◌≡◌, IfOk, OnOk, true};
 ghost use Rattle.std.specs.Io.KnownBytes.{Appends};
-ghost use Rattle.program3.specs.Ending.{IsReport, TellsEnded, TellsError};
+ghost use Rattle.program3.specs.Ending.{IsReport, ReportsEnded, ReportsOnError};
 
 use crate::outcome::{Ended, Report};
 use crate::printed::{OUTSIDE, on_standard_error, report};
@@ -14,9 +14,9 @@ use std::process::ExitCode;
 
 /// What the end of a program told: the exit status, and whether standard error took its text.
 #[derive(Clone, Copy, Debug, PartialEq, Eq)]
-pub struct Told {
+pub struct Exit {
     pub status: u8,
-    pub is_told: bool,
+    pub is_reported: bool,
 }
 
 /// Prints the report of what came of a job, and returns its exit status.
@@ -26,36 +26,36 @@ pub struct Told {
 pub fn print_ended(rt: &HostRuntime, ended: &Ended) -> ExitCode {
     let mut out = Traced::new(rt.stdout());
     let mut err = Traced::new(rt.stderr());
-    ExitCode::from(tell_ended(rt.alloc(), ended, &mut out, &mut err).status)
+    ExitCode::from(report_ended(rt.alloc(), ended, &mut out, &mut err).status)
 }
 
 /// Prints the report of what came of a job to these writers, as `print_ended` does to those of the system.
-pub fn tell_ended<O: Write, E: Write>(
+pub fn report_ended<O: Write, E: Write>(
     alloc: Global,
     ended: &Ended,
     out: &mut O,
     err: &mut E,
-) -> Told
-    ensures { TellsEnded ended.now (O.contents out.old) (O.contents out.new)
+) -> Exit
+    ensures { ReportsEnded ended.now (O.contents out.old) (O.contents out.new)
         (E.contents err.old) (E.contents err.new) result }
 {
     let Ok(report) = reported(alloc, ended) else {
-        return Told {
+        return Exit {
             status: OUTSIDE,
-            is_told: true,
+            is_reported: true,
         };
     };
     if print_report(out, &report).is_err() {
-        let is_told = tell(err, b"write failed\n");
-        return Told {
+        let is_reported = tell(err, b"write failed\n");
+        return Exit {
             status: OUTSIDE,
-            is_told,
+            is_reported,
         };
     }
-    let is_told = tell(err, &report.err);
-    Told {
+    let is_reported = tell(err, &report.err);
+    Exit {
         status: report.status,
-        is_told,
+        is_reported,
     }
 }
 
@@ -79,7 +79,7 @@ fn print_report<O: Write>(out: &mut O, report: &Report) -> io::Result<()>
 
 /// Nothing is left to be told if standard error fails. Returns whether it took the text.
 fn tell<E: Write>(err: &mut E, text: &[u8]) -> bool
-    ensures { TellsError result (E.contents err.old) (E.contents err.new) text.now }
+    ensures { ReportsOnError result (E.contents err.old) (E.contents err.new) text.now }
 {
     err.write_all(text).is_ok()
 }

@@ -64,7 +64,7 @@ pub trait Files {
         ensures opened { IfOk result
             (λ both. IsOpened Self.Input.remaining (holds self.now) input.now both.0) }
         ensures made { IfOk result (λ both. IsNew Self.Output.contents name_of both.1 output.now) }
-        ensures told { IfErr result (FailsToOpen input.now output.now) };
+        ensures failed { IfErr result (FailsToOpen input.now output.now) };
 
     /// Makes the output, which none of the streams is.
     ///
@@ -81,7 +81,7 @@ pub trait Files {
         streams: &[String],
     ) -> Result<Made<Self::Output, Self::Place>, Outcome>
         ensures made { IfOk result (λ made. IsNew Self.Output.contents name_of made output.now) }
-        ensures told { IfErr result (FailsToMake output.now (map string_bytes streams.now)) };
+        ensures failed { IfErr result (FailsToMake output.now (map string_bytes streams.now)) };
 
     /// Opens a stream that is not what is written.
     ///
@@ -97,7 +97,7 @@ pub trait Files {
     ) -> Result<Opened<Self::Input>, Outcome>
         ensures opened { IfOk result
             (IsOpened Self.Input.remaining (holds self.now) stream.now) }
-        ensures told { IfErr result (FailsToOpenStream stream.now) };
+        ensures failed { IfErr result (FailsToOpenStream stream.now) };
 
     /// Whether the program prints to this file, too.
     fn is_standard_output(&self, place: &Self::Place) -> bool;

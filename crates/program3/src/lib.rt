@@ -23,7 +23,7 @@ mod writing;
 
 pub use arguments::words;
 pub use destination::Destination;
-pub use ending::{Told, print_ended, tell_ended};
+pub use ending::{Exit, print_ended, report_ended};
 pub use files::{Files, Made};
 pub use hashing::{SecretHasher, hashers};
 pub use identity::{FileId, if_there};

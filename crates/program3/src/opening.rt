@@ -2,7 +2,7 @@
 
 ghost use Rattle.std.specs.Prelude.{◌≡◌, Err};
 ghost use Rattle.std.specs.IoError.{error_kind, raw_os_error};
-ghost use Rattle.program3.specs.Opening.{TellsOf, open_error_of};
+ghost use Rattle.program3.specs.Opening.{ReportsUnopened, open_error_of};
 ghost use Rattle.program3.specs.declared.opening.OpenError.TheVariants.{Memory};
 ghost use Rattle.program3.specs.declared.outcome.Outcome.TheVariants.{Counted};
 
@@ -48,7 +48,7 @@ impl From<io::Error> for OpenError {
 /// Returns the outcome if the file of this name cannot be opened or made: `Outcome::Unopened` with the name.
 /// If memory ran out, also for a copy of the name, it is `out_of_memory`.
 pub fn unopened(alloc: Global, name: &str, error: OpenError, out_of_memory: Outcome) -> Outcome
-    ensures { TellsOf name.now error out_of_memory result }
+    ensures { ReportsUnopened name.now error out_of_memory result }
 {
     match error {
         OpenError::Unopened => match String::from_str(alloc, name) {
@@ -61,7 +61,7 @@ pub fn unopened(alloc: Global, name: &str, error: OpenError, out_of_memory: Outc
 
 /// Does so for a command that counts what it reads.
 pub fn uncounted(alloc: Global, name: &str, error: OpenError) -> Outcome
-    ensures { TellsOf name.now error (Counted (Err Error.Memory)) result }
+    ensures { ReportsUnopened name.now error (Counted (Err Error.Memory)) result }
 {
     unopened(alloc, name, error, Outcome::Counted(Err(Error::Memory)))
 }

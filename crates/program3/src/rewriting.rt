@@ -3,7 +3,7 @@
 ghost use Rattle.std.specs.Prelude.{◌≡◌, ◌∷◌, ℕ, List, [], Option, Some, IfErr, IfOk, OnErr, OnOk};
 ghost use Rattle.capture3.specs.Entry as spec;
 ghost use Rattle.capture3.specs.Entries.{CountsReading};
-ghost use Rattle.capture3.specs.Told.{GavePrefix};
+ghost use Rattle.capture3.specs.Observed.{GavePrefix};
 ghost use Rattle.canon3.specs.EntryWriter.{WritesAllCounted, WritesGivenCounted};
 ghost use Rattle.canon3.specs.WriteErrors.{IsOfWriting};
 ghost use Rattle.program3.specs.Files.{KeepsForm, RewritesFile};
@@ -36,10 +36,10 @@ pub trait Rewriting {
         source: &mut R,
         sink: &mut W,
     ) -> Result<Self::Counts, Error>
-        ensures writes { WritesGivenCounted counts (form self) (R.told source.old)
-            (R.told source.new) (W.written sink.old) (W.written sink.new) result }
+        ensures writes { WritesGivenCounted counts (form self) (R.observed source.old)
+            (R.observed source.new) (W.written sink.old) (W.written sink.new) result }
         ensures whole { (bytes : List ℕ)
-            → GavePrefix (R.told source.old) (R.told source.new) bytes
+            → GavePrefix (R.observed source.old) (R.observed source.new) bytes
             → WritesAllCounted counts (form self) bytes (W.written sink.old)
             (W.written sink.new) result }
         ensures read { CountsReading (R.failures source.old) (R.failures source.new) result };

@@ -3,7 +3,7 @@
 ghost use Rattle.std.specs.Prelude.{◌≡◌, [], Any, Err, IfErr, IfOk, IfSome, map, string_bytes};
 ghost use Rattle.capture3.specs.declared.fault.Error.TheVariants as errors;
 ghost use Rattle.program3.specs.Files.{FailsToOpenStream};
-ghost use Rattle.program3.specs.Opening.{TellsOf};
+ghost use Rattle.program3.specs.Opening.{ReportsUnopened};
 ghost use Rattle.program3.specs.declared.outcome.Outcome.TheVariants.{Packed};
 ghost use Rattle.program3.specs.Places.{IsMade};
 ghost use Rattle.program3.specs.Systems.{finished_of};
@@ -244,7 +244,7 @@ fn stands_apart(
 }
 
 fn unpacked(alloc: Global, name: &str, error: OpenError) -> Outcome
-    ensures { TellsOf name.now error (Packed (Err errors.Memory)) result }
+    ensures { ReportsUnopened name.now error (Packed (Err errors.Memory)) result }
 {
     unopened(alloc, name, error, Outcome::Packed(Err(Error::Memory)))
 }

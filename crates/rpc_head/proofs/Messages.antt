@@ -6,7 +6,7 @@ use Rattle.xdr3.specs.View.{word_of}
 use Rattle.xdr3.proofs.Lemmas.Reading.Bytes.{accept_ok, bind_ok, ok_is}
 use Rattle.xdr3.proofs.Lemmas.Reading.Linked.{with_front}
 use Rattle.rpc_head.specs.declared.values.call.ProcId.{ProcId}
-use Rattle.rpc_head.specs.HeadScan.{procedure_told, tells_success}
+use Rattle.rpc_head.specs.HeadScan.{procedure_in_head, success_in_head}
 use Rattle.rpc_head.specs.Messages.{call_layout, call_start, has_results, procedure_in, reply_layout, reply_start}
 use Rattle.rpc_head.specs.Shapes.{call_head, credential, message_start, message_types, reply_head, rpc_versions, verifier}
 
@@ -117,7 +117,7 @@ then_word name b body at z e =
 
 -- what follows a call's head changes nothing of its procedure
 pub procedure_read : (body : List ℕ) (xs more : List Item) (at to : ℕ)
-    → reading call_head body at ≡ Ok (xs, to) → procedure_told (xs ++ more) ≡ procedure_told xs
+    → reading call_head body at ≡ Ok (xs, to) → procedure_in_head (xs ++ more) ≡ procedure_in_head xs
 unfolding reading call_head
 procedure_read body xs more at to e =
     let last = credential then verifier in
@@ -149,13 +149,13 @@ procedure_read body xs more at to e =
     (sym vers.4)
     ∙ ap (λ (l : List Item). Word head_names.rpcvers n.0.0 ∷ l) (sym prog.4)
     ∙ ap (λ (v : List Item × ℕ). v.0) all in
-    subst (λ (l : List Item). procedure_told (l ++ more) ≡ procedure_told l) are refl
+    subst (λ (l : List Item). procedure_in_head (l ++ more) ≡ procedure_in_head l) are refl
 
 pub call_read : (arguments : ProcId → Layout) (body : List ℕ) (s : MessageStart) (xs : List Item)
     (at head end : ℕ) → reading message_start body at ≡ Ok (start_items s, head)
     → s.is_reply ≡ false → reading call_head body head ≡ Ok (xs, end)
     → reading_layout (call_layout arguments) body at
-    ≡ with_front (start_items s ++ xs) (reading_layout (arguments (procedure_told xs)) body end)
+    ≡ with_front (start_items s ++ xs) (reading_layout (arguments (procedure_in_head xs)) body end)
 unfolding call_layout
 call_read arguments body s xs at head end start is read =
     layout_read call_start call_head (λ items. arguments (procedure_in items)) body (start_items s)
@@ -177,7 +177,7 @@ pub reply_read : (results : Layout) (body : List ℕ) (s : MessageStart) (xs : L
     → s.is_reply ≡ true → reading reply_head body head ≡ Ok (xs, end)
     → reading_layout (reply_layout results) body at
     ≡ with_front (start_items s ++ xs)
-    (reading_layout (cond (tells_success xs) results (exactly nothing)) body end)
+    (reading_layout (cond (success_in_head xs) results (exactly nothing)) body end)
 unfolding reply_layout
 reply_read results body s xs at head end start is read =
     layout_read reply_start reply_head (λ items. cond (has_results items) results (exactly nothing))

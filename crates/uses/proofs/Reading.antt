@@ -1,6 +1,6 @@
 -- A loop over the entries of a reader: what it has read so far, and what follows at its end.
-use Rattle.capture3.specs.Told.{Told, Gave}
-use Rattle.capture3.proofs.Lemmas.Reader.ToldLemmas.{gave_on, plainly_heard, prefix_of_told, shown_of_all}
+use Rattle.capture3.specs.Observed.{Observed, Gave}
+use Rattle.capture3.proofs.Lemmas.Reader.ObservedLemmas.{gave_on, plainly_heard, prefix_of_observed, shown_of_all}
 use Rattle.std.specs.declared.hash.BuildHasher as BuildHasher
 use Rattle.std.specs.declared.hash.Hasher as Hasher
 use Rattle.std.specs.Prelude.{Result}
@@ -26,14 +26,14 @@ told_plainly stands was now entry tells before s =
     plainly_heard stands now before entry (tells before s)
 
 module _ {R S H : Type 0} {builds : BuildHasher.Ghosts S H} {hashes : Hasher.Ghosts H}
-    (told : R → Told) (first : Told) where
+    (observed : R → Observed) (first : Observed) where
   -- the source gave some bytes since then, and these entries were returned, of which this holds
   pub record HasReturned (reader : Entries R S H builds hashes) (Holds : List Entry → Type 0) : Type
       0 where
     pub given : List ℕ
     pub handed : List Entry
-    pub gave : Gave first (told (source_of reader)) given
-    pub stands : StandsFor told reader given handed
+    pub gave : Gave first (observed (source_of reader)) given
+    pub stands : StandsFor observed reader given handed
     pub holds : Holds handed
 
   -- what a call of the reader returned, after these entries
@@ -42,7 +42,7 @@ module _ {R S H : Type 0} {builds : BuildHasher.Ghosts S H} {hashes : Hasher.Gho
       (so_far : HasReturned old Holds) where
     -- one entry more is returned
     pub one_more : (More : List Entry → Type 0) (x : X)
-        → HandsOutGiven told Is old new so_far.given so_far.handed (Ok (Some x))
+        → HandsOutGiven observed Is old new so_far.given so_far.handed (Ok (Some x))
         → ((handed : List Entry) (entry : Entry) → Is handed x entry → Holds handed
         → More (handed ++ entry ∷ []))
         → HasReturned new More
@@ -58,25 +58,25 @@ module _ {R S H : Type 0} {builds : BuildHasher.Ghosts S H} {hashes : Hasher.Gho
 
     -- none is left, so all bytes are a capture's with the entries returned
     pub all_returned : (bytes : List ℕ) → first.left ≡ Some bytes
-        → HandsOutGiven told Is old new so_far.given so_far.handed (Ok None)
+        → HandsOutGiven observed Is old new so_far.given so_far.handed (Ok None)
         → (entries : List Entry) × Typed bytes entries × Holds entries
     all_returned bytes tells step =
         let ended = step.hands_out in
         let gave = gave_on first so_far.gave step in
         let front =
-        prefix_of_told first (told (source_of new)) (so_far.given ++ step.more) bytes tells gave in
+        prefix_of_observed first (observed (source_of new)) (so_far.given ++ step.more) bytes tells gave in
         let whole : so_far.given ++ step.more ≡ bytes = front.all ended.1 in
         (so_far.handed, subst (λ (b : List ℕ). Typed b so_far.handed) whole ended.0, so_far.holds)
 
     -- a refusal has the first fault of all bytes
     pub refused : (T : Type 0) (error : Error) (bytes : List ℕ) → first.left ≡ Some bytes
-        → HandsOutGiven told Is old new so_far.given so_far.handed (Err error)
+        → HandsOutGiven observed Is old new so_far.given so_far.handed (Err error)
         → OnRefused {X = T} (Err error) (FirstFault bytes)
     refused T (errors.Refused fault) bytes tells step =
         let gave = gave_on first so_far.gave step in
         let prefix =
-        prefix_of_told first (told (source_of new)) (so_far.given ++ step.more) bytes tells gave in
-        (shown_of_all (told (source_of new)) (so_far.given ++ step.more) bytes so_far.handed fault
+        prefix_of_observed first (observed (source_of new)) (so_far.given ++ step.more) bytes tells gave in
+        (shown_of_all (observed (source_of new)) (so_far.given ++ step.more) bytes so_far.handed fault
         prefix step.hands_out.0).0
     refused T errors.Read bytes tells step = tt
     refused T errors.Write bytes tells step = tt
@@ -85,7 +85,7 @@ module _ {R S H : Type 0} {builds : BuildHasher.Ghosts S H} {hashes : Hasher.Gho
     -- a call that lends calls as values may have passed over one for want of memory
     pub refused_read : {Q : Type 0} (T : Type 0) (error : Error) (bytes : List ℕ)
         → first.left ≡ Some bytes
-        → HandsOutGiven told Is old new so_far.given so_far.handed (Err error)
+        → HandsOutGiven observed Is old new so_far.given so_far.handed (Err error)
         ⊎ ((◌≡◌ {A = Result (Option X) Error} (Err error) (Err errors.Memory)) × Q)
         → OnRefused {X = T} (Err error) (FirstFault bytes)
     refused_read T error bytes tells (inl step) = refused T error bytes tells step

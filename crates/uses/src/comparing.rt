@@ -112,9 +112,9 @@ pub fn handles_of<R: Source, S: BuildHasher + Drop>(
     hasher: S,
     source: &mut R,
 ) -> Result<Handles, Error>
-    ensures gathered { (bytes : List ℕ) → (R.told source.old).left ≡ Some bytes
+    ensures gathered { (bytes : List ℕ) → (R.observed source.old).left ≡ Some bytes
         → IfOk result (HasHandles bytes) }
-    ensures refused { (bytes : List ℕ) → (R.told source.old).left ≡ Some bytes
+    ensures refused { (bytes : List ℕ) → (R.observed source.old).left ≡ Some bytes
         → OnRefused result (FirstFault bytes) }
 {
     let mut entries = Entries::new(alloc, hasher, source)?;
@@ -156,10 +156,10 @@ pub fn first_other_handle<R: Source, T: Source, S: BuildHasher + Drop>(
     second: &mut T,
 ) -> Result<Option<usize>, SameError>
     ensures found { (a b : List ℕ)
-        → (R.told first.old).left ≡ Some a → (T.told second.old).left ≡ Some b
+        → (R.observed first.old).left ≡ Some a → (T.observed second.old).left ≡ Some b
         → IfOk result (HandlesPart a b) }
     ensures refused { (a b : List ℕ)
-        → (R.told first.old).left ≡ Some a → (T.told second.old).left ≡ Some b
+        → (R.observed first.old).left ≡ Some a → (T.observed second.old).left ≡ Some b
         → IfErr result (RefusesOneOf a b) }
 {
     let (one, other) = hashers;

@@ -32,9 +32,9 @@ pub fn count_calls<R: Source, S: BuildHasher + Drop>(
     source: &mut R,
     procedure: ProcId,
 ) -> Result<u64, Error>
-    ensures counted { (bytes : List ℕ) → (R.told source.old).left ≡ Some bytes
+    ensures counted { (bytes : List ℕ) → (R.observed source.old).left ≡ Some bytes
         → IfOk result (CountsCalls bytes procedure) }
-    ensures refused { (bytes : List ℕ) → (R.told source.old).left ≡ Some bytes
+    ensures refused { (bytes : List ℕ) → (R.observed source.old).left ≡ Some bytes
         → OnRefused result (FirstFault bytes) }
 {
     let mut entries = Entries::new(alloc, hasher, source)?;

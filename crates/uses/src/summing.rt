@@ -101,9 +101,9 @@ pub fn bytes_to_write<R: Source, S: BuildHasher + Drop>(
     hasher: S,
     source: &mut R,
 ) -> Result<u64, Error>
-    ensures summed { (bytes : List ℕ) → (R.told source.old).left ≡ Some bytes
+    ensures summed { (bytes : List ℕ) → (R.observed source.old).left ≡ Some bytes
         → IfOk result (SumsWrites bytes) }
-    ensures refused { (bytes : List ℕ) → (R.told source.old).left ≡ Some bytes
+    ensures refused { (bytes : List ℕ) → (R.observed source.old).left ≡ Some bytes
         → OnRefused result (FirstFault bytes) }
 {
     let mut entries = Entries::new(alloc, hasher, source)?;

@@ -1,6 +1,6 @@
 -- Two captures that are compared entry by entry: how far it has come, and what each step finds.
 use Rattle.std.specs.Prelude.{◌≡◌, ◌≢◌, ℕ, length, Option, None, Some, List, [], ◌∷◌, ◌++◌, Result, Ok, Err}
-use Rattle.capture3.specs.Told.{Gave, Told}
+use Rattle.capture3.specs.Observed.{Gave, Observed}
 use Rattle.std.specs.declared.hash.BuildHasher as BuildHasher
 use Rattle.std.specs.declared.hash.Hasher as Hasher
 use Rattle.capture3.specs.declared.reader.entries.Entries.{Entries}
@@ -39,20 +39,20 @@ pub record PartWith (a b : List Entry) (e f : Entry) (place : Place) : Type 0 wh
   pub place_is : IsPlaceOf a (Some e) (Some f) place
 
 -- the writer holds the values of these entries, and was told the one after them, if there is one
-abbrev pub HasTold : {S H : Type 0} → MessageWriter S H → List Entry → Option Entry → Type 0
-HasTold n entries None = WriterRests n (values_before entries)
-HasTold n entries (Some one) = HasHeard WriterRests WriterStands n (values_before entries) one
+abbrev pub HasReceived : {S H : Type 0} → MessageWriter S H → List Entry → Option Entry → Type 0
+HasReceived n entries None = WriterRests n (values_before entries)
+HasReceived n entries (Some one) = HasHeard WriterRests WriterStands n (values_before entries) one
 
 -- these were compared, and the numberings stand for their values, and were told the next two
-pub record IsTold {S H : Type 0} (comparison : Comparison S H) (a b : List Entry)
+pub record HaveReceived {S H : Type 0} (comparison : Comparison S H) (a b : List Entry)
     (next other : Option Entry) : Type 0 where
   pub agree : Agree a b
-  pub first : HasTold comparison.first a next
-  pub second : HasTold comparison.second b other
+  pub first : HasReceived comparison.first a next
+  pub second : HasReceived comparison.second b other
 
 -- these were compared
 abbrev pub IsCompared : {S H : Type 0} → Comparison S H → (a b : List Entry) → Type 0
-IsCompared comparison a b = IsTold comparison a b None None
+IsCompared comparison a b = HaveReceived comparison a b None None
 
 abbrev pub Compares : {S H : Type 0} → Comparison S H → (a b : List Entry) (e f : Entry)
     → Option Place → Type 0
@@ -79,26 +79,26 @@ CountsReadsOf which failures old new result =
     CountsReadingOf which (failures (source_of old)) (failures (source_of new)) result
 
 -- what an error of a reader says of what its source gave
-abbrev pub SaysOfGiven : (start now : Told) → Error → Type 0
-SaysOfGiven start now (errors.Refused fault) = GaveFault start now fault
-SaysOfGiven start now _ = Unit {0}
+abbrev pub GaveError : (start now : Observed) → Error → Type 0
+GaveError start now (errors.Refused fault) = GaveFault start now fault
+GaveError start now _ = Unit {0}
 
 -- the source gave all that it had, after these entries
-abbrev pub IsReadOut : {X : Type 0} → (start now : Told) → List Entry → Result X Error → Type 0
+abbrev pub IsReadOut : {X : Type 0} → (start now : Observed) → List Entry → Result X Error → Type 0
 IsReadOut start now handed (Ok x) = (more : List Entry) × GaveAll start now (handed ++ more)
-IsReadOut start now handed (Err error) = SaysOfGiven start now error
+IsReadOut start now handed (Err error) = GaveError start now error
 
 -- the same of the second source, with this verdict
-abbrev pub IsReadAfter : (start now : Told) → List Entry → Verdict → Result Verdict SameError
+abbrev pub IsReadAfter : (start now : Observed) → List Entry → Verdict → Result Verdict SameError
     → Type 0
 IsReadAfter start now handed verdict (Ok answer) = (answer ≡ verdict) × (more : List Entry)
     × GaveAll start now (handed ++ more)
 IsReadAfter start now handed verdict (Err error) = (error.which ≡ Second)
-    × SaysOfGiven start now error.error
+    × GaveError start now error.error
 
 -- a reader, and what its source told at the start
 module _ {R S H : Type 0} {builds : BuildHasher.Ghosts S H} {hashes : Hasher.Ghosts H}
-    (telling : R → Told) (start : Told) (reader : Entries R S H builds hashes) where
+    (telling : R → Observed) (start : Observed) (reader : Entries R S H builds hashes) where
   -- it handed out these entries
   pub record HasGiven (handed : List Entry) : Type 0 where
     pub given : List ℕ
@@ -112,7 +112,7 @@ module _ {R S H : Type 0} {builds : BuildHasher.Ghosts S H} {hashes : Hasher.Gho
 
 -- the first source told this at the start and now, and the second this at its start
 module _ {R S H : Type 0} {builds : BuildHasher.Ghosts S H} {hashes : Hasher.Ghosts H}
-    (telling : R → Told) (first now start : Told) (reader : Entries R S H builds hashes)
+    (telling : R → Observed) (first now start : Observed) (reader : Entries R S H builds hashes)
     (comparison : Comparison S H) (a b : List Entry) (e : Entry) where
   -- the second's entry came beside e, and they are alike
   pub record GoesWith : Type 0 where
@@ -135,7 +135,7 @@ module _ {R S H : Type 0} {builds : BuildHasher.Ghosts S H} {hashes : Hasher.Gho
 
 -- two readers, and what their sources told at the start
 module _ {A B S H : Type 0} {builds : BuildHasher.Ghosts S H} {hashes : Hasher.Ghosts H}
-    (telling : A → Told) (telling_other : B → Told) (start other_start : Told)
+    (telling : A → Observed) (telling_other : B → Observed) (start other_start : Observed)
     (first : Entries A S H builds hashes) (second : Entries B S H builds hashes) where
   -- what the two handed out was compared
   pub record IsComparing (comparison : Comparison S H) : Type 0 where

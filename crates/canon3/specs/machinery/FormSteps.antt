@@ -6,13 +6,13 @@ use Rattle.capture3.specs.declared.fault.Error.{Error}
 use Rattle.capture3.specs.Capture.{One, magic}
 use Rattle.capture3.specs.Entry.{Entry}
 use Rattle.canon3.specs.declared.canonical_form.message_writer.MessageWriter.{MessageWriter}
-use Rattle.canon3.specs.machinery.MessageWriter.{told_after, IsGoing, WriterRests, values_of}
+use Rattle.canon3.specs.machinery.MessageWriter.{items_of_writer, IsGoing, WriterRests, values_of}
 use Rattle.canon3.specs.machinery.Spelling.{bytes_after}
 use Rattle.canon3.specs.SinkWrites.{AppendsFront}
 
 -- the values of the entries so far, in front of the next message
 abbrev pub values_before : List Entry → List Item
-values_before entries = told_after (values_of entries) []
+values_before entries = items_of_writer (values_of entries) []
 
 abbrev pub are_some : List Entry → Bool
 are_some [] = false

@@ -65,21 +65,21 @@ abbrev pub in_front_of : List (List ℕ) → List Item → List Item
 in_front_of [] items = Word [] 0 ∷ items
 in_front_of (x ∷ xs) items = Rest [] x ∷ in_front_of xs items
 
-abbrev pub told_after : Before → List Item → List Item
-told_after before items = in_front_of before.handles (in_front_of before.verifiers items)
+abbrev pub items_of_writer : Before → List Item → List Item
+items_of_writer before items = in_front_of before.handles (in_front_of before.verifiers items)
 
 -- a message under way, and what was there before it
 pub record HasMessageUnderWay {S H : Type 0} (n : MessageWriter S H)
     (all : List Item) : Type 0 where
   pub before : Before
   pub items : List Item
-  pub are : all ≡ told_after before items
+  pub are : all ≡ items_of_writer before items
   pub under_way : IsWithinMessage n before items
 
 -- no message is open
 pub record HasNoMessage {S H : Type 0} (n : MessageWriter S H) (all : List Item) : Type 0 where
   pub before : Before
-  pub are : all ≡ told_after before []
+  pub are : all ≡ items_of_writer before []
   pub holds : HoldsBefore n before
   pub fresh : Makes n.patches [] []
 

@@ -1,6 +1,6 @@
 -- A reader and a writer under way, and what each step of them does.
 use Rattle.std.specs.Prelude.{ℕ, Option, List, ◌++◌, Result, Ok, Err}
-use Rattle.capture3.specs.Told.{Gave, IsSpent, Told}
+use Rattle.capture3.specs.Observed.{Gave, IsSpent, Observed}
 use Rattle.std.specs.Io.KnownBytes.{Appends}
 use Rattle.std.specs.declared.hash.BuildHasher as BuildHasher
 use Rattle.std.specs.declared.hash.Hasher as Hasher
@@ -26,47 +26,47 @@ module _ {T : Type 0} (form : List Entry → List ℕ) (before : List Entry → 
     pub written : Appends old new (form entries)
 
 -- all bytes were read, and is a capture with these entries
-pub record IsEnded (first told : Told) (given : List ℕ) (entries : List Entry) : Type 0 where
-  pub consumed : Gave first told given
-  pub ended : IsSpent told
+pub record IsEnded (first observed : Observed) (given : List ℕ) (entries : List Entry) : Type 0 where
+  pub consumed : Gave first observed given
+  pub ended : IsSpent observed
   pub typed : Typed given entries
 
 -- a writer to a sink, from when the source told this first, and the sink had the old bytes
 module _ {T : Type 0} (form : List Entry → List ℕ) (before : List Entry → List Item)
-    (rests : T → List Item → Type 0) (going : T → Type 0) (first : Told)
+    (rests : T → List Item → Type 0) (going : T → Type 0) (first : Observed)
     (old : Option (List ℕ)) where
   -- all bytes were a capture's, its entries came so far, and the form of all was written
-  pub record HasWrittenAll (told : Told) (writer : T) (progress : Progress)
+  pub record HasWrittenAll (observed : Observed) (writer : T) (progress : Progress)
       (new : Option (List ℕ)) : Type 0 where
     pub given : List ℕ
     pub handed : List Entry
-    pub ended : IsEnded first told given handed
+    pub ended : IsEnded first observed given handed
     pub came : HasPassed progress handed
     pub writes : HasWritten form before rests going writer old new handed
 
   -- an error came
-  pub record HasStopped (told : Told) (new : Option (List ℕ)) (error : Error) : Type 0 where
+  pub record HasStopped (observed : Observed) (new : Option (List ℕ)) (error : Error) : Type 0 where
     pub given : List ℕ
-    pub consumed : Gave first told given
-    pub stopped : IsStoppedBy form error told given old new
+    pub consumed : Gave first observed given
+    pub stopped : IsStoppedBy form error observed given old new
 
-  abbrev pub EndsWriting : Told → T → (new : Option (List ℕ)) → Result Progress Error → Type 0
-  EndsWriting told writer new (Ok progress) = HasWrittenAll told writer progress new
-  EndsWriting told writer new (Err error) = HasStopped told new error
+  abbrev pub EndsWriting : Observed → T → (new : Option (List ℕ)) → Result Progress Error → Type 0
+  EndsWriting observed writer new (Ok progress) = HasWrittenAll observed writer progress new
+  EndsWriting observed writer new (Err error) = HasStopped observed new error
 
 -- a reader that hands out entries after these, from when the source told this first, and a writer
 -- to a sink, from when it had the old bytes
 module _ {T R S H : Type 0} {builds : BuildHasher.Ghosts S H} {hashes : Hasher.Ghosts H}
     (form : List Entry → List ℕ) (before : List Entry → List Item) (rests : T → List Item → Type 0)
-    (going : T → Type 0) (told : R → Told) (first : Told) (front : List Entry)
+    (going : T → Type 0) (observed : R → Observed) (first : Observed) (front : List Entry)
     (old : Option (List ℕ)) where
   -- what it handed out was written
   pub record IsWriting (reader : Entries R S H builds hashes) (writer : T)
       (new : Option (List ℕ)) : Type 0 where
     pub given : List ℕ
     pub more : List Entry
-    pub consumed : Gave first (told (source_of reader)) given
-    pub reads : StandsFor told reader given (front ++ more)
+    pub consumed : Gave first (observed (source_of reader)) given
+    pub reads : StandsFor observed reader given (front ++ more)
     pub writes : HasWritten form before rests going writer old new (front ++ more)
 
   -- the same, and that was all
@@ -75,12 +75,12 @@ module _ {T R S H : Type 0} {builds : BuildHasher.Ghosts S H} {hashes : Hasher.G
       0 where
     pub given : List ℕ
     pub more : List Entry
-    pub ended : IsEnded first (told (source_of reader)) given (front ++ more)
-    pub reads : StandsFor told reader given (front ++ more)
+    pub ended : IsEnded first (observed (source_of reader)) given (front ++ more)
+    pub reads : StandsFor observed reader given (front ++ more)
     pub writes : HasWritten form before rests going writer old new (front ++ more)
 
   abbrev pub WritesToTheEnd : {X : Type 0} → Entries R S H builds hashes → T → Option (List ℕ)
       → Result X Error → Type 0
   WritesToTheEnd reader writer new (Ok x) = IsDone reader writer new
   WritesToTheEnd reader writer new (Err error) =
-      HasStopped form before rests going first old (told (source_of reader)) new error
+      HasStopped form before rests going first old (observed (source_of reader)) new error

@@ -5,7 +5,7 @@ ghost use Rattle.xdr3.specs.Item.{Handle as HandleKind, Item, Kind, Opaque, Word
 ghost use Rattle.xdr3.specs.Visit.{Adds, body_limit};
 ghost use Rattle.canon3.specs.Bytes.{chunk_bytes, record_bytes};
 ghost use Rattle.canon3.specs.HandleTable.{HoldsHandles};
-ghost use Rattle.canon3.specs.machinery.MessageWriter.{Before, HoldsBefore, IsGoing, WriterRests, WriterStands, message_of, told_after, values_of};
+ghost use Rattle.canon3.specs.machinery.MessageWriter.{Before, HoldsBefore, IsGoing, WriterRests, WriterStands, message_of, items_of_writer, values_of};
 ghost use Rattle.capture3.specs.Rank.{number_limit, rank};
 ghost use Rattle.canon3.specs.Renaming.{IsPlain};
 
@@ -90,7 +90,7 @@ fn set_head(room: &mut [u8], head: [u8; HEAD])
 impl<S: BuildHasher + Drop> MessageWriter<S> {
     /// Returns a writer before a capture.
     pub(crate) fn new(alloc: Global, handles: S, verfs: S) -> MessageWriter<S>
-        ensures rests { WriterRests result (told_after (values_of []) []) }
+        ensures rests { WriterRests result (items_of_writer (values_of []) []) }
         ensures going { IsGoing result }
     {
         MessageWriter {
@@ -106,7 +106,7 @@ impl<S: BuildHasher + Drop> MessageWriter<S> {
     /// Lets the message go, and keeps its values.
     pub(crate) fn end_message(&mut self)
         ensures rests { (before : Before) → HoldsBefore self.old before
-            → WriterRests self.new (told_after before []) }
+            → WriterRests self.new (items_of_writer before []) }
         ensures going { IsGoing self.new }
     {
         self.patches.clear();

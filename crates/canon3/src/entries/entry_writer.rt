@@ -1,7 +1,7 @@
 //! What is written of a capture while it is read, from a source to a sink.
 
 ghost use Rattle.std.specs.Prelude.{◌≡◌, ℕ, List, [], Option, None, bytes_eq, length, min, IfErr, OnOk};
-ghost use Rattle.capture3.specs.Told.{GavePrefix, Told};
+ghost use Rattle.capture3.specs.Observed.{GavePrefix, Observed};
 ghost use Rattle.xdr3.specs.Item.{Item};
 ghost use Rattle.capture3.specs.Entries.{CountsReading, failure_of};
 ghost use Rattle.capture3.specs.Entry as spec;
@@ -88,9 +88,9 @@ pub fn write_entries<R: Source, W: Sink, E: CountingWriter, S: BuildHasher + Dro
     requires prefixes { KeepsPrefixes E.form }
 
     // What is written.
-    ensures writes { WritesGiven E.form (R.told source.old) (R.told source.new) (W.written sink.old)
+    ensures writes { WritesGiven E.form (R.observed source.old) (R.observed source.new) (W.written sink.old)
         (W.written sink.new) result }
-    ensures whole { (bytes : List ℕ) → GavePrefix (R.told source.old) (R.told source.new) bytes
+    ensures whole { (bytes : List ℕ) → GavePrefix (R.observed source.old) (R.observed source.new) bytes
         → WritesAll E.form bytes (W.written sink.old) (W.written sink.new) result }
     ensures flushes { OnOk result (IsFlushed (W.written sink.new) (W.flushed sink.new)) }
 
@@ -127,9 +127,9 @@ pub fn write_form<R: Source, W: Sink, E: EntryWriter, S: BuildHasher + Drop>(
     requires prefixes { KeepsPrefixes E.form }
 
     // What is written.
-    ensures writes { WritesGivenCounted AreMessageCounts E.form (R.told source.old)
-        (R.told source.new) (W.written sink.old) (W.written sink.new) result }
-    ensures whole { (bytes : List ℕ) → GavePrefix (R.told source.old) (R.told source.new) bytes
+    ensures writes { WritesGivenCounted AreMessageCounts E.form (R.observed source.old)
+        (R.observed source.new) (W.written sink.old) (W.written sink.new) result }
+    ensures whole { (bytes : List ℕ) → GavePrefix (R.observed source.old) (R.observed source.new) bytes
         → WritesAllCounted AreMessageCounts E.form bytes (W.written sink.old) (W.written sink.new)
         result }
     ensures flushes { OnOk result (IsFlushed (W.written sink.new) (W.flushed sink.new)) }
@@ -156,8 +156,8 @@ fn write_whole<R: Source, W: Sink, E: EntryWriter, S: BuildHasher + Drop>(
     requires prefixes { KeepsPrefixes E.form }
 
     // What is written.
-    ensures ends { EndsWriting E.form E.before E.rests E.going (R.told source.old)
-        (W.written sink.old) (R.told source.new) writer.new (W.written sink.new) result }
+    ensures ends { EndsWriting E.form E.before E.rests E.going (R.observed source.old)
+        (W.written sink.old) (R.observed source.new) writer.new (W.written sink.new) result }
     ensures flushes { OnOk result (IsFlushed (W.written sink.new) (W.flushed sink.new)) }
 
     // The devices.
@@ -187,10 +187,10 @@ pub(crate) fn write_rest<R: Source, W: Sink, E: EntryWriter, S: BuildHasher + Dr
 ) -> Result<(), Error>
     requires going { failure_of entries.old ≡ None }
     requires prefixes { KeepsPrefixes E.form }
-    ensures over { (first : Told) (front : List spec.Entry) (old : Option (List ℕ))
-        → IsWriting E.form E.before E.rests E.going R.told first front old entries.old writer.old
+    ensures over { (first : Observed) (front : List spec.Entry) (old : Option (List ℕ))
+        → IsWriting E.form E.before E.rests E.going R.observed first front old entries.old writer.old
         (W.written sink.old)
-        → WritesToTheEnd E.form E.before E.rests E.going R.told first front old entries.new
+        → WritesToTheEnd E.form E.before E.rests E.going R.observed first front old entries.new
         writer.new (W.written sink.new) result }
     ensures going { OnOk result (failure_of entries.new ≡ None) }
     ensures devices { ReadsAndWrites R.failures entries.old entries.new (W.failures sink.old)

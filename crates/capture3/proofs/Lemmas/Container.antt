@@ -6,5 +6,5 @@ pub mod KeptStreamsLemmas
 pub mod SidedChunksMachineLemmas
 pub mod SidedChunksRules
 pub mod Sizes
-pub mod Told
+pub mod Determined
 pub mod BytesOf

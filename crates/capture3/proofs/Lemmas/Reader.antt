@@ -8,4 +8,4 @@ pub mod Lending
 pub mod LendingLemmas
 pub mod PassedOn
 pub mod PlacingLemmas
-pub mod ToldLemmas
+pub mod ObservedLemmas

@@ -1,7 +1,7 @@
 -- The histories for which a reader of entries stands: what its source gave it, and what it handed
 -- out.
 use Rattle.std.specs.Prelude.{◌≡◌, ℕ, ◌+◌, ◌≤◌, Option, Some, None, Result, Ok, Err, List, [], ◌∷◌, ◌++◌, length, slice_range, ◌≢◌, ◌<◌, Bool, IsTrue, IsFalse, IsSome, OnErr, OnOk}
-use Rattle.capture3.specs.Told.{Told, Gave, IsSpent}
+use Rattle.capture3.specs.Observed.{Observed, Gave, IsSpent}
 use Rattle.xdr3.specs.Item.{AreBytes, Item}
 use Rattle.std.specs.declared.hash.BuildHasher as BuildHasher
 use Rattle.std.specs.declared.hash.Hasher as Hasher
@@ -71,44 +71,44 @@ module _ {R S H : Type 0} {builds : BuildHasher.Ghosts S H} {hashes : Hasher.Gho
         handed
     pub messages : CountedMessages entries handed
 
-  abbrev pub StandsIn : Stage → Told → Entries R S H builds hashes → List ℕ → List Entry → Type 0
-  StandsIn Reading told entries given handed = IsReading entries given handed
-  StandsIn Over told entries given handed = Typed given handed × IsSpent told
+  abbrev pub StandsIn : Stage → Observed → Entries R S H builds hashes → List ℕ → List Entry → Type 0
+  StandsIn Reading observed entries given handed = IsReading entries given handed
+  StandsIn Over observed entries given handed = Typed given handed × IsSpent observed
       × AreCounted entries.pairing.container.position.connections
       entries.pairing.container.position.records handed × CountedMessages entries handed
-  StandsIn (Failed error) told entries given handed = IsMetBy error told given handed
+  StandsIn (Failed error) observed entries given handed = IsMetBy error observed given handed
 
   -- the source gave these bytes since the reader was new, and the reader handed out these entries
-  pub record StandsFor (told : R → Told) (entries : Entries R S H builds hashes) (given : List ℕ)
+  pub record StandsFor (observed : R → Observed) (entries : Entries R S H builds hashes) (given : List ℕ)
       (handed : List Entry) : Type 0 where
     pub bytes : AreBytes given
     pub few : length handed + entries_left entries ≤ most_entries
     pub limits : KeepsLimits entries given handed
     pub holds : HoldsLast entries handed
-    pub here : StandsIn entries.stage (told entries.source.now) entries given handed
+    pub here : StandsIn entries.stage (observed entries.source.now) entries given handed
 
   -- the source gave more bytes
-  pub record HasRead (told : R → Told) (old new : Entries R S H builds hashes) (given : List ℕ)
+  pub record HasRead (observed : R → Observed) (old new : Entries R S H builds hashes) (given : List ℕ)
       (handed : List Entry) : Type 0 where
     pub more : List ℕ
-    pub consumed : Gave (told old.source.now) (told new.source.now) more
-    pub stands : StandsFor told new (given ++ more) handed
+    pub consumed : Gave (observed old.source.now) (observed new.source.now) more
+    pub stands : StandsFor observed new (given ++ more) handed
 
   -- this entry is handed out and told; or none is, and it goes on or has failed
-  abbrev pub HandsOutOrGoesOn : {V : Type 0} → (R → Told) → (rests stands : V → List Item → Type 0)
+  abbrev pub HandsOutOrGoesOn : {V : Type 0} → (R → Observed) → (rests stands : V → List Item → Type 0)
       → Entries R S H builds hashes → (was now : V) → List ℕ → List Entry → Option Kind → Type 0
-  HandsOutOrGoesOn told rests stands new was now given handed (Some kind) =
+  HandsOutOrGoesOn observed rests stands new was now given handed (Some kind) =
       (entry : Entry) × IsOfKind kind entry × Hears rests stands was now entry
-      × StandsFor told new given (handed ++ entry ∷ [])
-  HandsOutOrGoesOn told rests stands new was now given handed None = StandsFor told new given handed
+      × StandsFor observed new given (handed ++ entry ∷ [])
+  HandsOutOrGoesOn observed rests stands new was now given handed None = StandsFor observed new given handed
 
-  pub record Turns {V : Type 0} (told : R → Told) (rests stands : V → List Item → Type 0)
+  pub record Turns {V : Type 0} (observed : R → Observed) (rests stands : V → List Item → Type 0)
       (old new : Entries R S H builds hashes) (was now : V) (given : List ℕ)
       (handed : List Entry) : Type 0 where
     pub more : List ℕ
-    pub consumed : Gave (told old.source.now) (told new.source.now) more
+    pub consumed : Gave (observed old.source.now) (observed new.source.now) more
     pub goes_on :
-        HandsOutOrGoesOn told rests stands new was now (given ++ more) handed (last_of new)
+        HandsOutOrGoesOn observed rests stands new was now (given ++ more) handed (last_of new)
 
   -- ---- what a call inside the reader leaves
 
@@ -117,17 +117,17 @@ module _ {R S H : Type 0} {builds : BuildHasher.Ghosts S H} {hashes : Hasher.Gho
   IsUsedUp entries = (entries.start ≡ entries.end) × (entries.pairing.container.cursor ≡ None)
 
   -- whether bytes are at hand, or kept streams; if not, the source has none left
-  pub record FillsOrEnds (told : R → Told) (new : Entries R S H builds hashes) (more : Bool) : Type
+  pub record FillsOrEnds (observed : R → Observed) (new : Entries R S H builds hashes) (more : Bool) : Type
       0 where
     pub some : IsTrue more → new.pairing.container.cursor ≡ None → new.start < new.end
     pub none : IsFalse more → IsUsedUp new
-    pub end : IsFalse more → IsSpent (told (source_of new))
+    pub end : IsFalse more → IsSpent (observed (source_of new))
 
   -- if no entry is whole yet: bytes were judged, no visitor was called, and it reads on
   pub record JudgesOn {V : Type 0} (old new : Entries R S H builds hashes) (was now : V) : Type
       0 where
     pub on : last_of new ≡ None → old.judged < new.judged
-    pub untold : last_of new ≡ None → now ≡ was
+    pub unmoved : last_of new ≡ None → now ≡ was
     pub no_more : last_of new ≡ None → entries_left new ≤ entries_left old
     pub reading : last_of new ≡ None → new.stage ≡ Reading
 

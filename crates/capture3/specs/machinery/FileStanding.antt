@@ -14,7 +14,7 @@ use Rattle.capture3.specs.Connections.{ShownFault, refusal}
 use Rattle.capture3.specs.Entry.{Entry}
 use Rattle.capture3.specs.Entry as entries
 use Rattle.capture3.specs.BodyProgram.{judge_call, judge_reply}
-use Rattle.capture3.specs.ConnectionMachine.{InClient, InServer, InMixed, client_said}
+use Rattle.capture3.specs.ConnectionMachine.{InClient, InServer, InMixed, after_client}
 use Rattle.capture3.specs.FileMachine as parsing
 use Rattle.capture3.specs.FileMachine.{Parsing, parsing_in}
 use Rattle.capture3.specs.StreamMachine.{stream_end, reading_with}
@@ -112,7 +112,7 @@ abbrev pub conversed : Unpacking → Judged → Streams → Next Parsing ShownFa
 conversed u j streams =
     within (λ p. parsing_in Two j.start j.before u.connections j.entries (parsing.Inside p))
     (parsing.closed Two u.connections j.entries)
-    (client_said u.connections u.at u.total streams.server (stream_end judge_call streams.client))
+    (after_client u.connections u.at u.total streams.server (stream_end judge_call streams.client))
 
 -- what the machine for the file comes to. Streams come by HasStreams and as no event, so what is
 -- said of the event of that name, here and below, is of no use.

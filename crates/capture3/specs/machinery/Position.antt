@@ -108,8 +108,8 @@ AreEmpty streams = streams ≡ sided.gathered []
 
 -- a connection word of this version, at its first byte
 abbrev pub IsBeforeMark : Version → Spot → Type 0
-IsBeforeMark version (Word (words.Mark told) part) =
-    (version_of told ≡ version) × (bytes_so_far part ≡ [])
+IsBeforeMark version (Word (words.Mark observed) part) =
+    (version_of observed ≡ version) × (bytes_so_far part ≡ [])
 IsBeforeMark version spot = ⊥
 
 -- the last word 0 has come

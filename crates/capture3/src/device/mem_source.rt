@@ -2,8 +2,8 @@
 
 ghost use Rattle.std.specs.Prelude.{◌≡◌, ◌≤◌, ◌<◌, ◌-◌, ◌↔◌, false, length, min, None, Some, IfOk, IsErr};
 ghost use Rattle.capture3.specs.Device.{Counts};
-ghost use Rattle.capture3.specs.MemSource.{told_in_memory};
-ghost use Rattle.capture3.specs.Told.{ReadGives, TellsSpent};
+ghost use Rattle.capture3.specs.MemSource.{observed_in_memory};
+ghost use Rattle.capture3.specs.Observed.{ReadGives, UpdatesSpent};
 
 use crate::device::DeviceFailed;
 use crate::device::plan::FaultPlan;
@@ -60,16 +60,16 @@ impl<'a> MemSource<'a> {
 }
 
 impl Source for MemSource<'_> {
-    ghost told = { told_in_memory };
+    ghost observed = { observed_in_memory };
 
     ghost failures = { λ s. s.failures };
 
     fn read_some(&mut self, buf: &mut [u8]) -> Result<usize, DeviceFailed>
         requires room { 0 < length buf.old }
         ensures within { IfOk result (λ n. n ≤ length buf.new) }
-        ensures bytes { ReadGives (told_in_memory self.old) (told_in_memory self.new) result
+        ensures bytes { ReadGives (observed_in_memory self.old) (observed_in_memory self.new) result
             buf.new }
-        ensures spent { TellsSpent (told_in_memory self.old) (told_in_memory self.new) result }
+        ensures spent { UpdatesSpent (observed_in_memory self.old) (observed_in_memory self.new) result }
         ensures count { Counts self.old.failures self.new.failures result }
 
         // How many bytes a call gives, and which call fails.

@@ -2,7 +2,7 @@
 
 ghost use Rattle.std.specs.Prelude.{◌≡◌, ◌≤◌, ◌<◌, ℕ, [], false, length, Some, IfOk};
 ghost use Rattle.capture3.specs.Device.{Counts};
-ghost use Rattle.capture3.specs.Told.{Told, ReadGives, TellsSpent};
+ghost use Rattle.capture3.specs.Observed.{Observed, ReadGives, UpdatesSpent};
 
 use crate::device::DeviceFailed;
 use crate::device::trail::Trail;
@@ -12,7 +12,7 @@ use std::marker::Model;
 /// A reader whose calls may fail.
 pub trait Source {
     // What the source tells of the bytes that are left and of those that its reads gave.
-    ghost told: { Self → Told };
+    ghost observed: { Self → Observed };
 
     // How many reads have failed, up to 2^64 - 1.
     ghost failures: { Self → ℕ };
@@ -22,8 +22,8 @@ pub trait Source {
     fn read_some(&mut self, buf: &mut [u8]) -> Result<usize, DeviceFailed>
         requires room { 0 < length buf.old }
         ensures within { IfOk result (λ n. n ≤ length buf.new) }
-        ensures bytes { ReadGives (told self.old) (told self.new) result buf.new }
-        ensures spent { TellsSpent (told self.old) (told self.new) result }
+        ensures bytes { ReadGives (observed self.old) (observed self.new) result buf.new }
+        ensures spent { UpdatesSpent (observed self.old) (observed self.new) result }
         ensures count { Counts (failures self.old) (failures self.new) result };
 }
 
@@ -114,7 +114,7 @@ impl Model for Given {
 }
 
 impl<R: Read> Source for FromRead<R> {
-    ghost told = { λ s. record {
+    ghost observed = { λ s. record {
       left = R.remaining s.device;
       given = Some s.given;
       is_spent = s.is_spent;

@@ -1,7 +1,7 @@
 //! The entries of a capture, read one by one.
 
 ghost use Rattle.std.specs.Prelude.{◌≡◌, ◌≢◌, ◌≤◌, ◌<◌, ◌+◌, ◌++◌, ◌∷◌, ℕ, List, [], length, vec_len, IsTrue, IsFalse, IsSome, IfErr, IfOk, IfSome, OnErr, OnOk, Err, Ok, None, Some};
-ghost use Rattle.capture3.specs.Told.{IsSpent, ReadGives};
+ghost use Rattle.capture3.specs.Observed.{IsSpent, ReadGives};
 ghost use Rattle.record_mark.specs.Taking.{released};
 ghost use Rattle.capture3.specs.declared.reader.entries.Stage.TheVariants as stages;
 ghost use Rattle.capture3.specs.declared.fault.Error.{Error};
@@ -90,7 +90,7 @@ impl<'r, R: Source, S: BuildHasher + Drop> Entries<'r, R, S> {
     /// the calls of a connection by their xids, and affects no result.
     pub fn through(alloc: Global, hasher: S, source: &'r mut R, block: Vec<u8>) -> Entries<'r, R, S>
         requires { 0 < vec_len block }
-        ensures stands { StandsFor R.told result [] [] }
+        ensures stands { StandsFor R.observed result [] [] }
         ensures unread { source_of result ≡ source.old }
         ensures going { failure_of result ≡ None }
         ensures unlent { last_of result ≡ None }
@@ -116,7 +116,7 @@ impl<'r, R: Source, S: BuildHasher + Drop> Entries<'r, R, S> {
     ///
     /// `AllocError` if the block could not be allocated. Then nothing was read.
     pub fn new(alloc: Global, hasher: S, source: &'r mut R) -> Result<Entries<'r, R, S>, AllocError>
-        ensures stands { IfOk result (λ entries. StandsFor R.told entries [] []) }
+        ensures stands { IfOk result (λ entries. StandsFor R.observed entries [] []) }
         ensures unread { IfOk result (λ entries. source_of entries ≡ source.old) }
         ensures going { IfOk result (λ entries. failure_of entries ≡ None) }
         ensures unlent { IfOk result (λ entries. last_of entries ≡ None) }
@@ -152,7 +152,7 @@ impl<'r, R: Source, S: BuildHasher + Drop> Entries<'r, R, S> {
     pub fn next(&mut self) -> Result<Option<EntryRef<'_>>, Error>
         // What the reader ends as, and what is lent.
         ensures* ends { sem 𝓛 (EndsRead R.row S.row S.Hasher.row S.BuildHasher S.Hasher.Hasher
-            R.told R.failures self.entry result) }
+            R.observed R.failures self.entry result) }
 
         // What is known while the entry is used.
         ensures left { IfOk result (λ next. IsSome next → 0 < entries_left self.old) }
@@ -187,10 +187,10 @@ impl<'r, R: Source, S: BuildHasher + Drop> Entries<'r, R, S> {
     ) -> Result<Option<LentEntry<'_>>, Error>
         // What the reader ends as, and what is lent.
         ensures* ends { sem 𝓛 (EndsAs R.row S.row S.Hasher.row S.BuildHasher S.Hasher.Hasher
-            R.told V.rests V.stands R.failures self.entry visitor.old visitor.new result) }
+            R.observed V.rests V.stands R.failures self.entry visitor.old visitor.new result) }
 
         // What is known while the entry is used.
-        ensures untold { IfOk result (λ next. next ≡ None → visitor.new ≡ visitor.old) }
+        ensures unmoved { IfOk result (λ next. next ≡ None → visitor.new ≡ visitor.old) }
         ensures left { IfOk result (λ next. IsSome next → 0 < entries_left self.old) }
         ensures write { IfErr result (λ error. error ≢ Error.Write) }
     {
@@ -206,8 +206,8 @@ impl<'r, R: Source, S: BuildHasher + Drop> Entries<'r, R, S> {
     fn step<V: MessageVisit>(&mut self, visitor: &mut V) -> Result<Option<Kind>, Error>
         // What is returned, and which entry is lent.
         ensures answers { (given : List ℕ) (handed : List spec.Entry)
-            → StandsFor R.told self.old given handed
-            → HandsOutGiven R.told (IsNextOfKind V.rests V.stands visitor.old visitor.new) self.old
+            → StandsFor R.observed self.old given handed
+            → HandsOutGiven R.observed (IsNextOfKind V.rests V.stands visitor.old visitor.new) self.old
             self.new given handed result }
         ensures end { result ≡ Ok (Some Kind.End) → IsOver self.new }
         ensures over { IsOver self.old → (result ≡ Ok None) × (self.new ≡ self.old) }
@@ -216,7 +216,7 @@ impl<'r, R: Source, S: BuildHasher + Drop> Entries<'r, R, S> {
             → entries_left self.new < entries_left self.old) }
 
         // The visitor.
-        ensures untold { IfOk result (λ next. next ≡ None → visitor.new ≡ visitor.old) }
+        ensures unmoved { IfOk result (λ next. next ≡ None → visitor.new ≡ visitor.old) }
 
         // Errors stay.
         ensures errors { KeepsErrors self.old self.new result }
@@ -237,7 +237,7 @@ impl<'r, R: Source, S: BuildHasher + Drop> Entries<'r, R, S> {
     /// Returns how far the entries have come that were lent. After an error it says nothing.
     pub fn progress(&self) -> Progress
         ensures { (given : List ℕ) (handed : List spec.Entry)
-            → StandsFor R.told self.now given handed → failure_of self.now ≡ None
+            → StandsFor R.observed self.now given handed → failure_of self.now ≡ None
             → HasPassed result handed }
     {
         self.pairing.progress()
@@ -247,7 +247,7 @@ impl<'r, R: Source, S: BuildHasher + Drop> Entries<'r, R, S> {
     fn read_last(&self) -> Result<Option<EntryRef<'_>>, AllocError>
         ensures kind { IfOk result (λ next. kind_read next ≡ last_of self.now) }
         ensures value { (given : List ℕ) (handed : List spec.Entry) (entry : spec.Entry)
-            → StandsFor R.told self.now given (handed ++ entry ∷ [])
+            → StandsFor R.observed self.now given (handed ++ entry ∷ [])
             → IfOk result (λ next. IfSome next (λ read. IsReadAs read entry)) }
     {
         match self.entry() {
@@ -263,10 +263,10 @@ impl<'r, R: Source, S: BuildHasher + Drop> Entries<'r, R, S> {
     fn entry(&self) -> Option<LentEntry<'_>>
         ensures kind { kind_lent result ≡ last_of self.now }
         ensures lent { (given : List ℕ) (handed : List spec.Entry) (entry : spec.Entry)
-            → StandsFor R.told self.now given (handed ++ entry ∷ [])
+            → StandsFor R.observed self.now given (handed ++ entry ∷ [])
             → IfSome result (λ lent. IsLent lent entry) }
         ensures numbered { (given : List ℕ) (handed : List spec.Entry) (entry : spec.Entry)
-            → StandsFor R.told self.now given (handed ++ entry ∷ [])
+            → StandsFor R.observed self.now given (handed ++ entry ∷ [])
             → IfSome result (λ lent. number_lent lent ≡ number_after handed entry) }
     {
         match self.pairing.last {
@@ -293,8 +293,8 @@ impl<'r, R: Source, S: BuildHasher + Drop> Entries<'r, R, S> {
 
         // Which entry is lent.
         ensures turns { (given : List ℕ) (handed : List spec.Entry)
-            → StandsFor R.told self.old given handed
-            → Turns R.told V.rests V.stands self.old self.new visitor.old visitor.new given handed }
+            → StandsFor R.observed self.old given handed
+            → Turns R.observed V.rests V.stands self.old self.new visitor.old visitor.new given handed }
         ensures end { last_of self.new ≡ Some Kind.End → IsOver self.new }
         ensures some { OnOk result (IsSome (last_of self.new)) }
         ensures lends { LendsOrFails self.old self.new result }
@@ -343,9 +343,9 @@ impl<'r, R: Source, S: BuildHasher + Drop> Entries<'r, R, S> {
 
         // What was read.
         ensures has_read { (given : List ℕ) (handed : List spec.Entry)
-            → StandsFor R.told self.old given handed
-            → HasRead R.told self.old self.new given handed }
-        ensures more { IfOk result (FillsOrEnds R.told self.new) }
+            → StandsFor R.observed self.old given handed
+            → HasRead R.observed self.old self.new given handed }
+        ensures more { IfOk result (FillsOrEnds R.observed self.new) }
 
         // What stays.
         ensures stays { OnOk result ((self.new.pairing ≡ self.old.pairing)
@@ -383,8 +383,8 @@ impl<'r, R: Source, S: BuildHasher + Drop> Entries<'r, R, S> {
 
         // Which entry is lent.
         ensures goes_on { (given : List ℕ) (handed : List spec.Entry)
-            → StandsFor R.told self.old given handed
-            → HandsOutOrGoesOn R.told V.rests V.stands self.new visitor.old visitor.new given handed
+            → StandsFor R.observed self.old given handed
+            → HandsOutOrGoesOn R.observed V.rests V.stands self.new visitor.old visitor.new given handed
             (last_of self.new) }
         ensures not_end { last_of self.new ≢ Some Kind.End }
         ensures on { OnOk result (JudgesOn self.old self.new visitor.old visitor.new) }
@@ -412,15 +412,15 @@ impl<'r, R: Source, S: BuildHasher + Drop> Entries<'r, R, S> {
     fn finish(&mut self) -> Result<(), Noted>
         requires reading { self.old.stage ≡ Stage.Reading }
         requires used_up { IsUsedUp self.old }
-        requires end { IsSpent (R.told (source_of self.old)) }
+        requires end { IsSpent (R.observed (source_of self.old)) }
 
         // The last entry, or the fault.
         ensures ok { (given : List ℕ) (handed : List spec.Entry)
-            → StandsFor R.told self.old given handed
-            → OnOk result (StandsFor R.told self.new given (handed ++ spec.End ∷ [])) }
+            → StandsFor R.observed self.old given handed
+            → OnOk result (StandsFor R.observed self.new given (handed ++ spec.End ∷ [])) }
         ensures err { (given : List ℕ) (handed : List spec.Entry)
-            → StandsFor R.told self.old given handed
-            → OnErr result (StandsFor R.told self.new given handed) }
+            → StandsFor R.observed self.old given handed
+            → OnErr result (StandsFor R.observed self.new given handed) }
         ensures last { OnOk result (last_of self.new ≡ Some Kind.End) }
         ensures over { OnOk result (self.new.stage ≡ Stage.Over) }
 
@@ -457,7 +457,7 @@ pub fn new_block(alloc: Global) -> Result<Vec<u8>, AllocError>
 fn read_block<R: Source>(source: &mut R, block: &mut [u8]) -> Result<usize, DeviceFailed>
     requires room { 0 < length block.old }
     ensures within { IfOk result (λ n. n ≤ length block.new) }
-    ensures bytes { ReadGives (R.told source.old) (R.told source.new) result block.new }
+    ensures bytes { ReadGives (R.observed source.old) (R.observed source.new) result block.new }
     ensures count { Counts (R.failures source.old) (R.failures source.new) result }
     ensures fit { AreBytes block.new }
 {

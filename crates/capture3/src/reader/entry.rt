@@ -4,7 +4,7 @@ ghost use Rattle.std.specs.Prelude.{◌≡◌, ◌≤◌, List, length, is_some,
 ghost use Rattle.record_mark.specs.RecordMark.{max_body};
 ghost use Rattle.xdr3.specs.Item.{Item};
 ghost use Rattle.capture3.specs.Bodies.{IsCall, IsReply, xid_in};
-ghost use Rattle.capture3.specs.MessageScan.{TellsCall, TellsReply};
+ghost use Rattle.capture3.specs.MessageScan.{PassesCall, PassesReply};
 ghost use Rattle.capture3.specs.machinery.Spelled.{SpellsCall, SpellsReply};
 
 use crate::message::calls::{NumberedCall, OneCall};
@@ -135,7 +135,7 @@ impl<'a> CallRef<'a> {
     /// memory runs out in the visitor, whose contents are unspecified then.
     pub fn scan<V: MessageVisit>(&self, visitor: &mut V) -> Result<(), AllocError>
         ensures { OnOk result
-            (TellsCall V.rests V.stands self.now.body.now visitor.old visitor.new) }
+            (PassesCall V.rests V.stands self.now.body.now visitor.old visitor.new) }
     {
         match scan_call(self.body, visitor) {
             Ok(_) => Ok(()),
@@ -195,7 +195,7 @@ impl<'a> ReplyRef<'a> {
     /// memory runs out in the visitor, whose contents are unspecified then.
     pub fn scan<V: MessageVisit>(&self, visitor: &mut V) -> Result<(), AllocError>
         ensures { OnOk result
-            (TellsReply V.rests V.stands self.now.body.now self.now.id visitor.old visitor.new) }
+            (PassesReply V.rests V.stands self.now.body.now self.now.id visitor.old visitor.new) }
     {
         match scan_reply(&self.answered(), self.body, visitor) {
             Ok(_) => Ok(()),

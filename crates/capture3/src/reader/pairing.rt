@@ -86,7 +86,7 @@ impl<C: CallTable + Drop> Pairing<C> {
             (λ count. GoesTo V.rests V.stands visitor.old visitor.new self.new.last self.new.number
             self.new.container (C.known self.new.calls) (bytes ++ take count piece.now) entries) }
         ensures not_end { OnOk result (self.new.last ≢ Some Kind.End) }
-        ensures untold { OnOk result (self.new.last ≡ None → visitor.new ≡ visitor.old) }
+        ensures unmoved { OnOk result (self.new.last ≡ None → visitor.new ≡ visitor.old) }
         ensures counted { OnOk result (CountsMessages self.new.last self.old.calls_taken
             self.old.replies_taken self.new.calls_taken self.new.replies_taken) }
 

@@ -120,12 +120,12 @@ two_sides e =
 -- ---- a message
 
 -- items of a message, whose text tells them
-pub record IsTold (items : List Item) : Type 0 where
+pub record IsDetermined (items : List Item) : Type 0 where
   pub are_named : AreNamed items
   pub spell : AllByRecursion IsSpellable items
   pub some : items ≢ []
 
-message_ends : (id : ProcId) (items : List Item) (t : List ℕ) → IsTold items
+message_ends : (id : ProcId) (items : List Item) (t : List ℕ) → IsDetermined items
     → Ends (message_text id items ++ t)
 message_ends id [] t h = absurd (h.some refl)
 message_ends id (i ∷ items) t h = omega arith
@@ -144,7 +144,7 @@ stop_word : (l : List ℕ) → Ends l → Stops IsInWord l
 stop_word [] s = s
 stop_word (c ∷ l) s = λ h. absurd (omega arith)
 
-same_message : (id other : ProcId) (a b : List Item) (t u : List ℕ) → IsTold a → IsTold b
+same_message : (id other : ProcId) (a b : List Item) (t u : List ℕ) → IsDetermined a → IsDetermined b
     → message_text id a ++ t ≡ message_text other b ++ u → (a ≡ b) × (t ≡ u)
 same_message id other [] b t u h k e = absurd (h.some refl)
 same_message id other (i ∷ a) [] t u h k e = absurd (k.some refl)
@@ -174,7 +174,7 @@ line_is : (c k : ℕ) (s : List ℕ) (id : ProcId) (items : List Item) (t : List
 line_is c k s id items t = append_assoc (prefix c s k) (message_text id items) t
 
 same_line : (c k : ℕ) (s : List ℕ) (id other : ProcId) (a b : List Item) (t u : List ℕ) → c < 2 ^ 64
-    → k < 2 ^ 64 → AllByRecursion IsInWord s → IsTold a → IsTold b
+    → k < 2 ^ 64 → AllByRecursion IsInWord s → IsDetermined a → IsDetermined b
     → line c s k id a ++ t ≡ line c s k other b ++ u → (a ≡ b) × (t ≡ u)
 same_line c k s id other a b t u cs ks w h g e =
     let p =
@@ -184,7 +184,7 @@ same_line c k s id other a b t u cs ks w h g e =
     same_message id other a b t u h g p.2
 
 not_line : (c k : ℕ) (s : List ℕ) (id : ProcId) (a : List Item) (t u : List ℕ) → k < 2 ^ 64
-    → IsTold a → NoLine c s u → u ≡ line c s k id a ++ t → ⊥
+    → IsDetermined a → NoLine c s u → u ≡ line c s k id a ++ t → ⊥
 not_line c k s id a t u ks h none e =
     none k (message_text id a ++ t) ks (message_ends id a t h) (e ∙ line_is c k s id a t)
 
@@ -258,12 +258,12 @@ abbrev IsAnswered : List (List Item) → ReplyItems → Type 0
 IsAnswered calls reply = (call : List Item) × IsIn call calls × (xid_in call ≡ xid_in reply.items)
     × (procedure_in call ≡ reply.id)
 
-abbrev pub IsToldReply : List (List Item) → ReplyItems → Type 0
-IsToldReply calls reply = IsTold reply.items × IsAnswered calls reply
+abbrev pub IsDeterminedReply : List (List Item) → ReplyItems → Type 0
+IsDeterminedReply calls reply = IsDetermined reply.items × IsAnswered calls reply
 
-pub record IsToldConversation (c : Conversation) : Type 0 where
-  pub calls_told : AllByRecursion IsTold c.calls
-  pub replies_told : AllByRecursion (IsToldReply c.calls) c.replies
+pub record IsDeterminedConversation (c : Conversation) : Type 0 where
+  pub calls_told : AllByRecursion IsDetermined c.calls
+  pub replies_told : AllByRecursion (IsDeterminedReply c.calls) c.replies
   pub one_procedure : HaveOneProcedure c.calls
   pub few_calls : length c.calls < 2 ^ 32
   pub few_replies : length c.replies < 2 ^ 32
@@ -277,7 +277,7 @@ AreApart c s d r = (c ≡ d) → (s ≡ r) → ⊥
 module _ (c d : ℕ) (s : List ℕ) (small : c < 2 ^ 64) (other_small : d < 2 ^ 64)
     (w : AllByRecursion IsInWord s) (t : List ℕ) (none : NoLine c s t) where
   no_call : (k : ℕ) (calls : List (List Item)) → k + length calls < 2 ^ 64 → AreApart d client c s
-      → AllByRecursion IsTold calls → NoLine c s (calls_text d k calls t)
+      → AllByRecursion IsDetermined calls → NoLine c s (calls_text d k calls t)
   no_call k [] few apart h = none
   no_call k (m ∷ calls) few apart h = λ l n ls ne e.
       let rest = calls_text d (k + 1) calls t in
@@ -289,7 +289,7 @@ module _ (c d : ℕ) (s : List ℕ) (small : c < 2 ^ 64) (other_small : d < 2 ^ 
 
   no_reply : (k : ℕ) (calls : List (List Item)) (replies : List ReplyItems)
       → k + length replies < 2 ^ 64 → AreApart d server c s
-      → AllByRecursion (IsToldReply calls) replies → NoLine c s (replies_text d k replies t)
+      → AllByRecursion (IsDeterminedReply calls) replies → NoLine c s (replies_text d k replies t)
   no_reply k calls [] few apart h = none
   no_reply k calls (r ∷ replies) few apart h = λ l n ls ne e.
       let rest = replies_text d (k + 1) replies t in
@@ -300,7 +300,7 @@ module _ (c d : ℕ) (s : List ℕ) (small : c < 2 ^ 64) (other_small : d < 2 ^ 
       apart p.0 p.1
 
 none_later : (n c : ℕ) (s : List ℕ) (cs : List Conversation) → AllByRecursion IsInWord s → c ≤ n
-    → n + length cs < 2 ^ 32 → AllByRecursion IsToldConversation cs → NoLine c s (all_text n cs)
+    → n + length cs < 2 ^ 32 → AllByRecursion IsDeterminedConversation cs → NoLine c s (all_text n cs)
 none_later n c s [] w le few h = λ k m ks me e. some_line c k s m e
 none_later n c s (x ∷ cs) w le few h =
     let later = none_later (n + 1) c s cs w (omega arith) (omega arith) h.1 in
@@ -313,7 +313,7 @@ none_later n c s (x ∷ cs) w le few h =
 -- ---- equal text
 
 same_calls : (c k : ℕ) (a b : List (List Item)) (t u : List ℕ) → c < 2 ^ 64 → k + length a < 2 ^ 64
-    → k + length b < 2 ^ 64 → AllByRecursion IsTold a → AllByRecursion IsTold b → NoLine c client t
+    → k + length b < 2 ^ 64 → AllByRecursion IsDetermined a → AllByRecursion IsDetermined b → NoLine c client t
     → NoLine c client u
     → calls_text c k a t ≡ calls_text c k b u → (a ≡ b) × (t ≡ u)
 same_calls c k [] [] t u small la lb h g s r e = (refl, e)
@@ -338,7 +338,7 @@ same_id calls r o one p q e =
 
 same_replies : (c k : ℕ) (calls : List (List Item)) (a b : List ReplyItems) (t u : List ℕ)
     → c < 2 ^ 64 → k + length a < 2 ^ 64 → k + length b < 2 ^ 64 → HaveOneProcedure calls
-    → AllByRecursion (IsToldReply calls) a → AllByRecursion (IsToldReply calls) b
+    → AllByRecursion (IsDeterminedReply calls) a → AllByRecursion (IsDeterminedReply calls) b
     → NoLine c server t → NoLine c server u
     → replies_text c k a t ≡ replies_text c k b u → (a ≡ b) × (t ≡ u)
 same_replies c k calls [] [] t u small la lb one h g s r e = (refl, e)
@@ -414,8 +414,8 @@ alike_after c d cs ds is h = record {
 }
 
 pub same_text : (n : ℕ) (cs ds : List Conversation) → n + length cs < 2 ^ 32
-    → n + length ds < 2 ^ 32 → AllByRecursion IsToldConversation cs
-    → AllByRecursion IsToldConversation ds → all_text n cs ≡ all_text n ds → AreAlike cs ds
+    → n + length ds < 2 ^ 32 → AllByRecursion IsDeterminedConversation cs
+    → AllByRecursion IsDeterminedConversation ds → all_text n cs ≡ all_text n ds → AreAlike cs ds
 same_text n [] ds few many h g e =
     let q = all_quiet n ds e in
     record { same = []; first_quiet = 0; second_quiet = q.0; first = refl; second = q.1 }
@@ -438,8 +438,8 @@ same_text n (c ∷ cs) (d ∷ ds) few many h g e =
     same_calls (n + 1) 0 c.calls d.calls (replies_text (n + 1) 0 c.replies t)
     (replies_text (n + 1) 0 d.replies u) small (omega (arith, h.0.few_calls))
     (omega (arith, g.0.few_calls)) h.0.calls_told g.0.calls_told after_calls other_calls e in
-    let other_told : AllByRecursion (IsToldReply c.calls) d.replies =
-    subst (λ (l : List (List Item)). AllByRecursion (IsToldReply l) d.replies) (sym p.0)
+    let other_told : AllByRecursion (IsDeterminedReply c.calls) d.replies =
+    subst (λ (l : List (List Item)). AllByRecursion (IsDeterminedReply l) d.replies) (sym p.0)
     g.0.replies_told in
     let q =
     same_replies (n + 1) 0 c.calls c.replies d.replies t u small (omega (arith, h.0.few_replies))

@@ -1,5 +1,5 @@
 -- Writing the masked form.
 pub mod WriterLemmas
 pub mod FormLemmas
-pub mod ToldItems
+pub mod VisitedItems
 pub mod RunLemmas

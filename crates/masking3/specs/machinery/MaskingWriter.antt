@@ -27,27 +27,27 @@ use Rattle.masking3.specs.machinery.UnnamedBody.{body_by}
 
 -- What stands for an item of this class, or of none: its value, under the place of the class, or
 -- the item.
-abbrev pub told_item : Option Class → Item → Item
-told_item (Some class) item = Hyper (position class ∷ []) (class_value item)
-told_item None (Hyper name n) = Hyper [] n
-told_item None item = item
+abbrev pub visited_item : Option Class → Item → Item
+visited_item (Some class) item = Hyper (position class ∷ []) (class_value item)
+visited_item None (Hyper name n) = Hyper [] n
+visited_item None item = item
 
 -- what stands for the items of a message from this spot on
-abbrev pub told_items : Spot → List Item → List Item
-told_items spot [] = []
-told_items spot (item ∷ items) =
-    told_item (class_of spot item) item ∷ told_items (next_spot spot item) items
+abbrev pub visited_items : Spot → List Item → List Item
+visited_items spot [] = []
+visited_items spot (item ∷ items) =
+    visited_item (class_of spot item) item ∷ visited_items (next_spot spot item) items
 
-abbrev pub told_entry : Entry → List Item
-told_entry (Call items) = told_items InCall items
-told_entry (Reply id items) = told_items InReply items
-told_entry _ = []
+abbrev pub visited_entry : Entry → List Item
+visited_entry (Call items) = visited_items InCall items
+visited_entry (Reply id items) = visited_items InReply items
+visited_entry _ = []
 
 -- the value of a class in what stands for an item
-abbrev pub told_value : Class → Item → List ℕ
-told_value class (Hyper (place ∷ name) n) =
+abbrev pub visited_value : Class → Item → List ℕ
+visited_value class (Hyper (place ∷ name) n) =
     if (position class == place) && not (is_zero_that_stays class n) then n ∷ [] else []
-told_value class _ = []
+visited_value class _ = []
 
 -- What stands for the items of the messages before is in front of the message's own, and how many
 -- these are in front of all.
@@ -57,7 +57,7 @@ after_messages front items = Word [] (length front) ∷ (front ++ items)
 -- the values of each class so far
 abbrev pub values_so_far : (front : List Item) → Side → (items : List Item) → Class → List ℕ
 values_so_far front side items class =
-    flat_map (told_value class) front ++ values_in class (first_spot side) items
+    flat_map (visited_value class) front ++ values_in class (first_spot side) items
 
 -- ---- what a writer holds
 
@@ -101,8 +101,8 @@ abbrev pub MaskRests : {P S H : Type 0} → Ways → MaskingWriter P S H → Lis
 MaskRests ways w all = HasMemory w → HasNoneUnderWay ways w all
 
 -- what stands for entries that were written
-abbrev pub told_before : List Entry → List Item
-told_before entries = after_messages (flat_map told_entry entries) []
+abbrev pub visited_before : List Entry → List Item
+visited_before entries = after_messages (flat_map visited_entry entries) []
 
 -- the word 0, the word 1, or a message with this body, where names of machines are masked so
 abbrev pub written_as : Way → Kind → List ℕ → List ℕ

@@ -1,6 +1,6 @@
 -- What stops the adding of a pair.
 use Rattle.std.specs.Prelude.{◌≡◌, ◌⊎◌, ℕ, List, Option}
-use Rattle.capture3.specs.Told.{Told}
+use Rattle.capture3.specs.Observed.{Observed}
 use Rattle.capture3.specs.declared.fault.Error.{Error}
 use Rattle.capture3.specs.declared.fault.Error.TheVariants as errors
 use Rattle.capture3.specs.declared.fault.Place.TheVariants as places
@@ -11,7 +11,7 @@ use Rattle.packing3.specs.machinery.Streaming.{StopsInConnection}
 
 module _ {W : Type 0} where
   -- no connection has room, and nothing was read or written
-  pub record IsFull (packing : Packing W) (old_client client old_server server : Told)
+  pub record IsFull (packing : Packing W) (old_client client old_server server : Observed)
       (old written : Option (List ℕ)) (error : Error) : Type 0 where
     pub full : packing.connections ≡ max_connections
     pub is : error
@@ -25,7 +25,7 @@ module _ {W : Type 0} where
     pub same_sink : written ≡ old
 
   abbrev pub FailsToAdd : Packing W
-      → (old_client client old_server server : Told) (old written : Option (List ℕ)) → Error
+      → (old_client client old_server server : Observed) (old written : Option (List ℕ)) → Error
       → Type 0
   FailsToAdd packing old_client client old_server server old written error =
       IsFull packing old_client client old_server server old written error

@@ -1,6 +1,6 @@
 -- What the functions within the crate write: a chunk, a stream, a connection.
 use Rattle.std.specs.Prelude.{◌≡◌, ℕ, ◌+◌, ◌*◌, ◌<◌, ◌≤◌, List, [], ◌∷◌, ◌++◌, length, Option, ⊤}
-use Rattle.capture3.specs.Told.{Gave, IsSpent, Told}
+use Rattle.capture3.specs.Observed.{Gave, IsSpent, Observed}
 use Rattle.std.specs.Io.KnownBytes.{Appends}
 use Rattle.std.specs.List.{concat, flat_map}
 use Rattle.capture3.specs.declared.fault.Error.{Error}
@@ -8,10 +8,10 @@ use Rattle.capture3.specs.SidedChunks.{Streams, size}
 use Rattle.canon3.specs.Bytes.{chunk_bytes}
 use Rattle.packing3.specs.declared.stream.Extent.{Extent}
 use Rattle.packing3.specs.Packed.{IsPackedConnection, IsPackedStream, full_size}
-use Rattle.packing3.specs.Stopped.{Tells}
+use Rattle.packing3.specs.Stopped.{Explains}
 
 -- fewer bytes than this were given
-abbrev pub GaveFewer : (old new : Told) → ℕ → Type 0
+abbrev pub GaveFewer : (old new : Observed) → ℕ → Type 0
 GaveFewer old new n = (bytes : List ℕ) × Gave old new bytes × (length bytes < n)
 
 -- each chunk is full
@@ -37,32 +37,32 @@ GrowsLittle room extent after =
 
 -- A chunk of the next n bytes of the source is written: of fewer than fill it only where no more
 -- are left, and no chunk where there are none.
-pub record HasChunk (old_told told : Told) (old written : Option (List ℕ)) (extent after : Extent)
+pub record HasChunk (old_observed observed : Observed) (old written : Option (List ℕ)) (extent after : Extent)
     (n : ℕ) : Type 0 where
   pub chunk : List ℕ
-  pub consumed : Gave old_told told chunk
+  pub consumed : Gave old_observed observed chunk
   pub many : length chunk ≡ n
   pub within : n ≤ full_size
-  pub ended : n < full_size → IsSpent told
+  pub ended : n < full_size → IsSpent observed
   pub appended : Appends old written (flat_map chunk_bytes (last_chunk chunk))
   pub grows : Grows extent after (flat_map chunk_bytes (last_chunk chunk)) n
 
 -- full chunks of the source's next bytes are written
-pub record HasFull (old_told told : Told) (old written : Option (List ℕ))
+pub record HasFull (old_observed observed : Observed) (old written : Option (List ℕ))
     (extent after : Extent) : Type 0 where
   pub full : List (List ℕ)
   pub each : AreFull full
-  pub consumed : Gave old_told told (concat full)
+  pub consumed : Gave old_observed observed (concat full)
   pub appended : Appends old written (flat_map chunk_bytes full)
   pub grows : Grows extent after (flat_map chunk_bytes full) (length (concat full))
 
 -- the source's bytes are written to their end, as a stream
-pub record HasStream (old_told told : Told) (old written : Option (List ℕ))
+pub record HasStream (old_observed observed : Observed) (old written : Option (List ℕ))
     (extent after : Extent) : Type 0 where
   pub stream : List ℕ
   pub bytes : List ℕ
-  pub consumed : Gave old_told told stream
-  pub ended : IsSpent told
+  pub consumed : Gave old_observed observed stream
+  pub ended : IsSpent observed
   pub packed : IsPackedStream bytes stream
   pub appended : Appends old written bytes
   pub grows : Grows extent after bytes (length stream)
@@ -74,28 +74,28 @@ pub record IsStopped (old written : Option (List ℕ)) (bytes : List ℕ) (at to
   pub next : List ℕ
   pub split : bytes ≡ front ++ next
   pub appended : Appends old written front
-  pub told : Tells error (at + length front) next total
+  pub observed : Explains error (at + length front) next total
 
 -- a front is written of the chunk of what was read
-pub record StopsInChunk (old_told told : Told) (old written : Option (List ℕ)) (extent : Extent)
+pub record StopsInChunk (old_observed observed : Observed) (old written : Option (List ℕ)) (extent : Extent)
     (error : Error) : Type 0 where
   pub chunk : List ℕ
-  pub consumed : Gave old_told told chunk
+  pub consumed : Gave old_observed observed chunk
   pub within : length chunk ≤ full_size
   pub stopped : IsStopped old written (flat_map chunk_bytes (last_chunk chunk)) extent.at
       (extent.streamed + length chunk) error
 
 -- a front is written of the stream of what was read
-pub record StopsInStream (old_told told : Told) (old written : Option (List ℕ)) (extent : Extent)
+pub record StopsInStream (old_observed observed : Observed) (old written : Option (List ℕ)) (extent : Extent)
     (error : Error) : Type 0 where
   pub stream : List ℕ
   pub bytes : List ℕ
-  pub consumed : Gave old_told told stream
+  pub consumed : Gave old_observed observed stream
   pub packed : IsPackedStream bytes stream
   pub stopped : IsStopped old written bytes extent.at (extent.streamed + length stream) error
 
 -- the word 1 and both sources' bytes to their ends are written, as a connection
-pub record HasConnection (old_client client old_server server : Told)
+pub record HasConnection (old_client client old_server server : Observed)
     (old written : Option (List ℕ)) (extent after : Extent) : Type 0 where
   pub streams : Streams
   pub bytes : List ℕ
@@ -108,7 +108,7 @@ pub record HasConnection (old_client client old_server server : Told)
   pub grows : Grows extent after bytes (size streams)
 
 -- a front is written of the connection of what was read
-pub record StopsInConnection (old_client client old_server server : Told)
+pub record StopsInConnection (old_client client old_server server : Observed)
     (old written : Option (List ℕ)) (extent : Extent) (error : Error) : Type 0 where
   pub streams : Streams
   pub bytes : List ℕ

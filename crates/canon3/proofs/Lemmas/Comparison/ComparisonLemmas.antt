@@ -1,5 +1,5 @@
 -- A comparison of two captures, entry by entry.
-use Rattle.canon3.proofs.Common.{◌≡◌, ◌≢◌, ℕ, List, [], ◌∷◌, ◌++◌, append-nil, Option, None, Some, Result, Ok, Err, refl, sym, ap, ◌∙◌, subst, Gave, Told, gave_on, gave_none, IsPrefixOf, shown_of_all, Item, Entries, Error, Place, Entry, Typed, MessageWriter, AreFirst, WriterRests, WriterStands, values_before, Same, HasPassed, place_from, side_in, IsMetBy, source_of, StandsFor, Progress, SameError, bytes_after, HasSpelled, spelling_of, ◌+◌, ◌≤◌, ◌<◌, ◌^◌, length, length-append, arith}
+use Rattle.canon3.proofs.Common.{◌≡◌, ◌≢◌, ℕ, List, [], ◌∷◌, ◌++◌, append-nil, Option, None, Some, Result, Ok, Err, refl, sym, ap, ◌∙◌, subst, Gave, Observed, gave_on, gave_none, IsPrefixOf, shown_of_all, Item, Entries, Error, Place, Entry, Typed, MessageWriter, AreFirst, WriterRests, WriterStands, values_before, Same, HasPassed, place_from, side_in, IsMetBy, source_of, StandsFor, Progress, SameError, bytes_after, HasSpelled, spelling_of, ◌+◌, ◌≤◌, ◌<◌, ◌^◌, length, length-append, arith}
 use Rattle.std.specs.Option.{IsSomeAnd, MatchOption}
 use Rattle.std.specs.declared.hash.BuildHasher as BuildHasher
 use Rattle.std.specs.declared.hash.Hasher as Hasher
@@ -20,7 +20,7 @@ use Rattle.canon3.specs.declared.comparison.verdict.Which.TheVariants.{First, Se
 use Rattle.canon3.specs.Comparison.{DecidesGiven, DecidesSame, GaveAll, StopsComparing, StopsGiven}
 use Rattle.canon3.specs.HandleTable.{nothing}
 use Rattle.canon3.specs.machinery.WritingSteps.{WritesToTheEnd}
-use Rattle.canon3.specs.machinery.ComparisonSteps.{Agree, Compares, HasGiven, HasGivenOn, HaveEnded, HaveParted, IsCompared, IsFound, IsReadAfter, IsReadOut, IsTold, Meets, met_second, PartWith, SaysOfGiven, StepsOn}
+use Rattle.canon3.specs.machinery.ComparisonSteps.{Agree, Compares, HasGiven, HasGivenOn, HaveEnded, HaveParted, IsCompared, IsFound, IsReadAfter, IsReadOut, HaveReceived, Meets, met_second, PartWith, GaveError, StepsOn}
 use Rattle.canon3.proofs.Lemmas.Renaming.AgreementLemmas.{agree_more, differ_here, mark_alike, no_more, not_same, parting, place_there, typed_first}
 use Rattle.canon3.proofs.Lemmas.Order.First.{same_from_bytes}
 use Rattle.canon3.proofs.Lemmas.Order.Reaching.{first_reached}
@@ -37,14 +37,14 @@ module _ {S H : Type 0} (n m : MessageWriter S H) (form other_form : Spelling) (
   pub parts_here : (progress : Progress) (place : Place)
       → spelling_of form n ≢ spelling_of other_form m → HasPassed progress a
       → place ≡ place_from progress (side_in e) (side_in f) → PartWith a b e f place
-  parts_here progress place unlike told_after is =
+  parts_here progress place unlike items_of_writer is =
       let differ : bytes_after a (e ∷ []) ≢ bytes_after b (f ∷ []) =
       λ same. unlike (s.spelled ∙ (same ∙ sym t.spelled)) in
       record {
         agree = g;
         differ = differ_here a b e f first second g differ;
         place_is =
-            rw is (place_is progress a told_after e f
+            rw is (place_is progress a items_of_writer e f
             (λ same none.
             differ (mark_alike a b e none ∙ ap (λ k. bytes_after b (k ∷ [])) same))
             (place_there a b e f first second g));
@@ -60,21 +60,21 @@ with_second comparison n = record comparison { second = n }
 
 module _ {S H : Type 0} (comparison : Comparison S H) (a b : List Entry)
     (n : MessageWriter S H) where
-  pub told_first : (e : Entry) → Hears WriterRests WriterStands comparison.first n e
-      → IsCompared comparison a b → IsTold (with_first comparison n) a b (Some e) None
+  pub received_first : (e : Entry) → Hears WriterRests WriterStands comparison.first n e
+      → IsCompared comparison a b → HaveReceived (with_first comparison n) a b (Some e) None
   unfolding Hears
-  told_first e tells c =
+  received_first e tells c =
       record {
         agree = c.agree;
         first = tells (values_before a) c.first;
         second = c.second;
       }
 
-  pub told_second : (e f : Entry) → Hears WriterRests WriterStands comparison.second n f
-      → IsTold comparison a b (Some e) None
-      → IsTold (with_second comparison n) a b (Some e) (Some f)
+  pub received_second : (e f : Entry) → Hears WriterRests WriterStands comparison.second n f
+      → HaveReceived comparison a b (Some e) None
+      → HaveReceived (with_second comparison n) a b (Some e) (Some f)
   unfolding Hears
-  told_second e f tells c =
+  received_second e f tells c =
       record {
         agree = c.agree;
         first = c.first;
@@ -83,27 +83,27 @@ module _ {S H : Type 0} (comparison : Comparison S H) (a b : List Entry)
 
 -- ---- what a reader answers
 
-says_of : (start now : Told) (given : List ℕ) (handed : List Entry) (error : Error)
-    → Gave start now given → IsMetBy error now given handed → SaysOfGiven start now error
+says_of : (start now : Observed) (given : List ℕ) (handed : List Entry) (error : Error)
+    → Gave start now given → IsMetBy error now given handed → GaveError start now error
 says_of start now given handed (errors.Refused fault) gave met =
     record { given = given; handed = handed; gave = gave; shown = met }
 says_of start now given handed _ gave met = tt
 
-module _ (old new old_other new_other : Told) where
-  pub first_stops : (error : Error) → SaysOfGiven old new error
+module _ (old new old_other new_other : Observed) where
+  pub first_stops : (error : Error) → GaveError old new error
       → StopsGiven old new old_other new_other error First
   first_stops (errors.Refused fault) met = met
   first_stops _ met = tt
 
   pub second_stops : (a : List Entry) (error : Error) → GaveAll old new a
-      → SaysOfGiven old_other new_other error → StopsGiven old new old_other new_other error Second
+      → GaveError old_other new_other error → StopsGiven old new old_other new_other error Second
   second_stops a (errors.Refused fault) whole met = ((a, whole), met)
   second_stops a _ whole met = tt
 
 -- ---- of all bytes, of which those that were given are a prefix
 
 -- two sources, what each told before the call and tells now, and all bytes of each
-module _ (old new old_other new_other : Told) (file other : List ℕ)
+module _ (old new old_other new_other : Observed) (file other : List ℕ)
     (prefix : (given : List ℕ) → Gave old new given → IsPrefixOf new given file)
     (other_prefix : (given : List ℕ) → Gave old_other new_other given
     → IsPrefixOf new_other given other) where
@@ -132,7 +132,7 @@ module _ (old new old_other new_other : Told) (file other : List ℕ)
 -- ---- along a reader
 
 module _ {R S H V : Type 0} {builds : BuildHasher.Ghosts S H} {hashes : Hasher.Ghosts H}
-    (telling : R → Told) (rests stands : V → List Item → Type 0) (start : Told)
+    (telling : R → Observed) (rests stands : V → List Item → Type 0) (start : Observed)
     (old new : Entries R S H builds hashes) (was now : V) (handed : List Entry) where
   -- what a call of it says of what the source gave, and of the visitor
   abbrev pub Hands : Result (Option LentEntry) Error → Type 0
@@ -140,7 +140,7 @@ module _ {R S H V : Type 0} {builds : BuildHasher.Ghosts S H} {hashes : Hasher.G
       × AreFirst (handed ++ entry ∷ []) × HasGiven telling start new (handed ++ entry ∷ [])
   Hands (Ok None) =
       GaveAll start (telling (source_of new)) handed × HasGiven telling start new handed
-  Hands (Err error) = SaysOfGiven start (telling (source_of new)) error
+  Hands (Err error) = GaveError start (telling (source_of new)) error
 
   pub hands : (h : HasGiven telling start old handed) (result : Result (Option LentEntry) Error)
       → HandsOutGiven telling (IsNextLent rests stands was now) old new h.given handed result
@@ -167,7 +167,7 @@ module _ {R S H V : Type 0} {builds : BuildHasher.Ghosts S H} {hashes : Hasher.G
       (gave_on start h.consumed a) a.hands_out.0
 
 module _ {R S H : Type 0} {builds : BuildHasher.Ghosts S H} {hashes : Hasher.Ghosts H}
-    (telling : R → Told) (start : Told) (reader : Entries R S H builds hashes)
+    (telling : R → Observed) (start : Observed) (reader : Entries R S H builds hashes)
     (handed : List Entry) where
   pub given_on : HasGiven telling start reader handed → HasGivenOn telling start reader handed
   given_on h =
@@ -175,7 +175,7 @@ module _ {R S H : Type 0} {builds : BuildHasher.Ghosts S H} {hashes : Hasher.Gho
 
 -- all that were left were handed out
 pub read_out : {R S H T X : Type 0} {builds : BuildHasher.Ghosts S H} {hashes : Hasher.Ghosts H}
-    (telling : R → Told) (start : Told) (handed : List Entry) (before : List Entry → List Item)
+    (telling : R → Observed) (start : Observed) (handed : List Entry) (before : List Entry → List Item)
     (rests : T → List Item → Type 0) (going : T → Type 0) (reader : Entries R S H builds hashes)
     (writer : T) (new : Option (List ℕ)) (result : Result X Error)
     → WritesToTheEnd nothing before rests going telling start handed None reader writer new result
@@ -205,7 +205,7 @@ one_fewer a e left few = omega (arith, few, length-append a (e ∷ []))
 
 -- a new reader
 pub fresh : {R S H : Type 0} {builds : BuildHasher.Ghosts S H} {hashes : Hasher.Ghosts H}
-    (telling : R → Told) (reader : Entries R S H builds hashes) → StandsFor telling reader [] []
+    (telling : R → Observed) (reader : Entries R S H builds hashes) → StandsFor telling reader [] []
     → HasGiven telling (telling (source_of reader)) reader []
 fresh telling reader stands =
     record { given = []; consumed = gave_none (telling (source_of reader)); stands = stands }
@@ -216,9 +216,9 @@ pub turned : (a b : List Entry) → Agree a b → Agree b a
 turned a b g = record { many = sym g.many; bytes = sym g.bytes }
 
 module _ {R S H : Type 0} {builds : BuildHasher.Ghosts S H} {hashes : Hasher.Ghosts H}
-    (telling : R → Told) (first now start : Told) (reader : Entries R S H builds hashes)
+    (telling : R → Observed) (first now start : Observed) (reader : Entries R S H builds hashes)
     (comparison : Comparison S H) (a b : List Entry) (e : Entry) where
-  pub refused_meets : (error : Error) → SaysOfGiven start (telling (source_of reader)) error
+  pub refused_meets : (error : Error) → GaveError start (telling (source_of reader)) error
       → Meets telling first now start reader comparison a b e (met_second error)
   refused_meets (errors.Refused fault) met = met
   refused_meets _ met = tt
@@ -244,7 +244,7 @@ module _ {R S H : Type 0} {builds : BuildHasher.Ghosts S H} {hashes : Hasher.Gho
       absurd (cc)
 
 module _ {A B S H : Type 0} {builds : BuildHasher.Ghosts S H} {hashes : Hasher.Ghosts H}
-    (telling : A → Told) (telling_other : B → Told) (start other_start : Told)
+    (telling : A → Observed) (telling_other : B → Observed) (start other_start : Observed)
     (first : Entries A S H builds hashes) (second : Entries B S H builds hashes)
     (comparison : Comparison S H) where
   pub stepped : (a b : List Entry) (e : Entry) → HasGiven telling start first (a ++ e ∷ [])
@@ -274,7 +274,7 @@ module _ {A B S H : Type 0} {builds : BuildHasher.Ghosts S H} {hashes : Hasher.G
   stepped a b e given (Err error) m = m
 
 module _ {A B S H : Type 0} {builds : BuildHasher.Ghosts S H} {hashes : Hasher.Ghosts H}
-    (telling : A → Told) (telling_other : B → Told) (start other_start : Told)
+    (telling : A → Observed) (telling_other : B → Observed) (start other_start : Observed)
     (first : Entries A S H builds hashes) (second : Entries B S H builds hashes) where
   pub first_of : (finding : Finding)
       → IsFound telling telling_other start other_start first second finding
@@ -284,7 +284,7 @@ module _ {A B S H : Type 0} {builds : BuildHasher.Ghosts S H} {hashes : Hasher.G
   first_of (findings.Refused fault) found = found.0
 
   -- the sources tell this once both are read out
-  module _ (now other_now : Told) where
+  module _ (now other_now : Observed) where
     -- the first had no more
     whole_first : (h : HaveEnded telling telling_other start other_start first second)
         (rest : List Entry) → GaveAll start now (h.a ++ rest) → GaveAll start now h.a

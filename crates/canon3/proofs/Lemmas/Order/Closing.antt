@@ -14,8 +14,8 @@ module _ {A : Type 0} where
   -- a front of two joined lists ends in the first, or goes on into the second
   abbrev Splits : (x t p more : List A) → Type 0
   Splits x t p more = ((rest : List A) × (x ≡ p ++ rest))
-      ⊎ ((y : A) × (told_after : List A) × (p ≡ x ++ y ∷ told_after)
-      × (t ≡ y ∷ (told_after ++ more)))
+      ⊎ ((y : A) × (items_of_writer : List A) × (p ≡ x ++ y ∷ items_of_writer)
+      × (t ≡ y ∷ (items_of_writer ++ more)))
 
   splits : (x t p more : List A) → x ++ t ≡ p ++ more → Splits x t p more
   splits x t [] more e = inl (x, refl)

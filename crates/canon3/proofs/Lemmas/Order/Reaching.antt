@@ -143,10 +143,10 @@ reached_first bytes entries (inr h) =
       | inl none ↦ subst AreFirst
           (sym (is ∙ ap (λ (l : List Entry). whole ++ l) none ∙ append-nil whole))
           (whole_first front whole is_whole)
-      | inr told_after ↦ subst AreFirst (sym (is ∙ told_after.is)) (open_first
-          told_after.connections told_after.before told_after.streams told_after.calls
-          told_after.replies told_after.inside told_after.rest told_after.messages
-          told_after.converses told_after.few told_after.small told_after.split)
+      | inr items_of_writer ↦ subst AreFirst (sym (is ∙ items_of_writer.is)) (open_first
+          items_of_writer.connections items_of_writer.before items_of_writer.streams items_of_writer.calls
+          items_of_writer.replies items_of_writer.inside items_of_writer.rest items_of_writer.messages
+          items_of_writer.converses items_of_writer.few items_of_writer.small items_of_writer.split)
     ]
 
 -- the first of what they reach are so too

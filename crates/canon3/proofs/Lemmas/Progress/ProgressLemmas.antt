@@ -33,13 +33,13 @@ records_within n (Reply id items ∷ a) = omega (arith, records_within (n + 1) a
 records_within n (_ ∷ a) = omega (arith, records_within n a)
 
 -- what the kind tells of an entry
-pub record IsToldBy (kind : Kind) (one : Entry) : Type 0 where
+pub record IsPassedAs (kind : Kind) (one : Entry) : Type 0 where
   pub side : side_of_kind kind ≡ side_in one
 
-pub told_by : (kind : Kind) (one : Entry) → IsOfKind kind one → IsToldBy kind one
-told_by (kinds.Call id) one is = rw is.2 (record { side = refl })
-told_by (kinds.Reply id) one is = rw is.1 (record { side = refl })
-told_by _ one is = rw is (record { side = refl })
+pub passed_by : (kind : Kind) (one : Entry) → IsOfKind kind one → IsPassedAs kind one
+passed_by (kinds.Call id) one is = rw is.2 (record { side = refl })
+passed_by (kinds.Reply id) one is = rw is.1 (record { side = refl })
+passed_by _ one is = rw is (record { side = refl })
 
 -- ---- a place
 

@@ -1,6 +1,6 @@
 -- From what was handed out to what a capture has.
 use Rattle.std.proofs.Common.{◌≡◌, ℕ, min, Result, Ok, Err, List, [], ◌∷◌, ◌++◌, length, refl, subst, sym, append-nil, arith}
-use Rattle.canon3.proofs.Common.{bytes_eq, Gave, Told, IsPrefixOf, shown_of_all, flat_map-append, Error, Entry, items_of, Typed, distinct, number_limit, handles, Summary}
+use Rattle.canon3.proofs.Common.{bytes_eq, Gave, Observed, IsPrefixOf, shown_of_all, flat_map-append, Error, Entry, items_of, Typed, distinct, number_limit, handles, Summary}
 use Rattle.std.specs.Cmp.Lexicographic.{nat_list_eq_equiv}
 use Rattle.capture3.specs.declared.fault.Error.TheVariants as errors
 use Rattle.capture3.specs.Reached.{Reached}
@@ -28,7 +28,7 @@ few_distinct bytes entries typed =
     )
 
 -- of all bytes, of which those that were given are a prefix
-pub concluded : (bytes : List ℕ) (old new : Told) (result : Result Summary Error)
+pub concluded : (bytes : List ℕ) (old new : Observed) (result : Result Summary Error)
     → ((given : List ℕ) → Gave old new given → IsPrefixOf new given bytes)
     → ConcludesGiven old new result → ConcludesAll bytes result
 concluded bytes old new (Ok summary) prefix (given, gave, (ended, is)) =
@@ -38,7 +38,7 @@ concluded bytes old new (Err (errors.Refused fault)) prefix (given, gave, (entri
 concluded bytes old new (Err _) prefix c = (tt, tt)
 
 -- what is concluded where nothing was written
-pub concludes : (old new : Told) (result : Result Summary Error) (written : Option (List ℕ))
+pub concludes : (old new : Observed) (result : Result Summary Error) (written : Option (List ℕ))
     → IfErr result (λ error. error ≢ errors.Write)
     → WritesGiven nothing old new written written result → ConcludesGiven old new result
 concludes old new (Ok summary) written never (given, gave, (entries, ended, typed, is, appends)) =

@@ -1,6 +1,6 @@
 -- What is written of the entries that a reader hands out.
 use Rattle.std.proofs.Common.{⊎_elim, ◌≡◌, ℕ, List, [], ◌∷◌, ◌++◌, refl, subst, sym, Option, Some, Result, Ok, Err, arith, append_assoc}
-use Rattle.canon3.proofs.Common.{Gave, Told, IsPrefixOf, shown_of_all, Appends, Item, Entries, Error, Entry, Kind, gave_none, gave_on, AppendsFront, Appends-nil, IsMetBy, source_of, StandsFor, LentEntry, AreFirstReached, Reached, reached_by_machine}
+use Rattle.canon3.proofs.Common.{Gave, Observed, IsPrefixOf, shown_of_all, Appends, Item, Entries, Error, Entry, Kind, gave_none, gave_on, AppendsFront, Appends-nil, IsMetBy, source_of, StandsFor, LentEntry, AreFirstReached, Reached, reached_by_machine}
 use Rattle.std.specs.declared.hash.BuildHasher as BuildHasher
 use Rattle.std.specs.declared.hash.Hasher as Hasher
 use Rattle.capture3.specs.declared.fault.Error.TheVariants as errors
@@ -45,28 +45,28 @@ module _ (form : List Entry → List ℕ) (prefixes : KeepsPrefixes form) where
       )
 
   -- the reader met an error
-  pub met_stops : (error : Error) (told : Told) (old new : Option (List ℕ)) (given : List ℕ)
-      (entries : List Entry) → IsMetBy error told given entries → Appends old new (form entries)
-      → IsStoppedBy form error told given old new
-  met_stops (errors.Refused fault) told old new given entries met written = (entries, met, written)
-  met_stops errors.Read told old new given entries met written = (entries, met, written)
-  met_stops errors.Write told old new given entries met written = absurd met
-  met_stops errors.Memory told old new given entries met written =
+  pub met_stops : (error : Error) (observed : Observed) (old new : Option (List ℕ)) (given : List ℕ)
+      (entries : List Entry) → IsMetBy error observed given entries → Appends old new (form entries)
+      → IsStoppedBy form error observed given old new
+  met_stops (errors.Refused fault) observed old new given entries met written = (entries, met, written)
+  met_stops errors.Read observed old new given entries met written = (entries, met, written)
+  met_stops errors.Write observed old new given entries met written = absurd met
+  met_stops errors.Memory observed old new given entries met written =
       cut_reached old new given entries met (whole_front old new (form entries) written)
 
   -- before any byte was read
-  pub nothing_written : (told : Told) (old : Option (List ℕ))
-      → IsStoppedBy form errors.Memory told [] old old
-  nothing_written told old =
+  pub nothing_written : (observed : Observed) (old : Option (List ℕ))
+      → IsStoppedBy form errors.Memory observed [] old old
+  nothing_written observed old =
       (_, reached_by_machine [] (λ k. omega arith), ([], _, refl, Appends-nil old))
 
   -- of all bytes, of which those that were given are a prefix
   pub all_written : {C : Type 0} (AreCountsOf : List ℕ → C → Type 0) (bytes : List ℕ)
-      (first told : Told) (old new : Option (List ℕ)) (result : Result C Error)
-      → ((given : List ℕ) → Gave first told given → IsPrefixOf told given bytes)
-      → WritesGivenCounted AreCountsOf form first told old new result
+      (first observed : Observed) (old new : Option (List ℕ)) (result : Result C Error)
+      → ((given : List ℕ) → Gave first observed given → IsPrefixOf observed given bytes)
+      → WritesGivenCounted AreCountsOf form first observed old new result
       → WritesAllCounted AreCountsOf form bytes old new result
-  all_written AreCountsOf bytes first told old new (Ok counts) prefix
+  all_written AreCountsOf bytes first observed old new (Ok counts) prefix
       (given, gave, (entries, ended, typed, are, written)) =
       let all = (prefix given gave).all ended in (
         entries,
@@ -74,25 +74,25 @@ module _ (form : List Entry → List ℕ) (prefixes : KeepsPrefixes form) where
         rw all at are,
         written,
       )
-  all_written AreCountsOf bytes first told old new (Err (errors.Refused fault)) prefix
+  all_written AreCountsOf bytes first observed old new (Err (errors.Refused fault)) prefix
       (given, gave, (entries, met, written)) =
-      let shown = shown_of_all told given bytes entries fault (prefix given gave) met in
+      let shown = shown_of_all observed given bytes entries fault (prefix given gave) met in
       (entries, shown.0, shown.1, written)
-  all_written AreCountsOf bytes first told old new (Err _) prefix w = tt
+  all_written AreCountsOf bytes first observed old new (Err _) prefix w = tt
 
   -- an entry was handed out, and cut
-  pub cut_stops : (error : Error) (told : Told) (old new : Option (List ℕ)) (given : List ℕ)
+  pub cut_stops : (error : Error) (observed : Observed) (old new : Option (List ℕ)) (given : List ℕ)
       (handed : List Entry) (one : Entry) → IsOfWriting error
       → AreFirstReached given (handed ++ one ∷ [])
       → AppendsFront old new (form (handed ++ one ∷ []))
-      → IsStoppedBy form error told given old new
-  cut_stops errors.Memory told old new given handed one of reached cut =
+      → IsStoppedBy form error observed given old new
+  cut_stops errors.Memory observed old new given handed one of reached cut =
       cut_reached old new given (handed ++ one ∷ []) reached cut
-  cut_stops errors.Write told old new given handed one of reached cut =
+  cut_stops errors.Write observed old new given handed one of reached cut =
       cut_reached old new given (handed ++ one ∷ []) reached cut
-  cut_stops errors.Read told old new given handed one of reached cut =
+  cut_stops errors.Read observed old new given handed one of reached cut =
       ⊎_elim (λ e. absurd (cc)) (λ e. absurd (cc)) of
-  cut_stops (errors.Refused fault) told old new given handed one of reached cut =
+  cut_stops (errors.Refused fault) observed old new given handed one of reached cut =
       ⊎_elim (λ e. absurd (cc)) (λ e. absurd (cc)) of
 
 -- ---- along a reader
@@ -101,25 +101,25 @@ module _ (form : List Entry → List ℕ) (prefixes : KeepsPrefixes form) where
 pub new_writing : {R S H T : Type 0} {builds : BuildHasher.Ghosts S H} {hashes : Hasher.Ghosts H}
     {form : List Entry → List ℕ} {before : List Entry → List Item}
     {rests : T → List Item → Type 0} {going : T → Type 0} {old : Option (List ℕ)}
-    {reader : Entries R S H builds hashes} {writer : T} (told : R → Told)
-    → StandsFor told reader [] [] → going writer → rests writer (before []) → form [] ≡ []
-    → IsWriting form before rests going told (told (source_of reader)) [] old reader writer old
-new_writing {old = old} {reader = reader} told stands goes new empty = record {
+    {reader : Entries R S H builds hashes} {writer : T} (observed : R → Observed)
+    → StandsFor observed reader [] [] → going writer → rests writer (before []) → form [] ≡ []
+    → IsWriting form before rests going observed (observed (source_of reader)) [] old reader writer old
+new_writing {old = old} {reader = reader} observed stands goes new empty = record {
   given = [];
   more = [];
-  consumed = gave_none (told (source_of reader));
+  consumed = gave_none (observed (source_of reader));
   reads = stands;
   writes = record { goes = goes; stands_for = new; written = rw empty (Appends-nil old) };
 }
 
 module _ {R S H T : Type 0} {builds : BuildHasher.Ghosts S H} {hashes : Hasher.Ghosts H}
     {form : List Entry → List ℕ} {before : List Entry → List Item}
-    {rests : T → List Item → Type 0} {going : T → Type 0} {told : R → Told} {first : Told}
+    {rests : T → List Item → Type 0} {going : T → Type 0} {observed : R → Observed} {first : Observed}
     {front : List Entry} {old between : Option (List ℕ)}
     {reader later : Entries R S H builds hashes} {was heard : T} {progress : Progress}
     {lent : LentEntry} (stands : T → List Item → Type 0)
-    (u : IsWriting form before rests going told first front old reader was between)
-    (a : HandsOutGiven told (IsNextLent rests stands was heard) reader later u.given
+    (u : IsWriting form before rests going observed first front old reader was between)
+    (a : HandsOutGiven observed (IsNextLent rests stands was heard) reader later u.given
     (front ++ u.more) (Ok (Some lent)))
     (passed : HasPassed progress (front ++ u.more)) where
   -- what came of the entry that was handed out, which the writer was told
@@ -139,7 +139,7 @@ module _ {R S H T : Type 0} {builds : BuildHasher.Ghosts S H} {hashes : Hasher.G
   -- it was written
   pub writes_on : {X : Type 0} {now : T} {new : Option (List ℕ)} (x : X)
       → WritesOne form before rests stands going heard now progress lent between new (Ok x)
-      → IsWriting form before rests going told first front old later now new
+      → IsWriting form before rests going observed first front old later now new
   writes_on {now = now} {new = new} x wrote =
       let one = a.hands_out.0 in
       let (goes, stands_for, written) = came_of now new (Ok x) wrote in
@@ -149,7 +149,7 @@ module _ {R S H T : Type 0} {builds : BuildHasher.Ghosts S H} {hashes : Hasher.G
         given = u.given ++ a.more;
         more = u.more ++ one ∷ [];
         consumed = gave_on first u.consumed a;
-        reads = subst (StandsFor told later (u.given ++ a.more)) all a.hands_out.3;
+        reads = subst (StandsFor observed later (u.given ++ a.more)) all a.hands_out.3;
         writes = record {
           goes = goes;
           stands_for = subst (λ l. rests now (before l)) all stands_for;
@@ -162,7 +162,7 @@ module _ {R S H T : Type 0} {builds : BuildHasher.Ghosts S H} {hashes : Hasher.G
       → IsOfWriting error
       → WritesOne form before rests stands going heard heard progress lent between new
       {X = Unit {0}} (Err error)
-      → HasStopped form before rests going first old (told (source_of later)) new error
+      → HasStopped form before rests going first old (observed (source_of later)) new error
   stops_at {new = new} prefixes error of wrote = record {
     given = u.given ++ a.more;
     consumed = gave_on first u.consumed a;

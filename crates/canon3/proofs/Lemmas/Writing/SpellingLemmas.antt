@@ -14,7 +14,7 @@ use Rattle.canon3.proofs.Lemmas.Order.First.{first_in_order}
 use Rattle.canon3.proofs.Lemmas.Order.Order.{BeginsWithXid}
 use Rattle.canon3.proofs.Lemmas.Canonical.Growing.{answering_begins, handles_push, last_paired, verifiers_push}
 use Rattle.canon3.proofs.Lemmas.Writing.Opening.{is_held, is_under_way}
-use Rattle.canon3.proofs.Lemmas.Writing.Visiting.{told_after-append}
+use Rattle.canon3.proofs.Lemmas.Writing.Visiting.{items_of_writer-append}
 
 are_few : (entries : List Entry) (one : Entry) → AreFirst (entries ++ one ∷ [])
     → AreFew (handles entries ++ handles_in (items_of one))
@@ -31,7 +31,7 @@ module _ {S H : Type 0} (n : MessageWriter S H) (entries : List Entry) where
       → IsWithinMessage n (values_of entries) items
   within items going stands =
       is_under_way n (values_of entries) items going
-      (subst (WriterStands n) (sym (told_after-append (values_of entries) [] items)) stands)
+      (subst (WriterStands n) (sym (items_of_writer-append (values_of entries) [] items)) stands)
 
   holds_after : (one : Entry) (number : ℕ) → IsWithinMessage n (values_of entries) (items_of one)
       → HoldsBefore (record n { xid = number }) (values_of (entries ++ one ∷ []))

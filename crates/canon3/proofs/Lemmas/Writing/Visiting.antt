@@ -9,7 +9,7 @@ use Rattle.rpc_head.specs.declared.values.message_start.MessageStart.{MessageSta
 use Rattle.capture3.specs.MessageVisit.{OpensMessage}
 use Rattle.xdr3.specs.Item.{Item, Fixed, Hyper, Word, WriteVerf, Opaque, Rest, Kind, Handle, residue, word_bytes}
 use Rattle.nfs3_types.specs.declared.values.handle.Handle as declared
-use Rattle.canon3.specs.machinery.MessageWriter.{AreFew, Before, IsNotedAs, IsNotedMessage, Notes, in_front_of, told_after, WriterRests, WriterStands}
+use Rattle.canon3.specs.machinery.MessageWriter.{AreFew, Before, IsNotedAs, IsNotedMessage, Notes, in_front_of, items_of_writer, WriterRests, WriterStands}
 use Rattle.canon3.proofs.Lemmas.Canonical.CanonicalStreamLemmas.{items_after-push}
 use Rattle.canon3.proofs.Lemmas.Canonical.OneFormLemmas.{plain_handle, plain_verifier, plain_numbered}
 use Rattle.canon3.proofs.Lemmas.Numbers.RankLemmas.{member-append_right, rank-le-length}
@@ -26,9 +26,9 @@ listed-append [] items more = refl
 listed-append (x ∷ xs) items more =
     ap (λ (l : List Item). Rest [] x ∷ l) (listed-append xs items more)
 
-pub told_after-append : (before : Before) (items more : List Item)
-    → told_after before (items ++ more) ≡ told_after before items ++ more
-told_after-append before items more =
+pub items_of_writer-append : (before : Before) (items more : List Item)
+    → items_of_writer before (items ++ more) ≡ items_of_writer before items ++ more
+items_of_writer-append before items more =
     ap (in_front_of before.handles) (listed-append before.verifiers items more)
     ∙ listed-append before.handles (in_front_of before.verifiers items) more
 
@@ -44,9 +44,9 @@ listed-same (x ∷ xs) (y ∷ ys) items more e =
     (ap₂ (λ a (b : List (List ℕ)). a ∷ b) head r.0, r.1)
 
 -- the items in front tell all
-pub told_after-same : (a b : Before) (items more : List Item)
-    → told_after a items ≡ told_after b more → (a ≡ b) × (items ≡ more)
-told_after-same a b items more e =
+pub items_of_writer-same : (a b : Before) (items more : List Item)
+    → items_of_writer a items ≡ items_of_writer b more → (a ≡ b) × (items ≡ more)
+items_of_writer-same a b items more e =
     let h = listed-same a.handles b.handles _ _ e in
     let v = listed-same a.verifiers b.verifiers items more h.1 in
     let handles : a.handles ≡ b.handles = h.0 in
@@ -111,7 +111,7 @@ module _ {S H : Type 0} (old new : MessageWriter S H) (i : Item) where
         items = b.items ++ i ∷ [];
         are =
             ap (λ (l : List Item). l ++ i ∷ []) b.are
-            ∙ sym (told_after-append b.before b.items (i ∷ []));
+            ∙ sym (items_of_writer-append b.before b.items (i ∷ []));
         under_way = record {
           name = u.name;
           xid = u.xid;
@@ -229,7 +229,7 @@ module _ {S H : Type 0} (n : MessageWriter S H) (noted : Noted) where
         items = start_items s;
         are =
             ap (λ (l : List Item). l ++ start_items s) b.are
-            ∙ sym (told_after-append b.before [] (start_items s));
+            ∙ sym (items_of_writer-append b.before [] (start_items s));
         under_way = record {
           name = head_names.xid;
           xid = s.xid;
@@ -278,7 +278,7 @@ module _ {S H : Type 0} (n : MessageWriter S H) (noted : Noted) where
       → KeepsRun n.patches noted count
       → Adds WriterStands n (with_patches n noted) (run_items all run)
   unfolding Adds
-  adds_run all run count size keeps told stands going =
+  adds_run all run count size keeps observed stands going =
       let b = stands going in
       let u = b.under_way in
       let more = run_items all run in
@@ -292,7 +292,7 @@ module _ {S H : Type 0} (n : MessageWriter S H) (noted : Noted) where
         before = b.before;
         items = b.items ++ more;
         are =
-            ap (λ (l : List Item). l ++ more) b.are ∙ sym (told_after-append b.before b.items more);
+            ap (λ (l : List Item). l ++ more) b.are ∙ sym (items_of_writer-append b.before b.items more);
         under_way = record {
           name = u.name;
           xid = u.xid;

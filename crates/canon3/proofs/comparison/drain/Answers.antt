@@ -12,7 +12,7 @@ returns g c =
     record {
       out =
           λ start handed h.
-          read_out g.R.Source.told start handed _ _ _ _ _ _ c.write_rest.result
+          read_out g.R.Source.observed start handed _ _ _ _ _ _ c.write_rest.result
           (w.over start handed None (record {
             given = h.all.given;
             more = h.more;

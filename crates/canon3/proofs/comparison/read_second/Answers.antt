@@ -6,12 +6,12 @@ pub returns-in-Ok-clause-out : goal.returns-in-Ok-clause-out
 returns-in-Ok-clause-out g c start handed h =
     let (more, typed) =
     c.in-Ok.ensures.out start handed
-    (given_on g.R.Source.told start c.args.entries.now handed h) in
+    (given_on g.R.Source.observed start c.args.entries.now handed h) in
     (refl, more, typed)
 
 pub returns-in-Err-clause-out : goal.returns-in-Err-clause-out
 returns-in-Err-clause-out g c start handed h = (
   refl,
   c.in-Err.ensures.out start handed
-      (given_on g.R.Source.told start c.args.entries.now handed h),
+      (given_on g.R.Source.observed start c.args.entries.now handed h),
 )

@@ -1,4 +1,4 @@
-use Rattle.canon3.proofs.Common.{[], rules, sym, ◌≡◌, ◌∙◌, source_of, prefix_of_kept, prefix_of_told}
+use Rattle.canon3.proofs.Common.{[], rules, sym, ◌≡◌, ◌∙◌, source_of, prefix_of_kept, prefix_of_observed}
 use Rattle.canon3.proofs.Lemmas.Comparison.ComparisonLemmas.{decides_all, fresh}
 use Rattle.canon3.proofs.comparison.same.Goals as goal
 
@@ -6,8 +6,8 @@ pub judge-result-requires-clause-begins : goal.judge-result-requires-clause-begi
 judge-result-requires-clause-begins g c = record {
   a = [];
   b = [];
-  first_given = fresh g.A.Source.told c.through-entries.result c.through-entries.ensures.stands;
-  second_given = fresh g.B.Source.told c.through-others.result c.through-others.ensures.stands;
+  first_given = fresh g.A.Source.observed c.through-entries.result c.through-entries.ensures.stands;
+  second_given = fresh g.B.Source.observed c.through-others.result c.through-others.ensures.stands;
   compared = search rules;
 }
 
@@ -21,17 +21,17 @@ returns g c =
     let other_back : _ ≡ source_of r.new.second =
     c.second-1.given.1 (sym (c.into_source-2.ensures.same_reference ∙ r.ensures.reads.same_second
     ∙ c.through-others.ensures.same_reference)) ∙ c.into_source-2.ensures.value in
-    let old = g.A.Source.told (source_of c.through-entries.result) in
-    let new = g.A.Source.told (source_of r.new.first) in
-    let old_other = g.B.Source.told (source_of c.through-others.result) in
-    let new_other = g.B.Source.told (source_of r.new.second) in
+    let old = g.A.Source.observed (source_of c.through-entries.result) in
+    let new = g.A.Source.observed (source_of r.new.first) in
+    let old_other = g.B.Source.observed (source_of c.through-others.result) in
+    let new_other = g.B.Source.observed (source_of r.new.second) in
     rw (back, other_back, ← c.through-entries.ensures.unread, ← c.through-others.ensures.unread)
     (record {
       decides =
           λ file other tells other_tells.
           decides_all old new old_other new_other file other
-          (λ given. prefix_of_told old new given file tells)
-          (λ given. prefix_of_told old_other new_other given other other_tells) r.result
+          (λ given. prefix_of_observed old new given file tells)
+          (λ given. prefix_of_observed old_other new_other given other other_tells) r.result
           r.ensures.gave;
       gave = r.ensures.gave;
       whole =

@@ -1,4 +1,4 @@
-use Rattle.canon3.proofs.Common.{[], None, refl, prefix_of_kept, prefix_of_told}
+use Rattle.canon3.proofs.Common.{[], None, refl, prefix_of_kept, prefix_of_observed}
 use Rattle.canon3.proofs.Lemmas.Progress.SummaryLemmas.{concluded, concludes, no_write}
 use Rattle.canon3.proofs.summary.check.Goals as goal
 
@@ -8,18 +8,18 @@ write_entries-requires-clause-prefixes g c = λ entries more first. ([], refl)
 pub returns : goal.returns
 returns g c =
     let w = c.write_entries.ensures in
-    let old = g.R.Source.told c.args.source.now in
-    let new = g.R.Source.told c.write_entries.new.source in
+    let old = g.R.Source.observed c.args.source.now in
+    let new = g.R.Source.observed c.write_entries.new.source in
     let result = c.write_entries.result in
     let never = no_write result w.write in
     let all = concludes old new result None never w.writes in
     record {
       ok =
           λ bytes tells. (concluded bytes old new result
-          (λ given. prefix_of_told old new given bytes tells) all).0;
+          (λ given. prefix_of_observed old new given bytes tells) all).0;
       refused =
           λ bytes tells. (concluded bytes old new result
-          (λ given. prefix_of_told old new given bytes tells) all).1;
+          (λ given. prefix_of_observed old new given bytes tells) all).1;
       concludes = all;
       whole =
           λ bytes gave.

@@ -1,5 +1,5 @@
 -- The machine for a connection against its two sides.
-use Rattle.capture3.proofs.Common.{lengths, Ends, Run, Runs, Stops, after, Leads, leads_within, Item, AreBytes, Client, Server, ReplyItems, Version, One, Two, AreStreams, Streams, size, max_bytes, IsStream, Context, client_position, server_position, calls_in_turn, refusal, replies_to, ConnectionShows, InClientStream, InServerStream, Entry, judge_call, MixedEnd, MixedCloses, MixedRefuses, mixed_next, mixing_from, judge_replies, Opening, InClient, InServer, InMixed, Closing, Closes, Refuses, turning, ending, server_said, client_said, conversing, opening_next, opened, StreamEnd, Held, Faulty, stream_end, Holds, place_at, Converses, connection_entries, Siding, SideEnd, SideCloses, SideRefuses, side_next, siding_from, ◌≡◌, inl, inr, ℕ, ◌+◌, ◌≤◌, List, [], ◌∷◌, ◌++◌, length, refl, sym, ap, ◌∙◌, append_assoc, append-nil, arith}
+use Rattle.capture3.proofs.Common.{lengths, Ends, Run, Runs, Stops, after, Leads, leads_within, Item, AreBytes, Client, Server, ReplyItems, Version, One, Two, AreStreams, Streams, size, max_bytes, IsStream, Context, client_position, server_position, calls_in_turn, refusal, replies_to, ConnectionShows, InClientStream, InServerStream, Entry, judge_call, MixedEnd, MixedCloses, MixedRefuses, mixed_next, mixing_from, judge_replies, Opening, InClient, InServer, InMixed, Closing, Closes, Refuses, turning, ending, after_server, after_client, conversing, opening_next, opened, StreamEnd, Held, Faulty, stream_end, Holds, place_at, Converses, connection_entries, Siding, SideEnd, SideCloses, SideRefuses, side_next, siding_from, ◌≡◌, inl, inr, ℕ, ◌+◌, ◌≤◌, List, [], ◌∷◌, ◌++◌, length, refl, sym, ap, ◌∙◌, append_assoc, append-nil, arith}
 use Rattle.capture3.proofs.Lemmas.Messages.BodiesLemmas.{the_calls, the_replies}
 use Rattle.capture3.proofs.Lemmas.Container.BytesOf.{split_bytes, mixed_bytes}
 use Rattle.capture3.proofs.Lemmas.Connections.JudgedInTurn.{conversed, calls_hold, replies_hold}
@@ -160,13 +160,13 @@ module _ (context : Context) where
 
   -- ---- version 2
 
-  server_said_ends : (bytes : List ℕ) (at total : ℕ) (streams : Streams)
+  after_server_ends : (bytes : List ℕ) (at total : ℕ) (streams : Streams)
       (calls : List (List Item)) → ClosesMixed context bytes at total streams
       → Holds calls_in_turn streams.client calls
       → (x : StreamEnd ReplyItems) → EndsStream (replies_to calls) streams.server x
       → Leads (HasOpening Two context) (EndsConnection Two context) bytes
-      (server_said context.number at total calls x)
-  server_said_ends bytes at total streams calls h holds (Held replies) ends =
+      (after_server context.number at total calls x)
+  after_server_ends bytes at total streams calls h holds (Held replies) ends =
       record {
         streams = streams;
         calls = calls;
@@ -178,19 +178,19 @@ module _ (context : Context) where
         fits = h.fits;
         entries_are = refl;
       }
-  server_said_ends bytes at total streams calls h holds (Faulty replies fault) ends =
+  after_server_ends bytes at total streams calls h holds (Faulty replies fault) ends =
       inr (InServerStream streams calls replies fault h.mixed holds ends refl)
 
-  client_said_ends : (bytes : List ℕ) (at total : ℕ) (streams : Streams)
+  after_client_ends : (bytes : List ℕ) (at total : ℕ) (streams : Streams)
       → AreBytes streams.server → ClosesMixed context bytes at total streams
       → (x : StreamEnd (List Item)) → EndsStream calls_in_turn streams.client x
       → Leads (HasOpening Two context) (EndsConnection Two context) bytes
-      (client_said context.number at total streams.server x)
-  client_said_ends bytes at total streams are h (Held calls) ends =
-      server_said_ends bytes at total streams calls h ends
+      (after_client context.number at total streams.server x)
+  after_client_ends bytes at total streams are h (Held calls) ends =
+      after_server_ends bytes at total streams calls h ends
       (stream_end (judge_replies calls) streams.server)
       (ends_stream (the_replies calls) streams.server are)
-  client_said_ends bytes at total streams are h (Faulty calls fault) ends =
+  after_client_ends bytes at total streams are h (Faulty calls fault) ends =
       inr (InClientStream streams calls fault h.mixed ends refl)
 
   conversing_ends : (bytes : List ℕ) (x : MixedEnd) → AreBytes bytes → EndsMixed context bytes x
@@ -198,7 +198,7 @@ module _ (context : Context) where
       (conversing context.number x)
   conversing_ends bytes (MixedCloses at total streams) are h =
       let both = mixed_bytes bytes streams h.mixed are in
-      client_said_ends bytes at total streams both.1 h (stream_end judge_call streams.client)
+      after_client_ends bytes at total streams both.1 h (stream_end judge_call streams.client)
       (ends_stream the_calls streams.client both.0)
   conversing_ends bytes (MixedRefuses fault) are h = inl (refl, h)
 

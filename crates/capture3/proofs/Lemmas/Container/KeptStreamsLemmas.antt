@@ -1,5 +1,5 @@
 -- Judging the records of streams that are gathered, one after another.
-use Rattle.capture3.proofs.Common.{◌≡◌, inl, inr, ℕ, ◌+◌, List, [], ◌∷◌, ◌++◌, length, map, take, drop, take-append-drop, Result, Ok, Err, refl, sym, ap, subst, ◌∙◌, append_assoc, append-nil, arith, length-append, common_steps, Stop, Item, AreBytes, Joining, Between, Header, Bytes, Joined, Whole, TooLong, join_next, Next, Goes, Ends, Run, Runs, Stops, Stopped, after, landed, within, last_running, after-append, last_running-append, Known, Fault, Side, Client, Server, ReplyItems, Two, Entry, Shows, FirstFault, judge_call, judge_reply, Opening, Closing, judge_replies, server_said, client_said, Parsing, file_next, file_start, parsed, emitted, verdict, verdict_of, AreFirstReached, Reached, RecordFault, Streams, reply_entry, connection_entries, Unpacking, Mark, ShownFault, client_refusal, server_refusal, IsTableOf, xid_in, xids_in, Judge, Reading, judged, StreamEnd, Held, Faulty, left_in, end_of, rest_end, stream_end, stream_next, recorded, Judged, parsing_in, parsing_at, client_entries, server_entries, with_call, with_reply, turned, connection_closed, unpacking_with, reading_with, between_records, Recalls, ShowsFirst, map-append, xid_of}
+use Rattle.capture3.proofs.Common.{◌≡◌, inl, inr, ℕ, ◌+◌, List, [], ◌∷◌, ◌++◌, length, map, take, drop, take-append-drop, Result, Ok, Err, refl, sym, ap, subst, ◌∙◌, append_assoc, append-nil, arith, length-append, common_steps, Stop, Item, AreBytes, Joining, Between, Header, Bytes, Joined, Whole, TooLong, join_next, Next, Goes, Ends, Run, Runs, Stops, Stopped, after, landed, within, last_running, after-append, last_running-append, Known, Fault, Side, Client, Server, ReplyItems, Two, Entry, Shows, FirstFault, judge_call, judge_reply, Opening, Closing, judge_replies, after_server, after_client, Parsing, file_next, file_start, parsed, emitted, verdict, verdict_of, AreFirstReached, Reached, RecordFault, Streams, reply_entry, connection_entries, Unpacking, Mark, ShownFault, client_refusal, server_refusal, IsTableOf, xid_in, xids_in, Judge, Reading, judged, StreamEnd, Held, Faulty, left_in, end_of, rest_end, stream_end, stream_next, recorded, Judged, parsing_in, parsing_at, client_entries, server_entries, with_call, with_reply, turned, connection_closed, unpacking_with, reading_with, between_records, Recalls, ShowsFirst, map-append, xid_of}
 use Rattle.capture3.specs.Entry as entries
 use Rattle.capture3.specs.FileMachine as parsing
 use Rattle.capture3.proofs.Lemmas.Reader.PlacingLemmas.{counted_on}
@@ -7,7 +7,7 @@ use Rattle.capture3.proofs.Lemmas.Container.BytesOf.{split_bytes}
 use Rattle.capture3.proofs.Lemmas.Reader.WholeEntries.{call_added, reply_added}
 use Rattle.capture3.proofs.Lemmas.Sides.StreamEnds.{rest_accepts, rest_refuses, rest_leaves}
 use Rattle.capture3.proofs.Lemmas.Reached.ReachedBeforeFaults.{first_reached_at}
-use Rattle.capture3.proofs.Lemmas.Files.Verdicts.{clean_from_runs, shows_from_stops, stays, told, verdict_from_typed}
+use Rattle.capture3.proofs.Lemmas.Files.Verdicts.{clean_from_runs, shows_from_stops, stays, observed, verdict_from_typed}
 use Rattle.capture3.proofs.Lemmas.Reached.ReachedLemmas.{stands_whole}
 use Rattle.capture3.proofs.Lemmas.Reader.FileStandingLemmas.{whole_connections}
 use Rattle.capture3.proofs.Lemmas.Connections.NumberingLemmas.{opened_more, opened_still}
@@ -94,7 +94,7 @@ module _ (u : Unpacking) (streams : Streams) (taken records : ℕ) (table : Know
       shows_at_last r.front r.byte r.state (client_refusal u.connections r.so_far.calls fault)
       r.split r.runs
       (r.ends
-      ∙ ap (λ x. said u r.so_far (client_said u.connections u.at u.total streams.server x)) faulty)
+      ∙ ap (λ x. said u r.so_far (after_client u.connections u.at u.total streams.server x)) faulty)
       (r.here.2
       ∙ sym (append_assoc r.so_far.entries (entries.Begin ∷ []) (map entries.Call r.so_far.calls))
       ∙ ap (λ (l : List Entry). l ++ map entries.Call r.so_far.calls) (sym r.emits))
@@ -193,12 +193,12 @@ module _ (u : Unpacking) (streams : Streams) (taken records : ℕ) (table : Know
   both_said : (x : StreamEnd ReplyItems)
       → stream_end (judge_replies r.so_far.calls) streams.server ≡ x
       → file_next r.state r.byte
-      ≡ said u r.so_far (server_said u.connections u.at u.total r.so_far.calls x)
+      ≡ said u r.so_far (after_server u.connections u.at u.total r.so_far.calls x)
   both_said x e =
       r.ends
-      ∙ ap (λ y. said u r.so_far (client_said u.connections u.at u.total streams.server y))
+      ∙ ap (λ y. said u r.so_far (after_client u.connections u.at u.total streams.server y))
       r.here.0
-      ∙ ap (λ y. said u r.so_far (server_said u.connections u.at u.total r.so_far.calls y)) e
+      ∙ ap (λ y. said u r.so_far (after_server u.connections u.at u.total r.so_far.calls y)) e
 
   server_shows : (fault : RecordFault)
       → stream_end (judge_replies r.so_far.calls) streams.server ≡ Faulty r.so_far.replies fault
@@ -274,7 +274,7 @@ first_of bytes rest handed fault are s = (
       clean = clean_from_runs s.front s.state s.runs;
       longest = inr (s.byte, s.back ++ rest, s.shown, refl, shows, refl);
     },
-    stands_whole s.front s.state (told s.front (Runs s.state)
+    stands_whole s.front s.state (observed s.front (Runs s.state)
         (split_bytes bytes s.front (s.byte ∷ s.back) s.split are).0 s.runs),
     s.emits,
   ),
@@ -394,7 +394,7 @@ module _ (u : Unpacking) (streams : Streams) (side : Side) (taken records : ℕ)
   -- and so does the end of the connection
   by_close : (calls : List (List Item)) (replies : List ReplyItems) (more : List Entry)
       → file_next r.state r.byte
-      ≡ said u r.so_far (server_said u.connections u.at u.total calls (Held replies))
+      ≡ said u r.so_far (after_server u.connections u.at u.total calls (Held replies))
       → r.so_far.entries ++ connection_entries calls replies ≡ handed ++ more
       → AreFirstReached (bytes ++ rest) handed
   by_close calls replies more ends is =
@@ -412,7 +412,7 @@ module _ (u : Unpacking) (streams : Streams) (side : Side) (taken records : ℕ)
 
   by_server : (calls : List (List Item)) (before : List Entry) (more : List Entry)
       (x : StreamEnd ReplyItems)
-      → file_next r.state r.byte ≡ said u r.so_far (server_said u.connections u.at u.total calls x)
+      → file_next r.state r.byte ≡ said u r.so_far (after_server u.connections u.at u.total calls x)
       → r.so_far.entries ++ (client_entries calls ++ server_entries (messages_in x))
       ≡ handed ++ more → AreFirstReached (bytes ++ rest) handed
   by_server calls before more (Held replies) ends is =

@@ -1,5 +1,5 @@
 -- The same of the rules of connections and of files.
-use Rattle.capture3.proofs.Common.{lengths, ◌≡◌, ◌⊎◌, inl, inr, ℕ, suc, ◌+◌, ◌<◌, List, [], ◌∷◌, ◌++◌, length, refl, sym, ap, ap₂, ◌∙◌, append_assoc, append-nil, arith, nat_lt, le-ltb, Run, Runs, Stops, landed, after, Between, IsWord, Joins, Item, TooManyConnections, AfterEnd, Fault, ReplyItems, Version, One, Two, magic, max_connections, total_size, AreStreams, IsConnection, Streams, size, AreMixed, IsStream, Entry, AfterConnections, Rule, MagicDiffers, MarkIsBad, ConnectionIsTooMany, WithinConnection, ByteAfterEnd, judge_call, mixing_from, judge_replies, Opening, InServer, Closing, Closes, Refuses, server_said, client_said, opened, Judgement, StreamEnd, Held, Faulty, stream_end, unread, Position, Reading, file_fault, SideShows, connection_entries, siding_from, reading_with, Context, ShownFault, refusal, client_refusal, server_refusal, client_position, server_position, calls_in_turn, replies_to, ServerShows, StreamsShow, InClientStream, InServerStream, ConnectionShows, Parsing, marked, file_next, parsed}
+use Rattle.capture3.proofs.Common.{lengths, ◌≡◌, ◌⊎◌, inl, inr, ℕ, suc, ◌+◌, ◌<◌, List, [], ◌∷◌, ◌++◌, length, refl, sym, ap, ap₂, ◌∙◌, append_assoc, append-nil, arith, nat_lt, le-ltb, Run, Runs, Stops, landed, after, Between, IsWord, Joins, Item, TooManyConnections, AfterEnd, Fault, ReplyItems, Version, One, Two, magic, max_connections, total_size, AreStreams, IsConnection, Streams, size, AreMixed, IsStream, Entry, AfterConnections, Rule, MagicDiffers, MarkIsBad, ConnectionIsTooMany, WithinConnection, ByteAfterEnd, judge_call, mixing_from, judge_replies, Opening, InServer, Closing, Closes, Refuses, after_server, after_client, opened, Judgement, StreamEnd, Held, Faulty, stream_end, unread, Position, Reading, file_fault, SideShows, connection_entries, siding_from, reading_with, Context, ShownFault, refusal, client_refusal, server_refusal, client_position, server_position, calls_in_turn, replies_to, ServerShows, StreamsShow, InClientStream, InServerStream, ConnectionShows, Parsing, marked, file_next, parsed}
 use Rattle.capture3.proofs.Lemmas.Connections.ConnectionMachineLemmas.{RefusedClosing, in_client, in_mixed, in_server, opening_taken}
 use Rattle.capture3.proofs.Lemmas.Connections.RankLemmas.{by_test}
 use Rattle.capture3.proofs.Lemmas.Sides.SideRules.{side_closed_or, side_over}
@@ -78,7 +78,7 @@ module _ (context : Context) where
   -- after the streams, which are gathered
   gathered_or : (bytes : List ℕ) (streams : Streams) → AreMixed bytes streams
       → (opening_taken Two context bytes
-      ≡ landed (client_said context.number (context.start + length bytes)
+      ≡ landed (after_client context.number (context.start + length bytes)
       (context.before + size streams) streams.server (stream_end judge_call streams.client)))
       ⊎ Past RefusedClosing (opening_taken Two context bytes)
   gathered_or bytes streams h =
@@ -108,13 +108,13 @@ module _ (context : Context) where
       ]
 
   server_or : (end sum : ℕ) (calls : List (List Item)) (x : StreamEnd ReplyItems)
-      → ClosedConnection end sum (landed (server_said context.number end sum calls x))
+      → ClosedConnection end sum (landed (after_server context.number end sum calls x))
   server_or end sum calls (Held replies) = At (connection_entries calls replies) refl
   server_or end sum calls (Faulty replies fault) =
       Fails (Refuses (server_refusal context.number calls replies fault), tt, inl refl)
 
   client_or : (end sum : ℕ) (server : List ℕ) (x : StreamEnd (List Item))
-      → ClosedConnection end sum (landed (client_said context.number end sum server x))
+      → ClosedConnection end sum (landed (after_client context.number end sum server x))
   client_or end sum server (Held calls) =
       server_or end sum calls (stream_end (judge_replies calls) server)
   client_or end sum server (Faulty calls fault) =

@@ -3,7 +3,7 @@
 use Rattle.std.proofs.lemmas.Bool.{ne_eqb}
 use Rattle.capture3.proofs.Common.{[], ◌∷◌, Trailing, WrongSide, NoCall, XidConflict, Stop, Layout, reading_layout, ProcId, MessageStart, call_layout, reply_layout, procedure_in, call_head, message_start, reply_head, start_items, arguments_of, results_of, procedure_of, xid_in, Item, followed_by, ◌>>=◌, reading, refused, judge_call, judge_reply, read_whole, all_of_body, agreed, agrees, answering, GetError, results_after, ◌≡◌, ◌≢◌, ℕ, Bool, true, false, not, cond, List, ◌++◌, length, Some, None, Result, Ok, Err, refl, sym, ap, ◌∙◌, append_assoc, eq-eqb, xid_of}
 use Rattle.xdr3.proofs.Lemmas.Reading.Linked.{with_front}
-use Rattle.rpc_head.specs.HeadScan.{procedure_told, tells_success}
+use Rattle.rpc_head.specs.HeadScan.{procedure_in_head, success_in_head}
 use Rattle.rpc_head.proofs.Messages.{call_read, call_head_refused, procedure_read, reply_read, reply_head_refused}
 use Rattle.xdr3.specs.declared.reason.GetError.TheVariants as errors
 
@@ -41,7 +41,7 @@ pub record CallBegins (body : List ℕ) (s : MessageStart) (id : ProcId) (front 
   pub start : reading message_start body 0 ≡ Ok (start_items s, head)
   pub is_call : s.is_reply ≡ false
   pub read : reading call_head body head ≡ Ok (front, end)
-  pub told : procedure_told front ≡ id
+  pub observed : procedure_in_head front ≡ id
 
 pub call_bad_start : (before : List (List Item)) (body : List ℕ) (stop : Stop)
     → reading message_start body 0 ≡ Err stop → judge_call before body ≡ Err stop
@@ -75,7 +75,7 @@ call_laid : (body : List ℕ) (s : MessageStart) (id : ProcId) (front : List Ite
     ≡ with_front (start_items s ++ front) (reading_layout (arguments_of id) body end)
 call_laid body s id front head end b =
     call_read arguments_of body s front 0 head end b.start b.is_call b.read
-    ∙ rw b.told
+    ∙ rw b.observed
 
 pub call_bad_arguments : (before : List (List Item)) (body : List ℕ) (s : MessageStart)
     (id : ProcId) (front : List Item) (head end : ℕ) (stop : Stop)
@@ -108,7 +108,7 @@ pub call_procedure : (body : List ℕ) (s : MessageStart) (id : ProcId) (front m
     → procedure_in (whole_call s front more) ≡ id
 unfolding followed_by
 call_procedure body s id front more head end b =
-    procedure_read body front more head end b.read ∙ b.told
+    procedure_read body front more head end b.read ∙ b.observed
 
 pub call_xid : (s : MessageStart) (front more : List Item)
     → xid_in (whole_call s front more) ≡ s.xid
@@ -156,7 +156,7 @@ pub record ReplyBegins (calls : List (List Item)) (body : List ℕ) (s : Message
   pub is_reply : s.is_reply ≡ true
   pub asked : procedure_of calls s.xid ≡ Some id
   pub read : reading reply_head body head ≡ Ok (front, end)
-  pub told : tells_success front ≡ success
+  pub observed : success_in_head front ≡ success
 
 pub reply_bad_start : (calls : List (List Item)) (body : List ℕ) (stop : Stop)
     → reading message_start body 0 ≡ Err stop → judge_reply calls body ≡ Err stop
@@ -199,7 +199,7 @@ reply_laid : (calls : List (List Item)) (body : List ℕ) (s : MessageStart) (id
     ≡ with_front (start_items s ++ front) (reading_layout (results_after success id) body end)
 reply_laid calls body s id success front head end b =
     reply_read (results_of id) body s front 0 head end b.start b.is_reply b.read
-    ∙ rw b.told
+    ∙ rw b.observed
 
 reply_answers : (calls : List (List Item)) (body : List ℕ) (s : MessageStart) (id : ProcId)
     (success : Bool) (front : List Item) (head end : ℕ)

@@ -72,7 +72,7 @@ call_begun stands body s id v1 v2 n1 n2 b h = (
     start = b.start;
     is_call = b.side;
     read = subst (λ (l : List ℕ). reading call_head l v1.at ≡ Ok (h.0, v2.at)) b.same_body h.1;
-    told = h.2;
+    observed = h.2;
   },
   h.3.same_body ∙ b.same_body,
   h.4,
@@ -169,7 +169,7 @@ reply_begun stands calls body s id success v1 v2 n1 n2 b asked h = (
     is_reply = b.side;
     asked = asked;
     read = subst (λ (l : List ℕ). reading reply_head l v1.at ≡ Ok (h.0, v2.at)) b.same_body h.1;
-    told = h.2;
+    observed = h.2;
   },
   h.3.same_body ∙ b.same_body,
   h.4,
@@ -220,7 +220,7 @@ reply_told rests stands body s id success v1 v2 v3 n0 n1 n2 n3 b a h x =
         is_reply = b.side;
         asked = asked;
         read = subst (λ (l : List ℕ). reading reply_head l v1.at ≡ Ok (h.0, v2.at)) b.same_body h.1;
-        told = h.2;
+        observed = h.2;
       };
       read =
           rw (← same) x.1;

@@ -11,7 +11,7 @@ use Rattle.rpc_head.specs.declared.values.reply.Accept.TheVariants.{Success, Pro
 use Rattle.rpc_head.specs.declared.values.reply.Deny.TheVariants.{RpcMismatch, AuthError}
 use Rattle.rpc_head.specs.declared.values.reply.ReplyHead.{ReplyHead}
 use Rattle.rpc_head.specs.declared.values.reply.ReplyHead.TheVariants.{Accepted, Denied}
-use Rattle.rpc_head.specs.HeadScan.{procedure_told, tells_success}
+use Rattle.rpc_head.specs.HeadScan.{procedure_in_head, success_in_head}
 use Rattle.rpc_head.specs.Messages.{procedure_in}
 use Rattle.rpc_head.specs.Shapes.{message_start}
 use Rattle.rpc_head.specs.MessageStart.{start_items}
@@ -23,9 +23,9 @@ use Rattle.capture3.specs.machinery.UnspelledMessages.{SpellsNoCall, SpellsNoRep
 
 -- ---- calls
 
-pub call_head_told : (h : CallHead) → procedure_told (call_head_items h) ≡ h.id
+pub procedure_of_head : (h : CallHead) → procedure_in_head (call_head_items h) ≡ h.id
 unfolding followed_by
-call_head_told h = refl
+procedure_of_head h = refl
 
 call_procedure_is : (m : CallMsg) → procedure_in (call_items m) ≡ m.head.id
 unfolding followed_by
@@ -52,16 +52,16 @@ no_call (Err e) body h =
 
 -- ---- replies
 
-pub success_told : (h : ReplyHead) → tells_success (reply_head_items h) ≡ is_success h
+pub success_of_head : (h : ReplyHead) → success_in_head (reply_head_items h) ≡ is_success h
 unfolding followed_by
-success_told (Accepted verf Success) = refl
-success_told (Accepted verf ProgUnavail) = refl
-success_told (Accepted verf (ProgMismatch low high)) = refl
-success_told (Accepted verf ProcUnavail) = refl
-success_told (Accepted verf GarbageArgs) = refl
-success_told (Accepted verf SystemErr) = refl
-success_told (Denied (RpcMismatch low high)) = refl
-success_told (Denied (AuthError stat)) = refl
+success_of_head (Accepted verf Success) = refl
+success_of_head (Accepted verf ProgUnavail) = refl
+success_of_head (Accepted verf (ProgMismatch low high)) = refl
+success_of_head (Accepted verf ProcUnavail) = refl
+success_of_head (Accepted verf GarbageArgs) = refl
+success_of_head (Accepted verf SystemErr) = refl
+success_of_head (Denied (RpcMismatch low high)) = refl
+success_of_head (Denied (AuthError stat)) = refl
 
 -- a call with this xid and this procedure
 abbrev pub the_call : ℕ → ProcId → List (List Item)

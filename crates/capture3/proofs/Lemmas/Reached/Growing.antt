@@ -1,6 +1,6 @@
 -- What is whole stays whole, whatever bytes come: the machine adds entries after those that it has
 -- emitted.
-use Rattle.capture3.proofs.Common.{parsing_in, ◌≡◌, ℕ, List, [], ◌∷◌, ◌++◌, map, Result, Ok, Err, refl, sym, ap, subst, ◌∙◌, append_assoc, append-nil, Stop, Item, Joining, Between, Next, Goes, Ends, Runs, Stops, after, landed, last_running, within, only_stops, Client, Server, ReplyItems, ShownFault, Entry, judge_call, judge_reply, Two, judge_replies, server_said, client_said, Parsing, file_next, emitted, StreamEnd, Held, Faulty, stream_end, reply_entry, connection_entries, unpacking_with, Begin, Record, Turn, Close, Judged, resumed_at, parsing_at, resumed, conversed, call_judged, reply_judged, connection_begun, with_call, with_reply, turned, connection_closed, Agrees, AgreesOn, emitted_at, EmitsOn}
+use Rattle.capture3.proofs.Common.{parsing_in, ◌≡◌, ℕ, List, [], ◌∷◌, ◌++◌, map, Result, Ok, Err, refl, sym, ap, subst, ◌∙◌, append_assoc, append-nil, Stop, Item, Joining, Between, Next, Goes, Ends, Runs, Stops, after, landed, last_running, within, only_stops, Client, Server, ReplyItems, ShownFault, Entry, judge_call, judge_reply, Two, judge_replies, after_server, after_client, Parsing, file_next, emitted, StreamEnd, Held, Faulty, stream_end, reply_entry, connection_entries, unpacking_with, Begin, Record, Turn, Close, Judged, resumed_at, parsing_at, resumed, conversed, call_judged, reply_judged, connection_begun, with_call, with_reply, turned, connection_closed, Agrees, AgreesOn, emitted_at, EmitsOn}
 use Rattle.capture3.specs.declared.container.position.spot.Event.TheVariants as events
 use Rattle.capture3.specs.Entry as entries
 use Rattle.capture3.specs.FileMachine as parsing
@@ -99,7 +99,7 @@ grows (byte ∷ bytes) u j agrees =
             (within
             (λ p. parsing_in Two j.start j.before w.connections j.entries
             (parsing.Inside p)) (parsing.closed Two w.connections j.entries)
-            (server_said w.connections w.at w.total calls x)))
+            (after_server w.connections w.at w.total calls x)))
         by_server calls (Held replies) =
             let all : List Entry = j.entries ++ connection_entries calls replies in
             let v : Unpacking = unpacking_with w.at w.total w.connections 0 (Mark Two []) Between in
@@ -121,7 +121,7 @@ grows (byte ∷ bytes) u j agrees =
             (within
             (λ p. parsing_in Two j.start j.before w.connections j.entries
             (parsing.Inside p)) (parsing.closed Two w.connections j.entries)
-            (client_said w.connections w.at w.total streams.server x)))
+            (after_client w.connections w.at w.total streams.server x)))
         by_client (Held calls) = by_server calls (stream_end (judge_replies calls) streams.server)
         by_client (Faulty calls fault) =
             ([], emitted_before ∙ sym (append-nil (j.entries ++ entries.Begin ∷ [])))

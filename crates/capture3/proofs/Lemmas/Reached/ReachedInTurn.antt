@@ -1,6 +1,6 @@
 -- The entries that a prefix reaches, but for a capture's end, are the first of those that more
 -- bytes reach.
-use Rattle.capture3.proofs.Common.{parsing_in, ◌≡◌, ◌⊎◌, inl, inr, ℕ, List, [], ◌∷◌, ◌++◌, length, Result, Ok, Err, refl, sym, ap, subst, ◌∙◌, append_assoc, append-nil, Stop, Item, Between, Next, Goes, Ends, Run, Runs, Stops, Stopped, last_running, within, Client, Server, ReplyItems, ShownFault, Entry, End, judge_call, judge_reply, Two, judge_replies, server_said, client_said, AreBytes, IsWellFormed, AreFirstReached, IsLongestClean, Reached, AreWhole, Shows, Parsing, file_next, file_start, parsed, emitted, StreamEnd, Held, Faulty, stream_end, connection_entries, unpacking_with, Begin, Record, Turn, Close, Judged, parsing_at, resumed, call_judged, reply_judged, connection_begun, with_call, with_reply, turned, connection_closed, Agrees, AgreesOn}
+use Rattle.capture3.proofs.Common.{parsing_in, ◌≡◌, ◌⊎◌, inl, inr, ℕ, List, [], ◌∷◌, ◌++◌, length, Result, Ok, Err, refl, sym, ap, subst, ◌∙◌, append_assoc, append-nil, Stop, Item, Between, Next, Goes, Ends, Run, Runs, Stops, Stopped, last_running, within, Client, Server, ReplyItems, ShownFault, Entry, End, judge_call, judge_reply, Two, judge_replies, after_server, after_client, AreBytes, IsWellFormed, AreFirstReached, IsLongestClean, Reached, AreWhole, Shows, Parsing, file_next, file_start, parsed, emitted, StreamEnd, Held, Faulty, stream_end, connection_entries, unpacking_with, Begin, Record, Turn, Close, Judged, parsing_at, resumed, call_judged, reply_judged, connection_begun, with_call, with_reply, turned, connection_closed, Agrees, AgreesOn}
 use Rattle.std.proofs.lemmas.List.{append_cancel_right}
 use Rattle.capture3.specs.declared.container.position.spot.Event.TheVariants as events
 use Rattle.capture3.specs.Entries.{AreAllBeforeEnd}
@@ -51,7 +51,7 @@ goes_agreed u j byte agrees =
             → GoesAgreed (within
             (λ p. parsing_in Two j.start j.before w.connections j.entries (parsing.Inside p))
             (parsing.closed Two w.connections j.entries)
-            (server_said w.connections w.at w.total calls x))
+            (after_server w.connections w.at w.total calls x))
         by_server calls (Held replies) = (
           unpacking_with w.at w.total w.connections 0 (Mark Two []) Between,
           whole_connections (j.entries ++ connection_entries calls replies),
@@ -64,7 +64,7 @@ goes_agreed u j byte agrees =
             → GoesAgreed (within
             (λ p. parsing_in Two j.start j.before w.connections j.entries (parsing.Inside p))
             (parsing.closed Two w.connections j.entries)
-            (client_said w.connections w.at w.total streams.server x))
+            (after_client w.connections w.at w.total streams.server x))
         by_client (Held calls) = by_server calls (stream_end (judge_replies calls) streams.server)
         by_client (Faulty calls fault) = tt
     on (Ends (Refuses fault)) next = tt

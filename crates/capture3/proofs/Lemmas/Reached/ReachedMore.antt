@@ -147,14 +147,14 @@ module _ (front : List ℕ) (byte : ℕ) (state : Parsing) (whole : List Entry)
   unfolding context total
   fits streams mixed =
       let small : total_size b.connections ≤ max_bytes = omega (arith, stood.3, stood.4) in
-      let told =
+      let observed =
       tells mixed_next (HasMixed context) (EndsMixed context) (mixed_leads context)
       (mixing_from (at + 4) (total_size b.connections)) (nothing_gathered context small) b.rest in
       elim (closes_over context b.rest streams mixed) [
         | inl e ↦
             let closes : EndsMixed context b.rest (MixedCloses (at + 4 + length b.rest)
             (total_size b.connections + size streams) streams) =
-            subst (Tells (HasMixed context) (EndsMixed context) b.rest) e told in
+            subst (Tells (HasMixed context) (EndsMixed context) b.rest) e observed in
             omega (arith, closes.fits, stood.4)
         | inr past ↦ absurd (not_past past)
       ]

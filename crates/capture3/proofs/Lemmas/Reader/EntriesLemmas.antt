@@ -1,13 +1,13 @@
 -- What a reader of entries makes of its histories, step by step.
 use Rattle.std.proofs.Common.{◌≡◌, ◌⊎◌, inl, inr, ℕ, ◌+◌, ◌-◌, ◌≤◌, ◌<◌, Option, Some, None, Result, Ok, Err, IsSome, OnErr, OnOk, List, [], ◌∷◌, ◌++◌, length, take, drop, slice_range, refl, sym, ap, subst, ◌∙◌, append_assoc, append-nil, length-append, arith, take-append-drop, length-take, length-drop, vec_len}
-use Rattle.capture3.proofs.Common.{CanGoOn, common_steps, Pairing, CountedCalls, known_of, open_xids, ∥∥₁_elim, CaptureCut, AreBytes, Item, Runs, Stops, Stopped, Taking, Led, OutOfMemory, IsRunning, released, Known, Kind, Error, Spot, Container, Cursor, Two, max_connections, Entry, End, FirstFault, IsClean, begins, most_bytes, Parsing, parsed, emitted, AreFirstReached, AreWhole, Reached, parsing_at, Streams, file_fault, IsWellFormed, props, Told, Gave, IsSpent, AreStored, IsReady, room_in, unpacking_of}
+use Rattle.capture3.proofs.Common.{CanGoOn, common_steps, Pairing, CountedCalls, known_of, open_xids, ∥∥₁_elim, CaptureCut, AreBytes, Item, Runs, Stops, Stopped, Taking, Led, OutOfMemory, IsRunning, released, Known, Kind, Error, Spot, Container, Cursor, Two, max_connections, Entry, End, FirstFault, IsClean, begins, most_bytes, Parsing, parsed, emitted, AreFirstReached, AreWhole, Reached, parsing_at, Streams, file_fault, IsWellFormed, props, Observed, Gave, IsSpent, AreStored, IsReady, room_in, unpacking_of}
 use Rattle.std.proofs.lemmas.List.{drop-take}
 use Rattle.capture3.specs.MessageVisit.{Hears}
 use Rattle.capture3.specs.Progress.{AreCounted}
 use Rattle.capture3.specs.machinery.Pairing.{CountsMessages}
 use Rattle.capture3.proofs.Lemmas.Reader.PairingLemmas.{counted_here}
 use Rattle.capture3.proofs.Lemmas.Reader.PlacingLemmas.{counted_on, messages_more, none_more}
-use Rattle.capture3.proofs.Lemmas.Reader.ToldLemmas.{gave_both, gave_none}
+use Rattle.capture3.proofs.Lemmas.Reader.ObservedLemmas.{gave_both, gave_none}
 use Rattle.std.specs.declared.hash.BuildHasher as BuildHasher
 use Rattle.std.specs.declared.hash.Hasher as Hasher
 use Rattle.std.proofs.lemmas.List.{same_from_push}
@@ -37,7 +37,7 @@ use Rattle.capture3.proofs.Lemmas.Reached.ReachedLemmas.{stands_whole}
 use Rattle.capture3.proofs.Lemmas.Container.KeptStreamsLemmas.{first_of, recalled_first}
 use Rattle.capture3.proofs.Lemmas.Reached.ReachedBeforeFaults.{first_reached_at}
 use Rattle.capture3.proofs.Lemmas.Container.Sizes.{clean_most, most_of_one}
-use Rattle.capture3.proofs.Lemmas.Files.Verdicts.{clean_from_runs, told, verdict_from_fault, verdict_from_typed}
+use Rattle.capture3.proofs.Lemmas.Files.Verdicts.{clean_from_runs, observed, verdict_from_fault, verdict_from_typed}
 
 -- ---- what is kept truncated
 
@@ -118,7 +118,7 @@ module _ (bytes : List ℕ) (p : Position) (t : Taking) (streams : Streams)
   pub whole_here : AreWhole bytes model
   whole_here =
       subst (λ (entries : List Entry). AreWhole bytes entries) model_is
-      (stands_whole bytes state (told bytes (Runs state) are runs_is))
+      (stands_whole bytes state (observed bytes (Runs state) are runs_is))
 
   pub clean_here : IsClean bytes
   clean_here = clean_from_runs bytes state runs_is
@@ -242,15 +242,15 @@ all_before_end bytes p t streams table model are s =
 -- ---- the reader
 
 module _ {R S H : Type 0} {builds : BuildHasher.Ghosts S H} {hashes : Hasher.Ghosts H}
-    (told : R → Told) where
+    (observed : R → Observed) where
   here_at : (e : Entries R S H builds hashes) (stage : Stage) (given : List ℕ) (handed : List Entry)
-      → e.stage ≡ stage → StandsFor told e given handed
-      → StandsIn stage (told e.source.now) e given handed
+      → e.stage ≡ stage → StandsFor observed e given handed
+      → StandsIn stage (observed e.source.now) e given handed
   here_at e stage given handed is s =
-      subst (λ (stage : Stage). StandsIn stage (told e.source.now) e given handed) is s.here
+      subst (λ (stage : Stage). StandsIn stage (observed e.source.now) e given handed) is s.here
 
   pub reading_of : (e : Entries R S H builds hashes) (given : List ℕ) (handed : List Entry)
-      → e.stage ≡ Reading → StandsFor told e given handed → IsReading e given handed
+      → e.stage ≡ Reading → StandsFor observed e given handed → IsReading e given handed
   reading_of e given handed is s = here_at e Reading given handed is s
 
   left_is : (e : Entries R S H builds hashes) → e.stage ≡ Reading
@@ -295,7 +295,7 @@ module _ {R S H : Type 0} {builds : BuildHasher.Ghosts S H} {hashes : Hasher.Gho
       → length handed + (room_in e.pairing.container + 1) ≤ most_entries
       → length given ≤ most_bytes Two + vec_len e.block
       → (IsOfVersion One given → length given ≤ most_bytes One + vec_len e.block)
-      → HoldsLast e handed → IsReading e given handed → StandsFor told e given handed
+      → HoldsLast e handed → IsReading e given handed → StandsFor observed e given handed
   stands_reading e given handed is are few most most_of_one holds r = record {
     bytes = are;
     few = omega (arith, few, left_is e is);
@@ -307,14 +307,14 @@ module _ {R S H : Type 0} {builds : BuildHasher.Ghosts S H} {hashes : Hasher.Gho
           most_of_one = most_of_one;
         };
     holds = holds;
-    here = subst (λ (stage : Stage). StandsIn stage (told e.source.now) e given handed) (sym is) r;
+    here = subst (λ (stage : Stage). StandsIn stage (observed e.source.now) e given handed) (sym is) r;
   }
 
   -- it has failed
   pub stands_failed : (old new : Entries R S H builds hashes) (error : Error) (given : List ℕ)
       (handed : List Entry) → new.stage ≡ Failed error → last_of new ≡ None
-      → vec_len new.block ≡ vec_len old.block → StandsFor told old given handed
-      → IsMetBy error (told new.source.now) given handed → StandsFor told new given handed
+      → vec_len new.block ≡ vec_len old.block → StandsFor observed old given handed
+      → IsMetBy error (observed new.source.now) given handed → StandsFor observed new given handed
   stands_failed old new error given handed is none block s met = record {
     bytes = s.bytes;
     few =
@@ -332,21 +332,21 @@ module _ {R S H : Type 0} {builds : BuildHasher.Ghosts S H} {hashes : Hasher.Gho
         };
     holds = none_last new handed none;
     here =
-        subst (λ (stage : Stage). StandsIn stage (told new.source.now) new given handed) (sym is)
+        subst (λ (stage : Stage). StandsIn stage (observed new.source.now) new given handed) (sym is)
         met;
   }
 
   room_before : (e : Entries R S H builds hashes) (given : List ℕ) (handed : List Entry)
-      → e.stage ≡ Reading → StandsFor told e given handed
+      → e.stage ≡ Reading → StandsFor observed e given handed
       → length handed + (room_in e.pairing.container + 1) ≤ most_entries
   room_before e given handed is s = omega (arith, s.few, left_is e is)
 
   pub stands_first : (e : Entries R S H builds hashes) (given : List ℕ) (handed : List Entry)
-      → failure_of e ≡ None → StandsFor told e given handed → AreFirstReached given handed
+      → failure_of e ≡ None → StandsFor observed e given handed → AreFirstReached given handed
   stands_first e given handed goes s = by_stage e.stage refl s.here
     where
       by_stage : (stage : Stage) → e.stage ≡ stage
-          → StandsIn stage (told e.source.now) e given handed → AreFirstReached given handed
+          → StandsIn stage (observed e.source.now) e given handed → AreFirstReached given handed
       by_stage Reading is h = first_in e given handed s.bytes h
       by_stage Over is h = ([], subst (Reached given) (sym (append-nil handed)) (inl h.0))
       by_stage (Failed error) is h =
@@ -374,8 +374,8 @@ module _ {R S H : Type 0} {builds : BuildHasher.Ghosts S H} {hashes : Hasher.Gho
       → old.pairing.container.cursor ≡ None → new.pairing ≡ old.pairing
       → new.judged ≡ old.judged → unjudged new ≡ more → AreBytes more
       → length more ≤ vec_len new.block
-      → Gave (told old.source.now) (told new.source.now) more → StandsFor told old given handed
-      → HasRead told old new given handed
+      → Gave (observed old.source.now) (observed new.source.now) more → StandsFor observed old given handed
+      → HasRead observed old new given handed
   has_read old new given more handed is goes empty none same count block are within consumed
       s =
       let r = reading_of old given handed is s in
@@ -413,13 +413,13 @@ module _ {R S H : Type 0} {builds : BuildHasher.Ghosts S H} {hashes : Hasher.Gho
       → old.stage ≡ Reading → new.stage ≡ Failed errors.Read → last_of new ≡ None
       → vec_len new.block ≡ vec_len old.block → old.start ≡ old.end
       → old.pairing.container.cursor ≡ None
-      → Gave (told old.source.now) (told new.source.now) [] → StandsFor told old given handed
-      → HasRead told old new given handed
+      → Gave (observed old.source.now) (observed new.source.now) [] → StandsFor observed old given handed
+      → HasRead observed old new given handed
   has_failed old new given handed is fails none block empty unopened kept s =
       record {
         more = [];
         consumed = kept;
-        stands = subst (λ (b : List ℕ). StandsFor told new b handed) (sym (append-nil given))
+        stands = subst (λ (b : List ℕ). StandsFor observed new b handed) (sym (append-nil given))
             (stands_failed old new errors.Read given handed fails none block s (all_before_end given
             _ _ _ _ handed s.bytes (machine_at old given handed empty unopened
             (reading_of old given handed is s))));
@@ -473,7 +473,7 @@ module _ {R S H : Type 0} {builds : BuildHasher.Ghosts S H} {hashes : Hasher.Gho
       → unjudged new ≡ slice_range old.block.items (old.start + count) old.end
       → old.start + count ≤ old.end → old.end ≤ length old.block.items
       → room_in new.pairing.container + entry_cost came ≤ room_in old.pairing.container
-      → (s : StandsFor told old given handed)
+      → (s : StandsFor observed old given handed)
       → ((judged : List ℕ)
       → HasCome old.pairing.container (known_of old.pairing.calls) judged handed
       → GoesTo rests stands was now came new.pairing.number new.pairing.container
@@ -481,7 +481,7 @@ module _ {R S H : Type 0} {builds : BuildHasher.Ghosts S H} {hashes : Hasher.Gho
       (judged ++ take count (unjudged old)) handed)
       → CountsMessages came old.pairing.calls_taken old.pairing.replies_taken
       new.pairing.calls_taken new.pairing.replies_taken
-      → HandsOutOrGoesOn told rests stands new was now given handed came
+      → HandsOutOrGoesOn observed rests stands new was now given handed came
   judged_on rests stands was now old new count given handed None is goes last size judged block fits
       within room s leads counts =
       let r = reading_of old given handed is s in
@@ -514,7 +514,7 @@ module _ {R S H : Type 0} {builds : BuildHasher.Ghosts S H} {hashes : Hasher.Gho
       )
 
   fails_by : (e : Entries R S H builds hashes) (error : Error) (given : List ℕ)
-      (handed : List Entry) (known : Told) → AreBytes given → IsReading e given handed
+      (handed : List Entry) (known : Observed) → AreBytes given → IsReading e given handed
       → FailsAt given handed error → IsMetBy error known given handed
   fails_by e (errors.Refused fault) given handed known are r f =
       inl (λ rest. first_of given rest handed fault are f)
@@ -524,14 +524,14 @@ module _ {R S H : Type 0} {builds : BuildHasher.Ghosts S H} {hashes : Hasher.Gho
 
   pub judged_failed : (old new : Entries R S H builds hashes) (error : Error) (given : List ℕ)
       (handed : List Entry) → old.stage ≡ Reading → new.stage ≡ Failed error → last_of new ≡ None
-      → vec_len new.block ≡ vec_len old.block → (s : StandsFor told old given handed)
+      → vec_len new.block ≡ vec_len old.block → (s : StandsFor observed old given handed)
       → ((judged : List ℕ)
       → HasCome old.pairing.container (known_of old.pairing.calls) judged handed
-      → FailsAt (judged ++ unjudged old) handed error) → StandsFor told new given handed
+      → FailsAt (judged ++ unjudged old) handed error) → StandsFor observed new given handed
   judged_failed old new error given handed is fails none block s shows =
       let r = reading_of old given handed is s in
       stands_failed old new error given handed fails none block s
-      (fails_by old error given handed (told new.source.now) s.bytes r
+      (fails_by old error given handed (observed new.source.now) s.bytes r
       (subst (λ (b : List ℕ). FailsAt b handed error) (sym r.split) (shows r.judged r.machine)))
 
   -- ---- the end
@@ -540,11 +540,11 @@ module _ {R S H : Type 0} {builds : BuildHasher.Ghosts S H} {hashes : Hasher.Gho
       → old.stage ≡ Reading → new.stage ≡ Over → last_of new ≡ Some kinds.End
       → vec_len new.block ≡ vec_len old.block → old.start ≡ old.end
       → old.pairing.container.cursor ≡ None → IsEndSpot old.pairing.container.position.spot
-      → IsSpent (told new.source.now)
+      → IsSpent (observed new.source.now)
       → new.pairing.container.position ≡ old.pairing.container.position
       → new.pairing.calls_taken ≡ old.pairing.calls_taken
       → new.pairing.replies_taken ≡ old.pairing.replies_taken
-      → StandsFor told old given handed → StandsFor told new given (handed ++ End ∷ [])
+      → StandsFor observed old given handed → StandsFor observed new given (handed ++ End ∷ [])
   finished old new given handed is over last block empty none ended end same calls replies s =
       let r = reading_of old given handed is s in
       let typed =
@@ -569,7 +569,7 @@ module _ {R S H : Type 0} {builds : BuildHasher.Ghosts S H} {hashes : Hasher.Gho
         here =
             subst
             (λ (stage : Stage).
-            StandsIn stage (told new.source.now) new given (handed ++ End ∷ [])) (sym over) (
+            StandsIn stage (observed new.source.now) new given (handed ++ End ∷ [])) (sym over) (
               typed,
               end,
               rw same (counted_on p.connections p.records p.connections p.records handed End
@@ -584,8 +584,8 @@ module _ {R S H : Type 0} {builds : BuildHasher.Ghosts S H} {hashes : Hasher.Gho
       (handed : List Entry) → old.stage ≡ Reading → new.stage ≡ Failed error → last_of new ≡ None
       → vec_len new.block ≡ vec_len old.block → old.start ≡ old.end
       → old.pairing.container.cursor ≡ None → (IsEndSpot old.pairing.container.position.spot → ⊥)
-      → error ≡ errors.Refused (file_fault old.judged CaptureCut) → IsSpent (told new.source.now)
-      → StandsFor told old given handed → StandsFor told new given handed
+      → error ≡ errors.Refused (file_fault old.judged CaptureCut) → IsSpent (observed new.source.now)
+      → StandsFor observed old given handed → StandsFor observed new given handed
   cut_short old new error given handed is fails none block empty unopened not cut end s =
       let r = reading_of old given handed is s in
       let size : old.judged ≡ length given =
@@ -596,18 +596,18 @@ module _ {R S H : Type 0} {builds : BuildHasher.Ghosts S H} {hashes : Hasher.Gho
       (cut_at given _ _ _ _ handed s.bytes at not) in
       let reached = (not_ended given _ _ _ _ handed s.bytes at not).1 in
       stands_failed old new error given handed fails none block s
-      (subst (λ (e : Error). IsMetBy e (told new.source.now) given handed) (sym cut)
+      (subst (λ (e : Error). IsMetBy e (observed new.source.now) given handed) (sym cut)
       (inr (end, first, reached)))
 
   -- how far the entries have come
   pub has_passed : (e : Entries R S H builds hashes) (given : List ℕ) (handed : List Entry)
-      → StandsFor told e given handed → failure_of e ≡ None
+      → StandsFor observed e given handed → failure_of e ≡ None
       → AreCounted e.pairing.container.position.connections e.pairing.container.position.records
       handed × CountedMessages e handed
   has_passed e given handed s going = by_stage e.stage refl s.here
     where
       by_stage : (stage : Stage) → e.stage ≡ stage
-          → StandsIn stage (told e.source.now) e given handed
+          → StandsIn stage (observed e.source.now) e given handed
           → AreCounted e.pairing.container.position.connections
           e.pairing.container.position.records handed × CountedMessages e handed
       by_stage Reading is h = (counted_here _ _ _ _ _ _ handed h.machine, h.messages)
@@ -618,32 +618,32 @@ module _ {R S H : Type 0} {builds : BuildHasher.Ghosts S H} {hashes : Hasher.Gho
   -- ---- one after another
 
   pub nothing_read : (e : Entries R S H builds hashes) (given : List ℕ) (handed : List Entry)
-      → StandsFor told e given handed → HasRead told e e given handed
+      → StandsFor observed e given handed → HasRead observed e e given handed
   nothing_read e given handed s = record {
     more = [];
-    consumed = gave_none (told e.source.now);
-    stands = subst (λ (b : List ℕ). StandsFor told e b handed) (sym (append-nil given)) s;
+    consumed = gave_none (observed e.source.now);
+    stands = subst (λ (b : List ℕ). StandsFor observed e b handed) (sym (append-nil given)) s;
   }
 
   -- none is handed out
   pub none_on : {V : Type 0} (rests stands : V → List Item → Type 0) (was now : V)
       (new : Entries R S H builds hashes) (given : List ℕ) (handed : List Entry)
-      → last_of new ≡ None → StandsFor told new given handed
-      → HandsOutOrGoesOn told rests stands new was now given handed (last_of new)
+      → last_of new ≡ None → StandsFor observed new given handed
+      → HandsOutOrGoesOn observed rests stands new was now given handed (last_of new)
   none_on rests stands was now new given handed none s =
-      subst (HandsOutOrGoesOn told rests stands new was now given handed) (sym none) s
+      subst (HandsOutOrGoesOn observed rests stands new was now given handed) (sym none) s
 
   -- the end is handed out, of which a visitor is told nothing; or none is
   pub ended_on : {V X : Type 0} (rests stands : V → List Item → Type 0) (v : V)
       (new : Entries R S H builds hashes) (given : List ℕ) (handed : List Entry)
       (result : Result X Noted)
-      → OnOk result (StandsFor told new given (handed ++ End ∷ []))
-      → OnErr result (StandsFor told new given handed)
+      → OnOk result (StandsFor observed new given (handed ++ End ∷ []))
+      → OnErr result (StandsFor observed new given handed)
       → OnOk result (last_of new ≡ Some kinds.End) → OnErr result (last_of new ≡ None)
-      → HandsOutOrGoesOn told rests stands new v v given handed (last_of new)
+      → HandsOutOrGoesOn observed rests stands new v v given handed (last_of new)
   unfolding Hears
   ended_on rests stands v new given handed (Ok done) ok err last unlent =
-      subst (HandsOutOrGoesOn told rests stands new v v given handed) (sym last)
+      subst (HandsOutOrGoesOn observed rests stands new v v given handed) (sym last)
       (End, refl, (λ before r. r), ok)
   ended_on rests stands v new given handed (Err noted) ok err last unlent =
       none_on rests stands v v new given handed unlent err
@@ -651,25 +651,25 @@ module _ {R S H : Type 0} {builds : BuildHasher.Ghosts S H} {hashes : Hasher.Gho
   -- after the turns so far, the block is read, and then it is judged
   pub turned : {V : Type 0} (rests stands : V → List Item → Type 0) (was v now : V)
       (old so_far mid new : Entries R S H builds hashes) (given : List ℕ) (handed : List Entry)
-      → HasRead told old so_far given handed → v ≡ was
-      → ((given : List ℕ) (handed : List Entry) → StandsFor told so_far given handed
-      → HasRead told so_far mid given handed)
-      → ((given : List ℕ) (handed : List Entry) → StandsFor told mid given handed
-      → HandsOutOrGoesOn told rests stands new v now given handed (last_of new))
-      → new.source.now ≡ mid.source.now → Turns told rests stands old new was now given handed
+      → HasRead observed old so_far given handed → v ≡ was
+      → ((given : List ℕ) (handed : List Entry) → StandsFor observed so_far given handed
+      → HasRead observed so_far mid given handed)
+      → ((given : List ℕ) (handed : List Entry) → StandsFor observed mid given handed
+      → HandsOutOrGoesOn observed rests stands new v now given handed (last_of new))
+      → new.source.now ≡ mid.source.now → Turns observed rests stands old new was now given handed
   turned rests stands was v now old so_far mid new given handed first unchanged reads goes same =
       let next = reads (given ++ first.more) handed first.stands in
       record {
         more = first.more ++ next.more;
         consumed =
-            subst (λ (r : R). Gave (told old.source.now) (told r) (first.more ++ next.more))
-            (sym same) (gave_both (told old.source.now) (told so_far.source.now)
-            (told mid.source.now) first.more next.more first.consumed next.consumed);
+            subst (λ (r : R). Gave (observed old.source.now) (observed r) (first.more ++ next.more))
+            (sym same) (gave_both (observed old.source.now) (observed so_far.source.now)
+            (observed mid.source.now) first.more next.more first.consumed next.consumed);
         goes_on =
             subst (λ w.
-            HandsOutOrGoesOn told rests stands new w now (given ++ (first.more ++ next.more)) handed
+            HandsOutOrGoesOn observed rests stands new w now (given ++ (first.more ++ next.more)) handed
             (last_of new)) unchanged
-            (subst (λ (b : List ℕ). HandsOutOrGoesOn told rests stands new v now b handed (last_of
+            (subst (λ (b : List ℕ). HandsOutOrGoesOn observed rests stands new v now b handed (last_of
             new))
             (append_assoc given first.more next.more)
             (goes ((given ++ first.more) ++ next.more) handed next.stands));
@@ -678,21 +678,21 @@ module _ {R S H : Type 0} {builds : BuildHasher.Ghosts S H} {hashes : Hasher.Gho
   -- no entry is whole yet
   pub read_on : {V : Type 0} (rests stands : V → List Item → Type 0) (was now : V)
       (old new : Entries R S H builds hashes) (given : List ℕ) (handed : List Entry)
-      → last_of new ≡ None → Turns told rests stands old new was now given handed
-      → HasRead told old new given handed
+      → last_of new ≡ None → Turns observed rests stands old new was now given handed
+      → HasRead observed old new given handed
   read_on rests stands was now old new given handed none t = record {
     more = t.more;
     consumed = t.consumed;
     stands =
-        subst (HandsOutOrGoesOn told rests stands new was now (given ++ t.more) handed) none
+        subst (HandsOutOrGoesOn observed rests stands new was now (given ++ t.more) handed) none
         t.goes_on;
   }
 
   -- no capture is so long
   pub too_long : {V : Type 0} (rests stands : V → List Item → Type 0) (was now : V)
       (old mid new : Entries R S H builds hashes) (given : List ℕ) (handed : List Entry)
-      → HasRead told old mid given handed → mid.stage ≡ Reading
-      → most_bytes Two + 1 < mid.judged → Turns told rests stands old new was now given handed
+      → HasRead observed old mid given handed → mid.stage ≡ Reading
+      → most_bytes Two + 1 < mid.judged → Turns observed rests stands old new was now given handed
   too_long rests stands was now old mid new given handed read is far =
       let r = reading_of mid (given ++ read.more) handed is read.stands in
       absurd (omega (
@@ -709,8 +709,8 @@ module _ {R S H : Type 0} {builds : BuildHasher.Ghosts S H} {hashes : Hasher.Gho
   pub answers_kind : {V : Type 0} (rests stands : V → List Item → Type 0) (was now : V)
       (old new : Entries R S H builds hashes) (given : List ℕ) (handed : List Entry)
       → IsSome (last_of new) → failure_of new ≡ None
-      → Turns told rests stands old new was now given handed
-      → HandsOutGiven told (IsNextOfKind rests stands was now) old new given handed
+      → Turns observed rests stands old new was now given handed
+      → HandsOutGiven observed (IsNextOfKind rests stands was now) old new given handed
       (Ok (last_of new))
   answers_kind rests stands was now old new given handed some goes t = record {
     more = t.more;
@@ -719,21 +719,21 @@ module _ {R S H : Type 0} {builds : BuildHasher.Ghosts S H} {hashes : Hasher.Gho
   }
     where
       by_last : (last : Option Kind) → IsSome last
-          → HandsOutOrGoesOn told rests stands new was now (given ++ t.more) handed last
-          → HandsOut told (IsNextOfKind rests stands was now) new (given ++ t.more) handed (Ok last)
+          → HandsOutOrGoesOn observed rests stands new was now (given ++ t.more) handed last
+          → HandsOut observed (IsNextOfKind rests stands was now) new (given ++ t.more) handed (Ok last)
       by_last None none h = absurd (cc)
       by_last (Some kind) some (entry, is, adds, s) =
           (entry, (is, adds), stands_first new (given ++ t.more) (handed ++ entry ∷ []) goes s, s)
 
   pub answers_again : {X : Type 0} (Is : List Entry → X → Entry → Type 0)
       (e : Entries R S H builds hashes) (error : Error) (given : List ℕ) (handed : List Entry)
-      → e.stage ≡ Failed error → StandsFor told e given handed
-      → HandsOutGiven told Is e e given handed (Err error)
+      → e.stage ≡ Failed error → StandsFor observed e given handed
+      → HandsOutGiven observed Is e e given handed (Err error)
   answers_again Is e error given handed is s = record {
     more = [];
-    consumed = gave_none (told e.source.now);
+    consumed = gave_none (observed e.source.now);
     hands_out =
-        subst (λ (b : List ℕ). HandsOut told Is e b handed (Err error))
+        subst (λ (b : List ℕ). HandsOut observed Is e b handed (Err error))
         (sym (append-nil given)) (here_at e (Failed error) given handed is s, s);
   }
 

@@ -15,7 +15,7 @@ use Rattle.capture3.specs.Lending.{IsNextLent, LendsNext}
 use Rattle.capture3.specs.Numbering.{number_after, number_lent}
 use Rattle.capture3.specs.ReadAs.{IsReadAs}
 use Rattle.capture3.specs.ReadEntries.{ReadsNext}
-use Rattle.capture3.specs.Told.{Told}
+use Rattle.capture3.specs.Observed.{Observed}
 use Rattle.capture3.specs.machinery.EntriesHistory.{entries_left, StandsFor}
 use Rattle.capture3.specs.machinery.Stepping.{IsNextOfKind, kind_lent, kind_read}
 
@@ -40,20 +40,20 @@ counts_error X Y old new errors.Write h = h
 counts_error X Y old new errors.Memory h = h
 
 module _ {R S H : Type 0} {builds : BuildHasher.Ghosts S H} {hashes : Hasher.Ghosts H}
-    (told : R → Told) (failures : R → ℕ) (old new : Entries R S H builds hashes) where
+    (observed : R → Observed) (failures : R → ℕ) (old new : Entries R S H builds hashes) where
   -- ---- what does not depend on what is returned
 
   none_handed : {X Y : Type 0} (Is : List Entry → X → Entry → Type 0)
       (Other : List Entry → Y → Entry → Type 0) (given : List ℕ) (handed : List Entry)
-      → HandsOutGiven told Is old new given handed (Ok None)
-      → HandsOutGiven told Other old new given handed (Ok None)
+      → HandsOutGiven observed Is old new given handed (Ok None)
+      → HandsOutGiven observed Other old new given handed (Ok None)
   none_handed Is Other given handed h =
       record { more = h.more; consumed = h.consumed; hands_out = h.hands_out }
 
   error_handed : {X Y : Type 0} (Is : List Entry → X → Entry → Type 0)
       (Other : List Entry → Y → Entry → Type 0) (given : List ℕ) (handed : List Entry)
-      (error : Error) → HandsOutGiven told Is old new given handed (Err error)
-      → HandsOutGiven told Other old new given handed (Err error)
+      (error : Error) → HandsOutGiven observed Is old new given handed (Err error)
+      → HandsOutGiven observed Other old new given handed (Err error)
   error_handed Is Other given handed error h =
       record { more = h.more; consumed = h.consumed; hands_out = h.hands_out }
 
@@ -111,14 +111,14 @@ module _ {R S H : Type 0} {builds : BuildHasher.Ghosts S H} {hashes : Hasher.Gho
 
   module _ {V : Type 0} (rests stands : V → List Item → Type 0) (was now : V) where
     lent_of : (kind : Kind) (next : LentEntry) (given : List ℕ) (handed : List Entry)
-        → HandsOutGiven told (IsNextOfKind rests stands was now) old new given handed (Ok (Some
+        → HandsOutGiven observed (IsNextOfKind rests stands was now) old new given handed (Ok (Some
         kind))
         → ((bytes : List ℕ) (before : List Entry) (entry : Entry)
-        → StandsFor told new bytes (before ++ entry ∷ []) → IsLent next entry)
+        → StandsFor observed new bytes (before ++ entry ∷ []) → IsLent next entry)
         → ((bytes : List ℕ) (before : List Entry) (entry : Entry)
-        → StandsFor told new bytes (before ++ entry ∷ [])
+        → StandsFor observed new bytes (before ++ entry ∷ [])
         → number_lent next ≡ number_after before entry)
-        → HandsOutGiven told (IsNextLent rests stands was now) old new given handed (Ok (Some next))
+        → HandsOutGiven observed (IsNextLent rests stands was now) old new given handed (Ok (Some next))
     lent_of kind next given handed h is_lent numbered =
         let (entry, (is, adds), reached, s) = h.hands_out in
         record {
@@ -140,20 +140,20 @@ module _ {R S H : Type 0} {builds : BuildHasher.Ghosts S H} {hashes : Hasher.Gho
 
     pub lends_some : (kind : Kind) (next : Option LentEntry) → last_of new ≡ Some kind
         → kind_lent next ≡ last_of new
-        → ((given : List ℕ) (handed : List Entry) → StandsFor told old given handed
-        → HandsOutGiven told (IsNextOfKind rests stands was now) old new given handed
+        → ((given : List ℕ) (handed : List Entry) → StandsFor observed old given handed
+        → HandsOutGiven observed (IsNextOfKind rests stands was now) old new given handed
         (Ok (Some kind)))
         → ((given : List ℕ) (handed : List Entry) (entry : Entry)
-        → StandsFor told new given (handed ++ entry ∷ [])
+        → StandsFor observed new given (handed ++ entry ∷ [])
         → IfSome next (λ one. IsLent one entry))
         → ((given : List ℕ) (handed : List Entry) (entry : Entry)
-        → StandsFor told new given (handed ++ entry ∷ [])
+        → StandsFor observed new given (handed ++ entry ∷ [])
         → IfSome next (λ one. number_lent one ≡ number_after handed entry))
         → (◌≡◌ {A = Answer} (Ok (Some kind)) (Ok (Some kinds.End)) → IsOver new)
         → (IsOver old → (◌≡◌ {A = Answer} (Ok (Some kind)) (Ok None)) × (new ≡ old))
         → entries_left new < entries_left old → KeepsErrors old new (Ok (Some kind))
         → UsesSource failures old new (Ok (Some kind))
-        → LendsNext told rests stands failures old was now (Ok next) new
+        → LendsNext observed rests stands failures old was now (Ok next) new
     lends_some kind None last is answers is_lent numbered end over fewer errors device =
         absurd (let none : None ≡ Some kind = is ∙ last in cc)
     lends_some kind (Some next) last is answers is_lent numbered end over fewer errors device =
@@ -167,12 +167,12 @@ module _ {R S H : Type 0} {builds : BuildHasher.Ghosts S H} {hashes : Hasher.Gho
           device = source_used (Some kind) (Some next) device;
         }
 
-    pub lends_none : ((given : List ℕ) (handed : List Entry) → StandsFor told old given handed
-        → HandsOutGiven told (IsNextOfKind rests stands was now) old new given handed (Ok None))
+    pub lends_none : ((given : List ℕ) (handed : List Entry) → StandsFor observed old given handed
+        → HandsOutGiven observed (IsNextOfKind rests stands was now) old new given handed (Ok None))
         → (IsOver old → (◌≡◌ {A = Answer} (Ok None) (Ok None)) × (new ≡ old))
         → KeepsErrors {X = Option Kind} old new (Ok None)
         → UsesSource {X = Option Kind} failures old new (Ok None)
-        → LendsNext told rests stands failures old was now (Ok None) new
+        → LendsNext observed rests stands failures old was now (Ok None) new
     lends_none answers over errors device =
         record {
           answers = λ given handed s.
@@ -187,12 +187,12 @@ module _ {R S H : Type 0} {builds : BuildHasher.Ghosts S H} {hashes : Hasher.Gho
         }
 
     pub lends_error : (error : Error)
-        → ((given : List ℕ) (handed : List Entry) → StandsFor told old given handed
-        → HandsOutGiven told (IsNextOfKind rests stands was now) old new given handed (Err error))
+        → ((given : List ℕ) (handed : List Entry) → StandsFor observed old given handed
+        → HandsOutGiven observed (IsNextOfKind rests stands was now) old new given handed (Err error))
         → (IsOver old → (◌≡◌ {A = Answer} (Err error) (Ok None)) × (new ≡ old))
         → KeepsErrors {X = Option Kind} old new (Err error)
         → UsesSource {X = Option Kind} failures old new (Err error)
-        → LendsNext told rests stands failures old was now (Err error) new
+        → LendsNext observed rests stands failures old was now (Err error) new
     lends_error error answers over errors device =
         record {
           answers = λ given handed s.
@@ -210,11 +210,11 @@ module _ {R S H : Type 0} {builds : BuildHasher.Ghosts S H} {hashes : Hasher.Gho
 
   module _ {V : Type 0} (rests stands : V → List Item → Type 0) (was now : V) where
     read_of : (kind : Kind) (next : EntryRef) (given : List ℕ) (handed : List Entry)
-        → HandsOutGiven told (IsNextOfKind rests stands was now) old new given handed (Ok (Some
+        → HandsOutGiven observed (IsNextOfKind rests stands was now) old new given handed (Ok (Some
         kind))
         → ((bytes : List ℕ) (before : List Entry) (entry : Entry)
-        → StandsFor told new bytes (before ++ entry ∷ []) → IsReadAs next entry)
-        → HandsOutGiven told (λ before. IsReadAs) old new given handed (Ok (Some next))
+        → StandsFor observed new bytes (before ++ entry ∷ []) → IsReadAs next entry)
+        → HandsOutGiven observed (λ before. IsReadAs) old new given handed (Ok (Some next))
     read_of kind next given handed h is_read =
         let (entry, is, reached, s) = h.hands_out in
         record {
@@ -225,17 +225,17 @@ module _ {R S H : Type 0} {builds : BuildHasher.Ghosts S H} {hashes : Hasher.Gho
 
     pub reads_some : (kind : Kind) (next : Option EntryRef) → last_of new ≡ Some kind
         → kind_read next ≡ last_of new
-        → ((given : List ℕ) (handed : List Entry) → StandsFor told old given handed
-        → HandsOutGiven told (IsNextOfKind rests stands was now) old new given handed
+        → ((given : List ℕ) (handed : List Entry) → StandsFor observed old given handed
+        → HandsOutGiven observed (IsNextOfKind rests stands was now) old new given handed
         (Ok (Some kind)))
         → ((given : List ℕ) (handed : List Entry) (entry : Entry)
-        → StandsFor told new given (handed ++ entry ∷ [])
+        → StandsFor observed new given (handed ++ entry ∷ [])
         → IfSome next (λ one. IsReadAs one entry))
         → (◌≡◌ {A = Answer} (Ok (Some kind)) (Ok (Some kinds.End)) → IsOver new)
         → (IsOver old → (◌≡◌ {A = Answer} (Ok (Some kind)) (Ok None)) × (new ≡ old))
         → entries_left new < entries_left old → KeepsErrors old new (Ok (Some kind))
         → UsesSource failures old new (Ok (Some kind))
-        → ReadsNext told failures old (Ok next) new
+        → ReadsNext observed failures old (Ok next) new
     reads_some kind None last is answers is_read end over fewer errors device =
         absurd (let none : None ≡ Some kind = is ∙ last in cc)
     reads_some kind (Some next) last is answers is_read end over fewer errors device =
@@ -251,12 +251,12 @@ module _ {R S H : Type 0} {builds : BuildHasher.Ghosts S H} {hashes : Hasher.Gho
 
     -- memory ran out for the value
     pub reads_over : (kind : Kind)
-        → ((given : List ℕ) (handed : List Entry) → StandsFor told old given handed
-        → HandsOutGiven told (IsNextOfKind rests stands was now) old new given handed
+        → ((given : List ℕ) (handed : List Entry) → StandsFor observed old given handed
+        → HandsOutGiven observed (IsNextOfKind rests stands was now) old new given handed
         (Ok (Some kind)))
         → (IsOver old → (◌≡◌ {A = Answer} (Ok (Some kind)) (Ok None)) × (new ≡ old))
         → KeepsErrors old new (Ok (Some kind)) → UsesSource failures old new (Ok (Some kind))
-        → ReadsNext told failures old (Err Memory) new
+        → ReadsNext observed failures old (Err Memory) new
     reads_over kind answers over errors device =
         record {
           answers = λ given handed s.
@@ -284,12 +284,12 @@ module _ {R S H : Type 0} {builds : BuildHasher.Ghosts S H} {hashes : Hasher.Gho
           };
         }
 
-    pub reads_none : ((given : List ℕ) (handed : List Entry) → StandsFor told old given handed
-        → HandsOutGiven told (IsNextOfKind rests stands was now) old new given handed (Ok None))
+    pub reads_none : ((given : List ℕ) (handed : List Entry) → StandsFor observed old given handed
+        → HandsOutGiven observed (IsNextOfKind rests stands was now) old new given handed (Ok None))
         → (IsOver old → (◌≡◌ {A = Answer} (Ok None) (Ok None)) × (new ≡ old))
         → KeepsErrors {X = Option Kind} old new (Ok None)
         → UsesSource {X = Option Kind} failures old new (Ok None)
-        → ReadsNext told failures old (Ok None) new
+        → ReadsNext observed failures old (Ok None) new
     reads_none answers over errors device =
         record {
           answers = λ given handed s.
@@ -303,12 +303,12 @@ module _ {R S H : Type 0} {builds : BuildHasher.Ghosts S H} {hashes : Hasher.Gho
         }
 
     pub reads_error : (error : Error)
-        → ((given : List ℕ) (handed : List Entry) → StandsFor told old given handed
-        → HandsOutGiven told (IsNextOfKind rests stands was now) old new given handed (Err error))
+        → ((given : List ℕ) (handed : List Entry) → StandsFor observed old given handed
+        → HandsOutGiven observed (IsNextOfKind rests stands was now) old new given handed (Err error))
         → (IsOver old → (◌≡◌ {A = Answer} (Err error) (Ok None)) × (new ≡ old))
         → KeepsErrors {X = Option Kind} old new (Err error)
         → UsesSource {X = Option Kind} failures old new (Err error)
-        → ReadsNext told failures old (Err error) new
+        → ReadsNext observed failures old (Err error) new
     reads_error error answers over errors device =
         record {
           answers = λ given handed s.

@@ -67,14 +67,14 @@ ended_is (spots.SideChunk side left) ended = absurd ended
 -- the open part is the end only at the end
 ended_only : (version : Version) (streams : Streams) (spot : Spot) (at : ℕ)
     → opened_at streams spot at ≡ Ended version → IsEndSpot spot
-ended_only version streams (spots.Ended told) at e = tt
+ended_only version streams (spots.Ended observed) at e = tt
 ended_only version streams spots.Magic at e = by_left (drop at MAGIC) e
   where
     by_left : (due : List ℕ) → left_of_magic due ≡ Ended version → ⊥
     by_left [] same = cc
     by_left (byte ∷ due) same = cc
 ended_only version streams spots.Digit at e = absurd (cc)
-ended_only version streams (spots.Word (words.Mark told) part) at e = absurd (cc)
+ended_only version streams (spots.Word (words.Mark observed) part) at e = absurd (cc)
 ended_only version streams (spots.Word (words.Length side) part) at e = absurd (cc)
 ended_only version streams (spots.Word words.Side part) at e = absurd (cc)
 ended_only version streams (spots.Word (words.SideLength side) part) at e = absurd (cc)

@@ -1,4 +1,4 @@
-use Rattle.capture3.proofs.Lemmas.Container.Told.{same_entries}
+use Rattle.capture3.proofs.Lemmas.Container.Determined.{same_entries}
 use Rattle.capture3.proofs.laws.across_versions.Goals as goal
 
 pub returns : goal.returns

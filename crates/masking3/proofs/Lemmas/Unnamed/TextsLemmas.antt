@@ -1,5 +1,5 @@
 -- Masked texts, apart from the values that are masked.
-use Rattle.masking3.proofs.Common.{◌≡◌, ℕ, ◌+◌, ◌≤◌, List, [], ◌∷◌, length, map, refl, sym, ap, ◌∙◌, arith, ◌==◌, bytes_eq, Option, None, Some, Decides-eqb, Item, Opaque, Text, residue, names, by_test, Class, Spot, Way, Keep, Ways, class_of, class_value, TellsNoMore, masked_item, masked_items, substitute, values_in, with_value, next_spot, emptied, less_by, text_size, and_parts, host_by, is_silly_name, silly_by, raw_by, text_by, with_text, zero_name, length-replicate, replicate, Rest}
+use Rattle.masking3.proofs.Common.{◌≡◌, ℕ, ◌+◌, ◌≤◌, List, [], ◌∷◌, length, map, refl, sym, ap, ◌∙◌, arith, ◌==◌, bytes_eq, Option, None, Some, Decides-eqb, Item, Opaque, Text, residue, names, by_test, Class, Spot, Way, Keep, Ways, class_of, class_value, RevealsNoMore, masked_item, masked_items, substitute, values_in, with_value, next_spot, emptied, less_by, text_size, and_parts, host_by, is_silly_name, silly_by, raw_by, text_by, with_text, zero_name, length-replicate, replicate, Rest}
 use Rattle.masking3.proofs.Lemmas.Classes.SpotLemmas.{still_after}
 
 -- ---- an item and its masked text
@@ -120,25 +120,25 @@ module _ (ways : Ways) where
 zero_again : (b : List ℕ) → zero_name (zero_name b) ≡ zero_name b
 zero_again b = by_test (is_silly_name b) (λ t. rw t refl) (λ f. rw (f, f) refl)
 
-silly_absorbed : (w v : Way) → TellsNoMore w v → (b : List ℕ)
+silly_absorbed : (w v : Way) → RevealsNoMore w v → (b : List ℕ)
     → silly_by v (silly_by w b) ≡ silly_by v b
 silly_absorbed Keep v t b = refl
 silly_absorbed w Keep t b = absurd t
 silly_absorbed w v t b = zero_again b
 
-host_absorbed : (w v : Way) → TellsNoMore w v → (b : List ℕ) → host_by v (host_by w b) ≡ host_by v b
+host_absorbed : (w v : Way) → RevealsNoMore w v → (b : List ℕ) → host_by v (host_by w b) ≡ host_by v b
 host_absorbed Keep v t b = refl
 host_absorbed w Keep t b = absurd t
 host_absorbed w v t b = refl
 
-raw_absorbed : (w v : Way) → TellsNoMore w v → (b : List ℕ) → raw_by v (raw_by w b) ≡ raw_by v b
+raw_absorbed : (w v : Way) → RevealsNoMore w v → (b : List ℕ) → raw_by v (raw_by w b) ≡ raw_by v b
 raw_absorbed Keep v t b = refl
 raw_absorbed w Keep t b = absurd t
 raw_absorbed w v t b = ap (λ n. replicate n 0) (length-replicate {A = ℕ} (length b) 0)
 
-module _ (ways others : Ways) (machines : TellsNoMore ways.machines others.machines)
-    (silly : TellsNoMore ways.silly_names others.silly_names)
-    (raw : TellsNoMore ways.raw others.raw) where
+module _ (ways others : Ways) (machines : RevealsNoMore ways.machines others.machines)
+    (silly : RevealsNoMore ways.silly_names others.silly_names)
+    (raw : RevealsNoMore ways.raw others.raw) where
   pub text_absorbed : (i : Item) → with_text others (with_text ways i) ≡ with_text others i
   text_absorbed i =
       by_text ways (λ i j. with_text others j ≡ with_text others i) (λ i. refl)

@@ -1,5 +1,5 @@
 -- Names of machines and masked texts, apart from the values that are masked.
-use Rattle.masking3.proofs.Common.{◌≡◌, ℕ, zero, suc, ◌-◌, true, false, List, [], ◌∷◌, map, refl, sym, ap, ◌∙◌, arith, bytes_eq, Option, None, Some, bytes_eq-Decides, Item, Word, Opaque, Text, head_names, names, Entry, Call, Reply, by_test, Class, Spot, InCall, InReply, Way, Keep, Ways, class_of, class_of_word, class_value, masked_entry, masked_item, masked_items, masked_values, substitute, value_in, values, values_in, values_in_entry, with_value, TellsNoMore, with_text, after_first, emptied, host_by, less_by, named_by, named_entry, names_by, text_size, unnamed_credential, unnamed_items}
+use Rattle.masking3.proofs.Common.{◌≡◌, ℕ, zero, suc, ◌-◌, true, false, List, [], ◌∷◌, map, refl, sym, ap, ◌∙◌, arith, bytes_eq, Option, None, Some, bytes_eq-Decides, Item, Word, Opaque, Text, head_names, names, Entry, Call, Reply, by_test, Class, Spot, InCall, InReply, Way, Keep, Ways, class_of, class_of_word, class_value, masked_entry, masked_item, masked_items, masked_values, substitute, value_in, values, values_in, values_in_entry, with_value, RevealsNoMore, with_text, after_first, emptied, host_by, less_by, named_by, named_entry, names_by, text_size, unnamed_credential, unnamed_items}
 use Rattle.masking3.proofs.Lemmas.Classes.ClassLemmas.{seen_alike}
 use Rattle.masking3.proofs.Lemmas.Unnamed.TextsLemmas.{same_size, text_absorbed, text_emptied, text_less, texts_absorbed, texts_kept, texts_masked, texts_values}
 
@@ -150,9 +150,9 @@ after_again n l = refl
 
 -- ---- masking as much or more leaves nothing of masking before
 
-module _ (ways others : Ways) (machines : TellsNoMore ways.machines others.machines)
-    (silly : TellsNoMore ways.silly_names others.silly_names)
-    (raw : TellsNoMore ways.raw others.raw) where
+module _ (ways others : Ways) (machines : RevealsNoMore ways.machines others.machines)
+    (silly : RevealsNoMore ways.silly_names others.silly_names)
+    (raw : RevealsNoMore ways.raw others.raw) where
   abbrev before : Item → Item
   before = with_text ways
 
@@ -173,7 +173,7 @@ module _ (ways others : Ways) (machines : TellsNoMore ways.machines others.machi
       rw (text_absorbed ways others machines silly raw i, after_later first second n l) refl
   after_later first second n l = texts_later l
 
-  call_later : (w v : Way) → ways.machines ≡ w → others.machines ≡ v → TellsNoMore w v
+  call_later : (w v : Way) → ways.machines ≡ w → others.machines ≡ v → RevealsNoMore w v
       → (l : List Item)
       → named_by v (map later (named_by w (map before l))) ≡ named_by v (map later l)
   call_later Keep v e f t l = ap (named_by v) (texts_later l)
@@ -192,7 +192,7 @@ module _ (ways others : Ways) (machines : TellsNoMore ways.machines others.machi
   names_absorbed [] = refl
   names_absorbed (e ∷ entries) = rw (entry_later e, names_absorbed entries) refl
 
-as_much : (way : Way) → TellsNoMore way way
+as_much : (way : Way) → RevealsNoMore way way
 as_much Keep = tt
 as_much way = tt
 

@@ -1,5 +1,5 @@
 -- What was written of the masked form, entry by entry.
-use Rattle.masking3.proofs.Common.{◌≡◌, ℕ, List, [], ◌∷◌, ◌++◌, Option, refl, sym, ap, ◌∙◌, subst, append_assoc, ⊤, AllByRecursion, flat_map, zero_spelling, Entry, Begin, Call, Turn, Reply, Close, End, items_of, AreFirst, AppendsFront, all_entries, holds, FitsCall, FitsReply, Class, InCall, Ways, named_entry, first_spot, body_by, Appends, chunk_bytes, entry_bytes, record_bytes, masked_bytes, masked_entry, masked_items, told_entry, values_so_far, written_as, are_some, magic_unless, magic_before}
+use Rattle.masking3.proofs.Common.{◌≡◌, ℕ, List, [], ◌∷◌, ◌++◌, Option, refl, sym, ap, ◌∙◌, subst, append_assoc, ⊤, AllByRecursion, flat_map, zero_spelling, Entry, Begin, Call, Turn, Reply, Close, End, items_of, AreFirst, AppendsFront, all_entries, holds, FitsCall, FitsReply, Class, InCall, Ways, named_entry, first_spot, body_by, Appends, chunk_bytes, entry_bytes, record_bytes, masked_bytes, masked_entry, masked_items, visited_entry, values_so_far, written_as, are_some, magic_unless, magic_before}
 use Rattle.std.proofs.KnownBytes.{Appends-trans}
 use Rattle.capture3.specs.declared.reader.entry.Kind.{Kind}
 use Rattle.capture3.specs.declared.reader.entry.Kind.TheVariants as kinds
@@ -11,7 +11,7 @@ use Rattle.masking3.proofs.Lemmas.Classes.FirstEntries.{all_in_front}
 use Rattle.masking3.proofs.Lemmas.Masked.MaskedLemmas.{form_grows, last_bytes}
 use Rattle.masking3.proofs.Lemmas.Masked.MaskedMessages.{call_under}
 use Rattle.masking3.proofs.Lemmas.Classes.MessageSpotLemmas.{IsBegun, begins_call, begins_reply, entry_side}
-use Rattle.masking3.proofs.Lemmas.Writing.ToldItems.{values_with_last}
+use Rattle.masking3.proofs.Lemmas.Writing.VisitedItems.{values_with_last}
 use Rattle.masking3.proofs.Lemmas.Unnamed.TextShapes.{with_texts}
 use Rattle.masking3.proofs.Lemmas.Unnamed.UnnamedCalls.{named_bytes_of}
 
@@ -79,11 +79,11 @@ pub entry_is : (ways : Ways) (body : List ℕ) (kind : Kind) (entries : List Ent
     → IsOfKind kind one → AreFirst (entries ++ one ∷ [])
     → body
     ≡ zero_spelling (with_texts ways (masked_items ways
-    (values_so_far (flat_map told_entry entries) (entry_side one) (items_of one))
+    (values_so_far (flat_map visited_entry entries) (entry_side one) (items_of one))
     (first_spot (entry_side one)) (items_of one)))
     → written_as ways.machines kind body ≡ last_bytes ways entries one
 entry_is ways body kind entries one of first is =
-    of_kind ways (values_so_far (flat_map told_entry entries) (entry_side one) (items_of one)) body
+    of_kind ways (values_so_far (flat_map visited_entry entries) (entry_side one) (items_of one)) body
     kind one of (last_fitting entries one first) is
     ∙ ap (λ (seen : Class → List ℕ). entry_bytes (named_entry ways (masked_entry ways seen one)))
     (values_with_last entries one)

@@ -1,5 +1,5 @@
 -- A message is masked item by item.
-use Rattle.masking3.proofs.Common.{◌≡◌, ℕ, List, [], ◌∷◌, ◌++◌, length, map, refl, sym, ap, ap₂, ◌∙◌, subst, append_assoc, append-nil, arith, Option, None, Some, flat_map, flat_map-append, map-append, Item, Word, Hyper, zero_spelling, Side, Client, Entry, Begin, Call, Turn, Reply, Close, End, items_of, head_names, Spot, Ways, Class, class_of, class_value, masked_item, masked_items, substitute, value_in, value_where, values_in, with_value, with_text, HoldsAt, HoldsValues, position, tables_in, with_one, handle_in, handles_in, member-append_right, BeginsOn, first_spot, next_spot, side_by, spot_after, Adds, Keeps, Gathers, HoldsHandles, after_messages, HoldsMasked, HasMemory, MaskRests, MaskStands, told_items, told_value, values_so_far}
+use Rattle.masking3.proofs.Common.{◌≡◌, ℕ, List, [], ◌∷◌, ◌++◌, length, map, refl, sym, ap, ap₂, ◌∙◌, subst, append_assoc, append-nil, arith, Option, None, Some, flat_map, flat_map-append, map-append, Item, Word, Hyper, zero_spelling, Side, Client, Entry, Begin, Call, Turn, Reply, Close, End, items_of, head_names, Spot, Ways, Class, class_of, class_value, masked_item, masked_items, substitute, value_in, value_where, values_in, with_value, with_text, HoldsAt, HoldsValues, position, tables_in, with_one, handle_in, handles_in, member-append_right, BeginsOn, first_spot, next_spot, side_by, spot_after, Adds, Keeps, Gathers, HoldsHandles, after_messages, HoldsMasked, HasMemory, MaskRests, MaskStands, visited_items, visited_value, values_so_far}
 use Rattle.nfs3_types.specs.declared.values.handle.Handle as handles
 use Rattle.canon3.proofs.Lemmas.Numbers.HandleTableLemmas.{gathers_none}
 use Rattle.masking3.specs.declared.class_tables.ClassTables.{ClassTables}
@@ -14,7 +14,7 @@ use Rattle.masking3.proofs.Lemmas.Classes.KnownFieldLemmas.{AllStay, free_stays,
 use Rattle.masking3.proofs.Lemmas.Classes.MessageSpotLemmas.{IsBegun, begins_more, entry_side, mtype_by, one_side}
 use Rattle.masking3.proofs.Lemmas.Classes.SpotLemmas.{IsNoWord, masked_items-append, mtype_free, still_after, values_in-append, xid_free}
 use Rattle.masking3.proofs.Lemmas.Masked.MaskedLemmas.{ItemsAreAmong, items_among, items_stay}
-use Rattle.masking3.proofs.Lemmas.Writing.ToldItems.{told_handles, told_values}
+use Rattle.masking3.proofs.Lemmas.Writing.VisitedItems.{visited_handles, visited_values}
 
 -- the bytes spell the items
 abbrev pub Spells : List ℕ → List Item → Type 0
@@ -64,9 +64,9 @@ module _ (side : Side) where
       (with_one (values_so_far front side items) (class_of (spot_of_next items) i)
       (class_value i)) (values_so_far front side (items ++ i ∷ []))
       (λ d.
-      append_assoc (flat_map (told_value d) front) (values_in d (first_spot side) items)
+      append_assoc (flat_map (visited_value d) front) (values_in d (first_spot side) items)
       (value_in d (spot_of_next items) i)
-      ∙ ap (λ (l : List ℕ). flat_map (told_value d) front ++ l) (sym (values_in-append d
+      ∙ ap (λ (l : List ℕ). flat_map (visited_value d) front ++ l) (sym (values_in-append d
       (first_spot side) items (i ∷ [])
       ∙ ap (λ (l : List ℕ). values_in d (first_spot side) items ++ l)
       (append-nil (value_in d (spot_of_next items) i)))))
@@ -79,19 +79,19 @@ module _ (side : Side) where
       (λ d. values_so_far front side items d ++ values_in d (spot_of_next items) more)
       (values_so_far front side (items ++ more))
       (λ d.
-      append_assoc (flat_map (told_value d) front) (values_in d (first_spot side) items)
+      append_assoc (flat_map (visited_value d) front) (values_in d (first_spot side) items)
       (values_in d (spot_of_next items) more)
-      ∙ ap (λ (l : List ℕ). flat_map (told_value d) front ++ l)
+      ∙ ap (λ (l : List ℕ). flat_map (visited_value d) front ++ l)
       (sym (values_in-append d (first_spot side) items more)))
 
   among_so_far : (front items : List Item)
       → ItemsAreAmong (values_so_far front side items) (first_spot side) items
   among_so_far front items =
       items_among (values_so_far front side items) (first_spot side) items
-      (λ d x m. member-append_right (flat_map (told_value d) front) m)
+      (λ d x m. member-append_right (flat_map (visited_value d) front) m)
 
   abbrev told : List Item → List Item
-  told items = told_items (first_spot side) items
+  told items = visited_items (first_spot side) items
 
   -- a message is over, and another one may begin
   so_far_over : (front : List Item) (other : Side) (items : List Item)
@@ -99,10 +99,10 @@ module _ (side : Side) where
   so_far_over front other items =
       seen_alike (values_so_far front side items) (values_so_far (front ++ told items) other [])
       (λ d.
-      sym (append-nil (flat_map (told_value d) (front ++ told items))
-      ∙ flat_map-append (told_value d) front (told items)
-      ∙ ap (λ (l : List ℕ). flat_map (told_value d) front ++ l)
-      (told_values d (first_spot side) items)))
+      sym (append-nil (flat_map (visited_value d) (front ++ told items))
+      ∙ flat_map-append (visited_value d) front (told items)
+      ∙ ap (λ (l : List ℕ). flat_map (visited_value d) front ++ l)
+      (visited_values d (first_spot side) items)))
 
   handles_over : (front items : List Item)
       → handles_in (front ++ items) ≡ handles_in ((front ++ told items) ++ [])
@@ -111,7 +111,7 @@ module _ (side : Side) where
       ∙ sym (ap handles_in (append-nil (front ++ told items))
       ∙ flat_map-append handle_in front (told items)
       ∙ ap (λ (l : List (List ℕ)). handles_in front ++ l)
-      (told_handles (first_spot side) items))
+      (visited_handles (first_spot side) items))
 
 -- ---- what is held
 
@@ -181,9 +181,9 @@ module _ {P S H : Type 0} (ways : Ways) (w : MaskingWriter P S H) where
   pub ended : (front items : List Item) (side : Side) (bytes : List ℕ) → bytes ≡ []
       → HoldsMasked ways w front side items
       → MaskRests ways (with_parts w.handles w.classes bytes w.spot)
-      (after_messages (front ++ told_items (first_spot side) items) [])
+      (after_messages (front ++ visited_items (first_spot side) items) [])
   ended front items side bytes empty h going = record {
-    front = front ++ told_items (first_spot side) items;
+    front = front ++ visited_items (first_spot side) items;
     are = refl;
     holds = record {
       ways_are = h.ways_are;

@@ -7,10 +7,10 @@ use Rattle.masking3.proofs.Lemmas.Classes.SpotLemmas.{xid_free}
 use Rattle.masking3.proofs.Lemmas.Masked.SameButLemmas.{HasFreeXid, same_but_from_same, same_from_same_but}
 use Rattle.masking3.proofs.examples.compared_runs.Goals as goal
 
-told_by : (a b : List Entry) → AllByRecursion HasFreeXid a
+visited_by : (a b : List Entry) → AllByRecursion HasFreeXid a
     → canonical (masked_values usual a) ≢ canonical (masked_values usual b)
     → SameButValues usual a b → ⊥
-told_by a b free d s =
+visited_by a b free d s =
     not_same_by (masked_values usual a) (masked_values usual b) d
     (same_from_same_but usual a b free s)
 
@@ -41,9 +41,9 @@ returns c =
           (free 77 78 1700000000)
           (same_by (masked_values usual a) (masked_values usual b) refl refl refl);
       merged =
-          told_by a (getattrs_of_two 5 5 1700000000) (free 77 78 1700000000) (λ e. grind arith);
+          visited_by a (getattrs_of_two 5 5 1700000000) (free 77 78 1700000000) (λ e. grind arith);
       split =
-          told_by (getattrs_of_two 77 77 1700000000) (getattrs_of_two 5 6 1700000000)
+          visited_by (getattrs_of_two 77 77 1700000000) (getattrs_of_two 5 6 1700000000)
           (free 77 77 1700000000) (λ e. grind arith);
-      first_cookie = told_by (list_from 0) (list_from 512) (free_cookie 0) (λ e. grind arith);
+      first_cookie = visited_by (list_from 0) (list_from 512) (free_cookie 0) (λ e. grind arith);
     }

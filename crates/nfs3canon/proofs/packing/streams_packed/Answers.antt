@@ -5,26 +5,26 @@ use Rattle.packing3.specs.Packing.{HasWrittenCapture}
 use Rattle.nfs3canon.proofs.PackingLemmas.{both_closed, pair_failed, pushed, stops_at, stops_error, streams_more, two_more, whole}
 use Rattle.nfs3canon.proofs.packing.streams_packed.Goals as goal
 
-pub returns-in_err-client-clause-told : goal.returns-in_err-client-clause-told
-returns-in_err-client-clause-told g c =
+pub returns-in_err-client-clause-failed : goal.returns-in_err-client-clause-failed
+returns-in_err-client-clause-failed g c =
     rw (error_is _ _ c.from_residual.ensures) (stops_at c.args.streams.now
     (map reading_in c.loop-index.closed.items) (2 * c.loop-index.index)
     c.index-streams-index.result c.as_str.result.now c.in_err-client.field-0.0
     (omega (arith, c.loop-index-test.true)) c.index-streams-index.is c.as_str.ensures.value
-    c.in_err-client.ensures.told)
+    c.in_err-client.ensures.failed)
 
-pub returns-in_err-server-clause-told : goal.returns-in_err-server-clause-told
-returns-in_err-server-clause-told g c =
+pub returns-in_err-server-clause-failed : goal.returns-in_err-server-clause-failed
+returns-in_err-server-clause-failed g c =
     rw (error_is _ _ c.from_residual-in_err-server.ensures) (stops_at c.args.streams.now
     (map reading_in c.loop-index.closed.items) (2 * c.loop-index.index + 1)
     c.index-streams-index-in-loop-index.result c.as_str-in-loop-index.result.now
     c.in_err-server.field-0.0 (omega (arith, c.loop-index-test.true))
     c.index-streams-index-in-loop-index.is c.as_str-in-loop-index.ensures.value
-    c.in_err-server.ensures.told)
+    c.in_err-server.ensures.failed)
 
 -- A read failed only if one of the pair did.
-pub returns-in-Err-added-clause-told : goal.returns-in-Err-added-clause-told
-returns-in-Err-added-clause-told g c =
+pub returns-in-Err-added-clause-failed : goal.returns-in-Err-added-clause-failed
+returns-in-Err-added-clause-failed g c =
     let old = c.loop-index.closed.items in
     let between = c.push.new.self.items in
     let new = c.push-else-is_err.new.self.items in
@@ -137,8 +137,8 @@ returns-in-Ok-finish-clause-written g c paired fresh =
     )
 
 -- The end reads nothing.
-pub returns-in-Err-finish-clause-told : goal.returns-in-Err-finish-clause-told
-returns-in-Err-finish-clause-told g c =
+pub returns-in-Err-finish-clause-failed : goal.returns-in-Err-finish-clause-failed
+returns-in-Err-finish-clause-failed g c =
     let (pairs, streams, has_added) = c.loop-index.invariant.packed in
     let error = c.in-Err-finish.error in
     let front =

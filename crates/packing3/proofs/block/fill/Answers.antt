@@ -14,8 +14,8 @@ pub loop-filled-preserved : goal.loop-filled-preserved
 loop-filled-preserved g c =
     let inv = c.loop-filled.invariant in
     let got =
-    gave_both (g.R.Source.told c.args.source.now) (g.R.Source.told c.loop-filled.source)
-    (g.R.Source.told c.read_some.new.self) (take c.loop-filled.filled c.loop-filled.block)
+    gave_both (g.R.Source.observed c.args.source.now) (g.R.Source.observed c.loop-filled.source)
+    (g.R.Source.observed c.read_some.new.self) (take c.loop-filled.filled c.loop-filled.block)
     (take c.in_ok-count.count c.read_some.new.buf) inv.bytes c.in_ok-count.ensures.bytes.0 in
     record {
       within = search rules;

@@ -6,7 +6,7 @@ pub returns-then-count-extent-clause-err : goal.returns-then-count-extent-clause
 returns-then-count-extent-clause-err g c =
     let within : c.in-Ok.count ≤ full_size =
     omega (arith, c.in-Ok.ensures.within, c.fill.ensures.size, c.requires.block) in
-    chunk_refused (g.R.Source.told c.args.source.now) (g.R.Source.told c.fill.new.source)
+    chunk_refused (g.R.Source.observed c.args.source.now) (g.R.Source.observed c.fill.new.source)
     (g.W.Sink.written c.args.sink.now) c.args.extent.now c.refusal.result
     (take c.in-Ok.count c.fill.new.block) c.in-Ok.count c.in-Ok.ensures.bytes
     (length-take-le c.in-Ok.count c.fill.new.block c.in-Ok.ensures.within) within
@@ -19,7 +19,7 @@ returns-in_err-write_all-clause-err g c =
     subst (AppendsFront (g.W.Sink.written c.args.sink.now) (g.W.Sink.written c.write_all.new.sink))
     c.pack_chunk.ensures c.in_err-write_all.ensures.err in
     rw (error_is _ _ c.from_residual.ensures)
-    (chunk_cut (g.R.Source.told c.args.source.now) (g.R.Source.told c.fill.new.source)
+    (chunk_cut (g.R.Source.observed c.args.source.now) (g.R.Source.observed c.fill.new.source)
     (g.W.Sink.written c.args.sink.now) (g.W.Sink.written c.write_all.new.sink) c.args.extent.now
     _ chunk c.in-Ok.count c.in-Ok.ensures.bytes
     (length-take-le c.in-Ok.count c.fill.new.block c.in-Ok.ensures.within) (omega arith)
@@ -35,7 +35,7 @@ returns-in_err-write_all-2-clause-err g c =
     subst (Appends (g.W.Sink.written c.args.sink.now) (g.W.Sink.written c.write_all.new.sink))
     c.pack_chunk.ensures c.in_ok-write_all.ensures.ok in
     rw (error_is _ _ c.from_residual-in_err-write_all-2.ensures)
-    (chunk_cut (g.R.Source.told c.args.source.now) (g.R.Source.told c.fill.new.source)
+    (chunk_cut (g.R.Source.observed c.args.source.now) (g.R.Source.observed c.fill.new.source)
     (g.W.Sink.written c.args.sink.now) (g.W.Sink.written c.write_all-2.new.sink)
     c.args.extent.now _ chunk c.in-Ok.count c.in-Ok.ensures.bytes
     (length-take-le c.in-Ok.count c.fill.new.block c.in-Ok.ensures.within) (omega arith)
@@ -51,7 +51,7 @@ returns-clause-ok g c =
     let word =
     subst (Appends (g.W.Sink.written c.args.sink.now) (g.W.Sink.written c.write_all.new.sink))
     c.pack_chunk.ensures c.in_ok-write_all.ensures.ok in
-    chunk_some (g.R.Source.told c.args.source.now) (g.R.Source.told c.fill.new.source)
+    chunk_some (g.R.Source.observed c.args.source.now) (g.R.Source.observed c.fill.new.source)
     (g.W.Sink.written c.args.sink.now) (g.W.Sink.written c.write_all.new.sink)
     (g.W.Sink.written c.write_all-2.new.sink) c.args.extent.now _ chunk c.in-Ok.count
     c.in-Ok.ensures.bytes (length-take-le c.in-Ok.count c.fill.new.block c.in-Ok.ensures.within)

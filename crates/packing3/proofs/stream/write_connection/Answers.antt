@@ -9,8 +9,8 @@ returns-in_err-write_all-clause-err g c =
     let front =
     subst (AppendsFront (g.W.Sink.written c.args.sink.now) (g.W.Sink.written c.write_all.new.sink))
     c.pack_chunk.ensures c.in_err-write_all.ensures.err in
-    rw (error_is _ _ c.from_residual.ensures) (stops_at_mark (g.C.Source.told c.args.client.now)
-    (g.S.Source.told c.args.server.now) (g.W.Sink.written c.args.sink.now)
+    rw (error_is _ _ c.from_residual.ensures) (stops_at_mark (g.C.Source.observed c.args.client.now)
+    (g.S.Source.observed c.args.server.now) (g.W.Sink.written c.args.sink.now)
     (g.W.Sink.written c.write_all.new.sink) c.args.extent.now
     _ c.in_err-write_all.ensures.error front)
 
@@ -22,8 +22,8 @@ returns-in_err-write_stream-clause-err g c =
     let begun : Extent =
     record { streamed = c.args.extent.now.streamed; at = c.args.extent.now.at + 4 } in
     rw (error_is _ _ c.from_residual-in_err-write_stream.ensures)
-    (stops_in_client (g.C.Source.told c.args.client.now) (g.C.Source.told c.write_stream.new.source)
-    (g.S.Source.told c.args.server.now) (g.W.Sink.written c.args.sink.now)
+    (stops_in_client (g.C.Source.observed c.args.client.now) (g.C.Source.observed c.write_stream.new.source)
+    (g.S.Source.observed c.args.server.now) (g.W.Sink.written c.args.sink.now)
     (g.W.Sink.written c.write_all.new.sink) (g.W.Sink.written c.write_stream.new.sink)
     c.args.extent.now begun _ word (one_word 1 c.args.extent.now begun refl refl)
     c.in_err-write_stream.ensures.err)
@@ -36,9 +36,9 @@ returns-clause-ok g c =
     let begun : Extent =
     record { streamed = c.args.extent.now.streamed; at = c.args.extent.now.at + 4 } in
     on_ok_weaker c.write_stream-2.result
-    (whole_connection (g.C.Source.told c.args.client.now)
-    (g.C.Source.told c.write_stream.new.source) (g.S.Source.told c.args.server.now)
-    (g.S.Source.told c.write_stream-2.new.source) (g.W.Sink.written c.args.sink.now)
+    (whole_connection (g.C.Source.observed c.args.client.now)
+    (g.C.Source.observed c.write_stream.new.source) (g.S.Source.observed c.args.server.now)
+    (g.S.Source.observed c.write_stream-2.new.source) (g.W.Sink.written c.args.sink.now)
     (g.W.Sink.written c.write_all.new.sink) (g.W.Sink.written c.write_stream.new.sink)
     (g.W.Sink.written c.write_stream-2.new.sink) c.args.extent.now begun
     c.write_stream.new.extent c.write_stream-2.new.extent word
@@ -54,9 +54,9 @@ returns-clause-err g c =
     record { streamed = c.args.extent.now.streamed; at = c.args.extent.now.at + 4 } in
     IfErr-weaker c.write_stream-2.result _ _
     (λ error.
-    stops_in_server (g.C.Source.told c.args.client.now)
-    (g.C.Source.told c.write_stream.new.source) (g.S.Source.told c.args.server.now)
-    (g.S.Source.told c.write_stream-2.new.source) (g.W.Sink.written c.args.sink.now)
+    stops_in_server (g.C.Source.observed c.args.client.now)
+    (g.C.Source.observed c.write_stream.new.source) (g.S.Source.observed c.args.server.now)
+    (g.S.Source.observed c.write_stream-2.new.source) (g.W.Sink.written c.args.sink.now)
     (g.W.Sink.written c.write_all.new.sink) (g.W.Sink.written c.write_stream.new.sink)
     (g.W.Sink.written c.write_stream-2.new.sink) c.args.extent.now begun
     c.write_stream.new.extent error word (one_word 1 c.args.extent.now begun refl refl)

@@ -5,8 +5,8 @@ use Rattle.packing3.proofs.stream.write_stream.Goals as goal
 pub returns-in_err-count-clause-err : goal.returns-in_err-count-clause-err
 returns-in_err-count-clause-err g c =
     rw (error_is _ _ c.from_residual.ensures)
-    (stops_in_chunk (g.R.Source.told c.args.source.now) (g.R.Source.told c.loop-count.source)
-    (g.R.Source.told c.write_chunk.new.source) (g.W.Sink.written c.args.sink.now)
+    (stops_in_chunk (g.R.Source.observed c.args.source.now) (g.R.Source.observed c.loop-count.source)
+    (g.R.Source.observed c.write_chunk.new.source) (g.W.Sink.written c.args.sink.now)
     (g.W.Sink.written c.loop-count.sink) (g.W.Sink.written c.write_chunk.new.sink)
     c.args.extent.now c.loop-count.extent _ c.loop-count.invariant.full
     c.in_err-count.ensures.err)
@@ -20,8 +20,8 @@ loop-count-preserved g c =
       room = c.in_ok-count.ensures.room;
       small = omega (arith, inv.small, c.in_ok-count.ensures.small);
       full =
-          more_full (g.R.Source.told c.args.source.now) (g.R.Source.told c.loop-count.source)
-          (g.R.Source.told c.write_chunk.new.source) (g.W.Sink.written c.args.sink.now)
+          more_full (g.R.Source.observed c.args.source.now) (g.R.Source.observed c.loop-count.source)
+          (g.R.Source.observed c.write_chunk.new.source) (g.W.Sink.written c.args.sink.now)
           (g.W.Sink.written c.loop-count.sink) (g.W.Sink.written c.write_chunk.new.sink)
           c.args.extent.now c.loop-count.extent c.write_chunk.new.extent c.in_ok-count.count
           inv.full c.in_ok-count.ensures.ok whole;
@@ -37,8 +37,8 @@ returns-in_err-write_all-clause-err g c =
     (g.W.Sink.written c.write_all.new.sink)) c.pack_chunk.ensures
     c.in_err-write_all.ensures.err in
     rw (error_is _ _ c.from_residual-in_err-write_all.ensures)
-    (stops_at_end (g.R.Source.told c.args.source.now) (g.R.Source.told c.loop-count.source)
-    (g.R.Source.told c.write_chunk.new.source) (g.W.Sink.written c.args.sink.now)
+    (stops_at_end (g.R.Source.observed c.args.source.now) (g.R.Source.observed c.loop-count.source)
+    (g.R.Source.observed c.write_chunk.new.source) (g.W.Sink.written c.args.sink.now)
     (g.W.Sink.written c.loop-count.sink) (g.W.Sink.written c.write_chunk.new.sink)
     (g.W.Sink.written c.write_all.new.sink) c.args.extent.now c.loop-count.extent
     c.write_chunk.new.extent c.in_ok-count.count _ c.loop-count.invariant.full
@@ -51,8 +51,8 @@ returns-clause-ok g c =
     subst
     (Appends (g.W.Sink.written c.write_chunk.new.sink) (g.W.Sink.written c.write_all.new.sink))
     c.pack_chunk.ensures c.in_ok-write_all.ensures.ok in
-    whole_stream (g.R.Source.told c.args.source.now) (g.R.Source.told c.loop-count.source)
-    (g.R.Source.told c.write_chunk.new.source) (g.W.Sink.written c.args.sink.now)
+    whole_stream (g.R.Source.observed c.args.source.now) (g.R.Source.observed c.loop-count.source)
+    (g.R.Source.observed c.write_chunk.new.source) (g.W.Sink.written c.args.sink.now)
     (g.W.Sink.written c.loop-count.sink) (g.W.Sink.written c.write_chunk.new.sink)
     (g.W.Sink.written c.write_all.new.sink) c.args.extent.now c.loop-count.extent
     c.write_chunk.new.extent _ c.in_ok-count.count c.loop-count.invariant.full

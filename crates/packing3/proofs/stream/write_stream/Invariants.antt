@@ -6,7 +6,7 @@ invariant-loop-count g l = record {
   block : length l.block ≡ full_size;
   room : l.extent.streamed ≤ max_bytes;
   small : GrowsLittle 0 l.fn.extent l.extent;
-  full : HasFull (g.R.Source.told l.fn.source) (g.R.Source.told l.source)
+  full : HasFull (g.R.Source.observed l.fn.source) (g.R.Source.observed l.source)
       (g.W.Sink.written l.fn.sink) (g.W.Sink.written l.sink) l.fn.extent l.extent;
   read : g.R.Source.failures l.source ≡ g.R.Source.failures l.fn.source;
   write : g.W.Sink.failures l.sink ≡ g.W.Sink.failures l.fn.sink;

@@ -9,7 +9,7 @@ returns-in_err-visit-clause-refused g c bytes tells =
     let ends = rw c.in_err-visit.was at c.visit.follows.holds-at-none in
     rw (error_is _ _ c.from_residual-in_err-visit.ensures)
     (refused _ _ _ _ _ _ u (List (List ℕ)) c.in_err-visit.field-0.0 bytes
-    (ap (λ s. (g.R.Source.told s).left) c.in_ok-entries.ensures.unread ∙ tells)
+    (ap (λ s. (g.R.Source.observed s).left) c.in_ok-entries.ensures.unread ∙ tells)
     (ends.answers u.given u.handed u.stands))
 
 pub loop-handles-preserved : goal.loop-handles-preserved
@@ -33,10 +33,10 @@ returns-clause-gathered g c bytes tells =
     let ends = rw (c.in_ok-visit.was, none) at c.visit.follows.holds-at-none in
     let (entries, typed, is) =
     all_returned _ _ _ _ _ _ u bytes
-    (ap (λ s. (g.R.Source.told s).left) c.in_ok-entries.ensures.unread ∙ tells)
+    (ap (λ s. (g.R.Source.observed s).left) c.in_ok-entries.ensures.unread ∙ tells)
     (ends.answers u.given u.handed u.stands) in
     record {
       entries = entries;
       typed = typed;
-      is = c.in_ok-visit.ensures.untold none ∙ is;
+      is = c.in_ok-visit.ensures.unmoved none ∙ is;
     }

@@ -9,7 +9,7 @@ returns-in_err-entry-clause-refused g c bytes tells =
     let ends = rw c.in_err-entry.was at c.visit.follows.holds-at-none in
     rw (error_is _ _ c.from_residual-in_err-entry.ensures)
     (refused _ _ _ _ _ _ u ℕ c.in_err-entry.field-0.0 bytes
-    (ap (λ s. (g.R.Source.told s).left) c.in_ok-entries.ensures.unread ∙ tells)
+    (ap (λ s. (g.R.Source.observed s).left) c.in_ok-entries.ensures.unread ∙ tells)
     (ends.answers u.given u.handed u.stands))
 
 pub loop-entries-preserved : goal.loop-entries-preserved
@@ -34,6 +34,6 @@ returns-clause-summed g c bytes tells =
     let ends = rw (c.in_ok-entry.was, none) at c.visit.follows.holds-at-none in
     let (entries, typed, summed) =
     all_returned _ _ _ _ _ _ u bytes
-    (ap (λ s. (g.R.Source.told s).left) c.in_ok-entries.ensures.unread ∙ tells)
+    (ap (λ s. (g.R.Source.observed s).left) c.in_ok-entries.ensures.unread ∙ tells)
     (ends.answers u.given u.handed u.stands) in
     record { entries = entries; typed = typed; is = summed }

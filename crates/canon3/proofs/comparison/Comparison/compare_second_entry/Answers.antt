@@ -1,4 +1,4 @@
-use Rattle.canon3.proofs.Lemmas.Comparison.ComparisonLemmas.{compared_meets, hands, not_ended, refused_meets, told_second, with_second}
+use Rattle.canon3.proofs.Lemmas.Comparison.ComparisonLemmas.{compared_meets, hands, not_ended, refused_meets, received_second, with_second}
 use Rattle.canon3.proofs.comparison.Comparison.compare_second_entry.Goals as goal
 
 pub returns-in_ok-compare-in-Ok-Some-clause-meets :
@@ -9,8 +9,8 @@ returns-in_ok-compare-in-Ok-Some-clause-meets g c first now start a b e of order
     let (f, (is, adds), second, given) =
     hands _ _ _ start _ _ _ _ b h _ (ends.answers h.given b h.stands) in
     let both =
-    told_second c.args.self.now a b c.visit.new.visitor e f adds so_far in
-    compared_meets g.B.Source.told first now start c.visit.follows.lender-at-none
+    received_second c.args.self.now a b c.visit.new.visitor e f adds so_far in
+    compared_meets g.B.Source.observed first now start c.visit.follows.lender-at-none
     c.compare.new.self a b e f given
     c.in_ok-compare-in-Ok-Some.field-0 c.map.result c.map.ensures.cases
     (c.in_ok-compare-in-Ok-Some.ensures.compares
@@ -21,7 +21,7 @@ returns-in-Ok-None-clause-meets g c first now start a b e of order passed few so
     let (all, given) =
     rw (c.in-Ok-None.is, c.in-Ok-None.field-0-is) at
     (hands _ _ _ start _ _ _ _ b h _ (c.visit.follows.holds-at-none.answers h.given b h.stands)) in
-    not_ended g.B.Source.told first now start c.visit.follows.lender-at-none c.args.self.now a b e
+    not_ended g.B.Source.observed first now start c.visit.follows.lender-at-none c.args.self.now a b e
     order so_far.agree all
 
 pub returns-in-Err-clause-meets : goal.returns-in-Err-clause-meets
@@ -31,5 +31,5 @@ returns-in-Err-clause-meets g c first now start a b e of order passed few so_far
     (hands _ _ _ start _ _ _ _ b h _ (c.visit.follows.holds-at-none.answers h.given b h.stands))
     in
     rw c.refused.ensures
-    (refused_meets g.B.Source.told first now start c.visit.follows.lender-at-none
+    (refused_meets g.B.Source.observed first now start c.visit.follows.lender-at-none
     (with_second c.args.self.now c.visit.new.visitor) a b e c.in-Err.error met)

@@ -1,5 +1,5 @@
 use Rattle.canon3.proofs.Common.{source_of}
-use Rattle.canon3.proofs.Lemmas.Comparison.ComparisonLemmas.{first_stops, hands, one_fewer, stepped, told_first}
+use Rattle.canon3.proofs.Lemmas.Comparison.ComparisonLemmas.{first_stops, hands, one_fewer, stepped, received_first}
 use Rattle.canon3.proofs.comparison.Comparison.step.Goals as goal
 
 pub returns-in-Ok-Some-clause-steps : goal.returns-in-Ok-Some-clause-steps
@@ -10,10 +10,10 @@ returns-in-Ok-Some-clause-steps g c start other_start u =
     hands _ _ _ start _ _ _ _ u.a u.first_given _
     (ends.answers u.first_given.given u.a u.first_given.stands) in
     let so_far =
-    told_first c.args.self.now u.a u.b c.visit.new.visitor e adds u.compared in
-    stepped g.A.Source.told g.B.Source.told start other_start new c.compare_second_entry.new.second
+    received_first c.args.self.now u.a u.b c.visit.new.visitor e adds u.compared in
+    stepped g.A.Source.observed g.B.Source.observed start other_start new c.compare_second_entry.new.second
     c.compare_second_entry.new.self u.a u.b e given c.compare_second_entry.result
-    (c.compare_second_entry.ensures.meets start (g.A.Source.told (source_of new)) other_start u.a
+    (c.compare_second_entry.ensures.meets start (g.A.Source.observed (source_of new)) other_start u.a
     u.b e is first
     (c.progress-before.ensures u.first_given.given u.a u.first_given.stands c.requires.going_first)
     (one_fewer u.a e _ given.stands.few) so_far u.second_given)
@@ -41,5 +41,5 @@ returns-in-Err-clause-steps g c start other_start u =
     (hands _ _ _ start _ _ _ _ u.a u.first_given _
     (c.visit.follows.holds-at-none.answers u.first_given.given u.a u.first_given.stands))
     in
-    first_stops start (g.A.Source.told (source_of c.visit.follows.lender-at-none)) other_start
-    (g.B.Source.told (source_of c.args.second.now)) c.in-Err.error met
+    first_stops start (g.A.Source.observed (source_of c.visit.follows.lender-at-none)) other_start
+    (g.B.Source.observed (source_of c.args.second.now)) c.in-Err.error met

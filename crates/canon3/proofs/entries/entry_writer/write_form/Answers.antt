@@ -18,18 +18,18 @@ returns-clause-writes g c =
 
 pub returns-clause-whole : goal.returns-clause-whole
 returns-clause-whole g c bytes gave =
-    let first = g.R.Source.told c.args.source.now in
-    let told = g.R.Source.told c.write_whole.new.source in
-    all_written _ c.requires.prefixes AreMessageCounts bytes first told
+    let first = g.R.Source.observed c.args.source.now in
+    let observed = g.R.Source.observed c.write_whole.new.source in
+    all_written _ c.requires.prefixes AreMessageCounts bytes first observed
     _ _ (Ok c.counts_of.result)
-    (λ given. prefix_of_kept first told given bytes gave) (returns-clause-writes g c)
+    (λ given. prefix_of_kept first observed given bytes gave) (returns-clause-writes g c)
 
 pub returns-in_err-progress-clause-whole : goal.returns-in_err-progress-clause-whole
 returns-in_err-progress-clause-whole g c bytes gave =
-    let first = g.R.Source.told c.args.source.now in
-    let told = g.R.Source.told c.write_whole.new.source in
+    let first = g.R.Source.observed c.args.source.now in
+    let observed = g.R.Source.observed c.write_whole.new.source in
     let s = c.in_err-progress.ensures.ends in
     rw (error_is _ _ c.from_residual.ensures)
-    (all_written _ c.requires.prefixes AreMessageCounts bytes first told _ _
-    (Err c.in_err-progress.field-0.0) (λ given. prefix_of_kept first told given bytes gave)
+    (all_written _ c.requires.prefixes AreMessageCounts bytes first observed _ _
+    (Err c.in_err-progress.field-0.0) (λ given. prefix_of_kept first observed given bytes gave)
     (s.given, s.consumed, s.stopped))

@@ -41,7 +41,7 @@ returns-in-Ok-None-clause-over g c first front old start =
         typed = a.hands_out.0;
       };
       reads = a.hands_out.2;
-      writes = rw (c.in-Ok-None.ensures.untold c.in-Ok-None.field-0-is) u.writes;
+      writes = rw (c.in-Ok-None.ensures.unmoved c.in-Ok-None.field-0-is) u.writes;
     }
 
 pub returns-in-Err-clause-over : goal.returns-in-Err-clause-over

@@ -1,6 +1,6 @@
 use Rattle.capture3.proofs.Lemmas.Messages.ValueNames.{arith, ◌≡◌, ◌≢◌, [], Bool, length, Ok, Err, ap, refl, sym, ◌∙◌, false≢true, WrongSide, Stop, call_head_items, judge_call, the_calls, error_stops, stop_stops, CallMsg, args_items}
 use Rattle.capture3.proofs.Lemmas.Messages.BodySteps.{CallBegins, call_accepted, call_bad_arguments, call_bad_head, call_bad_start, call_trails, call_wrong_side, refusal_judged, whole_call}
-use Rattle.capture3.proofs.Lemmas.Messages.ValueLemmas.{call_head_told, no_call}
+use Rattle.capture3.proofs.Lemmas.Messages.ValueLemmas.{procedure_of_head, no_call}
 use Rattle.capture3.proofs.message.reading.call_in.Goals as goal
 
 pub returns-in_err-start-clause-err : goal.returns-in_err-start-clause-err
@@ -48,7 +48,7 @@ returns-in_err-args-clause-err c =
       start = start;
       is_call = c.if-start.false;
       read = rw body at c.in_ok-head.ensures.read;
-      told = call_head_told c.in_ok-head.head;
+      observed = procedure_of_head c.in_ok-head.head;
     } in
     no_call c.from_residual-in_err-args.result c.args.body.now
     (error_stops c.from_residual-in_err-args.result (judge_call [] c.args.body.now)
@@ -74,7 +74,7 @@ returns-in_err-end-clause-err c =
       start = start;
       is_call = c.if-start.false;
       read = rw body at c.in_ok-head.ensures.read;
-      told = call_head_told c.in_ok-head.head;
+      observed = procedure_of_head c.in_ok-head.head;
     } in
     let other : c.get-2.new.input.at ≢ length c.args.body.now =
     λ e. false≢true (c.in_err-end.ensures.ok.1 (e ∙ ap length (sym last))) in
@@ -104,7 +104,7 @@ returns-clause-call c =
       start = start;
       is_call = c.if-start.false;
       read = rw body at c.in_ok-head.ensures.read;
-      told = call_head_told c.in_ok-head.head;
+      observed = procedure_of_head c.in_ok-head.head;
     } in
     let is : c.get-2.new.input.at ≡ length c.args.body.now =
     c.in_ok-end.ensures.ok.0 refl ∙ ap length last in

@@ -1,7 +1,7 @@
 use Rattle.capture3.proofs.Lemmas.Messages.ValueNames.{arith, ◌≡◌, ◌≢◌, List, [], Bool, length, Some, Ok, Err, ap, refl, sym, ◌∙◌, false≢true, WrongSide, Stop, Item, reply_head_items, procedure_of, xid_in, judge_reply, the_replies, error_stops, stop_stops, is_success, items_after_head}
 use Rattle.capture3.proofs.Lemmas.Messages.BodySteps.{ReplyBegins, not_false, not_true, refusal_judged, reply_accepted, reply_bad_head, reply_bad_results, reply_bad_start, reply_trails, reply_wrong_side, whole_reply}
 use Rattle.capture3.specs.declared.message.values.ReplyMsg.{ReplyMsg}
-use Rattle.capture3.proofs.Lemmas.Messages.ValueLemmas.{asked, asked_by, no_reply, success_told, the_call}
+use Rattle.capture3.proofs.Lemmas.Messages.ValueLemmas.{asked, asked_by, no_reply, success_of_head, the_call}
 use Rattle.capture3.proofs.message.reading.reply_in.Goals as goal
 
 pub returns-in_err-start-clause-err : goal.returns-in_err-start-clause-err
@@ -60,7 +60,7 @@ returns-in_err-results-clause-err c =
           asked c.args.id c.args.body.now items c.in_ok-start.start c.start.new.input.at
           spelled start;
       read = rw body at c.in_ok-head.ensures.read;
-      told = success_told c.in_ok-head.head;
+      observed = success_of_head c.in_ok-head.head;
     } in
     error_stops c.from_residual-in_err-results.result
     (judge_reply (the_call (xid_in items) c.args.id) c.args.body.now) c.in_err-results.field-0.0
@@ -94,7 +94,7 @@ returns-in_err-end-clause-err c =
           asked c.args.id c.args.body.now items c.in_ok-start.start c.start.new.input.at
           spelled start;
       read = rw body at c.in_ok-head.ensures.read;
-      told = success_told c.in_ok-head.head;
+      observed = success_of_head c.in_ok-head.head;
     } in
     stop_stops c.from_residual-in_err-end.result
     (judge_reply (the_call (xid_in items) c.args.id) c.args.body.now) c.in_err-end.field-0.0
@@ -127,7 +127,7 @@ returns-clause-reply c =
       is_reply = not_false c.in_ok-start.start.is_reply c.if-not-start.false;
       asked = known;
       read = rw body at c.in_ok-head.ensures.read;
-      told = success_told c.in_ok-head.head;
+      observed = success_of_head c.in_ok-head.head;
     } in
     let is : c.results_in.new.input.at ≡ length c.args.body.now =
     c.in_ok-end.ensures.ok.0 refl ∙ ap length last in

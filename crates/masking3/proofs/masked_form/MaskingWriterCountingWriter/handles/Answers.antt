@@ -1,11 +1,11 @@
-use Rattle.masking3.proofs.Common.{List, ℕ, ap, append-nil, ◌∙◌, length, min, subst, bytes_eq, flat_map, told_entry, Gathers, distinct, number_limit}
-use Rattle.masking3.proofs.Lemmas.Writing.ToldItems.{handles_before}
+use Rattle.masking3.proofs.Common.{List, ℕ, ap, append-nil, ◌∙◌, length, min, subst, bytes_eq, flat_map, visited_entry, Gathers, distinct, number_limit}
+use Rattle.masking3.proofs.Lemmas.Writing.VisitedItems.{handles_before}
 use Rattle.masking3.proofs.Lemmas.Writing.WriterLemmas.{rested}
 use Rattle.masking3.proofs.masked_form.MaskingWriterCountingWriter.handles.Goals as goal
 
 pub returns : goal.returns
 returns g c entries goes stands =
-    let front = flat_map told_entry entries in
+    let front = flat_map visited_entry entries in
     let gathered =
     subst (Gathers c.args.self.now.handles) (append-nil front)
     (rested g.P.Plan.ways c.args.self.now front goes stands).handles in

@@ -1,9 +1,9 @@
-use Rattle.masking3.proofs.Common.{List, [], ap, subst, sym, ◌∙◌, flat_map, Item, items_of, Ways, after_messages, told_entry, MaskRests, written_as}
+use Rattle.masking3.proofs.Common.{List, [], ap, subst, sym, ◌∙◌, flat_map, Item, items_of, Ways, after_messages, visited_entry, MaskRests, written_as}
 use Rattle.capture3.proofs.Lemmas.Reader.PassedOn.{error_is}
 use Rattle.canon3.proofs.Lemmas.Writing.EntryWriterLemmas.{lent_kind}
 use Rattle.masking3.proofs.Lemmas.Writing.FormLemmas.{all_written, cut_in_entry, cut_in_magic, entry_is, last_begins, nothing_more}
 use Rattle.masking3.proofs.Lemmas.Classes.MessageSpotLemmas.{entry_side}
-use Rattle.masking3.proofs.Lemmas.Writing.ToldItems.{before_with_last}
+use Rattle.masking3.proofs.Lemmas.Writing.VisitedItems.{before_with_last}
 use Rattle.masking3.proofs.Lemmas.Writing.WriterLemmas.{heard}
 use Rattle.masking3.proofs.masked_form.MaskingWriterEntryWriter.write.Goals as goal
 
@@ -24,7 +24,7 @@ returns-in_err-write_magic-clause-writes g c old entries one of first few came t
 pub returns-in_err-write_entry-clause-writes : goal.returns-in_err-write_entry-clause-writes
 returns-in_err-write_entry-clause-writes g c old entries one of first few came told written =
     let is =
-    heard g.P.Plan.ways c.args.self.now (flat_map told_entry entries) one
+    heard g.P.Plan.ways c.args.self.now (flat_map visited_entry entries) one
     (last_begins entries one first) c.if-self.false told in
     rw (error_is _ _ c.from_residual-in_err-write_entry.ensures)
     (cut_in_entry g.P.Plan.ways old (g.W.Sink.written c.args.sink.now)
@@ -40,13 +40,13 @@ returns-in_err-write_entry-clause-writes g c old entries one of first few came t
 pub returns-clause-writes : goal.returns-clause-writes
 returns-clause-writes g c old entries one of first few came told written =
     let is =
-    heard g.P.Plan.ways c.args.self.now (flat_map told_entry entries) one
+    heard g.P.Plan.ways c.args.self.now (flat_map visited_entry entries) one
     (last_begins entries one first) c.if-self.false told in (
       c.end_message.ensures.going c.if-self.false,
       subst
           (λ (l : List Item). MaskRests g.P.Plan.ways c.end_message.new.self (after_messages l []))
           (sym (before_with_last entries one)) (c.end_message.ensures.rests
-          (flat_map told_entry entries) (items_of one) (entry_side one) is),
+          (flat_map visited_entry entries) (items_of one) (entry_side one) is),
       all_written g.P.Plan.ways old (g.W.Sink.written c.args.sink.now)
           (g.W.Sink.written c.write_magic.new.sink) (g.W.Sink.written c.write_entry.new.sink)
           entries one

@@ -17,7 +17,7 @@ returns-in-Ok-clause-goes_on g c given handed s =
     omega (arith, c.in-Ok.ensures.taken.within, length-take {A = ℕ}, c.args.self.now.ordered) in
     let within : c.args.self.now.end ≤ length c.args.self.now.block.items =
     omega (arith, c.args.self.now.within, c.deref.ensures.len, ap length c.deref.ensures.value) in
-    judged_on g.R.Source.told g.V.MessageVisit.rests g.V.Visit.stands c.args.visitor.now
+    judged_on g.R.Source.observed g.V.MessageVisit.rests g.V.Visit.stands c.args.visitor.now
     c.next.new.visitor c.args.self.now
     _ c.in-Ok.count given handed c.next.new.self.last c.requires.reading c.requires.reading refl
     refl refl refl fits within c.in-Ok.ensures.room s
@@ -33,7 +33,7 @@ returns-in-Ok-clause-goes_on g c given handed s =
 
 pub returns-in-Err-clause-goes_on : goal.returns-in-Err-clause-goes_on
 returns-in-Err-clause-goes_on g c given handed s =
-    judged_failed g.R.Source.told c.args.self.now _ c.next.new.self.error given handed
+    judged_failed g.R.Source.observed c.args.self.now _ c.next.new.self.error given handed
     c.requires.reading refl refl refl s
     (λ judged at.
     subst

@@ -9,7 +9,7 @@ returns-in-Ok g c =
       (
         refl,
         λ _. tt,
-        reads_some g.R.Source.told g.R.Source.failures c.args.self.now c.step.new.self _ _ _
+        reads_some g.R.Source.observed g.R.Source.failures c.args.self.now c.step.new.self _ _ _
             c.step.new.visitor c.in-Ok-Some.field-0-0 c.in-Ok.next (step.last refl)
             c.in-Ok.ensures.kind step.answers c.in-Ok.ensures.value step.end step.over
             (step.fewer refl) step.errors step.device,
@@ -23,7 +23,7 @@ returns-in-Err-read_last g c =
       (
         refl,
         λ _. tt,
-        reads_over g.R.Source.told g.R.Source.failures c.args.self.now c.step.new.self _ _ _
+        reads_over g.R.Source.observed g.R.Source.failures c.args.self.now c.step.new.self _ _ _
             c.step.new.visitor c.in-Ok-Some.field-0-0 step.answers step.over step.errors
             step.device,
       ),

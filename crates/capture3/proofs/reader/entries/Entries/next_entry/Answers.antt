@@ -7,40 +7,40 @@ use Rattle.capture3.proofs.reader.entries.Entries.next_entry.Goals as goal
 pub returns-in-Ok-false-clause-turns : goal.returns-in-Ok-false-clause-turns
 returns-in-Ok-false-clause-turns g c given handed s =
     let ends = c.finish.ensures in
-    turned g.R.Source.told g.V.MessageVisit.rests g.V.Visit.stands _ _ _ _ _ _ _ given handed
-    (c.loop-self.invariant.has_read given handed s) c.loop-self.invariant.untold
+    turned g.R.Source.observed g.V.MessageVisit.rests g.V.Visit.stands _ _ _ _ _ _ _ given handed
+    (c.loop-self.invariant.has_read given handed s) c.loop-self.invariant.unmoved
     c.refill.ensures.has_read
     (λ so_far out at.
-    ended_on g.R.Source.told g.V.MessageVisit.rests g.V.Visit.stands c.loop-self.visitor
+    ended_on g.R.Source.observed g.V.MessageVisit.rests g.V.Visit.stands c.loop-self.visitor
     c.finish.new.self so_far out
     c.finish.result (ends.ok so_far out at) (ends.err so_far out at) ends.last ends.failure.unlent)
     ends.device.unread
 
 pub returns-in-Err-clause-turns : goal.returns-in-Err-clause-turns
 returns-in-Err-clause-turns g c given handed s =
-    turned g.R.Source.told g.V.MessageVisit.rests g.V.Visit.stands _ _ _ _ _ _ _ given handed
-    (c.loop-self.invariant.has_read given handed s) c.loop-self.invariant.untold
+    turned g.R.Source.observed g.V.MessageVisit.rests g.V.Visit.stands _ _ _ _ _ _ _ given handed
+    (c.loop-self.invariant.has_read given handed s) c.loop-self.invariant.unmoved
     c.refill.ensures.has_read
     (λ so_far out at.
-    none_on g.R.Source.told g.V.MessageVisit.rests g.V.Visit.stands c.loop-self.visitor
+    none_on g.R.Source.observed g.V.MessageVisit.rests g.V.Visit.stands c.loop-self.visitor
     c.loop-self.visitor
     c.refill.new.self so_far out c.in-Err.ensures.failure.unlent at) refl
 
 pub returns-in-Err-judge-clause-turns : goal.returns-in-Err-judge-clause-turns
 returns-in-Err-judge-clause-turns g c given handed s =
-    turned g.R.Source.told g.V.MessageVisit.rests g.V.Visit.stands _ _ _ _ _ _ _ given handed
-    (c.loop-self.invariant.has_read given handed s) c.loop-self.invariant.untold
+    turned g.R.Source.observed g.V.MessageVisit.rests g.V.Visit.stands _ _ _ _ _ _ _ given handed
+    (c.loop-self.invariant.has_read given handed s) c.loop-self.invariant.unmoved
     c.refill.ensures.has_read c.judge.ensures.goes_on c.judge.ensures.device.unread
 
 pub returns-then-is_some-clause-turns : goal.returns-then-is_some-clause-turns
 returns-then-is_some-clause-turns g c given handed s =
-    turned g.R.Source.told g.V.MessageVisit.rests g.V.Visit.stands _ _ _ _ _ _ _ given handed
-    (c.loop-self.invariant.has_read given handed s) c.loop-self.invariant.untold
+    turned g.R.Source.observed g.V.MessageVisit.rests g.V.Visit.stands _ _ _ _ _ _ _ given handed
+    (c.loop-self.invariant.has_read given handed s) c.loop-self.invariant.unmoved
     c.refill.ensures.has_read c.judge.ensures.goes_on c.judge.ensures.device.unread
 
 pub returns-clause-turns : goal.returns-clause-turns
 returns-clause-turns g c given handed s =
-    too_long g.R.Source.told g.V.MessageVisit.rests g.V.Visit.stands c.args.visitor.now _
+    too_long g.R.Source.observed g.V.MessageVisit.rests g.V.Visit.stands c.args.visitor.now _
     c.args.self.now c.loop-self.self
     _ given handed (c.loop-self.invariant.has_read given handed s)
     c.loop-self.invariant.reading (omega (arith, c.loop-self-test.false))
@@ -58,13 +58,13 @@ loop-self-preserved g c =
       reading = judged.on.reading none;
       has_read =
           λ given handed s.
-          read_on g.R.Source.told g.V.MessageVisit.rests g.V.Visit.stands _ c.judge.new.visitor
+          read_on g.R.Source.observed g.V.MessageVisit.rests g.V.Visit.stands _ c.judge.new.visitor
           c.args.self.now
           c.judge.new.self given handed none
-          (turned g.R.Source.told g.V.MessageVisit.rests g.V.Visit.stands _ _ _ _ _ _ _ given handed
-          (invariant.has_read given handed s) invariant.untold filled.has_read judged.goes_on
+          (turned g.R.Source.observed g.V.MessageVisit.rests g.V.Visit.stands _ _ _ _ _ _ _ given handed
+          (invariant.has_read given handed s) invariant.unmoved filled.has_read judged.goes_on
           judged.device.unread);
-      untold = judged.on.untold none ∙ invariant.untold;
+      unmoved = judged.on.unmoved none ∙ invariant.unmoved;
       fewer = omega (arith, judged.on.no_more none, same, invariant.fewer);
       read =
           ap g.R.Source.failures judged.device.unread ∙ filled.device.read ∙ invariant.read;

@@ -7,9 +7,9 @@ abbrev pub invariant-loop-self : goal.invariant-loop-self
 invariant-loop-self g l = record {
   reading : l.self.stage ≡ Reading;
   has_read : (given : List ℕ) (handed : List Entry)
-      → StandsFor g.R.Source.told l.initial.self given handed
-      → HasRead g.R.Source.told l.initial.self l.self given handed;
-  untold : l.visitor ≡ l.initial.visitor;
+      → StandsFor g.R.Source.observed l.initial.self given handed
+      → HasRead g.R.Source.observed l.initial.self l.self given handed;
+  unmoved : l.visitor ≡ l.initial.visitor;
   fewer : entries_left l.self ≤ entries_left l.initial.self;
   read : g.R.Source.failures l.self.source.now ≡ g.R.Source.failures l.initial.self.source.now;
   same_block : block_size l.self ≡ block_size l.initial.self;

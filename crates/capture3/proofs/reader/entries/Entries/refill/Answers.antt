@@ -13,7 +13,7 @@ returns-in-Ok-clause-has_read g c given handed s =
     front_range _ c.in-Ok.count
     ∙ ap (take c.in-Ok.count) (with_items_is c.args.self.now.block bytes same) in
     let used_up = c.if-not-is_used_up.ensures.used_up refl in
-    has_read g.R.Source.told c.args.self.now _ given (take c.in-Ok.count bytes) handed
+    has_read g.R.Source.observed c.args.self.now _ given (take c.in-Ok.count bytes) handed
     c.requires.reading c.requires.reading used_up.0 used_up.1 refl refl block
     (split_bytes bytes (take c.in-Ok.count bytes) (drop c.in-Ok.count bytes)
     (sym (take-append-drop c.in-Ok.count bytes)) c.read_block.ensures.fit).0
@@ -23,5 +23,5 @@ returns-in-Ok-clause-has_read g c given handed s =
 pub returns-in-Err-clause-has_read : goal.returns-in-Err-clause-has_read
 returns-in-Err-clause-has_read g c given handed s =
     let used_up = c.if-not-is_used_up.ensures.used_up refl in
-    has_failed g.R.Source.told c.args.self.now _ given handed c.requires.reading refl refl refl
+    has_failed g.R.Source.observed c.args.self.now _ given handed c.requires.reading refl refl refl
     used_up.0 used_up.1 c.in-Err.ensures.bytes s

@@ -11,7 +11,7 @@ returns-in-Ok-Some g c =
       (
         refl,
         λ _. tt,
-        lends_some g.R.Source.told g.R.Source.failures c.args.self.now c.step.new.self
+        lends_some g.R.Source.observed g.R.Source.failures c.args.self.now c.step.new.self
             g.V.MessageVisit.rests g.V.Visit.stands c.args.visitor.now c.step.new.visitor
             c.in-Ok-Some.field-0-0 c.entry.result last c.entry.ensures.kind step.answers
             c.entry.ensures.lent
@@ -19,7 +19,7 @@ returns-in-Ok-Some g c =
       ),
       record {
         ends = tt;
-        untold = λ none. absurd
+        unmoved = λ none. absurd
             (let same = ap kind_lent (sym none) ∙ c.entry.ensures.kind ∙ last in cc);
         left = λ some. omega (arith, step.fewer refl);
         write = tt;

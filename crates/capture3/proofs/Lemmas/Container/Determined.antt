@@ -3,8 +3,8 @@ use Rattle.capture3.proofs.Common.{◌≡◌, ℕ, ◌<◌, List, [], ◌∷◌,
 use Rattle.capture3.proofs.Lemmas.Files.FileMachineLemmas.{length_magic}
 
 -- bytes tell which thing they begin with, and what comes after it
-abbrev IsTold : {X : Type 0} → (List ℕ → X → Type 0) → Type 0
-IsTold {X} Spells =
+abbrev IsDetermined : {X : Type 0} → (List ℕ → X → Type 0) → Type 0
+IsDetermined {X} Spells =
     (a b r s : List ℕ) (x y : X) → Spells a x → Spells b y → a ++ r ≡ b ++ s → (x ≡ y) × (r ≡ s)
 
 same_front : (a b r s : List ℕ) → length a ≡ length b → a ++ r ≡ b ++ s → (a ≡ b) × (r ≡ s)
@@ -24,14 +24,14 @@ parts a b f g l m r s a_is b_is e =
     sym (append_assoc f l r) ∙ ap (λ (z : List ℕ). z ++ r) (sym a_is) ∙ e
     ∙ ap (λ (z : List ℕ). z ++ s) b_is ∙ append_assoc g m s
 
-word_told : IsTold IsWord
+word_told : IsDetermined IsWord
 word_told a b r s n k is_a is_b e =
     let same = same_front a b r s (is_a.0 ∙ sym is_b.0) e in
     (sym is_a.1 ∙ ap number same.0 ∙ is_b.1, same.1)
 
 -- ---- chunks
 
-chunk_told : IsTold IsChunk
+chunk_told : IsDetermined IsChunk
 chunk_told a b r s x y is_a is_b e =
     let words =
     word_told is_a.header is_b.header (x ++ r) (y ++ s) (length x) (length y) is_a.word is_b.word
@@ -44,7 +44,7 @@ same_side Server Server e = refl
 same_side Client Server e = absurd (omega arith)
 same_side Server Client e = absurd (omega arith)
 
-sided_told : IsTold IsSidedChunk
+sided_told : IsDetermined IsSidedChunk
 sided_told a b r s x y is_a is_b e =
     let words =
     word_told is_a.word is_b.word (is_a.rest ++ r) (is_b.rest ++ s) (side_word x.side)
@@ -87,34 +87,34 @@ not_closed Spells begins last front more r s x closes is e =
     ∙ append_assoc b.0 b.1 (more ++ s)) in
     omega (arith, words.0, b.5)
 
-all_told : {X : Type 0} (Spells : List ℕ → X → Type 0) → IsTold Spells → BeginsSome Spells
+all_told : {X : Type 0} (Spells : List ℕ → X → Type 0) → IsDetermined Spells → BeginsSome Spells
     → (xs ys : List X) (a b last other r s : List ℕ) → Joins Spells a xs → Joins Spells b ys
     → IsWord last 0 → IsWord other 0 → a ++ (last ++ r) ≡ b ++ (other ++ s)
     → (xs ≡ ys) × (r ≡ s)
-all_told Spells told begins [] [] a b last other r s h k closes shuts e = (
+all_told Spells observed begins [] [] a b last other r s h k closes shuts e = (
   refl,
   (word_told last other r s 0 0 closes shuts (ap (λ (z : List ℕ). z ++ (last ++ r)) (sym h)
       ∙ e ∙ ap (λ (z : List ℕ). z ++ (other ++ s)) k)).1,
 )
-all_told Spells told begins [] (y ∷ ys) a b last other r s h k closes shuts e =
+all_told Spells observed begins [] (y ∷ ys) a b last other r s h k closes shuts e =
     absurd (not_closed Spells begins last k.0 k.1 r (other ++ s) y closes k.3 (ap
     (λ (z : List ℕ). z ++ (last ++ r)) (sym h) ∙ e
     ∙ ap (λ (z : List ℕ). z ++ (other ++ s)) k.2))
-all_told Spells told begins (x ∷ xs) [] a b last other r s h k closes shuts e =
+all_told Spells observed begins (x ∷ xs) [] a b last other r s h k closes shuts e =
     absurd (not_closed Spells begins other h.0 h.1 s (last ++ r) x shuts h.3 (ap
     (λ (z : List ℕ). z ++ (other ++ s)) (sym k) ∙ sym e
     ∙ ap (λ (z : List ℕ). z ++ (last ++ r)) h.2))
-all_told {X} Spells told begins (x ∷ xs) (y ∷ ys) a b last other r s h k closes shuts e =
+all_told {X} Spells observed begins (x ∷ xs) (y ∷ ys) a b last other r s h k closes shuts e =
     let first =
-    told h.0 k.0 (h.1 ++ (last ++ r)) (k.1 ++ (other ++ s)) x y h.3 k.3
+    observed h.0 k.0 (h.1 ++ (last ++ r)) (k.1 ++ (other ++ s)) x y h.3 k.3
     (parts a b h.0 k.0 h.1 k.1 (last ++ r) (other ++ s) h.2 k.2 e) in
     let more =
-    all_told Spells told begins xs ys h.1 k.1 last other r s h.4 k.4 closes shuts first.1 in
+    all_told Spells observed begins xs ys h.1 k.1 last other r s h.4 k.4 closes shuts first.1 in
     (ap₂ (λ (z : X) (l : List X). z ∷ l) first.0 more.0, more.1)
 
 -- ---- streams
 
-stream_told : IsTold IsStream
+stream_told : IsDetermined IsStream
 stream_told a b r s x y is_a is_b e =
     let all =
     all_told IsChunk chunk_told chunk_begins is_a.chunks.chunks is_b.chunks.chunks is_a.front
@@ -123,7 +123,7 @@ stream_told a b r s x y is_a is_b e =
     (parts a b is_a.front is_b.front is_a.last is_b.last r s is_a.split is_b.split e) in
     (is_a.chunks.carried ∙ ap concat all.0 ∙ sym is_b.chunks.carried, all.1)
 
-in_turn_told : IsTold AreInTurn
+in_turn_told : IsDetermined AreInTurn
 in_turn_told a b r s x y is_a is_b e =
     let client =
     stream_told is_a.front is_b.front (is_a.last ++ r) (is_b.last ++ s) x.client y.client
@@ -135,7 +135,7 @@ in_turn_told a b r s x y is_a is_b e =
       server.1,
     )
 
-mixed_told : IsTold AreMixed
+mixed_told : IsDetermined AreMixed
 mixed_told a b r s x y is_a is_b e =
     let all =
     all_told IsSidedChunk sided_told sided_begins is_a.chunks is_b.chunks is_a.front is_b.front
@@ -143,11 +143,11 @@ mixed_told a b r s x y is_a is_b e =
     (parts a b is_a.front is_b.front is_a.last is_b.last r s is_a.split is_b.split e) in
     (is_a.carried ∙ ap gathered all.0 ∙ sym is_b.carried, all.1)
 
-streams_told : (version : Version) → IsTold (AreStreams version)
+streams_told : (version : Version) → IsDetermined (AreStreams version)
 streams_told One = in_turn_told
 streams_told Two = mixed_told
 
-connection_told : (version : Version) → IsTold (IsConnection version)
+connection_told : (version : Version) → IsDetermined (IsConnection version)
 connection_told version a b r s x y is_a is_b e =
     let words =
     word_told is_a.mark is_b.mark (is_a.rest ++ r) (is_b.rest ++ s) 1 1 is_a.one is_b.one

@@ -4,7 +4,7 @@ use Rattle.masking3.specs.Masked.{masked_bytes}
 use Rattle.program3.specs.Files.{RewritesFile}
 use Rattle.program3.specs.declared.outcome.Outcome.TheVariants as outcomes
 use Rattle.nfs3mask.proofs.MaskingLemmas.{masks_counted}
-use Rattle.nfs3mask.proofs.job.with_mask_told.Goals as goal
+use Rattle.nfs3mask.proofs.job.with_mask_text.Goals as goal
 
 pub returns-in-Ok : goal.returns-in-Ok
 returns-in-Ok c holds ways input output readings old new told rewrites =

@@ -1,9 +1,9 @@
 use Rattle.mask_line3.proofs.Common.{◌∷◌, [], Times, Stamps, Machines, Space, Ids, Fsids, Cookies, CookieVerifiers, CreateVerifiers, Owners, Wcc, SillyNames, Raw, change_of}
 use Rattle.mask_line3.proofs.ChangeLemmas.{told_more}
-use Rattle.mask_line3.proofs.change.ways_told.Goals as goal
+use Rattle.mask_line3.proofs.change.ways_text.Goals as goal
 
-pub returns-clause-told : goal.returns-clause-told
-returns-clause-told c =
+pub returns-clause-text : goal.returns-clause-text
+returns-clause-text c =
     let ways = c.args.ways.now in
     let one =
     told_more ([]) (change_of Times ways.times) _ _ c.new-text.ensures.bytes
