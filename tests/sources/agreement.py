@@ -310,7 +310,7 @@ def what_is_not_proved(tools: Tools) -> None:
     told = (TOP / 'docs/PROOFS.md').read_text().partition('## Not proved and not tested')[2].partition('\n## ')[0]
     tools.want('rows', len(rows), 2)
     for row in rows:
-        tools.want(row, row[0].lower() + row[1:] in told, True)
+        tools.want(row, row[0].lower() + row[1:].strip() in told, True)
 
 
 def bugs_are_counted(tools: Tools) -> None:
