@@ -169,7 +169,7 @@ def pages_agree(tools: Tools) -> None:
     """The reasons have the same names in docs/FORMATS.md, the man page and tools/explain, each has a row in captures.rows, and the
     dumps are the bytes of a NULL call and its reply in both versions."""
     formats = (TOP / 'docs/FORMATS.md').read_text()
-    reasons = re.findall(r'^\| \d+ \| `(\w+)` \|', formats, re.M)
+    reasons = re.findall(r'^\| `(\w+)` \|', formats.partition('| Reason |')[2].partition('\n\n')[0], re.M)
     tools.want('reasons', len(reasons), 19)
     tools.want('man page', re.findall(r'^(\w+)\|', (TOP / 'man/nfs3canon.1').read_text(), re.M), reasons)
     tools.want('explain', re.findall(r"'([A-Z]\w+)': ", (TOP / 'tools/nfs3tools/captures/explained.py').read_text()), reasons)
