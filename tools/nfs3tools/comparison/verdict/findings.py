@@ -240,7 +240,7 @@ class Explaining:
                 yield from (((at, to), finding) for finding in found)
 
     def of_moved(self) -> Iterator[Finding]:
-        for pairs, remark in ((self.pairing.moved, 'the call has changed its turn'),
+        for pairs, remark in ((self.pairing.moved, 'the call is reordered'),
                               (self.pairing.elsewhere, 'the call is on another connection')):
             for at, to in pairs:
                 yield Finding('moved', self.here.exchanges[at].call, self.there.exchanges[to].call,
