@@ -182,8 +182,10 @@ def parser_of(text: str | None, name: str) -> argparse.ArgumentParser:
 
 
 def help_of(text: str, name: str) -> str:
-    """Returns what a tool does, how it is called, its status, and where the rest is: the manual
-    page has all that the text of its module has."""
+    """Returns what a tool does, how it is called, its status, and where the rest is: in its manual
+    page. Without one it is the whole text."""
+    if STATUS not in text:
+        return text
     what, lines, *_ = text.strip('\n').split('\n\n')
     status = STATUS + text.partition(STATUS)[2].partition('\n\n')[0]
     words = textwrap.fill(' '.join(status.split()), COLUMNS, break_on_hyphens=False)
