@@ -338,7 +338,7 @@ def replies_of_one_call(place: Comparisons) -> None:
 
 
 def files_by_their_paths(place: Comparisons) -> None:
-    """Of calls that are equal but for the file, those of one path belong together."""
+    """Of calls that are equal but for the file, those of one path are matched."""
     def asked(made: Made, *files: int) -> list[tuple[int, bytes, bytes]]:
         found = [(3, fh(made.handles[0]) + messages.opaque(FILES[file]), ok(fh(made.handles[file]), post_op_attr(), post_op_attr()))
                  for file in (1, 2)]

@@ -204,7 +204,7 @@ def one_part_that_differs(place: Comparisons) -> None:
 
 
 def a_part_more(place: Comparisons) -> None:
-    """A part of one run alone is told, and parts of one name belong together wherever they are."""
+    """A part of one run alone is printed, and parts of one name are compared wherever they are."""
     def run(seed: int, *names: str) -> Run:
         run = Run(seed)
         for name in names:

@@ -491,7 +491,7 @@ def seen_in_the_middle(place: Comparisons) -> None:
 
 
 def folders_that_others_change(place: Comparisons) -> None:
-    """GETATTR of a folder whose count of links grows meanwhile: those with the same count belong together, so nothing more is masked."""
+    """GETATTR of a folder whose count of links grows meanwhile: those with the same count are matched, so nothing more is masked."""
     def run(*links: int) -> Conversation:
         return ([call(xid, NFS, 3, GETATTR, fh(b'folder')) for xid, _ in enumerate(links)],
                 [success(xid, ok(fattr(2, 5, nlink=nlink))) for xid, nlink in enumerate(links)])
@@ -602,7 +602,7 @@ def orders_of_replies(place: Comparisons) -> None:
 
 
 def connections_by_what_they_ask(place: Comparisons) -> None:
-    """Connections belong together by their calls, whatever their turn; what differs in one is found in the right one."""
+    """Connections are matched by their calls, in any order; what differs in one is found in the right one."""
     def connection(name: bytes, mode: int) -> Conversation:
         return ([call(1, MOUNT, 3, 1, opaque(b'/')), call(2, NFS, 3, LOOKUP, dirop(b'top', name)), call(3, NFS, 3, GETATTR, fh(name))],
                 [success(1, ok(fh(b'top'), word(0))), success(2, ok(fh(name), post_op_attr(), post_op_attr())),
@@ -620,7 +620,7 @@ def connections_by_what_they_ask(place: Comparisons) -> None:
 
 
 def calls_between_neighbours(place: Comparisons) -> None:
-    """Calls of one procedure that stand between the same neighbours belong together, also if they ask for something else."""
+    """Calls of one procedure between the same neighbours are matched, also if they ask for something else."""
     def run(name: bytes) -> Conversation:
         asked = [(GETATTR, fh(b'a'), ok(fattr(1, 1))),
                  (CREATE, dirop(b'top', name) + word(0) + sattr(), ok(messages.made(None, None, wcc()))),

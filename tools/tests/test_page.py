@@ -586,7 +586,7 @@ def marked_bytes(place: Pages) -> None:
 
 
 def calls_of_one_run(place: Pages) -> None:
-    """A call that one run alone has shows its arguments, and stands where it was sent, also if calls before it have another turn."""
+    """A call that one run alone has shows its arguments, and is where it was sent, also if calls before it are reordered."""
     place.put('a', worked(SENTENCE))
     place.put('b', worked(SENTENCE, 30))
     page = place.page()
