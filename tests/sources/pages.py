@@ -14,8 +14,6 @@ MOST_WORDS_OF_A_PAGE = {'README.md': 1200, 'docs/ARCHITECTURE.md': 3000}
 # Words for which the field has others: a function returns, a value is, a text has.
 AVOIDED = re.compile(r'\b(?:tells|told|so is|does so|besides|in another turn|belong together|one more|stands (?:for|in|at|there))\b', re.I)
 # Pages that still have such words, and how many. A number may fall and not rise.
-STILL_AVOIDED = {'crates/masking3/README.md': 5, 'crates/packing3/README.md': 1, 'crates/patches/README.md': 1, 'tools/CHANGELOG.md': 3,
-                 'tools/DESIGN.md': 10}
 MADE_OR_NOTES = ('docs/API.md', 'dev/measure/NOTES.md')
 # A condition is `if`; `where` is for places.
 MOST_WHERES = 8
@@ -142,11 +140,7 @@ def long_ones() -> list[str]:
 
 
 def words_to_avoid() -> list[str]:
-    """The words to avoid on all pages but those that a script makes, and notes; of a page that still has some, those it has too many."""
-    wrong: list[str] = []
-    for path in all_pages():
-        page = str(path.relative_to(TOP))
-        found = [] if page in MADE_OR_NOTES else avoided(path.read_text())
-        if len(found) > STILL_AVOIDED.get(page, 0):
-            wrong.append('%s: %s' % (page, ', '.join(found)))
-    return wrong
+    """The words to avoid on all pages but those that a script makes, and notes."""
+    names = {str(path.relative_to(TOP)): path for path in all_pages()}
+    found = {page: avoided(path.read_text()) for page, path in names.items() if page not in MADE_OR_NOTES}
+    return ['%s: %s' % (page, ', '.join(words)) for page, words in found.items() if words]
