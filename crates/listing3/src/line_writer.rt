@@ -22,7 +22,7 @@ use crate::filling::write_filled;
 use crate::gathering::Gathering;
 use crate::items_text::{ItemsText, encoded_size};
 use crate::line_text::LineText;
-use canon3::{CountingWriter, EntryWriter, HandleTable, Sink, write_both};
+use canon3::{EntryWriter, Sink, write_both};
 use capture3::{Error, Kind, LentEntry, MessageVisit, Progress};
 use procs3::proc_name;
 use rpc_head::{ProcId, Start};
@@ -289,6 +289,10 @@ impl<H: Gathering + Drop> EntryWriter for LineWriter<H> {
     ghost use Rattle.listing3.specs.machinery.LineWriter.{always, items_before};
     ghost use Rattle.listing3.specs.Listing.{shown};
 
+    type Counts = H::Counts;
+
+    ghost are_counts = { H.are_counts };
+
     ghost form = { shown };
 
     ghost before = { items_before };
@@ -305,10 +309,8 @@ impl<H: Gathering + Drop> EntryWriter for LineWriter<H> {
         self.end_message();
         written
     }
-}
 
-impl<S: BuildHasher + Drop> CountingWriter for LineWriter<HandleTable<S>> {
-    fn handles(&self) -> u32 {
-        self.handles.len()
+    fn counts(&self, progress: Progress) -> H::Counts {
+        self.handles.counts(progress)
     }
 }

@@ -10,7 +10,7 @@ ghost use Rattle.canon3.specs.SinkWrites.{IsFlushed};
 ghost use Rattle.listing3.specs.Listing.{shown};
 
 use crate::line_writer::LineWriter;
-use canon3::{HandleTable, MessageCounts, Sink, Summary, write_entries, write_form};
+use canon3::{HandleTable, MessageCounts, Sink, Summary, write_entries};
 use capture3::{Error, Hashers, Silent, Source};
 use std::alloc::Global;
 use std::hash::BuildHasher;
@@ -71,5 +71,5 @@ pub fn list<R: Source, W: Sink, S: BuildHasher + Drop>(
     ensures write { CountsWriting (W.failures sink.old) (W.failures sink.new) result }
 {
     let mut lines = LineWriter::new(alloc, Silent);
-    write_form(alloc, hasher, source, sink, &mut lines)
+    write_entries(alloc, hasher, source, sink, &mut lines)
 }

@@ -11,7 +11,7 @@ ghost use Rattle.masking3.specs.Masked.{masked_bytes};
 use crate::hashers::MaskHashers;
 use crate::masking_writer::{MaskingWriter, Plan};
 use crate::ways::Ways;
-use canon3::{CountingWriter, EntryWriter, Sink, Summary, write_entries, write_magic};
+use canon3::{EntryWriter, Sink, Summary, write_entries, write_magic};
 use capture3::{Error, LentEntry, Progress, Source};
 use std::alloc::Global;
 use std::hash::BuildHasher;
@@ -78,8 +78,13 @@ fn mask_by_plan<P: Plan, R: Source, W: Sink, S: BuildHasher + Drop>(
 }
 
 impl<P: Plan, S: BuildHasher + Drop> EntryWriter for MaskingWriter<P, S> {
+    ghost use Rattle.canon3.specs.Summary.{IsSummary};
     ghost use Rattle.masking3.specs.Masked.{masked_bytes};
     ghost use Rattle.masking3.specs.machinery.MaskingWriter.{HasMemory, visited_before};
+
+    type Counts = Summary;
+
+    ghost are_counts = { IsSummary };
 
     ghost form = { masked_bytes P.ways };
 
@@ -101,10 +106,8 @@ impl<P: Plan, S: BuildHasher + Drop> EntryWriter for MaskingWriter<P, S> {
         self.end_message();
         Ok(())
     }
-}
 
-impl<P: Plan, S: BuildHasher + Drop> CountingWriter for MaskingWriter<P, S> {
-    fn handles(&self) -> u32 {
-        self.handles.len()
+    fn counts(&self, progress: Progress) -> Summary {
+        Summary::of(progress, self.handles.len())
     }
 }

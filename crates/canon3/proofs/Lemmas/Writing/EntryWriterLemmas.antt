@@ -162,7 +162,7 @@ module _ {R S H T : Type 0} {builds : BuildHasher.Ghosts S H} {hashes : Hasher.G
       → IsOfWriting error
       → WritesOne form before rests stands going heard heard progress lent between new
       {X = Unit {0}} (Err error)
-      → HasStopped form before rests going first old (observed (source_of later)) new error
+      → HasStopped form first old (observed (source_of later)) new error
   stops_at {new = new} prefixes error of wrote = record {
     given = u.given ++ a.more;
     consumed = gave_on first u.consumed a;
