@@ -309,9 +309,17 @@ impl<'r, R: Source, S: BuildHasher + Drop> Entries<'r, R, S> {
                 Ok(false) => return self.finish(),
                 Err(Noted) => return Err(Noted),
             }
-            match self.judge(visitor) {
-                Ok(()) => {}
-                Err(Noted) => return Err(Noted),
+            let piece = &self.block[self.start..self.end];
+            match self.pairing.next(piece, visitor) {
+                Ok(count) => {
+                    self.start += count;
+                    self.judged += count as u64;
+                }
+                Err(Noted) => {
+                    self.pairing.last = None;
+                    self.stage = Stage::Failed(self.pairing.error);
+                    return Err(Noted);
+                }
             }
             if self.pairing.last.is_some() {
                 return Ok(());
@@ -370,39 +378,6 @@ impl<'r, R: Source, S: BuildHasher + Drop> Entries<'r, R, S> {
             Err(_) => {
                 self.pairing.last = None;
                 self.stage = Stage::Failed(Error::Read);
-                Err(Noted)
-            }
-        }
-    }
-
-    /// Checks what is left up to the next entry: kept streams, or the rest of the block.
-    fn judge<V: MessageVisit>(&mut self, visitor: &mut V) -> Result<(), Noted>
-        requires reading { self.old.stage ≡ Stage.Reading }
-        requires bounded { self.old.judged ≤ most_bytes Two + 1 }
-        requires some { self.old.pairing.container.cursor ≡ None → self.old.start < self.old.end }
-
-        // Which entry is lent.
-        ensures goes_on { (given : List ℕ) (handed : List spec.Entry)
-            → StandsFor R.observed self.old given handed
-            → HandsOutOrGoesOn R.observed V.rests V.stands self.new visitor.old visitor.new given handed
-            (last_of self.new) }
-        ensures not_end { last_of self.new ≢ Some Kind.End }
-        ensures on { OnOk result (JudgesOn self.old self.new visitor.old visitor.new) }
-        ensures lends { LendsOrFails self.old self.new result }
-
-        // The device is not read.
-        ensures device { ReadsNothing self.old self.new result }
-    {
-        let piece = &self.block[self.start..self.end];
-        match self.pairing.next(piece, visitor) {
-            Ok(count) => {
-                self.start += count;
-                self.judged += count as u64;
-                Ok(())
-            }
-            Err(Noted) => {
-                self.pairing.last = None;
-                self.stage = Stage::Failed(self.pairing.error);
                 Err(Noted)
             }
         }

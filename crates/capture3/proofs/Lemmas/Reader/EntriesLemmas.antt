@@ -37,7 +37,7 @@ use Rattle.capture3.proofs.Lemmas.Reached.ReachedLemmas.{stands_whole}
 use Rattle.capture3.proofs.Lemmas.Container.KeptStreamsLemmas.{first_of, recalled_first}
 use Rattle.capture3.proofs.Lemmas.Reached.ReachedBeforeFaults.{first_reached_at}
 use Rattle.capture3.proofs.Lemmas.Container.Sizes.{clean_most, most_of_one}
-use Rattle.capture3.proofs.Lemmas.Files.Verdicts.{clean_from_runs, observed, verdict_from_fault, verdict_from_typed}
+use Rattle.capture3.proofs.Lemmas.Files.Verdicts.{clean_from_runs, run_shows, verdict_from_fault, verdict_from_typed}
 
 -- ---- what is kept truncated
 
@@ -118,7 +118,7 @@ module _ (bytes : List ℕ) (p : Position) (t : Taking) (streams : Streams)
   pub whole_here : AreWhole bytes model
   whole_here =
       subst (λ (entries : List Entry). AreWhole bytes entries) model_is
-      (stands_whole bytes state (observed bytes (Runs state) are runs_is))
+      (stands_whole bytes state (run_shows bytes (Runs state) are runs_is))
 
   pub clean_here : IsClean bytes
   clean_here = clean_from_runs bytes state runs_is
@@ -533,6 +533,44 @@ module _ {R S H : Type 0} {builds : BuildHasher.Ghosts S H} {hashes : Hasher.Gho
       stands_failed old new error given handed fails none block s
       (fails_by old error given handed (observed new.source.now) s.bytes r
       (subst (λ (b : List ℕ). FailsAt b handed error) (sym r.split) (shows r.judged r.machine)))
+
+  -- the same of a piece of the block
+  pub judged_piece : {V : Type 0} (rests stands : V → List Item → Type 0) (was now : V)
+      (old new : Entries R S H builds hashes) (count : ℕ) (items given : List ℕ)
+      (handed : List Entry) (came : Option Kind) → items ≡ old.block.items
+      → length items ≡ vec_len old.block → old.stage ≡ Reading → new.stage ≡ Reading
+      → last_of new ≡ came → vec_len new.block ≡ vec_len old.block
+      → new.judged ≡ old.judged + count
+      → unjudged new ≡ slice_range old.block.items (old.start + count) old.end
+      → count ≤ length (slice_range items old.start old.end)
+      → room_in new.pairing.container + entry_cost came ≤ room_in old.pairing.container
+      → StandsFor observed old given handed
+      → ((judged : List ℕ)
+      → HasCome old.pairing.container (known_of old.pairing.calls) judged handed
+      → GoesTo rests stands was now came new.pairing.number new.pairing.container
+      (known_of new.pairing.calls)
+      (judged ++ take count (slice_range items old.start old.end)) handed)
+      → CountsMessages came old.pairing.calls_taken old.pairing.replies_taken
+      new.pairing.calls_taken new.pairing.replies_taken
+      → HandsOutOrGoesOn observed rests stands new was now given handed came
+  judged_piece rests stands was now old new count items given handed came same all is goes last
+      size judged block fits room s leads counts =
+      let within : old.end ≤ length old.block.items =
+      omega (arith, old.within, all, ap length same) in
+      judged_on rests stands was now old new count given handed came is goes last size judged block
+      (omega (arith, rw same at fits, length-take {A = ℕ}, length-drop {A = ℕ}, old.ordered)) within
+      room s (rw same at leads) counts
+
+  pub piece_failed : (old new : Entries R S H builds hashes) (error : Error)
+      (items given : List ℕ) (handed : List Entry) → items ≡ old.block.items
+      → old.stage ≡ Reading → new.stage ≡ Failed error → last_of new ≡ None
+      → vec_len new.block ≡ vec_len old.block → StandsFor observed old given handed
+      → ((judged : List ℕ)
+      → HasCome old.pairing.container (known_of old.pairing.calls) judged handed
+      → FailsAt (judged ++ slice_range items old.start old.end) handed error)
+      → StandsFor observed new given handed
+  piece_failed old new error items given handed same is fails none block s shows =
+      judged_failed old new error given handed is fails none block s (rw same at shows)
 
   -- ---- the end
 

@@ -1,6 +1,7 @@
-use Rattle.capture3.proofs.Common.{ap, ap₂, arith, entries_left, refl, sym, ◌≡◌, ◌∙◌}
-use Rattle.capture3.proofs.Lemmas.Reader.EntriesLemmas.{ended_on, none_on, read_on, too_long, turned}
+use Rattle.capture3.proofs.Common.{ap, ap₂, arith, entries_left, refl, sym, ◌≡◌, ◌∙◌, ◌+◌}
+use Rattle.capture3.proofs.Lemmas.Reader.EntriesLemmas.{can_go_on, ended_on, judged_piece, none_on, piece_failed, read_on, too_long, turned}
 use Rattle.capture3.proofs.Lemmas.Reader.WholeFiles.{not_some}
+use Rattle.capture3.specs.machinery.Container.{room_in}
 use Rattle.capture3.specs.machinery.EntriesHistory.{entries_left_in}
 use Rattle.capture3.proofs.reader.entries.Entries.next_entry.Goals as goal
 
@@ -26,17 +27,41 @@ returns-in-Err-clause-turns g c given handed s =
     c.loop-self.visitor
     c.refill.new.self so_far out c.in-Err.ensures.failure.unlent at) refl
 
-pub returns-in-Err-judge-clause-turns : goal.returns-in-Err-judge-clause-turns
-returns-in-Err-judge-clause-turns g c given handed s =
+pub next-requires : goal.next-requires
+next-requires g c =
+    let self = c.refill.new.self in
+    record {
+      ready =
+          can_go_on self.pairing.container.cursor _ self.pairing.container
+          (self.ready c.in-Ok-true.ensures.stays.2);
+    }
+
+pub returns-in-Err-next-clause-turns : goal.returns-in-Err-next-clause-turns
+returns-in-Err-next-clause-turns g c given handed s =
+    let self = c.refill.new.self in
     turned g.R.Source.observed g.V.MessageVisit.rests g.V.Visit.stands _ _ _ _ _ _ _ given handed
     (c.loop-self.invariant.has_read given handed s) c.loop-self.invariant.unmoved
-    c.refill.ensures.has_read c.judge.ensures.goes_on c.judge.ensures.device.unread
+    c.refill.ensures.has_read
+    (λ so_far out at.
+    none_on g.R.Source.observed g.V.MessageVisit.rests g.V.Visit.stands c.loop-self.visitor
+    c.next.new.visitor _ so_far out refl
+    (piece_failed g.R.Source.observed self _ c.next.new.self.error c.deref.result.now so_far out
+    c.deref.ensures.value c.in-Ok-true.ensures.stays.2 refl refl refl at
+    (λ judged h. c.in-Err-next.ensures.fault.fault judged out h))) refl
 
 pub returns-then-is_some-clause-turns : goal.returns-then-is_some-clause-turns
 returns-then-is_some-clause-turns g c given handed s =
+    let self = c.refill.new.self in
     turned g.R.Source.observed g.V.MessageVisit.rests g.V.Visit.stands _ _ _ _ _ _ _ given handed
     (c.loop-self.invariant.has_read given handed s) c.loop-self.invariant.unmoved
-    c.refill.ensures.has_read c.judge.ensures.goes_on c.judge.ensures.device.unread
+    c.refill.ensures.has_read
+    (λ so_far out at.
+    judged_piece g.R.Source.observed g.V.MessageVisit.rests g.V.Visit.stands c.loop-self.visitor
+    c.next.new.visitor self _ c.in-Ok.count c.deref.result.now so_far out c.next.new.self.last
+    c.deref.ensures.value c.deref.ensures.len c.in-Ok-true.ensures.stays.2
+    c.in-Ok-true.ensures.stays.2 refl refl refl
+    refl c.in-Ok.ensures.taken.within c.in-Ok.ensures.room at
+    (λ judged h. c.in-Ok.ensures.machine judged out h) c.in-Ok.ensures.counted) refl
 
 pub returns-clause-turns : goal.returns-clause-turns
 returns-clause-turns g c given handed s =
@@ -48,27 +73,35 @@ returns-clause-turns g c given handed s =
 pub loop-self-preserved : goal.loop-self-preserved
 loop-self-preserved g c =
     let invariant = c.loop-self.invariant in
+    let self = c.refill.new.self in
     let filled = c.in-Ok-true.ensures in
-    let judged = c.in-Ok.ensures in
+    let next = c.in-Ok.ensures in
     let none = not_some _ _ c.is_some.ensures c.if-is_some.false in
-    let same : entries_left c.refill.new.self ≡ entries_left c.loop-self.self =
+    let same : entries_left self ≡ entries_left c.loop-self.self =
     ap₂ entries_left_in (filled.stays.2 ∙ sym invariant.reading)
     (ap (λ p. p.container) filled.stays.0) in
+    let here : entries_left self ≡ room_in self.pairing.container + 1 =
+    ap (λ stage. entries_left_in stage self.pairing.container) filled.stays.2 in
+    let left : entries_left_in self.stage c.next.new.self.container
+    ≡ room_in c.next.new.self.container + 1 =
+    ap (λ stage. entries_left_in stage c.next.new.self.container) filled.stays.2 in
     record {
-      reading = judged.on.reading none;
+      reading = filled.stays.2;
       has_read =
           λ given handed s.
-          read_on g.R.Source.observed g.V.MessageVisit.rests g.V.Visit.stands _ c.judge.new.visitor
-          c.args.self.now
-          c.judge.new.self given handed none
-          (turned g.R.Source.observed g.V.MessageVisit.rests g.V.Visit.stands _ _ _ _ _ _ _ given handed
-          (invariant.has_read given handed s) invariant.unmoved filled.has_read judged.goes_on
-          judged.device.unread);
-      unmoved = judged.on.unmoved none ∙ invariant.unmoved;
-      fewer = omega (arith, judged.on.no_more none, same, invariant.fewer);
-      read =
-          ap g.R.Source.failures judged.device.unread ∙ filled.device.read ∙ invariant.read;
-      same_block = judged.device.same_block ∙ filled.device.same_block ∙ invariant.same_block;
-      same_reference =
-          judged.device.same_reference ∙ filled.device.same_reference ∙ invariant.same_reference;
+          read_on g.R.Source.observed g.V.MessageVisit.rests g.V.Visit.stands _ c.next.new.visitor
+          c.args.self.now _ given handed none
+          (turned g.R.Source.observed g.V.MessageVisit.rests g.V.Visit.stands _ _ _ _ _ _ _ given
+          handed (invariant.has_read given handed s) invariant.unmoved filled.has_read
+          (λ so_far out at.
+          judged_piece g.R.Source.observed g.V.MessageVisit.rests g.V.Visit.stands
+          c.loop-self.visitor c.next.new.visitor self _ c.in-Ok.count c.deref.result.now so_far out
+          c.next.new.self.last c.deref.ensures.value c.deref.ensures.len filled.stays.2 filled.stays.2 refl refl refl
+          refl next.taken.within next.room at (λ judged h. next.machine judged out h) next.counted)
+          refl);
+      unmoved = next.unmoved none ∙ invariant.unmoved;
+      fewer = omega (arith, next.room, here, left, same, invariant.fewer);
+      read = filled.device.read ∙ invariant.read;
+      same_block = filled.device.same_block ∙ invariant.same_block;
+      same_reference = filled.device.same_reference ∙ invariant.same_reference;
     }
