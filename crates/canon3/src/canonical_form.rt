@@ -49,9 +49,10 @@ pub fn canon<R: Source, W: Sink, S: BuildHasher + Drop>(
     sink: &mut W,
 ) -> Result<Summary, Error>
     // What is written.
-    ensures rewrites { RewritesGiven (R.observed source.old) (R.observed source.new) (W.written sink.old)
-        (W.written sink.new) result }
-    ensures whole { (bytes : List ℕ) → GavePrefix (R.observed source.old) (R.observed source.new) bytes
+    ensures rewrites { RewritesGiven (R.observed source.old) (R.observed source.new)
+        (W.written sink.old) (W.written sink.new) result }
+    ensures whole { (bytes : List ℕ)
+        → GavePrefix (R.observed source.old) (R.observed source.new) bytes
         → WritesAll canonical_bytes bytes (W.written sink.old) (W.written sink.new) result }
     ensures no_longer { (bytes : List ℕ)
         → GavePrefix (R.observed source.old) (R.observed source.new) bytes

@@ -85,7 +85,8 @@ pub fn check<R: Source, S: BuildHasher + Drop>(
     ensures refused { (bytes : List ℕ) → (R.observed source.old).left ≡ Some bytes
         → OnRefused result (FirstFault bytes) }
     ensures concludes { ConcludesGiven (R.observed source.old) (R.observed source.new) result }
-    ensures whole { (bytes : List ℕ) → GavePrefix (R.observed source.old) (R.observed source.new) bytes
+    ensures whole { (bytes : List ℕ)
+        → GavePrefix (R.observed source.old) (R.observed source.new) bytes
         → ConcludesAll bytes result }
 
     // The device.

@@ -47,7 +47,8 @@ pub fn mask<R: Source, W: Sink, S: BuildHasher + Drop>(
 ) -> Result<Summary, Error>
     ensures masks { WritesGiven (masked_bytes ways) (R.observed source.old) (R.observed source.new)
         (W.written sink.old) (W.written sink.new) result }
-    ensures whole { (bytes : List ℕ) → GavePrefix (R.observed source.old) (R.observed source.new) bytes
+    ensures whole { (bytes : List ℕ)
+        → GavePrefix (R.observed source.old) (R.observed source.new) bytes
         → WritesAll (masked_bytes ways) bytes (W.written sink.old) (W.written sink.new) result }
     ensures flushes { OnOk result (IsFlushed (W.written sink.new) (W.flushed sink.new)) }
     ensures read { CountsReading (R.failures source.old) (R.failures source.new) result }
@@ -67,7 +68,8 @@ fn mask_by_plan<P: Plan, R: Source, W: Sink, S: BuildHasher + Drop>(
     requires { ways ≡ P.ways }
     ensures masks { WritesGiven (masked_bytes P.ways) (R.observed source.old) (R.observed source.new)
         (W.written sink.old) (W.written sink.new) result }
-    ensures whole { (bytes : List ℕ) → GavePrefix (R.observed source.old) (R.observed source.new) bytes
+    ensures whole { (bytes : List ℕ)
+        → GavePrefix (R.observed source.old) (R.observed source.new) bytes
         → WritesAll (masked_bytes P.ways) bytes (W.written sink.old) (W.written sink.new) result }
     ensures flushes { OnOk result (IsFlushed (W.written sink.new) (W.flushed sink.new)) }
     ensures read { CountsReading (R.failures source.old) (R.failures source.new) result }

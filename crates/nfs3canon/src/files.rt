@@ -7,7 +7,6 @@ ghost use Rattle.program3.specs.Readings.{readings_in};
 ghost use Rattle.program3.specs.declared.outcome.Outcome.TheVariants.{Compared};
 ghost use Rattle.nfs3canon.specs.Files.{ComparesFiles, CountsFile};
 
-use crate::jobs::JobHashers;
 use canon3::{SameError, Which, check, same};
 use capture3::{Error, Hashers};
 use program3::{Files, OpenError, Outcome, Readings, uncounted, unopened};
@@ -38,7 +37,8 @@ pub fn run_check<F: Files, S: BuildHasher + Drop>(
 /// Compares the files of these names in the same way. Both are open before either is read.
 pub fn run_same<F: Files, S: BuildHasher + Drop>(
     alloc: Global,
-    hashers: JobHashers<S>,
+    hashers: Hashers<S>,
+    other_hashers: Hashers<S>,
     files: &F,
     first: &str,
     second: &str,
@@ -62,8 +62,8 @@ pub fn run_same<F: Files, S: BuildHasher + Drop>(
     };
     let came = same(
         alloc,
-        hashers.first,
-        hashers.second,
+        hashers,
+        other_hashers,
         &mut opened.source,
         &mut other.source,
     );

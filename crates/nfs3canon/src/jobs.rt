@@ -59,34 +59,9 @@ pub fn answered<F: Files, S: BuildHasher + Drop, W: Write + Drop>(
         Ok(said) => said,
         Err(fault) => return refused(stdout, fault),
     };
-    let job = match job(alloc, said.as_slice()) {
-        Ok(job) => job,
-        Err(fault) => return refused(stdout, fault),
-    };
-    let Some(hashers) = hashers else {
-        return done_without(alloc, files, stdout, job);
-    };
-    match job {
-        Job::Check(name) => {
-            let (outcome, readings) = run_check(alloc, hashers.first, files, name);
-            quiet(Ended::printing(outcome), stdout, readings)
-        }
-        Job::Show(name) => shown(alloc, hashers.first, files, stdout, name),
-        Job::Canon(input, output) => {
-            let form = Canonical {
-                hashers: hashers.first,
-            };
-            let (ended, readings) = run_rewriting(alloc, form, files, input, output);
-            quiet(ended, stdout, readings)
-        }
-        Job::Same(first, second) => {
-            let (outcome, readings) = run_same(alloc, hashers, files, first, second);
-            quiet(Ended::printing(outcome), stdout, readings)
-        }
-        Job::Pack(output, streams) => {
-            let (ended, readings) = run_pack(alloc, files, output, streams);
-            quiet(ended, stdout, readings)
-        }
+    match job(alloc, said.as_slice()) {
+        Ok(job) => done(alloc, hashers, files, stdout, job),
+        Err(fault) => refused(stdout, fault),
     }
 }
 
@@ -103,6 +78,61 @@ fn refused<W: Drop>(stdout: W, fault: LineFault) -> Answer<W>
         stdout,
         Readings::Nothing,
     )
+}
+
+/// Does a job, with hashers if the system gave random bytes.
+fn done<F: Files, S: BuildHasher + Drop, W: Write + Drop>(
+    alloc: Global,
+    hashers: Option<JobHashers<S>>,
+    files: &mut F,
+    stdout: W,
+    job: Job<'_>,
+) -> Answer<W>
+    ensures { (words : List (List ℕ)) → Asks words job.entry
+        → AnswersJob (record {
+          has_keys = is_some hashers;
+          holds = F.holds files.old;
+          readings = readings_in result.readings;
+          finished_before = F.finished files.old;
+          finished_after = F.finished files.new;
+          contents = W.contents;
+          stdout_before = stdout;
+          stdout_after = result.stdout;
+        }) job.entry result.ended.outcome }
+{
+    let hashers = match hashers {
+        Some(hashers) => hashers,
+        None => return done_without(alloc, files, stdout, job),
+    };
+    match job {
+        Job::Check(name) => {
+            let (outcome, readings) = run_check(alloc, hashers.first, files, name);
+            quiet(Ended::printing(outcome), stdout, readings)
+        }
+        Job::Show(name) => shown(alloc, hashers.first, files, stdout, name),
+        Job::Canon(input, output) => {
+            let form = Canonical {
+                hashers: hashers.first,
+            };
+            let (ended, readings) = run_rewriting(alloc, form, files, input, output);
+            quiet(ended, stdout, readings)
+        }
+        Job::Same(first, second) => {
+            let (outcome, readings) = run_same(
+                alloc,
+                hashers.first,
+                hashers.second,
+                files,
+                first,
+                second,
+            );
+            quiet(Ended::printing(outcome), stdout, readings)
+        }
+        Job::Pack(output, streams) => {
+            let (ended, readings) = run_pack(alloc, files, output, streams);
+            quiet(ended, stdout, readings)
+        }
+    }
 }
 
 /// Does a job without hashers. A command that hashes reads nothing then.

@@ -265,11 +265,8 @@ fn a_line_is_answered(rt: HostRuntime) -> Result<(), Fail> {
 #[test]
 fn a_file_is_the_same_as_itself(rt: HostRuntime) -> Result<(), Fail> {
     let files = MemFiles::new(rt.alloc(), &NULL, None);
-    let hashers = JobHashers {
-        first: hashers(&rt)?,
-        second: hashers(&rt)?,
-    };
-    let (outcome, _readings) = files::run_same(rt.alloc(), hashers, &files, "in", "other");
+    let (first, second) = (hashers(&rt)?, hashers(&rt)?);
+    let (outcome, _readings) = files::run_same(rt.alloc(), first, second, &files, "in", "other");
     assert!(rt; matches!(&outcome, Outcome::Compared(Ok(Verdict::Same))));
     Ok(())
 }

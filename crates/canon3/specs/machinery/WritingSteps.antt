@@ -24,7 +24,8 @@ module _ {T : Type 0} (form : List Entry → List ℕ) (before : List Entry → 
     pub written : Appends old new (form entries)
 
 -- all bytes were read, and is a capture with these entries
-pub record IsEnded (first observed : Observed) (given : List ℕ) (entries : List Entry) : Type 0 where
+pub record IsEnded (first observed : Observed) (given : List ℕ) (entries : List Entry) : Type
+    0 where
   pub consumed : Gave first observed given
   pub ended : IsSpent observed
   pub typed : Typed given entries

@@ -91,7 +91,8 @@ pub fn write_entries<R: Source, W: Sink, E: EntryWriter, S: BuildHasher + Drop>(
     // What is written.
     ensures writes { WritesGivenCounted E.are_counts E.form (R.observed source.old)
         (R.observed source.new) (W.written sink.old) (W.written sink.new) result }
-    ensures whole { (bytes : List ℕ) → GavePrefix (R.observed source.old) (R.observed source.new) bytes
+    ensures whole { (bytes : List ℕ)
+        → GavePrefix (R.observed source.old) (R.observed source.new) bytes
         → WritesAllCounted E.are_counts E.form bytes (W.written sink.old) (W.written sink.new)
         result }
     ensures flushes { OnOk result (IsFlushed (W.written sink.new) (W.flushed sink.new)) }
@@ -124,7 +125,8 @@ pub(crate) fn write_rest<R: Source, W: Sink, E: EntryWriter, S: BuildHasher + Dr
     requires going { failure_of entries.old ≡ None }
     requires prefixes { KeepsPrefixes E.form }
     ensures over { (first : Observed) (front : List spec.Entry) (old : Option (List ℕ))
-        → IsWriting E.form E.before E.rests E.going R.observed first front old entries.old writer.old
+        → IsWriting E.form E.before E.rests E.going R.observed first front old entries.old
+        writer.old
         (W.written sink.old)
         → WritesToTheEnd E.form E.before E.rests E.going R.observed first front old entries.new
         writer.new (W.written sink.new) result }

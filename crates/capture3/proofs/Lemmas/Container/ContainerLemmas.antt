@@ -310,7 +310,9 @@ fails_more from bytes n p t before error within first shown = shown
 
 -- where a connection word is open, before its first byte
 pub mark_is : (version : Version) (spot : Spot) → IsBeforeMark version spot
-    → (observed : declared.Version) × (part : WordPart) × (spot ≡ spots.Word (words.Mark observed) part)
+    → (observed : declared.Version) × (part : WordPart)
+    × (spot ≡ spots.Word (words.Mark observed) part)
     × (version_of observed ≡ version) × (bytes_so_far part ≡ [])
-mark_is version (spots.Word (words.Mark observed) part) before = (observed, part, refl, before.0, before.1)
+mark_is version (spots.Word (words.Mark observed) part) before =
+    (observed, part, refl, before.0, before.1)
 mark_is version spot before = absurd before

@@ -1,4 +1,4 @@
-use Rattle.capture3.proofs.Common.{FirstKept, InFirstKept, InNextKept, NextKept, arith, refl, ◌∙◌}
+use Rattle.capture3.proofs.Common.{FirstKept, InFirstKept, InNextKept, NextKept, arith, refl}
 use Rattle.capture3.proofs.Lemmas.Container.ContainerLemmas.{recalled_next}
 use Rattle.capture3.proofs.container.Container.next_aside.Goals as goal
 

@@ -19,7 +19,8 @@ returns-in-Some-Begin-clause-machine g c bytes all s =
     let came = c.in-Some-Begin in
     let is = came.is ∙ ap Some (rw came.is at came.field-0-is) in
     begin_goes g.V.MessageVisit.rests g.V.Visit.stands c.args.visitor.now c.args.self.now.number
-    c.next.new.self (g.C.KnownCalls.known c.args.self.now.calls) _ _ all c.clear.ensures (rw is at next.joiner)
+    c.next.new.self (g.C.KnownCalls.known c.args.self.now.calls) _ _ all c.clear.ensures
+    (rw is at next.joiner)
     (next_meets c.release.new.self c.next.new.self _ bytes all c.args.piece.now c.in-Ok.next
     (rw (r.position, r.joiner, r.streams, r.cursor) s)
     (rw (r.position, r.streams, r.cursor) c.requires.ready.stored) next Begin is)
