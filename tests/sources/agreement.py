@@ -20,15 +20,14 @@ from examples import messages
 from examples.messages import NFS, call, success
 from tests.shared.rows import rows_of
 from tests.shared.running import Answer, ended, program_named, tried, try_all, words_of
-from tests.sources import call_trees, crate_pages, pages, tool_rooms
+from tests.sources import call_trees, command_lines, crate_pages, pages, tool_rooms
 from tests.sources.rooms import (
     crowded_folders, in_the_wrong_room, long_lines, of_private_fields, of_several_meanings,
     of_two_files, scans_without_values)
 from tools.tests.scripts import TOP, Tools, sums
 
-README = (TOP / 'README.md').read_text()
-EXAMPLES = (TOP / 'examples/README.md').read_text()
-OF_THE_TOOLS = (TOP / 'tools/README.md').read_text()
+TEXTS = {str(path.relative_to(TOP)): path.read_text() for path in pages.all_pages()}
+README, EXAMPLES = TEXTS['README.md'], TEXTS['examples/README.md']
 
 
 class Command(NamedTuple):
@@ -61,46 +60,67 @@ def is_printed(wanted: list[str], printed: list[str]) -> bool:
     return is_line and is_printed(wanted[1:], printed[1:])
 
 
+def here(line: str, tools: Tools) -> str:
+    """A command line of a page with the programs and the folder of this test."""
+    for word, local in {'/tmp/': tools.folder + '/', 'crates/nfs3canon/out/nfs3canon': tools.program, './nfs3canon': tools.program,
+                        './nfs3mask': program_named('nfs3mask', tools.program)}.items():
+        line = line.replace(word, local)
+    return re.sub(r'^tools/(verdicts|compare|calls|procedures) ', r'tools/\1 --program %s ' % tools.program, line)
+
+
 def commands_of_the_pages(tools: Tools) -> None:
-    """Each command of the top README, of that of the examples and of that of the tools is run, in order, and prints the lines below it. The
-    status is told by what is printed."""
-    commands = console_of(README) + console_of(EXAMPLES) + console_of(OF_THE_TOOLS)
-    tools.want('commands', (len(console_of(README)), len(commands)), (4, 16))
-    for command, wanted in commands:
-        here = {'/tmp/': tools.folder + '/', './nfs3canon': tools.program, './nfs3mask': program_named('nfs3mask', tools.program)}
-        words = command
-        for word, local in here.items():
-            words = words.replace(word, local)
-        words = re.sub(r'^tools/(verdicts|compare|calls|procedures) ', r'tools/\1 --program %s ' % tools.program, words)
-        _, out, _ = ended(['sh', '-c', words], TOP, stderr=subprocess.STDOUT, limit=None).text()
+    """Each command of a console block is run, in order, and prints the lines below it. The status is told by what is printed."""
+    commands = {page: console_of(text) for page, text in TEXTS.items() if '```console' in text}
+    tools.want('pages', sorted(commands), ['README.md', 'examples/README.md', 'tools/README.md'])
+    for command, wanted in [command for found in commands.values() for command in found]:
+        _, out, _ = ended(['sh', '-c', here(command, tools)], TOP, stderr=subprocess.STDOUT, limit=None).text()
         printed = out.splitlines()
         tools.want(command, 'as written' if is_printed(wanted, printed) else printed, 'as written')
 
 
-def contract_of_the_readme(tools: Tools) -> None:
-    """The clause and the definition that the README quotes are in the files that it names."""
-    quoted = re.search(r'^```text\n( *ensures .*?)\n\n(.*?)^```$', README, re.M | re.S)
-    files = re.findall(r'\(`(crates/[^`]*\.(?:rt|antt))`\)', README)
+def command_lines_of_the_pages(tools: Tools) -> None:
+    """Each other command line of a page is run and succeeds, or has a reason in command_lines.py why it is not run."""
+    page = '```sh\n./a b\n\ntcpdump -i any\n```\n\n    dev/x   in words\n    no command\n\n```console\n    ./c\n```\n'
+    tools.want('lines', command_lines.lines_of(page), ['./a b', 'tcpdump -i any', 'dev/x'])
+    lines = [(page, line) for page, text in TEXTS.items() for line in command_lines.lines_of(text)]
+    tools.want('reasons that nothing needs', command_lines.useless(lines), [])
+    to_run = [(page, line) for page, line in lines if not command_lines.reason(page, line)]
+    tools.want('lines that are run', len(to_run) > 5, True)
+    for page, line in to_run:
+        if 'recordings.py' in line and not shutil.which('tshark'):
+            continue
+        status, out, error = ended(['bash', '-c', here(command_lines.smaller(line), tools)], TOP, limit=None).text()
+        tools.want('%s: %s' % (page, line), (status, error, bool(out) or 'make.py' in line), (0, '', True))
+
+
+def clause_on_the_page(tools: Tools) -> None:
+    """The clause and the definition that docs/PROOFS.md quotes are in the files that it names, and the table below has their words."""
+    page = TEXTS['docs/PROOFS.md']
+    quoted = re.search(r'^```text\n( *ensures .*?)\n\n(.*?)^```$', page, re.M | re.S)
+    files = re.findall(r'\(`(crates/[^`]*\.(?:rt|antt))`\)', page)
     tools.want('a clause and a definition', (quoted is not None, len(files)), (True, 2))
     for file, piece in zip(files, quoted.groups() if quoted else ()):
         tools.want(file, piece in (TOP / file).read_text(), True)
+    explained = ' '.join(re.findall(r'^\| (.*?) \|', page.partition('| Symbol |')[2].partition('\n\n')[0], re.M))
+    words = set(re.findall(r'[A-Za-z_]+|[→×⊥]', quoted[0] if quoted else ''))
+    known = set(re.findall(r'[A-Za-z_]+|[→×⊥]', explained)) | {'text', 'ensures', 'whole', 'List', 'DecidesSame'}
+    tools.want('words without a line', sorted(words - known), [])
 
 
 def lines_for_many_captures(tools: Tools) -> None:
-    """The README's lines without a comment, but `./test`, and the line of the manual for GNU parallel, which is run if it is there,
-    check the examples."""
+    """`tools/verdicts` with several jobs, and the line of the manual for GNU parallel, which is run if it is there, check the examples."""
     parallel = re.findall(r'^parallel .*$', (TOP / 'tools/man/verdicts.1').read_text().replace('\\-', '-'), re.M)
-    lines = [line.strip() for line in README.splitlines() if line.startswith('    ') and line.strip().startswith(('./', 'tools/'))] + parallel
-    tools.want('lines', [line.split()[0] for line in lines], ['./test', 'tools/verdicts', 'parallel'])
+    lines = ['tools/verdicts -j 4 examples/*.nfs3cap', *parallel]
+    tools.want('lines', [line.split()[0] for line in lines], ['tools/verdicts', 'parallel'])
     version = ['sh', '-c', 'parallel --version 2>&1 </dev/null']
-    here = {'tools/verdicts': 'tools/verdicts --program ' + tools.program, 'host1,host2': ':', '/opt/nfs3canon': str(TOP),
-            'runs/': 'examples/'}
+    local_words = {'tools/verdicts': 'tools/verdicts --program ' + tools.program, 'host1,host2': ':', '/opt/nfs3canon': str(TOP),
+                   'runs/': 'examples/'}
     last = {'tools/verdicts': [sums(13, refused=7, raw='2 NFSACL GETACL')],
             'parallel': sorted(sums(ok, refused=refused) for ok, refused in [(0, 1)] * 4 + [(1, 1)] + [(12, 0)] * 3 + [(3, 0)] * 3)}
-    for line in lines[1:]:
+    for line in lines:
         if line.startswith('parallel') and b'GNU' not in ended(version, TOP).out:
             continue
-        for word, local in here.items():
+        for word, local in local_words.items():
             line = line.replace(word, local)
         status, out, _ = ended(['sh', '-c', line], TOP, stderr=subprocess.DEVNULL, limit=None).text()
         found = sorted(told for told in out.splitlines() if ' judged (' in told)
@@ -149,7 +169,7 @@ def pages_agree(tools: Tools) -> None:
     """The reasons have the same names in docs/FORMATS.md, the man page and tools/explain, each has a row in captures.rows, and the
     dumps are the bytes of a NULL call and its reply in both versions."""
     formats = (TOP / 'docs/FORMATS.md').read_text()
-    reasons = re.findall(r'^\| \d+ \| `(\w+)` \|', formats, re.M)
+    reasons = re.findall(r'^\| `(\w+)` \|', formats.partition('| Reason |')[2].partition('\n\n')[0], re.M)
     tools.want('reasons', len(reasons), 19)
     tools.want('man page', re.findall(r'^(\w+)\|', (TOP / 'man/nfs3canon.1').read_text(), re.M), reasons)
     tools.want('explain', re.findall(r"'([A-Z]\w+)': ", (TOP / 'tools/nfs3tools/captures/explained.py').read_text()), reasons)
@@ -184,8 +204,8 @@ def believed(tools: Tools, *words: str) -> Answer:
 def what_is_believed(tools: Tools) -> None:
     """docs/PROOFS.md has the counts of dev/believed, which prints each definition once."""
     rows = re.findall(r'^\| `(\w+::\w+)` \| \d+ \| [\d,]+ \| \d+ \|$', (TOP / 'docs/PROOFS.md').read_text(), re.M)
-    tools.want('calls', rows, ['nfs3canon::answered', 'canon3::check', 'canon3::canon', 'canon3::same', 'listing3::show', 'masking3::mask', 'packing3::Packing',
-                               'nfs3canon::run_check', 'program3::run_rewriting', 'nfs3canon::run_pack', 'nfs3mask::answered'])
+    tools.want('calls', rows, ['nfs3canon::answered', 'canon3::check', 'canon3::canon', 'canon3::same', 'listing3::show', 'masking3::mask',
+                               'packing3::Packing', 'nfs3mask::answered'])
     counted = believed(tools, '--count', *rows)
     tools.want('counts', (counted[0], counted[1] in (TOP / 'docs/PROOFS.md').read_text(), counted[2]), (0, True, ''))
     for name, row in zip(rows, counted[1].splitlines()):
@@ -237,8 +257,11 @@ def lines_of_the_tools(tools: Tools) -> None:
 
 
 def pages_are_plain(tools: Tools) -> None:
-    """No sentence, bullet or section of a page is too long."""
+    """No sentence, bullet, section or page is too long, and none has a word to avoid."""
     tools.want('pages', pages.long_ones(), [])
+    for text, wrong in (('One fact stands in it.', 1), ('`stands in`, "told"', 0), ('```\ntold\n```\n    told\n| told |', 1), ('retold', 0)):
+        tools.want(text, len(pages.avoided(text)), wrong)
+    tools.want('words to avoid', pages.words_to_avoid(), [])
 
 
 def tables_are_whole(tools: Tools) -> None:
@@ -287,7 +310,7 @@ def what_is_not_proved(tools: Tools) -> None:
     told = (TOP / 'docs/PROOFS.md').read_text().partition('## Not proved and not tested')[2].partition('\n## ')[0]
     tools.want('rows', len(rows), 2)
     for row in rows:
-        tools.want(row, row[0].lower() + row[1:] in told, True)
+        tools.want(row, row[0].lower() + row[1:].strip() in told, True)
 
 
 def bugs_are_counted(tools: Tools) -> None:
@@ -316,7 +339,7 @@ def pages_of_the_crates(tools: Tools) -> None:
     tools.want('docs/API.md is what dev/api prints', crate_pages.exports_are_current(), True)
 
 
-TESTS = [commands_of_the_pages, contract_of_the_readme, lines_for_many_captures, examples_are_used, answers_of_the_examples, examples_are_made_alike, pages_agree, pages_of_the_tools,
+TESTS = [commands_of_the_pages, command_lines_of_the_pages, clause_on_the_page, lines_for_many_captures, examples_are_used, answers_of_the_examples, examples_are_made_alike, pages_agree, pages_of_the_tools,
          what_is_believed, rooms_stand_apart, rooms_of_the_tools, lines_of_the_tools, pages_are_plain, tables_are_whole, names_lead_somewhere, trees_are_of_the_code, what_is_not_proved, bugs_are_counted,
          clauses_of_each_function, pages_of_the_crates]
 

@@ -1,5 +1,5 @@
-"""How long the sentences, bullets and sections of the pages are, whether their tables are whole, and whether the files and headings
-that they name are there. Code, tables and the targets of links do not count as text."""
+"""How long the sentences, bullets, sections and pages are, which words they avoid, whether their tables are whole, and whether the
+files and headings that they name are there. Code, tables and the targets of links do not count as text."""
 import pathlib
 import re
 
@@ -10,6 +10,11 @@ PAGES = ('README.md', 'CONTRIBUTING.md', 'CHANGELOG.md', 'docs/ARCHITECTURE.md',
 MOST_WORDS_OF_A_SENTENCE = 40
 MOST_WORDS_OF_A_BULLET = 60
 MOST_BULLETS = 12  # in a row of bullets under one heading
+MOST_WORDS_OF_A_PAGE = {'README.md': 1200, 'docs/ARCHITECTURE.md': 3000}
+# Words for which the field has others: a function returns, a value is, a text has.
+AVOIDED = re.compile(r'\b(?:tells|told|so is|does so|besides|in another turn|belong together|one more|stands (?:for|in|at|there))\b', re.I)
+# Pages that still have such words, and how many. A number may fall and not rise.
+MADE_OR_NOTES = ('docs/API.md', 'dev/measure/NOTES.md')
 # A condition is `if`; `where` is for places.
 MOST_WHERES = 8
 BULLET = re.compile(r'\s*(?:- |\d+\. )')
@@ -27,6 +32,13 @@ def plain(text: str) -> str:
     text = re.sub(r'^(?:    |\|).*$', '', text, flags=re.M)
     text = re.sub(r'`[^`]*`', 'X', text)
     return re.sub(r'\]\([^)]*\)', ']', text)
+
+
+def avoided(text: str) -> list[str]:
+    """Returns the words of a page that it should avoid, outside code and what is quoted."""
+    text = re.sub(r'^```.*?^```$', '', text, flags=re.M | re.S)
+    text = re.sub(r'^ {4}.*$|`[^`]*`|"[^"]*"|\]\([^)]*\)', '', text, flags=re.M)
+    return AVOIDED.findall(text)
 
 
 def blocks(text: str) -> list[str]:
@@ -86,7 +98,8 @@ def cells_of(row: str) -> int:
 
 
 def anchors_of(text: str) -> set[str]:
-    """The names by which links find the headings of a page."""
+    """The names by which links find the headings of a page. A line of code is no heading."""
+    text = re.sub(r'^```.*?^```$', '', text, flags=re.M | re.S)
     return {re.sub(r'[^\w -]', '', head.strip().lower()).replace(' ', '-') for head in re.findall(r'^#+ (.*)$', text, re.M)}
 
 
@@ -105,7 +118,7 @@ def not_there(text: str, folder: pathlib.Path) -> list[str]:
 
 
 def all_pages() -> list[pathlib.Path]:
-    folders = ('', 'docs', 'crates/*', 'examples', 'dev/measure', 'tests', 'tools', 'tools/tests')
+    folders = ('', 'docs', 'docs/schemas', 'crates/*', 'examples', 'dev/measure', 'tests', 'tools', 'tools/tests')
     return [path for folder in folders for path in sorted(TOP.glob(folder + '/*.md' if folder else '*.md'))]
 
 
@@ -121,4 +134,13 @@ def dead_names() -> list[str]:
 
 def long_ones() -> list[str]:
     """What is too long on any page."""
-    return ['%s: %s' % (page, fault) for page in PAGES for fault in faults((TOP / page).read_text())]
+    wrong = ['%s: %s' % (page, fault) for page in PAGES for fault in faults((TOP / page).read_text())]
+    words = {page: len((TOP / page).read_text().split()) for page in MOST_WORDS_OF_A_PAGE}
+    return wrong + ['%s: %d words' % (page, count) for page, count in words.items() if count > MOST_WORDS_OF_A_PAGE[page]]
+
+
+def words_to_avoid() -> list[str]:
+    """The words to avoid on all pages but those that a script makes, and notes."""
+    names = {str(path.relative_to(TOP)): path for path in all_pages()}
+    found = {page: avoided(path.read_text()) for page, path in names.items() if page not in MADE_OR_NOTES}
+    return ['%s: %s' % (page, ', '.join(words)) for page, words in found.items() if words]

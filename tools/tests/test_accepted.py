@@ -111,7 +111,7 @@ def other_orders_stay_what_they_are(place: Comparisons) -> None:
     place.put('a', run(1, 1, 1))
     place.put('b', run(1, 2, 1, names=(2, 1, 0)))
     accepts(place, NLINK)
-    turned = 'same in another order but for 1 accepted: 6 calls; 2 in another turn; 2 replies in another turn'
+    turned = 'same in another order but for 1 accepted: 6 calls; 2 reordered; 2 replies reordered'
     place.want('by default', compared(place, '--accept', 'known')[:2], (1, turned))
     place.want('any', compared(place, '--order', 'any', '--accept', 'known')[:2], (0, turned))
     place.want('strict', compared(place, '--order', 'strict', '--accept', 'known')[:2], (1, 'differ'))

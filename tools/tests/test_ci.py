@@ -253,7 +253,7 @@ def cases_of_runs(tools: Tools) -> None:
     for words, status, tags, kind, message in (
             (['a.pcap', 'a.pcap'], 0, [[]], None, None),
             ([FIRST, CHANGED], 1, [['failure']] * 2, 'differ', 'differ at connection 2 server record 2'),
-            (concurrent, 1, [['failure']], 'same in another order', 'same in another order: 100 calls; 3 connections in another turn'),
+            (concurrent, 1, [['failure']], 'same in another order', 'same in another order: 100 calls; 3 connections reordered'),
             (['--order', 'any', *concurrent], 0, [[]], None, None),
             (['part.pcap', 'part.pcap'], 1, [['failure']], 'same in part',
              'same in part: 30 calls in 1 connection, 344 bytes missing from the first run, 344 bytes missing from the second run'),

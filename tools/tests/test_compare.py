@@ -99,7 +99,7 @@ def retransmissions_are_linear(place: Comparisons) -> None:
     status, out, error = place.compare('--order', 'strict', 'a', 'b')
     place.want('seconds', time.monotonic() - begin < 60, True)
     place.want('verdict', (status, out[-1], error),
-               (1, '40,000 of 45,000 calls belong together; 5,000 more in the second run; status in 1 reply', ''))
+               (1, '40,000 of 45,000 calls matched; 5,000 only in the second run; status in 1 reply', ''))
 
 
 # --- Masks ---
@@ -213,7 +213,7 @@ def statuses_that_differ(place: Comparisons) -> None:
     lines = place.compare('a', 'b')[1][2:]
     place.want('status', lines[1:3], ['  - status=0 (NFS3_OK)', '  + status=13 (NFS3ERR_ACCES)'])
     place.want('one finding', len(lines), 5)
-    place.want('in words', lines[-1], '10 of 10 calls belong together; status in 1 reply')
+    place.want('in words', lines[-1], '10 of 10 calls matched; status in 1 reply')
 
 
 def one_call_more(place: Comparisons) -> None:
@@ -224,18 +224,18 @@ def one_call_more(place: Comparisons) -> None:
     place.put('a', first.conversation())
     place.put('b', second.conversation(script))
     place.wants('one more', 1, ['only in the second run: NFSPROC3_GETATTR: connection 1 client record 3', '  + fh=' + second.handles[0].hex(),
-                                '10 of 11 calls belong together; 1 more in the second run'], '--order', 'strict')
+                                '10 of 11 calls matched; 1 only in the second run'], '--order', 'strict')
 
 
 def other_orders(place: Comparisons) -> None:
-    """A call that has changed its turn, and replies in another order."""
+    """A reordered call, and replies in another order."""
     first, second = Made(5), Made(6)
     script = second.script()
     place.put('a', first.conversation())
     place.put('b', second.conversation([*script[:2], *script[3:6], script[2], *script[6:]]))
     lines = place.compare('--order', 'strict', 'a', 'b')[1][2:]
-    place.want('turn', [line for line in lines if 'turn' in line], [
-        '  the call has changed its turn', '10 of 10 calls belong together; 1 in another turn; 1 reply in another turn'])
+    place.want('turn', [line for line in lines if 'reordered' in line], [
+        '  the call is reordered', '10 of 10 calls matched; 1 reordered; 1 reply reordered'])
     calls, replies = second.conversation()
     place.put('b', (calls, [replies[1], replies[0], *replies[2:]]))
     lines = place.compare('--order', 'strict', 'a', 'b')[1][2:]
@@ -316,7 +316,7 @@ def entries_of_one_name(place: Comparisons) -> None:
     heading = 'NFSPROC3_READDIR reply: connection 1 server record 1 | connection 1 server record 1'
     def wants(what: str, name: str, *lines: str) -> None:
         place.wants(what, 1, [heading, *lines, f'fields that differ, and how often: {name} of NFSPROC3_READDIR 1',
-                              f'1 of 1 call belong together; {name} in 1 reply'], '--mask', 'none')
+                              f'1 of 1 call matched; {name} in 1 reply'], '--mask', 'none')
     place.put('a', run((1, b'a'), (2, b'b')))
     place.put('b', run((1, b'a'), (2, b'b'), (2, b'b')))
     wants('once more', 'entry.name', '  + entry.name="b"')
@@ -338,7 +338,7 @@ def replies_of_one_call(place: Comparisons) -> None:
 
 
 def files_by_their_paths(place: Comparisons) -> None:
-    """Of calls that are equal but for the file, those of one path belong together."""
+    """Of calls that are equal but for the file, those of one path are matched."""
     def asked(made: Made, *files: int) -> list[tuple[int, bytes, bytes]]:
         found = [(3, fh(made.handles[0]) + messages.opaque(FILES[file]), ok(fh(made.handles[file]), post_op_attr(), post_op_attr()))
                  for file in (1, 2)]
@@ -438,7 +438,7 @@ def one_bit_of_many_calls(place: Comparisons) -> None:
     place.want('finding', (status, lines[3:]), (1, [
         f'NFSPROC3_GETATTR reply ?/name1: {where} | {where}', '  - obj.mode=0644 (420)', '  + obj.mode=0645 (421)',
         'fields that differ, and how often: obj.mode of NFSPROC3_GETATTR 1',
-        '100,000 of 100,000 calls belong together; obj.mode in 1 reply']))
+        '100,000 of 100,000 calls matched; obj.mode in 1 reply']))
     place.want(f'{seconds} seconds', seconds < 20, True)
     place.want(f'{memory} bytes', memory < 800e6, True)
 
@@ -459,7 +459,7 @@ def data_that_differ(place: Comparisons) -> None:
     place.put('a', writes_of_other_data(1, 40))
     place.put('b', writes_of_other_data(2, 40))
     status, out, _, memory = measured(place, 'compare', '--program', place.program, '--json', 'out.json', '--html', 'out.html', 'a', 'b')
-    place.want('verdict', (status, out[-1]), (1, '40 of 40 calls belong together; data in 40 calls'))
+    place.want('verdict', (status, out[-1]), (1, '40 of 40 calls matched; data in 40 calls'))
     place.want(f'{memory} bytes', memory < 80e6, True)
     first, second = (random.Random(seed).randbytes(MIB) for seed in (1, 2))
     differing = sum(one != other for one, other in zip(first, second))

@@ -138,7 +138,7 @@ def what_is_refused(tools: Tools) -> None:
             (('old', 'connection 1 client record 1', './old'), 2, 'cut: ./old is an input, and is not replaced\n'),
             (('absent', 'connection 1 client record 1', 'new'), 3, 'cut: absent: No such file or directory\n'),
             (('--origins', str(TOP / 'examples/bad_bool.nfs3cap'), 'connection 1 client record 1', 'old'), 2,
-             f'cut: {TOP}/examples/bad_bool.nfs3cap is refused, so nothing tells where its handles are from: {FAULTS["bad_bool"]}\n')):
+             f'cut: {TOP}/examples/bad_bool.nfs3cap is refused, so the origins of its handles are not known: {FAULTS["bad_bool"]}\n')):
         tools.want(message, cut(tools, *words), (status, [], message))
     tools.want('what is there', (tools.names(), tools.read('old'), tools.read('a.pcap')), (['a.pcap', 'old'], before, pcap(whole())))
     tools.want('an older capture', (cut(tools, 'a.pcap', 'connection 1 client record 1', 'old')[0], tools.read('old') != before), (0, True))

@@ -46,7 +46,7 @@ class Findings(Comparisons):
 
     def compare(self, *words: str) -> tuple[int, list[str], str]:
         status, out, error = super().compare('--order', 'strict', *words)
-        return status, [line for line in out if ' belong together' not in line], error
+        return status, [line for line in out if ' matched' not in line], error
 
 
 
@@ -709,7 +709,7 @@ def json_on_standard_output(place: Findings) -> None:
     _, printed, _ = place.compare('a', 'b')
     for option, begin in (('--json', '{'), ('--html', '<!DOCTYPE html>'), ('--junit', '<?xml')):
         status, out, error = place.compare(option, '-', 'a', 'b')
-        told = [line for line in error.splitlines() if ' belong together' not in line and not COUNTS.match(line)]
+        told = [line for line in error.splitlines() if ' matched' not in line and not COUNTS.match(line)]
         place.want(option, (status, out[0].startswith(begin), told), (1, True, printed))
     out = '\n'.join(place.compare('--json', '-', 'a', 'b')[1])
     place.want('read again', json.loads(out)['verdict'], 'differ')

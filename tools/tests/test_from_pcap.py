@@ -199,9 +199,9 @@ def recordings_that_end_early(tools: Tools) -> None:
             ('a block of 13 bytes', struct.pack('<4I', 6, 13, 0, 0), 'a block claims 13 bytes'),
             ('a block of 8 bytes', struct.pack('<3I', 6, 8, 8), 'a block claims 8 bytes'),
             ('a section of 24 bytes', struct.pack('<6I', 0x0a0d0d0a, 24, 0x1a2b3c4d, 1, 0, 24), 'a block claims 24 bytes'),
-            ('a section without an order', struct.pack('<3I', 0x0a0d0d0a, 28, 7), 'the byte order of a section is not told'),
+            ('a section without an order', struct.pack('<3I', 0x0a0d0d0a, 28, 7), 'the byte order of a section is unknown'),
             ('two lengths', block(6, bytes(20))[:-4] + struct.pack('<I', 28), 'the two lengths of a block differ'),
-            ('no such interface', enhanced(frames[0], 0, 1), 'a frame of interface 1, of which nothing is told'),
+            ('no such interface', enhanced(frames[0], 0, 1), 'a frame of interface 1, which is not described'),
             ('a short packet', block(6, bytes(8)), 'a block is too short'),
             ('more bytes than its block', block(6, struct.pack('<5I', 0, 0, 0, 99, 99)), 'frame 16 claims 99 bytes')):
         told = taken_of(blocks + damage + enhanced(frames[0]))

@@ -149,6 +149,9 @@ def named_as_installed(place: Place) -> None:
         place.want('examples of ' + tool, [name in example for example in examples], [True] * len(examples))
         plain = place.command(str(TOP / 'tools' / tool.replace('-', '_')), '--help')[1]
         place.want('in the repository', plain.split()[1], tool.replace('-', '_'))
+        pages = f'man {name}\n', f'man -l {TOP}/tools/man/{tool.replace("-", "_")}.1\n'
+        place.want('manual page in the help of ' + tool, [page in text for page, text in zip(pages, (out, plain))], [True, True])
+        place.want('lines before the options of ' + tool, plain.partition('\noptions:\n')[0].count('\n') <= 30, True)
     page = (prefix / 'share/man/man1/nfs3canon.1').read_text()
     place.want('nfs3canon.1', ('tools/' in page, 'nfs3\\-from\\-pcap before.pcap' in page), (False, True))
 

@@ -115,7 +115,7 @@ def parts_that_are_the_same(place: Comparisons) -> None:
     wants(place, 'all', 0, ['before the first mark: same: 2 calls in 1 connection', *same, '3 parts: 3 same'])
     place.write('b', run(2, 'y', 'x').recording())
     wants(place, 'another order before', 1, [
-        'before the first mark: same in another order: 2 calls; 1 in another turn; 1 reply in another turn', *same,
+        'before the first mark: same in another order: 2 calls; 1 reordered; 1 reply reordered', *same,
         '3 parts: 2 same, 1 same in another order'])
     put(place, run(1), run(2))
     wants(place, 'nothing before', 0, [*same, '2 parts: 2 same'])
@@ -189,22 +189,22 @@ def one_part_that_differs(place: Comparisons) -> None:
              '"test 2": differ', '"test 3": same: 2 calls in 1 connection']
     where = 'connection 1 server record 5 (frame 13)'  # after three frames of the handshake and ten of messages
     found = ['"test 2"', f'NFSPROC3_GETATTR reply ?/x: {where} | {where}', '  - obj.mode=0644 (420)', '  + obj.mode=0600 (384)',
-             'fields that differ, and how often: obj.mode of NFSPROC3_GETATTR 1', '2 of 2 calls belong together; obj.mode in 1 reply']
+             'fields that differ, and how often: obj.mode of NFSPROC3_GETATTR 1', '2 of 2 calls matched; obj.mode in 1 reply']
     wants(place, 'one', 1, [*parts, *found, '4 parts: 3 same, 1 differs'])
     line = f'NFSPROC3_GETATTR reply ?/x: {where} | {where}: obj.mode=0644 (420) -> 0600 (384)'
     wants(place, 'brief', 1, [*parts, '"test 2"', line, *found[4:], '4 parts: 3 same, 1 differs'], '--brief')
     wants(place, 'ignored', 1, [*parts, '"test 2"', 'left out by --ignore, and how often: obj.mode of NFSPROC3_GETATTR 1',
-                                '2 of 2 calls belong together', '4 parts: 3 same, 1 differs'], '--ignore', '*.obj.mode')
+                                '2 of 2 calls matched', '4 parts: 3 same, 1 differs'], '--ignore', '*.obj.mode')
     place.write('b', run(2, 0o644).set('x', 0o600).recording())
     where = 'connection 1 client record 8 (frame 18)'
     wants(place, 'one call more', 1, [
         *parts[:2], '"test 2": same: 2 calls in 1 connection', '"test 3": differ', '"test 3"',
-        f'only in the second run: NFSPROC3_SETATTR ?/x: {where}', '  + set.mode=0600 (384)', '2 of 3 calls belong together; 1 more in the second run',
+        f'only in the second run: NFSPROC3_SETATTR ?/x: {where}', '  + set.mode=0600 (384)', '2 of 3 calls matched; 1 only in the second run',
         '4 parts: 3 same, 1 differs'])
 
 
 def a_part_more(place: Comparisons) -> None:
-    """A part of one run alone is told, and parts of one name belong together wherever they are."""
+    """A part of one run alone is printed, and parts of one name are compared wherever they are."""
     def run(seed: int, *names: str) -> Run:
         run = Run(seed)
         for name in names:
@@ -242,17 +242,17 @@ def orders_within_a_part(place: Comparisons) -> None:
         return run.mark('test 2').get('x')
     put(place, run(1, ('x', 0o600), ('y', 0o640)), run(2, ('y', 0o640), ('x', 0o600)))
     before, after = 'before the first mark: same: 2 calls in 1 connection', '"test 2": same: 2 calls in 1 connection'
-    turned = [before, '"test 1": same in another order: 3 calls; 1 in another turn; 1 reply in another turn', after,
+    turned = [before, '"test 1": same in another order: 3 calls; 1 reordered; 1 reply reordered', after,
               '3 parts: 2 same, 1 same in another order']
     wants(place, 'order', 1, turned)
     wants(place, 'any', 0, turned, '--order', 'any')
     moved = 'connection 1 client record 4 (frame 10) | connection 1 client record 5 (frame 12)'
-    none = 'no field of messages that belong together differs; only which messages share a value, or empty connections, can'
-    summary = '3 of 3 calls belong together; 1 in another turn; 1 reply in another turn'
+    none = 'no field of matched messages differs; only which messages share a value, or empty connections, can'
+    summary = '3 of 3 calls matched; 1 reordered; 1 reply reordered'
     wants(place, 'all', 1, [*turned[:3], '"test 1"', none, summary, turned[3]], '--all')
     wants(place, 'strict', 1, [before, '"test 1": differ', after, '"test 1"', 'connection 1',
                                '  1 of 3 replies of the connection come in another order', f'NFSPROC3_SETATTR ?/x: {moved}',
-                               '  the call has changed its turn', summary, '3 parts: 2 same, 1 differs'],
+                               '  the call is reordered', summary, '3 parts: 2 same, 1 differs'],
           '--order', 'strict')
 
 

@@ -235,7 +235,7 @@ def clients() -> list[Client]:
 
 
 def calls_of(count: int) -> str:
-    return f'{count} of {count} calls belong together'
+    return f'{count} of {count} calls matched'
 
 
 def clients_at_once(place: Comparisons) -> None:
@@ -284,7 +284,7 @@ def calls_that_only_ask(place: Comparisons) -> None:
     where = out[2].partition(': ')
     place.want('listed', (where[0], re.fullmatch(r'3 NFSPROC3_GETATTR /c2/f1, first: connection \d client record \d+', where[2]) is not None),
                ('left out of the first run', True))
-    place.want('in words', out[3].endswith('; 3 GETATTR more in the first run'), True)
+    place.want('in words', out[3].endswith('; left out: 3 GETATTR only in the first run'), True)
     every = [line for line in place.compare('--order', 'any', '--all', 'a', 'b')[1] if line.startswith('left out of the first run: 1 ')]
     place.want('all', (len(every), len(set(every))), (3, 3))
     place.want('by default', place.compare('a', 'b')[0], 1)
@@ -292,7 +292,7 @@ def calls_that_only_ask(place: Comparisons) -> None:
     place.want('of the second', '; left out: 3 GETATTR of the second run' in out[1], True)
     status, out, _ = place.compare('--order', 'any', '--extra', 'none', 'a', 'b')
     found = [line for line in out if line.startswith('only in the first run: 3 calls of NFSPROC3_GETATTR /c2/f1, first: ')]
-    place.want('none', (status, len(found), out[-1].partition('; ')[2].endswith('3 more in the first run')), (1, 1, True))
+    place.want('none', (status, len(found), out[-1].partition('; ')[2].endswith('3 only in the first run')), (1, 1, True))
 
 
 def looked_up(*names: bytes) -> Conversation:
@@ -463,8 +463,8 @@ def ids_and_orders(place: Comparisons) -> None:
         return calls, replies
     place.put('a', run(1, 2, 3))
     place.put('b', run(2, 1, 3))
-    words = '3 calls; 1 in another turn; 1 reply in another turn; masked besides: ids=zero'
-    place.wants('ids', 0, ['3 of 3 calls belong together; 1 in another turn; 1 reply in another turn; obj.fileid in 1 reply'],
+    words = '3 calls; 1 reordered; 1 reply reordered; also masked: ids=zero'
+    place.wants('ids', 0, ['3 of 3 calls matched; 1 reordered; 1 reply reordered; obj.fileid in 1 reply'],
                 '--order', 'any')
     place.want('told', place.compare('a', 'b')[1][1], 'same in another order: ' + words)
     status, out, _ = place.compare('--mask=+ids=number', '--order', 'any', 'a', 'b')
@@ -481,27 +481,27 @@ def seen_in_the_middle(place: Comparisons) -> None:
                 [success(at, ok(wcc(sizes[at] - 8, fattr(1, 5, sizes[at])), word(1), word(2), b'verifier')) for at in order])
     place.put('a', run(8, 16, 24, 32))
     place.put('b', run(16, 8, 24, 32))
-    words = ('4 of 4 calls belong together; 1 in another turn; 1 reply in another turn; obj before.size in 2 replies; '
+    words = ('4 of 4 calls matched; 1 reordered; 1 reply reordered; obj before.size in 2 replies; '
              'obj after.size in 2 replies')
     place.wants('sizes', 0, [words], '--order', 'any')
     place.want('told', place.compare('a', 'b')[1][1],
-               'same in another order: 4 calls; 1 in another turn; 1 reply in another turn; masked besides: wcc=zero')
+               'same in another order: 4 calls; 1 reordered; 1 reply reordered; also masked: wcc=zero')
     status, out, _ = place.compare('--mask=-wcc', '--order', 'any', 'a', 'b')
     place.want('compared', (status, out[1], '  - obj after.size=8' in out), (1, 'differ in any order', True))
 
 
 def folders_that_others_change(place: Comparisons) -> None:
-    """GETATTR of a folder whose count of links grows meanwhile: those with the same count belong together, so nothing more is masked."""
+    """GETATTR of a folder whose count of links grows meanwhile: those with the same count are matched, so nothing more is masked."""
     def run(*links: int) -> Conversation:
         return ([call(xid, NFS, 3, GETATTR, fh(b'folder')) for xid, _ in enumerate(links)],
                 [success(xid, ok(fattr(2, 5, nlink=nlink))) for xid, nlink in enumerate(links)])
     place.put('a', run(2, 3, 4, 5))
     place.put('b', run(3, 2, 4, 5))
     place.want('links', place.compare('--order', 'any', 'a', 'b')[1][1],
-               'same in another order: 4 calls; 1 in another turn; 1 reply in another turn')
+               'same in another order: 4 calls; 1 reordered; 1 reply reordered')
     place.put('b', run(9, 2, 3, 5))
     status, out, _ = place.compare('--order', 'any', 'a', 'b')
-    place.want('another count', (status, out[1].partition('; masked besides: ')[2], out[2].endswith('; obj.nlink in 1 reply')),
+    place.want('another count', (status, out[1].partition('; also masked: ')[2], out[2].endswith('; obj.nlink in 1 reply')),
                (0, 'wcc=zero', True))
 
 
@@ -520,7 +520,7 @@ def masks_of_any_order(place: Comparisons) -> None:
 
 def verifiers_that_repeat(place: Comparisons) -> None:
     """Two exclusive creates have one verifier by chance in one run alone: no renaming of verifiers is one to one, and nothing else differs.
-    So it is with cookies. Only the class that repeats is masked besides, and a repeated value is no difference of two equal ones."""
+    So it is with cookies. Only the class that repeats is also masked, and a repeated value is no difference of two equal ones."""
     def run(order: Sequence[int], verifiers: Sequence[bytes], cookies: Sequence[int]) -> Conversation:
         calls, replies = list[bytes](), list[bytes]()
         for xid in order:
@@ -539,7 +539,7 @@ def verifiers_that_repeat(place: Comparisons) -> None:
         place.put('a', run((0, 1, 2), plain[0], [4, 5, 6]))
         place.put('b', run((1, 0, 2), second, cookies))
         status, out, error = place.compare('--order', 'any', 'a', 'b')
-        place.want(name, (status, out[1].partition('; masked besides: ')[2], error), (0, more, ''))
+        place.want(name, (status, out[1].partition('; also masked: ')[2], error), (0, more, ''))
         status, out, _ = place.compare(f'--mask=+createverfs=number,+cookies=number', '--order', 'any', 'a', 'b')
         place.want(f'{name}: compared if they are named', (status, out[1]), (1, 'differ in any order'))
 
@@ -553,7 +553,7 @@ def raw_bodies_in_any_order(place: Comparisons) -> None:
     place.put('a', run((0, 1, 2), b'1234'))
     place.put('b', run((0, 2, 1), b'5678'))
     status, out, error = place.compare('--order', 'any', 'a', 'b')
-    place.want('masked', (status, out[1].partition('; masked besides: ')[2], error), (0, 'raw=zero', ''))
+    place.want('masked', (status, out[1].partition('; also masked: ')[2], error), (0, 'raw=zero', ''))
     place.want('asked for', place.compare('--mask', '+raw', '--order', 'any', 'a', 'b')[0], 0)
     place.want('kept', place.compare('--mask=-raw', '--order', 'any', 'a', 'b')[0], 1)
     place.put('b', run((0, 2, 1), b'12345678'))
@@ -577,7 +577,7 @@ def values_that_stand_for_others(place: Comparisons) -> None:
     place.put('a', run(a, b, b, b))
     place.put('b', run(a, c, b, b))
     status, out, _ = place.compare('a', 'b')
-    line = ('2 messages have values that are equal in both runs, and that stand for others elsewhere, first: '
+    line = ('2 messages have values that are equal in both runs, and that correspond to others elsewhere, first: '
             f'{where % 3} | {where % 3}: createverf of NFSPROC3_CREATE 2')
     place.want('several', (status, out[2], len(out)), (1, line, 5))
     status, out, _ = place.compare('--all', 'a', 'b')
@@ -593,16 +593,16 @@ def orders_of_replies(place: Comparisons) -> None:
     replies = [success(xid, ok(fattr(1, xid))) for xid in range(1, 8)]
     place.put('a', (calls, replies))
     place.put('b', (calls, [replies[1], replies[0], *replies[2:]]))
-    line = '7 of 7 calls belong together; 1 reply in another turn'
+    line = '7 of 7 calls matched; 1 reply reordered'
     place.wants('by default', 1, [line])
     place.wants('any', 0, [line], '--order', 'any')
-    place.want('told', place.compare('a', 'b')[1][1], 'same in another order: 7 calls; 1 reply in another turn')
+    place.want('told', place.compare('a', 'b')[1][1], 'same in another order: 7 calls; 1 reply reordered')
     place.wants('strictly', 1, ['connection 1', '  1 of 7 replies of the connection come in another order',
                                 line], '--order', 'strict')
 
 
 def connections_by_what_they_ask(place: Comparisons) -> None:
-    """Connections belong together by their calls, whatever their turn; what differs in one is found in the right one."""
+    """Connections are matched by their calls, in any order; what differs in one is found in the right one."""
     def connection(name: bytes, mode: int) -> Conversation:
         return ([call(1, MOUNT, 3, 1, opaque(b'/')), call(2, NFS, 3, LOOKUP, dirop(b'top', name)), call(3, NFS, 3, GETATTR, fh(name))],
                 [success(1, ok(fh(b'top'), word(0))), success(2, ok(fh(name), post_op_attr(), post_op_attr())),
@@ -615,12 +615,12 @@ def connections_by_what_they_ask(place: Comparisons) -> None:
     place.want('strict', (status, found[:2]), (1, [
         'NFSPROC3_GETATTR reply /file 3: connection 4 server record 3 | connection 18 server record 3',
         'only in the second run: connection 1']))
-    place.want('in words', found[-1], '60 of 61 calls belong together; 19 connections in another turn; 1 more in the second run; '
+    place.want('in words', found[-1], '60 of 61 calls matched; 19 connections reordered; 1 only in the second run; '
                'obj.mode in 1 reply')
 
 
 def calls_between_neighbours(place: Comparisons) -> None:
-    """Calls of one procedure that stand between the same neighbours belong together, also if they ask for something else."""
+    """Calls of one procedure between the same neighbours are matched, also if they ask for something else."""
     def run(name: bytes) -> Conversation:
         asked = [(GETATTR, fh(b'a'), ok(fattr(1, 1))),
                  (CREATE, dirop(b'top', name) + word(0) + sattr(), ok(messages.made(None, None, wcc()))),
@@ -659,12 +659,12 @@ def one_call_more_among_alike_ones(place: Comparisons) -> None:
     status, out, _ = place.compare('--order', 'any', 'a', 'b')
     place.want('any', (status, out[2:]), (1, [
         made, 'left out of the second run: 1 NFSPROC3_LOOKUP ?/folder: connection 1 client record 11',
-        '18 of 20 calls belong together; 1 LOOKUP more in the second run; 1 more in the second run']))
+        '18 of 20 calls matched; left out: 1 LOOKUP only in the second run; 1 only in the second run']))
     status, out, _ = place.compare('--order', 'strict', 'a', 'b')
     place.want('strict', (status, [line for line in out[2:-2] if line[:2] != '  ']), (1, [
         made, '4 replies of NFSPROC3_LOOKUP ?/folder, first: connection 1 server record 11 | connection 1 server record 13',
         'only in the second run: NFSPROC3_LOOKUP ?/folder: connection 1 client record 11']))
-    place.want('in words', out[-1], '18 of 20 calls belong together; 2 more in the second run; obj.nlink in 4 replies')
+    place.want('in words', out[-1], '18 of 20 calls matched; 2 only in the second run; obj.nlink in 4 replies')
 
 
 def files_that_were_made_again(place: Comparisons) -> None:
@@ -680,7 +680,7 @@ def files_that_were_made_again(place: Comparisons) -> None:
     place.put('a', run((0, 1, 2, 3, 4, 5), b'a'))
     place.put('b', run((5, 0, 1, 2, 3, 4), b'b'))
     status, out, _ = place.compare('--order', 'any', 'a', 'b')
-    place.want('again', (status, out[2]), (0, '6 of 6 calls belong together; 1 in another turn; 1 reply in another turn'))
+    place.want('again', (status, out[2]), (0, '6 of 6 calls matched; 1 reordered; 1 reply reordered'))
 
 
 def one_name_for_many_files(place: Comparisons) -> None:

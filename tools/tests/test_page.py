@@ -196,7 +196,7 @@ def the_top(place: Pages) -> None:
     about, = page.all('details', 'about')
     place.want('folded', (about.attributes.get('open'), about.all('summary')[0].text()), (None, 'About these runs'))
     place.want('printed', about.all('code')[0].text(), 'differ at connection 2 server record 2')
-    words = '103 of 103 calls belong together; rtmax in 1 reply; rtpref in 1 reply; wtmax in 1 reply; wtpref in 1 reply.'
+    words = '103 of 103 calls matched; rtmax in 1 reply; rtpref in 1 reply; wtmax in 1 reply; wtpref in 1 reply.'
     place.want('in words', words in [one.text() for one in about.all('p')], True)
     place.want('all of it', [[len(node.all(tag)) for tag in ('table', 'dl')] for node in (about, page.all('section')[0])], [[1, 1], [1, 0]])
     runs, ends = runs_of(page), [frames_with_payload(path) for path in (FIRST, CHANGED)]
@@ -217,7 +217,7 @@ def null(xid: int) -> bytes:
 
 
 def what_does_not_count(place: Pages) -> None:
-    """What is left out, ignored, masked besides or missing stands at the top."""
+    """What is left out, ignored, also masked or missing stands at the top."""
     place.put('a', gets(with_modes(9, 3, 4)), ([call(7, NFS, 3, GETATTR, fh(b'other'))], []))
     place.put('b', gets(with_modes(9)))
     page = place.page('--ignore=*.mode')
@@ -227,9 +227,9 @@ def what_does_not_count(place: Pages) -> None:
     place.want('all is ignored', 'All fields that differ are ignored.' in page.text(), True)
     place.want('marks', [one for one in rows_and_gaps(page) if one[0] == '≠'], ['≠ 4 4', '≠ 5 5'])
     page = place.page(*CONCURRENT[::2])
-    masked = 'masked besidesids=zero, cookies=zero, createverfs=zero, wcc=zero, since any order was tried.'
+    masked = 'also maskedids=zero, cookies=zero, createverfs=zero, wcc=zero, since any order was tried.'
     place.want('masked in any order', masked in page.all('dl')[0].text(), True)
-    place.want('strictly', 'masked besides' in place.page('--order', 'strict', *CONCURRENT[::2]).text(), False)
+    place.want('strictly', 'also masked' in place.page('--order', 'strict', *CONCURRENT[::2]).text(), False)
     talk = Talk()
     bodies = [body for at in range(4) for body in (null(at), success(at))]
     frames = [*talk.opened(), *(talk.sent(number % 2, fragment(body)) for number, body in enumerate(bodies))]
@@ -266,7 +266,7 @@ def other_verdicts(place: Pages) -> None:
     place.put('a', turned(1, 2, 3))
     place.put('b', turned(2, 1, 3))
     page = place.page()
-    place.want('masked besides', (page.all('h1')[0].text(), 'masked besidesids=zero, in another order.' in page.all('dl')[0].text(),
+    place.want('also masked', (page.all('h1')[0].text(), 'also maskedids=zero, in another order.' in page.all('dl')[0].text(),
                                   'They do not count in another order' in page.text()),
                ('The runs are the same in another order', True, True))
 
@@ -532,14 +532,14 @@ def at_a_glance(place: Pages) -> None:
     place.put('b', worked(SENTENCE.replace(b'same', b'sAme'), 30))
     page = place.page()
     place.want('glance', glance_of(page),
-               '1 byte of /hold/f2 (1 WRITE, 2 READs) \u00b7 1 SETATTR more in the second run: /hold/f1 mode 0640')
+               '1 byte of /hold/f2 (1 WRITE, 2 READs) \u00b7 1 SETATTR only in the second run: /hold/f1 mode 0640')
     place.want('paths', [one.text() for one in page.all('p', 'glance')[0].all('code')], ['/hold/f2', '/hold/f1'])
     order = [node.tag for node in page.nodes() if node.tag in ('h1', 'section') or {'glance', 'about'} & set(
         node.attributes.get('class', '').split())]
     place.want('order', order, ['h1', 'p', 'details', 'section', 'section', 'section'])
     place.want('heading', page.all('h2')[1].text(), '3 differences in 4 messages')
     place.put('b', worked(SENTENCE[:20], 30, 31))
-    place.want('several', glance_of(place.page()), 'bytes of /hold/f2 (1 WRITE, 2 READs) \u00b7 2 SETATTRs more in the second run: /hold/f1'
+    place.want('several', glance_of(place.page()), 'bytes of /hold/f2 (1 WRITE, 2 READs) \u00b7 2 SETATTRs only in the second run: /hold/f1'
                ' \u00b7 count of /hold/f2: 88 \u2192 20 (1 WRITE) \u00b7 count of /hold/f2: 88 \u2192 20 (3 replies to WRITE, READ)')
     place.put('a', asked([0o640] * 3), gets([1, 2]), link(b'x'))
     place.put('b', asked([0o640, 0o600, 0o600]), gets([1, 2]), link(b'y', 13))
@@ -550,9 +550,9 @@ def at_a_glance(place: Pages) -> None:
     place.want('procedures', glance_of(place.page()), 'obj.mode of /m/f0 and others: 0640 \u2192 0600 (2 GETATTR replies) \u00b7 path: "x" \u2192 "y" (1 READLINK reply)')
     place.put('a', asked([1, 2, 3]))
     place.put('b', (lambda both: (both[0][:3] + both[0][5:] + both[0][3:5], both[1]))(asked([1, 2, 3])))
-    place.want('order', glance_of(place.page('--order=strict')), '2 calls in another turn')
+    place.want('order', glance_of(place.page('--order=strict')), '2 calls reordered')
     place.want('data and size', 'bytes of /hold/f2 (1 WRITE, 2 READs)' in glance_of(two_texts(place, SENTENCE, SENTENCE[:-1])), True)
-    place.want('of the first run', '1 connection more in the first run' in (place.put('b', gets([1, 2])) or glance_of(place.page())), True)
+    place.want('of the first run', '1 connection only in the first run' in (place.put('b', gets([1, 2])) or glance_of(place.page())), True)
 
 
 def two_texts(place: Pages, first: bytes, second: bytes) -> Node:
@@ -586,7 +586,7 @@ def marked_bytes(place: Pages) -> None:
 
 
 def calls_of_one_run(place: Pages) -> None:
-    """A call that one run alone has shows its arguments, and stands where it was sent, also if calls before it have another turn."""
+    """A call that one run alone has shows its arguments, and is where it was sent, also if calls before it are reordered."""
     place.put('a', worked(SENTENCE))
     place.put('b', worked(SENTENCE, 30))
     page = place.page()

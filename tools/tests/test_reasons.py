@@ -15,7 +15,7 @@ from .scripts import TOP, Tools
 # Words that tell what is said of each reason from what is said of any other.
 WORDS_OF_REASONS = {
     'BadMagic': 'begins with NFS3CAP1', 'CaptureCut': 'the file ends before', 'BadMark': 'a connection word is 0 or 1',
-    'AfterEnd': 'nothing stands after', 'TooManyConnections': '65,535', 'TooManyBytes': '1,073,741,824', 'RecordCut': 'stream ends in this',
+    'AfterEnd': 'nothing follows', 'TooManyConnections': '65,535', 'TooManyBytes': '1,073,741,824', 'RecordCut': 'stream ends in this',
     'RecordTooLong': '16,777,216', 'Short': 'body ends before', 'Trailing': 'message ends before', 'BadBool': 'a bool is',
     'BadEnum': 'is not listed', 'TooLong': 'over its maximum', 'RpcVersion': 'RPC version is 2', 'Flavor': 'RPCSEC_GSS',
     'AuthLength': 'of the parameters', 'WrongSide': 'replies the server', 'NoCall': 'no call of the connection has',

@@ -23,7 +23,7 @@ REASONS = {
     'CaptureCut': 'the file ends before it is complete',
     'BadMark': 'a connection word is 0 or 1, and of version 2 a side word 0, 1 or 2, '
         'and a length word at least 1',
-    'AfterEnd': 'nothing stands after the last word 0',
+    'AfterEnd': 'nothing follows the last word 0',
     'TooManyConnections': 'there are at most 65,535',
     'TooManyBytes': 'all streams together have at most 1,073,741,824 bytes',
     'RecordCut': 'the stream ends in this record',

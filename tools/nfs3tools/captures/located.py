@@ -171,7 +171,7 @@ class Parts:
             yield self.part(f'the word 1 before connection {number}', 4)
             yield from parts_of_connection(f'connection {number}')
         yield self.part('the word after the last connection, 0', 4)
-        yield Part('what stands after the end', self.at, sys.maxsize)
+        yield Part('what follows the end', self.at, sys.maxsize)
 
     def of_streams(self, connection: str) -> typing.Iterator[Part]:
         """Iterates over the parts of a connection of version 1."""

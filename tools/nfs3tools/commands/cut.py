@@ -126,8 +126,8 @@ def origins_of(program: str, taken: Taken, places: Iterable[Place], name: str) -
         taken.write_capture(capture)
         answer = run_program(program, ['canon', capture, form], CHECKED)
         if answer.status:
-            raise NotTaken(f'{escaped(name)} is refused, so nothing tells where its handles are '
-                           f'from: {answer.error.strip()}')
+            raise NotTaken(f'{escaped(name)} is refused, so the origins of its handles are not '
+                           f'known: {answer.error.strip()}')
         outlines = Outlines(lines_of_program(program, ['show', form]), {}, when_of(taken))
     turns = [turn_of(outlines, place) for place in places]
     records = map(outlines.record_of, outlines.with_origins(turns))

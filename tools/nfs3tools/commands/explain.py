@@ -1,4 +1,4 @@
-"""Tells what stands at a position of a capture or of a recording.
+"""Shows what is at a position of a capture or of a recording.
 
     tools/explain FILE 'connection 1 server record 1 byte 24'
     tools/explain FILE 'frame 12'

@@ -1,4 +1,4 @@
-"""Tells which frames of a recording carry a position of its capture.
+"""Prints which frames of a recording carry a position of its capture.
 
     tools/where RECORDING 'connection 1 server record 7 byte 24'
     tools/where RECORDING 'frame 12'
@@ -14,7 +14,7 @@ whose first three words name a record; a byte of the capture, as `file 12`, is t
 is named, the frames of the whole record are told. The frame of a byte is the first that brought it,
 not a retransmission; of a datagram that came in fragments it is the frame with the last of them.
 
-A frame, as `frame 12`, stands for the records whose bytes it carries; all of them are told.
+A frame, as `frame 12`, means the records whose bytes it carries; all of them are printed.
 
 Printed are the position with the number of the connection as Wireshark counts it, the frames with
 their times, and a display filter to paste. If RECORDING is a pattern in quotes for the parts of one

@@ -226,7 +226,7 @@ def order_of(head: bytes) -> str:
     """The byte order of a section."""
     orders = {b'\x4d\x3c\x2b\x1a': '<', b'\x1a\x2b\x3c\x4d': '>'}
     if len(head) == 12 and head[8:] not in orders:
-        raise Damaged('the byte order of a section is not told')
+        raise Damaged('the byte order of a section is unknown')
     return orders.get(head[8:], '<')
 
 
@@ -254,7 +254,7 @@ def interface_of(order: str, body: bytes) -> Interface:
 
 def interface_at(interfaces: list[Interface], index: int) -> Interface:
     if index >= len(interfaces):
-        raise Damaged(f'a frame of interface {index}, of which nothing is told')
+        raise Damaged(f'a frame of interface {index}, which is not described')
     return interfaces[index]
 
 

@@ -495,7 +495,7 @@ def of_capture(source: Source) -> Taken:
             taken.connections.append(TakenConnection(
                 len(taken.connections) + 1, None, '', '', '', '', client, server, []))
     except BadCapture:
-        taken.damage = 'the capture is not whole, or has a word that cannot stand there'
+        taken.damage = 'the capture is not whole, or has a word that cannot be there'
     except Damaged as damaged:
         taken.damage = str(damaged)
     return taken

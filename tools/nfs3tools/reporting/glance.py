@@ -24,7 +24,7 @@ ELSEWHERE = 'on another connection'
 DATA, ONLY, CONNECTION, FIELDS, REPLIES, ORDER, EQUAL = range(7)  # the order of phrases
 
 
-# Which phrase, and what its findings have in common besides.
+# Which phrase, and what else its findings have in common.
 Kind = tuple[int, tuple[object, ...]]
 
 
@@ -87,9 +87,10 @@ def phrase_of(kind: int, some: Sequence[Finding]) -> Phrase:
         return of_only(some)
     if kind == CONNECTION:
         run = RUNS[some[0].first is None]
-        return Phrase(f'{count(len(some), "connection")} more in the {run} run')
+        return Phrase(f'{count(len(some), "connection")} only in the {run} run')
     if kind == EQUAL:
-        return Phrase(f'values of {count(len(some), "message")} that stand for others elsewhere')
+        messages = count(len(some), 'message')
+        return Phrase(f'values of {messages} that correspond to others elsewhere')
     if kind == ORDER:
         return of_order(some)
     return of_fields(some)
@@ -99,7 +100,7 @@ def of_order(some: Sequence[Finding]) -> Phrase:
     """What comes in another order, or elsewhere."""
     if some[0].kind == 'order':
         return Phrase(f'{count(len(some), "connection")} with replies in another order')
-    words = ELSEWHERE if ELSEWHERE in some[0].remark else 'in another turn'
+    words = ELSEWHERE if ELSEWHERE in some[0].remark else 'reordered'
     return Phrase(f'{count(len(some), "call")} {words}')
 
 
@@ -126,7 +127,7 @@ def counted_in(difference: Difference) -> tuple[int, int]:
 def of_only(some: Sequence[Finding]) -> Phrase:
     """Which calls one run has more, and of one their arguments."""
     run, paths = RUNS[some[0].first is None], paths_of(some)
-    words = f'{count(len(some), short(procedure_of(some[0])))} more in the {run} run'
+    words = f'{count(len(some), short(procedure_of(some[0])))} only in the {run} run'
     if len(paths) != 1:
         return Phrase(f'{words}: {len(paths):,} paths' if paths else words)
     if len(some) > 1:

@@ -4,14 +4,17 @@ from __future__ import annotations
 import argparse
 import os
 import re
+import shlex
 import signal
 import sys
+import textwrap
 import typing
+from pathlib import Path
 
 from ..recordings.coverage import Allowed
 from ..recordings.selection import Options
 from ..recordings.taken import NotTaken, Taken
-from ..shared.names import as_called, called
+from ..shared.names import as_called, called, is_installed
 from ..shared.outputs import ENDING, Refused
 from ..shared.places import NoPlace
 from ..shared.printed import escaped, printable
@@ -23,6 +26,9 @@ ABSENT, REFUSED, FAILED, INTERRUPTED = 1, 2, 3, 130  # ABSENT: no such position
 READING = {'from_pcap': '- OUT', 'where': '- POSITION', 'explain': '- POSITION',
            'verdicts': '-', 'procedures': '-', 'calls': '-', 'cut': '- POSITION OUT'}
 OPTION = re.compile(r' \[-[^]]*\]')  # in a usage
+STATUS = 'The status is 0'  # begins what is said of it
+COLUMNS = 100  # of help
+PAGES = Path(__file__).resolve().parents[2] / 'man'
 
 
 def run(name: str, main: typing.Callable[[list[str]], int]) -> int:
@@ -168,11 +174,23 @@ class Parser(argparse.ArgumentParser):
 
 
 def parser_of(text: str | None, name: str) -> argparse.ArgumentParser:
-    """A parser of command lines, whose help is the text of a module."""
-    parser = Parser(prog=called(name), description=as_called(text or ''),
+    """A parser of command lines, whose help is the beginning of the text of a module."""
+    parser = Parser(prog=called(name), description=text and as_called(help_of(text, name)),
                     formatter_class=argparse.RawDescriptionHelpFormatter)
     parser.add_argument('--version', action='version', version=f'{called(name)} {version()}')
     return parser
+
+
+def help_of(text: str, name: str) -> str:
+    """Returns what a tool does, how it is called, its status, and where the rest is: in its manual
+    page. Without one it is the whole text."""
+    if STATUS not in text:
+        return text
+    what, lines, *_ = text.strip('\n').split('\n\n')
+    status = STATUS + text.partition(STATUS)[2].partition('\n\n')[0]
+    words = textwrap.fill(' '.join(status.split()), COLUMNS, break_on_hyphens=False)
+    page = called(name) if is_installed() else f'-l {shlex.quote(str(PAGES / name))}.1'
+    return '\n\n'.join([what, lines, words, f'The manual page has more: man {page}'])
 
 
 def add_options(parser: argparse.ArgumentParser) -> None:

@@ -120,7 +120,7 @@ def glance(content: Content) -> Iterator[str]:
 
 
 def facts(content: Content) -> Iterator[str]:
-    """Both runs, how their calls belong together, what is masked, and what else does not count."""
+    """Both runs, how their calls are matched, what is masked, and what else does not count."""
     yield ''.join(f'<p>{code(line)}</p>' for line in content.line.splitlines())
     yield f'<p>{escape(summary.of_compared(content.compared))}.</p>'
     yield ('<table class=runs><thead><tr><th></th><th>- first run</th><th>+ second run</th></tr>'
@@ -188,9 +188,9 @@ def words_of_masks(content: Content) -> Iterator[tuple[str, str]]:
     is_turned = report.same_under is not None
     more = besides(report.same_under or content.compared.mask, report.mask)
     if more:
-        yield 'masked besides', (f'{code(told(more).replace(",", ", "))}, ' + (
+        yield 'also masked', (f'{code(told(more).replace(",", ", "))}, ' + (
             'in another order.' if is_turned
-            else 'since any order was tried. What differs in these alone is not told.'))
+            else 'since any order was tried. What differs in these alone is not shown.'))
     if content.compared.silent:
         yield 'left out', ('Calls that only ask, which one run alone has, or which the calls of '
                            'others overtook.')
@@ -351,14 +351,14 @@ class Body:
                               self.content.report.verdict == 'same')
         if self.groups and is_turned:
             yield ('These fields differ in the runs as they are. They do not count in another '
-                   'order, for they are masked besides.')
+                   'order, because they are also masked.')
         if not self.groups and is_turned:
             yield 'Nothing differs but the order.'
         if not self.groups and is_same:
             yield 'Nothing differs but what is masked.'
         if not self.groups and not is_turned and not is_same:
             yield ('All fields that differ are ignored.' if self.content.left_out else
-                   'No field of messages that belong together differs. '
+                   'No field of matched messages differs. '
                    'Only which messages share a value, or empty connections, can.')
 
     def article(self, number: int, group: Sequence[Finding]) -> Iterator[str]:
@@ -388,7 +388,7 @@ class Body:
         assert message
         if telling.is_summed(group):
             return (f'{len(group):,} messages have values that are equal in both runs, '
-                    'and that stand for others elsewhere')
+                    'and that correspond to others elsewhere')
         only = (f'only in the {run_of(finding)} run: '
                 if finding.first is None or finding.second is None else '')
         if is_told_of_connections(finding):

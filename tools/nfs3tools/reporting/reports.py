@@ -23,7 +23,7 @@ from .telling import brief_of, folded, is_summed, of_group, of_silent, shortened
 VERSION = 1  # of the form of JSON
 CASES_AT_MOST = 1_000  # of findings
 FIELDS_AT_MOST = 4  # in the name of a case
-KINDS = {'moved': 'another turn', 'replies': 'another number of replies'}
+KINDS = {'moved': 'reordered', 'replies': 'another number of replies'}
 
 
 def json_of(report: Report, compared: Compared, left_out: Counter[tuple[str, str]],
@@ -222,7 +222,7 @@ def case_name(group: Sequence[Finding]) -> str:
     if finding.kind == 'connection':
         return f'{only}a connection'
     if is_summed(group):
-        return 'values that stand for others elsewhere'
+        return 'values that correspond to others elsewhere'
     words = [short(message.procedure) + ('' if message.is_call else ' reply'),
              *({finding.path} - {None} if len(paths) == 1 else ())]
     fields = list(dict.fromkeys(difference.field for difference in finding.differences))

@@ -97,7 +97,7 @@ def folded(findings: Iterable[Finding]) -> list[list[Finding]]:
 
 
 def is_of_equal_values(finding: Finding) -> bool:
-    """Whether all that a finding says is that values stand for others elsewhere."""
+    """Whether all that a finding says is that values correspond to others elsewhere."""
     return (bool(finding.differences) and not finding.remark
             and all(difference.is_equal for difference in finding.differences))
 
@@ -132,7 +132,7 @@ def what_of(findings: Sequence[Finding]) -> str:
     path = f' {finding.path}' if finding.path else ''
     if is_summed(findings):
         return (f'{len(findings):,} messages have values that are equal in both runs, '
-                'and that stand for others elsewhere, first')
+                'and that correspond to others elsewhere, first')
     if len(findings) == 1:
         return f'{message.procedure}{"" if message.is_call else " reply"}{path}'
     what = f'{len(findings):,} {"calls" if message.is_call else "replies"} of {message.procedure}'
@@ -246,7 +246,7 @@ def of_compared(compared: Compared, first: Framing, second: Framing, most: int |
     if left_out:
         yield f'left out by --ignore, and how often: {told(left_out.most_common())}'
     elif not compared.findings:
-        yield ('no field of messages that belong together differs; '
+        yield ('no field of matched messages differs; '
                'only which messages share a value, or empty connections, can')
 
 

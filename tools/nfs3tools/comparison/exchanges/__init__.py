@@ -1,2 +1,2 @@
-"""Calls with their replies: what is known of each, which of two runs belong together, and their
+"""Calls with their replies: what is known of each, which of two runs are matched, and their
 order."""

@@ -43,7 +43,7 @@ class InOrder:
 
 @dataclass
 class Pairing:
-    """The exchanges that belong together: for each of the first run that of the second, or NOBODY.
+    """The matched exchanges: for each of the first run that of the second, or NOBODY.
     So for connections, by their places among all."""
     here: Outlines
     there: Outlines
@@ -92,7 +92,7 @@ class Pairing:
 
     @cached_property
     def elsewhere(self) -> list[Pair]:
-        """The pairs whose connections do not belong together."""
+        """The pairs whose connections are not matched."""
         if self.is_in_place:
             return []
         places = ((self.here.exchanges_of(place), self.home_of(place))
@@ -102,7 +102,7 @@ class Pairing:
 
     @cached_property
     def moved(self) -> list[Pair]:
-        """The pairs in connections that belong together whose calls come in another turn."""
+        """The pairs in matched connections whose calls are reordered."""
         if self.is_in_place:
             return []
         out = list[Pair]()
@@ -227,7 +227,7 @@ class Pairs:
 
     def by_turn(self, here: Callable[[int], Hashable], there: Callable[[int], Hashable]) -> None:
         """Binds exchanges that have a key in common, in their order: first in connections that
-        belong together, then in any."""
+        are matched, then in any."""
         for is_at_home in (True, False):
             left, others = self.left()
             waiting = defaultdict[Hashable, deque[int]](deque)
@@ -240,7 +240,7 @@ class Pairs:
                     self.bind(at, own.popleft())
 
     def gaps(self, more: int) -> Iterator[tuple[list[int], list[int]]]:
-        """Returns what is left between two neighbours, in connections that belong together. The
+        """Returns what is left between two neighbours, in connections that are matched. The
         second run may have so many more calls there than the first."""
         left, _ = self.left()
         for _, run in groupby(enumerate(left),

@@ -1,6 +1,6 @@
 """Two runs compared part by part, each part as a run of its own.
 
-Parts of one name belong together. The program judges each under a renaming of its own, so which
+Parts of one name are compared. The program judges each under a renaming of its own, so which
 objects were reached before a part does not matter. Many parts are judged at once, as one capture
 with the connections of all: if these are the same under one renaming, each part is. Those that are
 not are listed at once, and then each is judged by itself.

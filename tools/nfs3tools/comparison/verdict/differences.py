@@ -1,4 +1,4 @@
-"""How two messages that belong together differ, item by item."""
+"""How two matched messages differ, item by item."""
 from __future__ import annotations
 
 from collections import Counter

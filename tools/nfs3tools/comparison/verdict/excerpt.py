@@ -91,8 +91,8 @@ class Shown:
 
     def comes_after(self, to: int) -> int:
         """Returns which exchange of the first run is before one of the second, in connections that
-        belong together: as many exchanges of both runs are before it as in the second run. (Calls
-        before it may have another turn.)"""
+        are matched: as many exchanges of both runs are before it as in the second run. (Calls
+        before it may be reordered.)"""
         place = self.there.connection_of(to)
         own, home = (self.there.exchanges_of(place),
                      self.here.exchanges_of(self.place_of((NOBODY, to))))

@@ -1,4 +1,4 @@
-"""Two runs compared: which exchanges belong together, and what differs."""
+"""Two runs compared: which exchanges are matched, and what differs."""
 from __future__ import annotations
 
 import functools
@@ -60,11 +60,11 @@ class Silent:
 
 @dataclass
 class Compared:
-    """All findings, in the order of the first run, and what belongs together.
+    """All findings, in the order of the first run, and what is matched.
 
     exchanges: how many exchanges were brought together
     calls: how many each run has
-    moved, elsewhere: how many of those have another turn, or are on another connection
+    moved, elsewhere: how many of those are reordered, or are on another connection
     late: how many replies come in another order
     late_connections: how many connections do
     lonely: how many calls the first and the second run have alone, which are told
@@ -230,7 +230,7 @@ class Explaining:
 
     def of_turns(self, unequal: set[int], turns: set[int],
                  comparison: Comparison) -> Iterator[tuple[Pair, Finding]]:
-        """The differences between exchanges that belong together. Those of equal ones bind what
+        """The differences between matched exchanges. Those of equal ones bind what
         stands for what."""
         for turn in (*sorted(turns - unequal), *sorted(unequal)):
             at, to = self.firsts[turn], self.seconds[turn]
@@ -240,7 +240,7 @@ class Explaining:
                 yield from (((at, to), finding) for finding in found)
 
     def of_moved(self) -> Iterator[Finding]:
-        for pairs, remark in ((self.pairing.moved, 'the call has changed its turn'),
+        for pairs, remark in ((self.pairing.moved, 'the call is reordered'),
                               (self.pairing.elsewhere, 'the call is on another connection')):
             for at, to in pairs:
                 yield Finding('moved', self.here.exchanges[at].call, self.there.exchanges[to].call,

@@ -40,7 +40,7 @@ class Choices:
 
 @dataclass(frozen=True)
 class Found:
-    """What was found: all that differs and belongs together, and the mask under which the runs are
+    """What was found: all that differs and is matched, and the mask under which the runs are
     the same in another order, if they are.
 
     accepted: the findings that were accepted, which are not among those of `compared`
@@ -103,13 +103,13 @@ class Orders:
         return replace(found, same_under=self.least()[0]) if self.is_same(masks[-1]) else found
 
     def is_in_own_order(self) -> bool:
-        """Whether the order counts, or makes no difference. Then calls in another turn are
+        """Whether the order counts, or makes no difference. Then reordered calls are
         findings."""
         order = self.choices.order
         return order == 'strict' or order is None and not self.explaining.has_another_order()
 
     def has_like_connections(self) -> bool:
-        """Whether the connections of both runs belong together in their order."""
+        """Whether the connections of both runs are matched in their order."""
         here, there = self.pairing.here.connections, self.pairing.there.connections
         first, second = (len(taken.connections) for taken in self.trial.runs)
         return first == second and here == there and self.pairing.homes == list(range(len(here)))
@@ -173,7 +173,7 @@ class Orders:
 
 
 def pairs_of(pairing: Pairing, findings: Sequence[Finding]) -> list[Pair]:
-    """Returns the exchanges that belong together and of which findings are."""
+    """Returns the matched exchanges of which findings are."""
     here, replies = pairing.here, cache(pairing.here.exchanges_of_replies)
     some = set[int]()
     for message in filter(None, (finding.first for finding in findings if finding.second)):

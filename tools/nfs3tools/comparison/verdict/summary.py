@@ -26,10 +26,10 @@ def replies(number: int) -> str:
 
 
 def turns(compared: Compared) -> list[str]:
-    """What stands elsewhere in the second run, or nothing."""
+    """What is elsewhere in the second run, or nothing."""
     some = ((f'{compared.moved:,}', compared.moved), (replies(compared.late), compared.late),
             (count(compared.late_connections, 'connection'), compared.late_connections))
-    out = [f'{what} in another turn' for what, number in some if number]
+    out = [f'{what} reordered' for what, number in some if number]
     return [*out, f'{compared.elsewhere:,} on another connection'] if compared.elsewhere else out
 
 
@@ -52,15 +52,15 @@ def overtaken(compared: Compared) -> Iterator[str]:
 
 
 def of_same(found: Found, mask: Mask) -> str:
-    """What stands after `same in another order`: how the order differs, and all that does not count
-    besides."""
+    """What follows `same in another order`: how the order differs, and all else that does not
+    count."""
     words = [f'{count(found.compared.exchanges, "call")}', *turns(found.compared)]
     some = [*(f'{what} of the {name} run' for what, name in left_out(found.compared)),
             *overtaken(found.compared)]
     if some:
         words.append('left out: ' + ', '.join(some))
     if found.same_under is not None and besides(found.same_under, mask):
-        words.append('masked besides: ' + told(besides(found.same_under, mask)))
+        words.append('also masked: ' + told(besides(found.same_under, mask)))
     return '; '.join(words)
 
 
@@ -78,12 +78,12 @@ def fields_of(compared: Compared) -> Iterator[str]:
 
 
 def of_compared(compared: Compared) -> str:
-    """The verdict in words: what belongs together, and what does not."""
-    words = [f'{compared.exchanges:,} of {count(max(compared.calls), "call")} belong together',
+    """The verdict in words: what is matched, and what is not."""
+    words = [f'{compared.exchanges:,} of {count(max(compared.calls), "call")} matched',
              *turns(compared)]
-    words += [f'{what} more in the {name} run' for what, name in left_out(compared)]
+    words += [f'left out: {what} only in the {name} run' for what, name in left_out(compared)]
     words += [f'left out: {what}' for what in overtaken(compared)]
-    words += [f'{number:,} more in the {name} run' for name, number in zip(RUNS, compared.lonely)
+    words += [f'{number:,} only in the {name} run' for name, number in zip(RUNS, compared.lonely)
               if number]
     return '; '.join([*words, *fields_of(compared)])
 
