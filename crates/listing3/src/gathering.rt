@@ -16,14 +16,16 @@ use xdr3::Visit;
 /// A visitor that may keep file handles (RFC 1813, section 2.5), and keeps nothing of other items. So
 /// only the handles of a message have to be passed to it.
 pub(crate) trait Gathering: Visit {
-    /// What is counted of a capture.
+    /// Items without handles change nothing.
+    ghost skips: { SkipsOthers Self.stands };
+}
+
+/// What is counted of a capture whose handles are gathered so.
+pub(crate) trait Counting: Gathering {
     type Counts;
 
     /// These are the counts of a capture of these bytes.
     ghost are_counts: { List ℕ → Self.Counts → Type 0 };
-
-    /// Items without handles change nothing.
-    ghost skips: { SkipsOthers Self.stands };
 
     /// Returns the counts of a capture whose entries all came.
     fn counts(&self, progress: Progress) -> Self::Counts
@@ -35,11 +37,13 @@ pub(crate) trait Gathering: Visit {
 impl<S: BuildHasher + Drop> Gathering for HandleTable<S> {
     ghost use Rattle.canon3.proofs.Lemmas.Numbers.HandleTableLemmas.{gathers_none};
 
+    ghost skips = { gathers_none };
+}
+
+impl<S: BuildHasher + Drop> Counting for HandleTable<S> {
     type Counts = Summary;
 
     ghost are_counts = { IsSummary };
-
-    ghost skips = { gathers_none };
 
     fn counts(&self, progress: Progress) -> Summary {
         Summary::of(progress, self.len())
@@ -47,11 +51,13 @@ impl<S: BuildHasher + Drop> Gathering for HandleTable<S> {
 }
 
 impl Gathering for Silent {
+    ghost skips = { λ _ _ _ _ _. tt };
+}
+
+impl Counting for Silent {
     type Counts = MessageCounts;
 
     ghost are_counts = { AreMessageCounts };
-
-    ghost skips = { λ _ _ _ _ _. tt };
 
     fn counts(&self, progress: Progress) -> MessageCounts {
         MessageCounts::of(progress)

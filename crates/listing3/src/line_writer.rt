@@ -19,7 +19,7 @@ ghost use Rattle.listing3.specs.machinery.LineWriter.{after_front, items_before,
 ghost use Rattle.listing3.specs.Listing.{entry_line, line, opening, prefix, procedure_name};
 
 use crate::filling::write_filled;
-use crate::gathering::Gathering;
+use crate::gathering::{Counting, Gathering};
 use crate::items_text::{ItemsText, encoded_size};
 use crate::line_text::LineText;
 use canon3::{EntryWriter, Sink, write_both};
@@ -285,7 +285,7 @@ impl<H: Gathering + Drop> MessageVisit for LineWriter<H> {
     }
 }
 
-impl<H: Gathering + Drop> EntryWriter for LineWriter<H> {
+impl<H: Counting + Drop> EntryWriter for LineWriter<H> {
     ghost use Rattle.listing3.specs.machinery.LineWriter.{always, items_before};
     ghost use Rattle.listing3.specs.Listing.{shown};
 

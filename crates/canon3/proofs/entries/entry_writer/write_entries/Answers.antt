@@ -1,4 +1,4 @@
-use Rattle.canon3.proofs.Common.{[], sym, ◌≡◌, ◌∙◌, Err, Ok, error_is, inl, source_of, gave_none, prefix_of_kept}
+use Rattle.canon3.proofs.Common.{[], sym, ◌≡◌, ◌∙◌, Ok, error_is, inl, source_of, gave_none, prefix_of_kept}
 use Rattle.std.proofs.KnownBytes.{Appends-kept}
 use Rattle.canon3.proofs.Lemmas.Writing.EntryWriterLemmas.{all_written, new_writing, nothing_written}
 use Rattle.canon3.proofs.Lemmas.Writing.SinkWritesLemmas.{whole_front}
