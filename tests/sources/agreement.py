@@ -287,8 +287,8 @@ def trees_are_of_the_code(tools: Tools) -> None:
     page = (TOP / 'docs/ARCHITECTURE.md').read_text()
     tools.want('trees', len(list(call_trees.trees(page))), 2)
     tools.want('calls', call_trees.calls_not_there(page), [])
-    planted = (('Entries::finish', 'Entries::failure', ['Entries::next_entry does not call Entries::failure',
-                                                        'Entries::failure does not call Pairing::end']),
+    planted = (('Entries::finish', 'Entries::entry', ['Entries::step does not call Entries::entry',
+                                                      'Entries::entry does not call Pairing::end']),
                ('Counts::take_word                    capture3/src/container/position/counts.rt', 'Counts::take_word',
                 ['Counts::take_word is not in capture3/src/container.rt']))
     for old, new, wrong in planted:

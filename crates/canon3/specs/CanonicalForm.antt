@@ -17,9 +17,11 @@ abbrev pub canonical_bytes : List Entry → List ℕ
 canonical_bytes entries = bytes_of (canonical entries)
 
 -- the source gave some bytes, and the canonical form of their entries was written
-abbrev pub RewritesGiven : (before observed : Observed) (old new : Option (List ℕ)) → Result Summary Error
+abbrev pub RewritesGiven : (before observed : Observed) (old new : Option (List ℕ))
+    → Result Summary Error
     → Type 0
-RewritesGiven before observed old new result = WritesGiven canonical_bytes before observed old new result
+RewritesGiven before observed old new result =
+    WritesGiven canonical_bytes before observed old new result
 
 -- All bytes are a capture's, and the canonical form of its entries was written: a file with these
 -- entries, which has no more stream bytes than the capture.

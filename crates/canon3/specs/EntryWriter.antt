@@ -27,7 +27,8 @@ module _ (form : List Entry → List ℕ) where
   -- that these reach was written; or a read failed, and the form of the entries that the bytes
   -- given reach before a capture's end; or a write failed or memory ran out, and a front was
   -- written of the form of the entries that the bytes given reach.
-  abbrev pub IsStoppedBy : Error → (observed : Observed) (given : List ℕ) (old new : Option (List ℕ))
+  abbrev pub IsStoppedBy : Error
+      → (observed : Observed) (given : List ℕ) (old new : Option (List ℕ))
       → Type 0
   IsStoppedBy (errors.Refused fault) observed given old new = (entries : List Entry)
       × IsMetBy (errors.Refused fault) observed given entries × Appends old new (form entries)
@@ -68,7 +69,8 @@ module _ {C : Type 0} (AreCountsOf : List ℕ → C → Type 0) (form : List Ent
 
 -- the same with the summary of a capture
 module _ (form : List Entry → List ℕ) where
-  abbrev pub WritesGiven : (before observed : Observed) (old new : Option (List ℕ)) → Result Summary Error
+  abbrev pub WritesGiven : (before observed : Observed) (old new : Option (List ℕ))
+      → Result Summary Error
       → Type 0
   WritesGiven before observed old new result =
       WritesGivenCounted IsSummary form before observed old new result

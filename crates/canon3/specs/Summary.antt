@@ -1,5 +1,5 @@
 -- What a capture has of each kind.
-use Rattle.std.specs.Prelude.{◌≡◌, ℕ, List, IfOk, bytes_eq, length, Result, Ok, Err}
+use Rattle.std.specs.Prelude.{◌≡◌, ℕ, List, IfOk, bytes_eq, length, min, Result, Ok, Err}
 use Rattle.capture3.specs.Observed.{Gave, IsSpent, Observed}
 use Rattle.capture3.specs.declared.fault.Error.{Error}
 use Rattle.capture3.specs.Entries.{IsMetBy, OnRefused}
@@ -10,7 +10,7 @@ use Rattle.capture3.specs.Progress.{calls_in, replies_in}
 use Rattle.capture3.specs.Typed.{Typed}
 use Rattle.canon3.specs.declared.summary.MessageCounts.{MessageCounts}
 use Rattle.canon3.specs.declared.summary.Summary.{Summary}
-use Rattle.capture3.specs.Rank.{distinct}
+use Rattle.capture3.specs.Rank.{distinct, number_limit}
 use Rattle.canon3.specs.Values.{handles}
 
 -- the bytes are a well-formed capture, and have so many connections, calls and replies
@@ -30,6 +30,11 @@ pub record IsSummary (bytes : List ℕ) (summary : Summary) : Type 0 where
   pub calls : summary.calls ≡ calls_in entries
   pub replies : summary.replies ≡ replies_in entries
   pub handles : summary.handles ≡ length (distinct bytes_eq (handles entries))
+
+-- so many distinct handles that are not empty are in the entries, of which at most 4,294,967,295
+-- are counted
+abbrev pub AreCountedHandles : ℕ → List Entry → Type 0
+AreCountedHandles n entries = n ≡ min (length (distinct bytes_eq (handles entries))) number_limit
 
 -- What is concluded of the bytes that the source gave, where it tells this: all were a capture's,
 -- and this is its summary; or they met the error, after just these entries.

@@ -19,7 +19,7 @@ ghost use Rattle.canon3.specs.SinkWrites.{IsFlushed};
 
 use crate::canonical_form::message_writer::MessageWriter;
 use crate::canonical_form::spelling::{spelling_of_entry, write_spelling};
-use crate::entries::entry_writer::{CountingWriter, EntryWriter, write_entries};
+use crate::entries::entry_writer::{EntryWriter, write_entries};
 use crate::sink::Sink;
 use crate::sink::container::write_magic;
 use crate::summary::Summary;
@@ -49,9 +49,10 @@ pub fn canon<R: Source, W: Sink, S: BuildHasher + Drop>(
     sink: &mut W,
 ) -> Result<Summary, Error>
     // What is written.
-    ensures rewrites { RewritesGiven (R.observed source.old) (R.observed source.new) (W.written sink.old)
-        (W.written sink.new) result }
-    ensures whole { (bytes : List ℕ) → GavePrefix (R.observed source.old) (R.observed source.new) bytes
+    ensures rewrites { RewritesGiven (R.observed source.old) (R.observed source.new)
+        (W.written sink.old) (W.written sink.new) result }
+    ensures whole { (bytes : List ℕ)
+        → GavePrefix (R.observed source.old) (R.observed source.new) bytes
         → WritesAll canonical_bytes bytes (W.written sink.old) (W.written sink.new) result }
     ensures no_longer { (bytes : List ℕ)
         → GavePrefix (R.observed source.old) (R.observed source.new) bytes
@@ -93,7 +94,12 @@ fn write_after_magic<S: BuildHasher + Drop, W: Sink>(
 impl<S: BuildHasher + Drop> EntryWriter for MessageWriter<S> {
     ghost use Rattle.canon3.specs.machinery.MessageWriter.{IsGoing};
     ghost use Rattle.canon3.specs.CanonicalForm.{canonical_bytes};
+    ghost use Rattle.canon3.specs.Summary.{IsSummary};
     ghost use Rattle.canon3.specs.machinery.FormSteps.{values_before};
+
+    type Counts = Summary;
+
+    ghost are_counts = { IsSummary };
 
     ghost form = { canonical_bytes };
 
@@ -110,10 +116,8 @@ impl<S: BuildHasher + Drop> EntryWriter for MessageWriter<S> {
         write_magic(progress, sink)?;
         write_after_magic(self, sink, entry)
     }
-}
 
-impl<S: BuildHasher + Drop> CountingWriter for MessageWriter<S> {
-    fn handles(&self) -> u32 {
-        self.handles.len()
+    fn counts(&self, progress: Progress) -> Summary {
+        Summary::of(progress, self.handles.len())
     }
 }

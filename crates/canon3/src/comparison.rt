@@ -50,7 +50,8 @@ pub fn same<A: Source, B: Source, S: BuildHasher + Drop>(
         → (B.observed second.old).left ≡ Some other → DecidesSame file other result }
     ensures gave { DecidesGiven (A.observed first.old) (A.observed first.new)
         (B.observed second.old) (B.observed second.new) result }
-    ensures whole { (file other : List ℕ) → GavePrefix (A.observed first.old) (A.observed first.new) file
+    ensures whole { (file other : List ℕ)
+        → GavePrefix (A.observed first.old) (A.observed first.new) file
         → GavePrefix (B.observed second.old) (B.observed second.new) other
         → DecidesSame file other result }
 
@@ -174,7 +175,8 @@ impl<S: BuildHasher + Drop> Comparison<S> {
         requires going_second { failure_of second.old ≡ None }
 
         // The verdict.
-        ensures gave { DecidesGiven (A.observed (source_of first.old)) (A.observed (source_of first.new))
+        ensures gave { DecidesGiven (A.observed (source_of first.old))
+            (A.observed (source_of first.new))
             (B.observed (source_of second.old)) (B.observed (source_of second.new)) result }
 
         // The devices.

@@ -13,7 +13,7 @@ mod summary;
 pub use canonical_form::canon;
 pub use comparison::same;
 pub use comparison::verdict::{SameError, Verdict, Which};
-pub use entries::entry_writer::{CountingWriter, EntryWriter, write_entries, write_form};
+pub use entries::entry_writer::{EntryWriter, write_entries};
 pub use numbers::Numbers;
 pub use numbers::handles::HandleTable;
 pub use sink::container::{write_magic, write_message, write_word};

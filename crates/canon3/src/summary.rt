@@ -1,15 +1,13 @@
 //! Whether a capture is well formed, and what it has.
 
-ghost use Rattle.std.specs.Prelude.{◌≡◌, ◌≢◌, ℕ, List, Some, IfErr, IfOk, bytes_eq, length, min};
+ghost use Rattle.std.specs.Prelude.{◌≡◌, ◌≢◌, ℕ, List, Some, IfErr, IfOk};
 ghost use Rattle.capture3.specs.Observed.{GavePrefix};
 ghost use Rattle.capture3.specs.Entries.{CountsReading, OnRefused};
 ghost use Rattle.capture3.specs.Entry as spec;
 ghost use Rattle.capture3.specs.FirstFault.{FirstFault};
 ghost use Rattle.capture3.specs.Progress.{HasPassed};
-ghost use Rattle.capture3.specs.Rank.{distinct, number_limit};
 ghost use Rattle.capture3.specs.Typed.{Typed};
-ghost use Rattle.canon3.specs.Summary.{AreMessageCounts, ConcludesAll, ConcludesGiven, IsSummary};
-ghost use Rattle.canon3.specs.Values as values;
+ghost use Rattle.canon3.specs.Summary.{AreCountedHandles, AreMessageCounts, ConcludesAll, ConcludesGiven, IsSummary};
 
 use crate::entries::entry_writer::write_entries;
 use crate::numbers::handles::HandleTable;
@@ -26,6 +24,20 @@ pub struct MessageCounts {
     pub replies: u32,
 }
 
+impl MessageCounts {
+    /// Returns the counts of a capture whose entries came so far.
+    pub fn of(progress: Progress) -> MessageCounts
+        ensures { (bytes : List ℕ) (entries : List spec.Entry) → Typed bytes entries
+            → HasPassed progress entries → AreMessageCounts bytes result }
+    {
+        MessageCounts {
+            connections: progress.connections,
+            calls: progress.calls,
+            replies: progress.replies,
+        }
+    }
+}
+
 /// What a capture has of each kind.
 #[derive(Clone, Copy, Debug, PartialEq, Eq)]
 pub struct Summary {
@@ -34,6 +46,22 @@ pub struct Summary {
     pub replies: u32,
     /// Distinct file handles that are not empty (RFC 1813, section 2.5).
     pub handles: u32,
+}
+
+impl Summary {
+    /// Returns the summary of a capture whose entries came so far, with so many distinct handles.
+    pub fn of(progress: Progress, handles: u32) -> Summary
+        ensures { (bytes : List ℕ) (entries : List spec.Entry) → Typed bytes entries
+            → HasPassed progress entries → AreCountedHandles handles entries
+            → IsSummary bytes result }
+    {
+        Summary {
+            connections: progress.connections,
+            calls: progress.calls,
+            replies: progress.replies,
+            handles,
+        }
+    }
 }
 
 /// Reads a capture to its end, and returns how many connections, calls, replies and distinct file
@@ -57,7 +85,8 @@ pub fn check<R: Source, S: BuildHasher + Drop>(
     ensures refused { (bytes : List ℕ) → (R.observed source.old).left ≡ Some bytes
         → OnRefused result (FirstFault bytes) }
     ensures concludes { ConcludesGiven (R.observed source.old) (R.observed source.new) result }
-    ensures whole { (bytes : List ℕ) → GavePrefix (R.observed source.old) (R.observed source.new) bytes
+    ensures whole { (bytes : List ℕ)
+        → GavePrefix (R.observed source.old) (R.observed source.new) bytes
         → ConcludesAll bytes result }
 
     // The device.
@@ -66,31 +95,4 @@ pub fn check<R: Source, S: BuildHasher + Drop>(
 {
     let mut handles = HandleTable::new(alloc, hashers.handles);
     write_entries(alloc, hashers.calls, source, &mut Nowhere, &mut handles)
-}
-
-/// Returns the counts of a capture whose entries came so far.
-pub(crate) fn counts_of(progress: Progress) -> MessageCounts
-    ensures { (bytes : List ℕ) (entries : List spec.Entry) → Typed bytes entries
-        → HasPassed progress entries → AreMessageCounts bytes result }
-{
-    MessageCounts {
-        connections: progress.connections,
-        calls: progress.calls,
-        replies: progress.replies,
-    }
-}
-
-/// Returns the summary of a capture whose entries came so far, with so many distinct handles.
-pub(crate) fn summary_of(progress: Progress, handles: u32) -> Summary
-    ensures { (bytes : List ℕ) (entries : List spec.Entry) → Typed bytes entries
-        → HasPassed progress entries
-        → handles ≡ min (length (distinct bytes_eq (values.handles entries))) number_limit
-        → IsSummary bytes result }
-{
-    Summary {
-        connections: progress.connections,
-        calls: progress.calls,
-        replies: progress.replies,
-        handles,
-    }
 }

@@ -37,7 +37,8 @@ module _ {R S H : Type 0} {builds : BuildHasher.Ghosts S H} {hashes : Hasher.Gho
       ⊎ ((result ≡ Err Memory) × (failure_of old ≡ None) × (failure_of new ≡ None))
 
   -- what a call leaves of a reader, for each history for which it stood, and what it lent of it
-  pub record ReadsNext (observed : R → Observed) (failures : R → ℕ) (old : Entries R S H builds hashes)
+  pub record ReadsNext (observed : R → Observed) (failures : R → ℕ)
+      (old : Entries R S H builds hashes)
       (result : Result (Option EntryRef) Error) (new : Entries R S H builds hashes) : Type 0 where
     pub answers : (given : List ℕ) (handed : List Entry) → StandsFor observed old given handed
         → HandsOutGiven observed (λ before. IsReadAs) old new given handed result

@@ -6,9 +6,9 @@ pub(crate) mod position;
 pub(crate) mod side_words;
 
 ghost use Rattle.std.specs.Prelude.{◌≡◌, ◌≢◌, ◌≤◌, ◌<◌, ◌+◌, length, take, Err, IfOk, IfErr, IfSome, OnErr, OnOk, None, Some};
-ghost use Rattle.capture3.specs.machinery.Container.{CanGoOn, Comes, ComesToFault, ShowsError, first_cursor, IsCutInRecord, Leaves, Reaches, RecallFails, Recalled, room_in, TakesPiece, unpacking_in};
+ghost use Rattle.capture3.specs.machinery.Container.{CanGoOn, ComesNext, ComesToFault, ShowsError, first_cursor, IsCutInRecord, Leaves, Reaches, RecallFails, Recalled, room_in, StepsTo, TakesPiece, unpacking_in};
 ghost use Rattle.record_mark.specs.Joining.{Between};
-ghost use Rattle.capture3.specs.machinery.Position.{AreEmpty, cost_of, IsEndSpot, IsOpenBody, most_things, room_of, StoredWith, TakesSome};
+ghost use Rattle.capture3.specs.machinery.Position.{AreEmpty, cost_of, IsEndSpot, IsOpenBody, most_things, room_of, StoredWith};
 ghost use Rattle.capture3.specs.machinery.ContainerMachine.{unpacking_start};
 ghost use Rattle.record_mark.specs.RecordMark.{max_body};
 ghost use Rattle.record_mark.specs.Taking.{IsRunning, IsWhole, body_of, joining_of, released, unbegun};
@@ -96,22 +96,8 @@ impl Container {
     ) -> Result<(usize, Option<Event>), Noted>
         requires ready { CanGoOn self.old.cursor self.old.joiner.taking self.old }
 
-        // How many bytes were taken.
-        ensures taken { IfOk result (TakesPiece piece.now) }
-        ensures recalling { self.old.cursor ≢ None → IfOk result
-            (λ r. (r.0 ≡ 0) × (r.1 ≢ None)) }
-
-        // What is whole with them.
-        ensures opened { IfOk result (λ r. r.1 ≢ Some Event.Streams) }
-        ensures comes { IfOk result (λ r. Comes self.old self.new (take r.0 piece.now) r.1) }
-        ensures joiner { IfOk result (λ r. Leaves r.1 self.new.joiner.taking) }
+        ensures ok { IfOk result (ComesNext self.old self.new piece.now) }
         ensures fault { OnErr result (ComesToFault self.old piece.now error.new) }
-
-        // The container stays ready for the next bytes.
-        ensures ready { OnOk result
-            (CanGoOn self.new.cursor (released self.new.joiner.taking) self.new) }
-        ensures room { IfOk result
-            (λ r. room_in self.new + cost_of r.1 self.new.streams.kept ≤ room_in self.old) }
     {
         match self.cursor {
             Some(_) => self.next_aside(piece, error),
@@ -131,22 +117,8 @@ impl Container {
     ) -> Result<(usize, Option<Event>), Noted>
         requires ready { CanGoOn self.old.cursor self.old.joiner.taking self.old }
 
-        // How many bytes were taken.
-        ensures taken { IfOk result (TakesPiece piece.now) }
-        ensures recalling { self.old.cursor ≢ None → IfOk result
-            (λ r. (r.0 ≡ 0) × (r.1 ≢ None)) }
-
-        // What is whole with them.
-        ensures opened { IfOk result (λ r. r.1 ≢ Some Event.Streams) }
-        ensures comes { IfOk result (λ r. Comes self.old self.new (take r.0 piece.now) r.1) }
-        ensures joiner { IfOk result (λ r. Leaves r.1 self.new.joiner.taking) }
+        ensures ok { IfOk result (ComesNext self.old self.new piece.now) }
         ensures fault { OnErr result (ComesToFault self.old piece.now error.new) }
-
-        // The container stays ready for the next bytes.
-        ensures ready { OnOk result
-            (CanGoOn self.new.cursor (released self.new.joiner.taking) self.new) }
-        ensures room { IfOk result
-            (λ r. room_in self.new + cost_of r.1 self.new.streams.kept ≤ room_in self.old) }
     {
         match self.cursor {
             Some(cursor) => match self.recall(cursor) {
@@ -240,7 +212,7 @@ impl Container {
         ensures fault { IfErr result (ShowsError (unpacking_in self.old) piece.now) }
 
         // What stays.
-        ensures cursor { self.new.cursor ≡ self.old.cursor }
+        ensures cursor { OnOk result (self.new.cursor ≡ self.old.cursor) }
     {
         let mut taken = 0;
         while taken < piece.len() {
@@ -275,15 +247,8 @@ impl Container {
         requires some { 0 < length rest.now }
         requires ready { CanGoOn None self.old.joiner.taking self.old }
 
-        // The bytes taken, and what is whole with them.
-        ensures taken { IfOk result (TakesSome rest.now) }
-        ensures reaches { IfOk result
-            (λ t. Reaches self.old (take t.count rest.now) t.event t.position self.new) }
+        ensures ok { IfOk result (StepsTo self.old self.new rest.now) }
         ensures fault { IfErr result (ShowsError (unpacking_in self.old) rest.now) }
-
-        // What stays.
-        ensures cursor { self.new.cursor ≡ self.old.cursor }
-        ensures position { self.new.position ≡ self.old.position }
     {
         let position = self.position;
         match position.spot {
@@ -306,15 +271,8 @@ impl Container {
         requires some { 0 < length rest.now }
         requires ready { CanGoOn None self.old.joiner.taking self.old }
 
-        // The bytes taken, and what is whole with them.
-        ensures taken { IfOk result (TakesSome rest.now) }
-        ensures reaches { IfOk result
-            (λ t. Reaches self.old (take t.count rest.now) t.event t.position self.new) }
+        ensures ok { IfOk result (StepsTo self.old self.new rest.now) }
         ensures fault { IfErr result (ShowsError (unpacking_in self.old) rest.now) }
-
-        // What stays.
-        ensures cursor { self.new.cursor ≡ self.old.cursor }
-        ensures position { self.new.position ≡ self.old.position }
     {
         let position = self.position;
         match position.spot {

@@ -92,7 +92,8 @@ pub fn longest()
 /// Whatever a source does, a reader keeps the limits: on the entries that it returns, on the
 /// connections that they begin, and on the bytes that it reads, of version 1 beside those of both.
 pub fn reader_keeps_limits<R: Source, S: BuildHasher + Drop>(_entries: &Entries<'_, R, S>)
-    ensures { (given : List ℕ) (handed : List Entry) → StandsFor R.observed _entries.now given handed
+    ensures { (given : List ℕ) (handed : List Entry)
+        → StandsFor R.observed _entries.now given handed
         → KeepsLimits _entries.now given handed }
 {}
 

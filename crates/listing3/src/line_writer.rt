@@ -19,10 +19,10 @@ ghost use Rattle.listing3.specs.machinery.LineWriter.{after_front, items_before,
 ghost use Rattle.listing3.specs.Listing.{entry_line, line, opening, prefix, procedure_name};
 
 use crate::filling::write_filled;
-use crate::gathering::Gathering;
+use crate::gathering::{Counting, Gathering};
 use crate::items_text::{ItemsText, encoded_size};
 use crate::line_text::LineText;
-use canon3::{CountingWriter, EntryWriter, HandleTable, Sink, write_both};
+use canon3::{EntryWriter, Sink, write_both};
 use capture3::{Error, Kind, LentEntry, MessageVisit, Progress};
 use procs3::proc_name;
 use rpc_head::{ProcId, Start};
@@ -285,9 +285,13 @@ impl<H: Gathering + Drop> MessageVisit for LineWriter<H> {
     }
 }
 
-impl<H: Gathering + Drop> EntryWriter for LineWriter<H> {
+impl<H: Counting + Drop> EntryWriter for LineWriter<H> {
     ghost use Rattle.listing3.specs.machinery.LineWriter.{always, items_before};
     ghost use Rattle.listing3.specs.Listing.{shown};
+
+    type Counts = H::Counts;
+
+    ghost are_counts = { H.are_counts };
 
     ghost form = { shown };
 
@@ -305,10 +309,8 @@ impl<H: Gathering + Drop> EntryWriter for LineWriter<H> {
         self.end_message();
         written
     }
-}
 
-impl<S: BuildHasher + Drop> CountingWriter for LineWriter<HandleTable<S>> {
-    fn handles(&self) -> u32 {
-        self.handles.len()
+    fn counts(&self, progress: Progress) -> H::Counts {
+        self.handles.counts(progress)
     }
 }

@@ -10,7 +10,7 @@ ghost use Rattle.canon3.specs.SinkWrites.{IsFlushed};
 ghost use Rattle.listing3.specs.Listing.{shown};
 
 use crate::line_writer::LineWriter;
-use canon3::{HandleTable, MessageCounts, Sink, Summary, write_entries, write_form};
+use canon3::{HandleTable, MessageCounts, Sink, Summary, write_entries};
 use capture3::{Error, Hashers, Silent, Source};
 use std::alloc::Global;
 use std::hash::BuildHasher;
@@ -40,9 +40,10 @@ pub fn show<R: Source, W: Sink, S: BuildHasher + Drop>(
     source: &mut R,
     sink: &mut W,
 ) -> Result<Summary, Error>
-    ensures lists { WritesGiven shown (R.observed source.old) (R.observed source.new) (W.written sink.old)
-        (W.written sink.new) result }
-    ensures whole { (bytes : List ℕ) → GavePrefix (R.observed source.old) (R.observed source.new) bytes
+    ensures lists { WritesGiven shown (R.observed source.old) (R.observed source.new)
+        (W.written sink.old) (W.written sink.new) result }
+    ensures whole { (bytes : List ℕ)
+        → GavePrefix (R.observed source.old) (R.observed source.new) bytes
         → WritesAll shown bytes (W.written sink.old) (W.written sink.new) result }
     ensures flushes { OnOk result (IsFlushed (W.written sink.new) (W.flushed sink.new)) }
     ensures read { CountsReading (R.failures source.old) (R.failures source.new) result }
@@ -63,7 +64,8 @@ pub fn list<R: Source, W: Sink, S: BuildHasher + Drop>(
 ) -> Result<MessageCounts, Error>
     ensures lists { WritesGivenCounted AreMessageCounts shown (R.observed source.old)
         (R.observed source.new) (W.written sink.old) (W.written sink.new) result }
-    ensures whole { (bytes : List ℕ) → GavePrefix (R.observed source.old) (R.observed source.new) bytes
+    ensures whole { (bytes : List ℕ)
+        → GavePrefix (R.observed source.old) (R.observed source.new) bytes
         → WritesAllCounted AreMessageCounts shown bytes (W.written sink.old) (W.written sink.new)
         result }
     ensures flushes { OnOk result (IsFlushed (W.written sink.new) (W.flushed sink.new)) }
@@ -71,5 +73,5 @@ pub fn list<R: Source, W: Sink, S: BuildHasher + Drop>(
     ensures write { CountsWriting (W.failures sink.old) (W.failures sink.new) result }
 {
     let mut lines = LineWriter::new(alloc, Silent);
-    write_form(alloc, hasher, source, sink, &mut lines)
+    write_entries(alloc, hasher, source, sink, &mut lines)
 }

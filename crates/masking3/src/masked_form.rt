@@ -11,7 +11,7 @@ ghost use Rattle.masking3.specs.Masked.{masked_bytes};
 use crate::hashers::MaskHashers;
 use crate::masking_writer::{MaskingWriter, Plan};
 use crate::ways::Ways;
-use canon3::{CountingWriter, EntryWriter, Sink, Summary, write_entries, write_magic};
+use canon3::{EntryWriter, Sink, Summary, write_entries, write_magic};
 use capture3::{Error, LentEntry, Progress, Source};
 use std::alloc::Global;
 use std::hash::BuildHasher;
@@ -47,7 +47,8 @@ pub fn mask<R: Source, W: Sink, S: BuildHasher + Drop>(
 ) -> Result<Summary, Error>
     ensures masks { WritesGiven (masked_bytes ways) (R.observed source.old) (R.observed source.new)
         (W.written sink.old) (W.written sink.new) result }
-    ensures whole { (bytes : List ℕ) → GavePrefix (R.observed source.old) (R.observed source.new) bytes
+    ensures whole { (bytes : List ℕ)
+        → GavePrefix (R.observed source.old) (R.observed source.new) bytes
         → WritesAll (masked_bytes ways) bytes (W.written sink.old) (W.written sink.new) result }
     ensures flushes { OnOk result (IsFlushed (W.written sink.new) (W.flushed sink.new)) }
     ensures read { CountsReading (R.failures source.old) (R.failures source.new) result }
@@ -67,7 +68,8 @@ fn mask_by_plan<P: Plan, R: Source, W: Sink, S: BuildHasher + Drop>(
     requires { ways ≡ P.ways }
     ensures masks { WritesGiven (masked_bytes P.ways) (R.observed source.old) (R.observed source.new)
         (W.written sink.old) (W.written sink.new) result }
-    ensures whole { (bytes : List ℕ) → GavePrefix (R.observed source.old) (R.observed source.new) bytes
+    ensures whole { (bytes : List ℕ)
+        → GavePrefix (R.observed source.old) (R.observed source.new) bytes
         → WritesAll (masked_bytes P.ways) bytes (W.written sink.old) (W.written sink.new) result }
     ensures flushes { OnOk result (IsFlushed (W.written sink.new) (W.flushed sink.new)) }
     ensures read { CountsReading (R.failures source.old) (R.failures source.new) result }
@@ -78,8 +80,13 @@ fn mask_by_plan<P: Plan, R: Source, W: Sink, S: BuildHasher + Drop>(
 }
 
 impl<P: Plan, S: BuildHasher + Drop> EntryWriter for MaskingWriter<P, S> {
+    ghost use Rattle.canon3.specs.Summary.{IsSummary};
     ghost use Rattle.masking3.specs.Masked.{masked_bytes};
     ghost use Rattle.masking3.specs.machinery.MaskingWriter.{HasMemory, visited_before};
+
+    type Counts = Summary;
+
+    ghost are_counts = { IsSummary };
 
     ghost form = { masked_bytes P.ways };
 
@@ -101,10 +108,8 @@ impl<P: Plan, S: BuildHasher + Drop> EntryWriter for MaskingWriter<P, S> {
         self.end_message();
         Ok(())
     }
-}
 
-impl<P: Plan, S: BuildHasher + Drop> CountingWriter for MaskingWriter<P, S> {
-    fn handles(&self) -> u32 {
-        self.handles.len()
+    fn counts(&self, progress: Progress) -> Summary {
+        Summary::of(progress, self.handles.len())
     }
 }

@@ -141,7 +141,8 @@ module _ {R : Type 0} (remaining : R → Option (List ℕ)) (holds : List ℕ �
       → CountsReadingOf First was.failures now.failures came
       → CountsReadingOf Second other.failures other_now.failures came
       → IfErr came (λ error. error.error ≢ errors.Write)
-      → DecidesGiven (observed_of remaining was) (observed_of remaining now) (observed_of remaining other)
+      → DecidesGiven (observed_of remaining was) (observed_of remaining now)
+      (observed_of remaining other)
       (observed_of remaining other_now) came
       → ComparesFiles holds readings first second (outcomes.Compared came)
   compares_read first second was now other other_now unread other_unread came is counts other_counts
@@ -156,7 +157,8 @@ module _ {R : Type 0} (remaining : R → Option (List ℕ)) (holds : List ℕ �
             other_counts,
         written,
         λ file others may others_may.
-            decides_all (observed_of remaining was) (observed_of remaining now) (observed_of remaining other)
+            decides_all (observed_of remaining was) (observed_of remaining now)
+            (observed_of remaining other)
             (observed_of remaining other_now) file others
             (taken remaining (holds first) first was now unread file may)
             (taken remaining (holds second) second other other_now other_unread others others_may)

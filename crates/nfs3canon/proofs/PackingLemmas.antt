@@ -171,7 +171,8 @@ whole remaining holds name was now unread given gave spent = record {
   spent = spent.0;
   held =
       λ content is.
-      let p = prefix_of_observed (observed_of remaining was) (observed_of remaining now) given content
+      let p =
+      prefix_of_observed (observed_of remaining was) (observed_of remaining now) given content
       (unread.left ∙ is) gave in
       sym (p.all spent);
 }

@@ -110,7 +110,8 @@ more_full l0 l1 l2 w0 w1 w2 e0 e1 e2 n before it whole =
           (grows_more e0 e1 e2 _ _ (length (concat before.full)) n before.grows it.grows));
     }
 
-pub whole_stream : (l0 l1 l2 : Observed) (w0 w1 w2 w3 : Option (List ℕ)) (e0 e1 e2 e3 : Extent) (n : ℕ)
+pub whole_stream : (l0 l1 l2 : Observed) (w0 w1 w2 w3 : Option (List ℕ)) (e0 e1 e2 e3 : Extent)
+    (n : ℕ)
     → HasFull l0 l1 w0 w1 e0 e1 → HasChunk l1 l2 w1 w2 e1 e2 n → n < full_size
     → Appends w2 w3 (word_bytes 0) → Grows e2 e3 (word_bytes 0) 0 → HasStream l0 l2 w0 w3 e0 e3
 whole_stream l0 l1 l2 w0 w1 w2 w3 e0 e1 e2 e3 n full it less word grown =
@@ -133,7 +134,8 @@ whole_stream l0 l1 l2 w0 w1 w2 w3 e0 e1 e2 e3 n full it less word grown =
 
 -- ---- where packing stops
 
-pub stops_in_chunk : (l0 l1 l2 : Observed) (w0 w1 w2 : Option (List ℕ)) (e0 e1 : Extent) (error : Error)
+pub stops_in_chunk : (l0 l1 l2 : Observed) (w0 w1 w2 : Option (List ℕ)) (e0 e1 : Extent)
+    (error : Error)
     → HasFull l0 l1 w0 w1 e0 e1 → StopsInChunk l1 l2 w1 w2 e1 error
     → StopsInStream l0 l2 w0 w2 e0 error
 stops_in_chunk l0 l1 l2 w0 w1 w2 e0 e1 error full it =

@@ -4,7 +4,8 @@ use Rattle.capture3.specs.declared.fault.Error.TheVariants as errors
 use Rattle.packing3.proofs.Chunks.{grows_more, packed_none}
 use Rattle.packing3.proofs.Stops.{stopped_after, stopped_before, stopped_writing}
 
-pub whole_connection : (c0 c1 s0 s1 : Observed) (w0 w1 w2 w3 : Option (List ℕ)) (e0 e1 e2 e3 : Extent)
+pub whole_connection : (c0 c1 s0 s1 : Observed) (w0 w1 w2 w3 : Option (List ℕ))
+    (e0 e1 e2 e3 : Extent)
     → Appends w0 w1 (word_bytes 1) → Grows e0 e1 (word_bytes 1) 0 → HasStream c0 c1 w1 w2 e1 e2
     → HasStream s0 s1 w2 w3 e2 e3 → HasConnection c0 c1 s0 s1 w0 w3 e0 e3
 whole_connection c0 c1 s0 s1 w0 w1 w2 w3 e0 e1 e2 e3 word begun client server =

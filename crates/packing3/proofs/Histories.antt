@@ -106,7 +106,8 @@ module _ {W : Type 0} (written : W → Option (List ℕ)) where
             (subst (λ n. Explains error n all.next before) at all.observed);
       }
 
-  no_room : (old : Packing W) (first : Option (List ℕ)) (c0 c1 s0 s1 : Observed) (w1 : Option (List ℕ))
+  no_room : (old : Packing W) (first : Option (List ℕ)) (c0 c1 s0 s1 : Observed)
+      (w1 : Option (List ℕ))
       (pairs : List Streams) (error : Error)
       → IsFull old c0 c1 s0 s1 (written old.sink) w1 error
       → HasAdded written old first pairs → HasNoRoom first w1 pairs error

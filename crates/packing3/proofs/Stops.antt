@@ -3,7 +3,8 @@ use Rattle.packing3.proofs.Common.{◌≡◌, ℕ, ◌+◌, List, ◌++◌, leng
 use Rattle.capture3.specs.declared.fault.Error.TheVariants as errors
 
 -- more bytes come at the end
-pub explains_with : (error : Error) (at total : ℕ) (next more : List ℕ) → Explains error at next total
+pub explains_with : (error : Error) (at total : ℕ) (next more : List ℕ)
+    → Explains error at next total
     → Explains error at (next ++ more) total
 explains_with (errors.Refused fault) at total next more observed = record {
   chunk = observed.chunk;

@@ -104,7 +104,8 @@ impl<W: Sink> Packing<W> {
         ensures adds { (old : Option (List ℕ)) (pairs : List Streams)
             → HasAdded W.written self.old old pairs
             → AddsPair W.written self.new old
-            (C.observed client.old) (C.observed client.new) (S.observed server.old) (S.observed server.new)
+            (C.observed client.old) (C.observed client.new) (S.observed server.old)
+            (S.observed server.new)
             pairs result }
         ensures whole { (old : Option (List ℕ)) (pairs : List Streams) (streams : Streams)
             → HasAdded W.written self.old old pairs
@@ -172,12 +173,14 @@ impl<W: Sink> Packing<W> {
         server: &mut S,
     ) -> Result<(), Error>
         ensures ok { OnOk result (HasConnection
-            (C.observed client.old) (C.observed client.new) (S.observed server.old) (S.observed server.new)
+            (C.observed client.old) (C.observed client.new) (S.observed server.old)
+            (S.observed server.new)
             (W.written (sink_of self.old)) (W.written (sink_of self.new))
             self.old.extent self.new.extent) }
         ensures one_more { OnOk result (self.new.connections ≡ self.old.connections + 1) }
         ensures err { IfErr result (FailsToAdd self.old
-            (C.observed client.old) (C.observed client.new) (S.observed server.old) (S.observed server.new)
+            (C.observed client.old) (C.observed client.new) (S.observed server.old)
+            (S.observed server.new)
             (W.written (sink_of self.old)) (W.written (sink_of self.new))) }
         ensures same_ending { ending_of self.new ≡ ending_of self.old }
         ensures read { CountsReadings

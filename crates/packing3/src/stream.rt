@@ -58,10 +58,12 @@ pub(crate) fn write_connection<C: Source, S: Source, W: Sink>(
     ensures room { extent.new.streamed ≤ max_bytes }
     ensures small { GrowsLittle 12 extent.old extent.new }
     ensures ok { OnOk result (HasConnection
-        (C.observed client.old) (C.observed client.new) (S.observed server.old) (S.observed server.new)
+        (C.observed client.old) (C.observed client.new) (S.observed server.old)
+        (S.observed server.new)
         (W.written sink.old) (W.written sink.new) extent.old extent.new) }
     ensures err { IfErr result (StopsInConnection
-        (C.observed client.old) (C.observed client.new) (S.observed server.old) (S.observed server.new)
+        (C.observed client.old) (C.observed client.new) (S.observed server.old)
+        (S.observed server.new)
         (W.written sink.old) (W.written sink.new) extent.old) }
     ensures read { CountsReadings
         (C.failures client.old) (C.failures client.new)

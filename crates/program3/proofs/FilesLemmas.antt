@@ -44,7 +44,8 @@ gave_prefix old new given bytes tells fresh gave =
 -- ---- what was read of a file
 
 -- what a source tells that reads a file
-abbrev pub observed_of : {R : Type 0} → (remaining : R → Option (List ℕ)) → TracedReader R → Observed
+abbrev pub observed_of : {R : Type 0} → (remaining : R → Option (List ℕ)) → TracedReader R
+    → Observed
 observed_of remaining source = record {
   left = remaining source.device;
   given = Some source.given;
@@ -68,7 +69,8 @@ prefix_of remaining whole name was now unread given bytes gave (inl begins) = re
   all = λ spent. begins.all spent.0;
 }
 prefix_of remaining whole name was now unread given bytes gave (inr is) =
-    gave_prefix (observed_of remaining was) (observed_of remaining now) given bytes (unread.left ∙ is)
+    gave_prefix (observed_of remaining was) (observed_of remaining now) given bytes
+    (unread.left ∙ is)
     (ap Some unread.given) gave
 
 -- a read that failed is the only one

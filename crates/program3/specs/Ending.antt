@@ -25,5 +25,6 @@ ReportsEnded ended out out_now err err_now told =
     ((report : Report) × IsReport ended.is_aside ended.outcome report
     × (told.status ≡ report.status) × Appends out out_now report.out.items
     × ReportsOnError told.is_reported err err_now report.err.items)
-    ⊎ ((told.status ≡ 3) × ReportsOnError told.is_reported err err_now (codes "write failed" ++ newline))
+    ⊎ ((told.status ≡ 3)
+    × ReportsOnError told.is_reported err err_now (codes "write failed" ++ newline))
     ⊎ ((told.status ≡ 3) × (out_now ≡ out) × (err_now ≡ err))

@@ -19,5 +19,6 @@ IsOfName name _ = ⊥
 
 -- the file by its name, or that memory ran out
 abbrev pub ReportsUnopened : List ℕ → OpenError → Outcome → Outcome → Type 0
-ReportsUnopened name causes.Unopened out_of_memory told = IsOfName name told ⊎ (told ≡ out_of_memory)
+ReportsUnopened name causes.Unopened out_of_memory told =
+    IsOfName name told ⊎ (told ≡ out_of_memory)
 ReportsUnopened name causes.Memory out_of_memory told = told ≡ out_of_memory

@@ -117,7 +117,8 @@ then_word name b body at z e =
 
 -- what follows a call's head changes nothing of its procedure
 pub procedure_read : (body : List ℕ) (xs more : List Item) (at to : ℕ)
-    → reading call_head body at ≡ Ok (xs, to) → procedure_in_head (xs ++ more) ≡ procedure_in_head xs
+    → reading call_head body at ≡ Ok (xs, to)
+    → procedure_in_head (xs ++ more) ≡ procedure_in_head xs
 unfolding reading call_head
 procedure_read body xs more at to e =
     let last = credential then verifier in

@@ -64,7 +64,8 @@ module _ {R S H : Type 0} {builds : BuildHasher.Ghosts S H} {hashes : Hasher.Gho
         let ended = step.hands_out in
         let gave = gave_on first so_far.gave step in
         let front =
-        prefix_of_observed first (observed (source_of new)) (so_far.given ++ step.more) bytes tells gave in
+        prefix_of_observed first (observed (source_of new)) (so_far.given ++ step.more) bytes tells
+        gave in
         let whole : so_far.given ++ step.more ≡ bytes = front.all ended.1 in
         (so_far.handed, subst (λ (b : List ℕ). Typed b so_far.handed) whole ended.0, so_far.holds)
 
@@ -75,8 +76,10 @@ module _ {R S H : Type 0} {builds : BuildHasher.Ghosts S H} {hashes : Hasher.Gho
     refused T (errors.Refused fault) bytes tells step =
         let gave = gave_on first so_far.gave step in
         let prefix =
-        prefix_of_observed first (observed (source_of new)) (so_far.given ++ step.more) bytes tells gave in
-        (shown_of_all (observed (source_of new)) (so_far.given ++ step.more) bytes so_far.handed fault
+        prefix_of_observed first (observed (source_of new)) (so_far.given ++ step.more) bytes tells
+        gave in
+        (shown_of_all (observed (source_of new)) (so_far.given ++ step.more) bytes so_far.handed
+        fault
         prefix step.hands_out.0).0
     refused T errors.Read bytes tells step = tt
     refused T errors.Write bytes tells step = tt

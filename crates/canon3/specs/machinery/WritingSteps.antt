@@ -6,12 +6,10 @@ use Rattle.std.specs.declared.hash.BuildHasher as BuildHasher
 use Rattle.std.specs.declared.hash.Hasher as Hasher
 use Rattle.xdr3.specs.Item.{Item}
 use Rattle.capture3.specs.declared.reader.entries.Entries.{Entries}
-use Rattle.capture3.specs.declared.reader.progress.Progress.{Progress}
 use Rattle.capture3.specs.declared.fault.Error.{Error}
 use Rattle.capture3.specs.Entries.{source_of}
 use Rattle.capture3.specs.machinery.EntriesHistory.{StandsFor}
 use Rattle.capture3.specs.Entry.{Entry}
-use Rattle.capture3.specs.Progress.{HasPassed}
 use Rattle.capture3.specs.Typed.{Typed}
 use Rattle.canon3.specs.EntryWriter.{IsStoppedBy}
 
@@ -26,33 +24,18 @@ module _ {T : Type 0} (form : List Entry → List ℕ) (before : List Entry → 
     pub written : Appends old new (form entries)
 
 -- all bytes were read, and is a capture with these entries
-pub record IsEnded (first observed : Observed) (given : List ℕ) (entries : List Entry) : Type 0 where
+pub record IsEnded (first observed : Observed) (given : List ℕ) (entries : List Entry) : Type
+    0 where
   pub consumed : Gave first observed given
   pub ended : IsSpent observed
   pub typed : Typed given entries
 
--- a writer to a sink, from when the source told this first, and the sink had the old bytes
-module _ {T : Type 0} (form : List Entry → List ℕ) (before : List Entry → List Item)
-    (rests : T → List Item → Type 0) (going : T → Type 0) (first : Observed)
-    (old : Option (List ℕ)) where
-  -- all bytes were a capture's, its entries came so far, and the form of all was written
-  pub record HasWrittenAll (observed : Observed) (writer : T) (progress : Progress)
-      (new : Option (List ℕ)) : Type 0 where
-    pub given : List ℕ
-    pub handed : List Entry
-    pub ended : IsEnded first observed given handed
-    pub came : HasPassed progress handed
-    pub writes : HasWritten form before rests going writer old new handed
-
-  -- an error came
-  pub record HasStopped (observed : Observed) (new : Option (List ℕ)) (error : Error) : Type 0 where
-    pub given : List ℕ
-    pub consumed : Gave first observed given
-    pub stopped : IsStoppedBy form error observed given old new
-
-  abbrev pub EndsWriting : Observed → T → (new : Option (List ℕ)) → Result Progress Error → Type 0
-  EndsWriting observed writer new (Ok progress) = HasWrittenAll observed writer progress new
-  EndsWriting observed writer new (Err error) = HasStopped observed new error
+-- an error came, from when the source was observed so first, and the sink had the old bytes
+pub record HasStopped (form : List Entry → List ℕ) (first : Observed) (old : Option (List ℕ))
+    (observed : Observed) (new : Option (List ℕ)) (error : Error) : Type 0 where
+  pub given : List ℕ
+  pub consumed : Gave first observed given
+  pub stopped : IsStoppedBy form error observed given old new
 
 -- a reader that hands out entries after these, from when the source told this first, and a writer
 -- to a sink, from when it had the old bytes
@@ -83,4 +66,4 @@ module _ {T R S H : Type 0} {builds : BuildHasher.Ghosts S H} {hashes : Hasher.G
       → Result X Error → Type 0
   WritesToTheEnd reader writer new (Ok x) = IsDone reader writer new
   WritesToTheEnd reader writer new (Err error) =
-      HasStopped form before rests going first old (observed (source_of reader)) new error
+      HasStopped form first old (observed (source_of reader)) new error

@@ -2,11 +2,17 @@
 
 use crate::entries::entry_writer::EntryWriter;
 use crate::sink::Sink;
+use crate::summary::MessageCounts;
 use capture3::{Error, LentEntry, Progress, Silent};
 
 impl EntryWriter for Silent {
     ghost use Rattle.std.specs.Prelude.{[]};
     ghost use Rattle.canon3.specs.HandleTable.{nothing};
+    ghost use Rattle.canon3.specs.Summary.{AreMessageCounts};
+
+    type Counts = MessageCounts;
+
+    ghost are_counts = { AreMessageCounts };
 
     ghost form = { nothing };
 
@@ -21,5 +27,9 @@ impl EntryWriter for Silent {
         _entry: LentEntry<'_>,
     ) -> Result<(), Error> {
         Ok(())
+    }
+
+    fn counts(&self, progress: Progress) -> MessageCounts {
+        MessageCounts::of(progress)
     }
 }

@@ -7,9 +7,10 @@ ghost use Rattle.canon3.specs.HandleTable.{Gathers, same_handle};
 ghost use Rattle.capture3.specs.Rank.{distinct, number_limit, HoldsDistinct};
 ghost use Rattle.canon3.specs.Values.{handles_in};
 
-use crate::entries::entry_writer::{CountingWriter, EntryWriter};
+use crate::entries::entry_writer::EntryWriter;
 use crate::numbers::Numbers;
 use crate::sink::Sink;
+use crate::summary::Summary;
 use capture3::{Error, LentEntry, MessageVisit, Progress};
 use nfs3_types::Handle;
 use rpc_head::Start;
@@ -122,6 +123,11 @@ impl<S: BuildHasher + Drop> MessageVisit for HandleTable<S> {
 /// A writer of nothing, for callers that only want to know what a capture has.
 impl<S: BuildHasher + Drop> EntryWriter for HandleTable<S> {
     ghost use Rattle.canon3.specs.HandleTable.{all_items, always_going, nothing};
+    ghost use Rattle.canon3.specs.Summary.{IsSummary};
+
+    type Counts = Summary;
+
+    ghost are_counts = { IsSummary };
 
     ghost form = { nothing };
 
@@ -138,10 +144,8 @@ impl<S: BuildHasher + Drop> EntryWriter for HandleTable<S> {
     ) -> Result<(), Error> {
         Ok(())
     }
-}
 
-impl<S: BuildHasher + Drop> CountingWriter for HandleTable<S> {
-    fn handles(&self) -> u32 {
-        self.len()
+    fn counts(&self, progress: Progress) -> Summary {
+        Summary::of(progress, self.len())
     }
 }

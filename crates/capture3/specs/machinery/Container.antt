@@ -3,7 +3,7 @@ use Rattle.std.specs.Prelude.{◌≡◌, ◌≢◌, ◌⊎◌, ◌+◌, ◌-◌,
 use Rattle.record_mark.specs.Joining.{Joining, Between, Whole, TooLong, join_next}
 use Rattle.xdr3.specs.declared.reason.Reason.TheVariants.{RecordCut, RecordTooLong}
 use Rattle.record_mark.specs.Machine.{Run, Runs, Stops, after}
-use Rattle.record_mark.specs.Taking.{Taking, IsRunning, IsWhole, body_of, joined_body, joining_of, unbegun}
+use Rattle.record_mark.specs.Taking.{Taking, IsRunning, IsWhole, body_of, joined_body, joining_of, released, unbegun}
 use Rattle.capture3.specs.declared.fault.Error.{Error}
 use Rattle.capture3.specs.declared.fault.Error.TheVariants as errors
 use Rattle.capture3.specs.declared.container.position.spot.Event.{Event}
@@ -16,7 +16,8 @@ use Rattle.capture3.specs.Capture.{Two}
 use Rattle.capture3.specs.SidedChunks as sided
 use Rattle.capture3.specs.SidedChunks.{size}
 use Rattle.capture3.specs.declared.container.position.Position.{Position}
-use Rattle.capture3.specs.machinery.Position.{AreEmpty, cost_of, IsBeforeMark, room_of, ShowsFault, StoredAt, StoredWith, unpacking_at}
+use Rattle.capture3.specs.declared.container.position.Transition.{Transition}
+use Rattle.capture3.specs.machinery.Position.{AreEmpty, cost_of, IsBeforeMark, room_of, ShowsFault, StoredAt, StoredWith, TakesSome, unpacking_at}
 use Rattle.capture3.specs.machinery.ContainerMachine.{Unpacking, Unpacked, Has, HasStreams, fault_in_record, unpack_next}
 
 -- with a record its body, and else no whole record
@@ -207,3 +208,21 @@ pub data ComesToFault (old : Container) (bytes : List ℕ) (error : Error) : Typ
       → RecallFails first_cursor mid.position mid.streams.kept error → ComesToFault old bytes error
   InNextKept : (cursor : Cursor) → old.cursor ≡ Some cursor
       → RecallFails cursor old.position old.streams.kept error → ComesToFault old bytes error
+
+-- What is whole next, and how many bytes of a piece were taken for it: none if it is of kept
+-- streams. The container stays ready for the next bytes.
+pub record ComesNext (old new : Container) (piece : List ℕ) (next : ℕ × Option Event) : Type 0 where
+  pub taken : TakesPiece piece next
+  pub recalling : old.cursor ≢ None → (next.0 ≡ 0) × (next.1 ≢ None)
+  pub opened : next.1 ≢ Some Streams
+  pub comes : Comes old new (take next.0 piece) next.1
+  pub joiner : Leaves next.1 new.joiner.taking
+  pub ready : CanGoOn new.cursor (released new.joiner.taking) new
+  pub room : room_in new + cost_of next.1 new.streams.kept ≤ room_in old
+
+-- some bytes were taken, and what is whole with them; the position is returned, and not put yet
+pub record StepsTo (old new : Container) (rest : List ℕ) (step : Transition) : Type 0 where
+  pub taken : TakesSome rest step
+  pub reaches : Reaches old (take step.count rest) step.event step.position new
+  pub cursor : new.cursor ≡ old.cursor
+  pub position : new.position ≡ old.position

@@ -1,6 +1,6 @@
 -- The histories for which a reader of entries stands: what its source gave it, and what it handed
 -- out.
-use Rattle.std.specs.Prelude.{◌≡◌, ℕ, ◌+◌, ◌≤◌, Option, Some, None, Result, Ok, Err, List, [], ◌∷◌, ◌++◌, length, slice_range, ◌≢◌, ◌<◌, Bool, IsTrue, IsFalse, IsSome, OnErr, OnOk}
+use Rattle.std.specs.Prelude.{◌≡◌, ℕ, ◌+◌, ◌≤◌, Option, Some, None, Result, List, [], ◌∷◌, ◌++◌, length, slice_range, ◌≢◌, ◌<◌, Bool, IsTrue, IsFalse, IfErr, OnErr}
 use Rattle.capture3.specs.Observed.{Observed, Gave, IsSpent}
 use Rattle.xdr3.specs.Item.{AreBytes, Item}
 use Rattle.std.specs.declared.hash.BuildHasher as BuildHasher
@@ -11,7 +11,6 @@ use Rattle.capture3.specs.declared.reader.entries.Stage.TheVariants.{Reading, Ov
 use Rattle.capture3.specs.declared.reader.entry.Kind.{Kind}
 use Rattle.capture3.specs.declared.fault.Error.{Error}
 use Rattle.capture3.specs.declared.fault.Error.TheVariants as errors
-use Rattle.capture3.specs.declared.fault.Noted.{Noted}
 use Rattle.capture3.specs.declared.container.Container.{Container}
 use Rattle.capture3.specs.machinery.Container.{room_in}
 use Rattle.capture3.specs.machinery.CountedCalls.{known_of}
@@ -24,12 +23,6 @@ use Rattle.capture3.specs.Laws.{most_entries}
 use Rattle.capture3.specs.Progress.{AreCounted, calls_in, replies_in}
 use Rattle.capture3.specs.Typed.{Typed}
 use Rattle.capture3.specs.Entries.{block_size, CountsReads, failure_of, IsMetBy, KeepsLimits, last_of, loan_of, source_of}
-
--- what is answered, where an error is the one that is noted
-abbrev pub answer_in : {X : Type 0} → Option Error → Result X Noted → Result X Error
-answer_in failure (Ok x) = Ok x
-answer_in (Some error) (Err noted) = Err error
-answer_in None (Err noted) = Err errors.Memory
 
 -- how many entries there can be from here on
 abbrev pub entries_left_in : Stage → Container → ℕ
@@ -71,7 +64,8 @@ module _ {R S H : Type 0} {builds : BuildHasher.Ghosts S H} {hashes : Hasher.Gho
         handed
     pub messages : CountedMessages entries handed
 
-  abbrev pub StandsIn : Stage → Observed → Entries R S H builds hashes → List ℕ → List Entry → Type 0
+  abbrev pub StandsIn : Stage → Observed → Entries R S H builds hashes → List ℕ → List Entry
+      → Type 0
   StandsIn Reading observed entries given handed = IsReading entries given handed
   StandsIn Over observed entries given handed = Typed given handed × IsSpent observed
       × AreCounted entries.pairing.container.position.connections
@@ -79,7 +73,8 @@ module _ {R S H : Type 0} {builds : BuildHasher.Ghosts S H} {hashes : Hasher.Gho
   StandsIn (Failed error) observed entries given handed = IsMetBy error observed given handed
 
   -- the source gave these bytes since the reader was new, and the reader handed out these entries
-  pub record StandsFor (observed : R → Observed) (entries : Entries R S H builds hashes) (given : List ℕ)
+  pub record StandsFor (observed : R → Observed) (entries : Entries R S H builds hashes)
+      (given : List ℕ)
       (handed : List Entry) : Type 0 where
     pub bytes : AreBytes given
     pub few : length handed + entries_left entries ≤ most_entries
@@ -88,19 +83,22 @@ module _ {R S H : Type 0} {builds : BuildHasher.Ghosts S H} {hashes : Hasher.Gho
     pub here : StandsIn entries.stage (observed entries.source.now) entries given handed
 
   -- the source gave more bytes
-  pub record HasRead (observed : R → Observed) (old new : Entries R S H builds hashes) (given : List ℕ)
+  pub record HasRead (observed : R → Observed) (old new : Entries R S H builds hashes)
+      (given : List ℕ)
       (handed : List Entry) : Type 0 where
     pub more : List ℕ
     pub consumed : Gave (observed old.source.now) (observed new.source.now) more
     pub stands : StandsFor observed new (given ++ more) handed
 
   -- this entry is handed out and told; or none is, and it goes on or has failed
-  abbrev pub HandsOutOrGoesOn : {V : Type 0} → (R → Observed) → (rests stands : V → List Item → Type 0)
+  abbrev pub HandsOutOrGoesOn : {V : Type 0} → (R → Observed)
+      → (rests stands : V → List Item → Type 0)
       → Entries R S H builds hashes → (was now : V) → List ℕ → List Entry → Option Kind → Type 0
   HandsOutOrGoesOn observed rests stands new was now given handed (Some kind) =
       (entry : Entry) × IsOfKind kind entry × Hears rests stands was now entry
       × StandsFor observed new given (handed ++ entry ∷ [])
-  HandsOutOrGoesOn observed rests stands new was now given handed None = StandsFor observed new given handed
+  HandsOutOrGoesOn observed rests stands new was now given handed None =
+      StandsFor observed new given handed
 
   pub record Turns {V : Type 0} (observed : R → Observed) (rests stands : V → List Item → Type 0)
       (old new : Entries R S H builds hashes) (was now : V) (given : List ℕ)
@@ -117,44 +115,30 @@ module _ {R S H : Type 0} {builds : BuildHasher.Ghosts S H} {hashes : Hasher.Gho
   IsUsedUp entries = (entries.start ≡ entries.end) × (entries.pairing.container.cursor ≡ None)
 
   -- whether bytes are at hand, or kept streams; if not, the source has none left
-  pub record FillsOrEnds (observed : R → Observed) (new : Entries R S H builds hashes) (more : Bool) : Type
+  pub record FillsOrEnds (observed : R → Observed) (new : Entries R S H builds hashes)
+      (more : Bool) : Type
       0 where
     pub some : IsTrue more → new.pairing.container.cursor ≡ None → new.start < new.end
     pub none : IsFalse more → IsUsedUp new
     pub end : IsFalse more → IsSpent (observed (source_of new))
 
-  -- if no entry is whole yet: bytes were judged, no visitor was called, and it reads on
-  pub record JudgesOn {V : Type 0} (old new : Entries R S H builds hashes) (was now : V) : Type
-      0 where
-    pub on : last_of new ≡ None → old.judged < new.judged
-    pub unmoved : last_of new ≡ None → now ≡ was
-    pub no_more : last_of new ≡ None → entries_left new ≤ entries_left old
-    pub reading : last_of new ≡ None → new.stage ≡ Reading
-
   -- a failure is noted for good, and no entry is lent
   pub record NotesFailure {X : Type 0} (new : Entries R S H builds hashes)
-      (result : Result X Noted) : Type 0 where
-    pub failed : OnErr result (IsSome (failure_of new))
+      (result : Result X Error) : Type 0 where
+    pub failed : IfErr result (λ error. failure_of new ≡ Some error)
     pub unlent : OnErr result (last_of new ≡ None)
-
-  -- the same, or an entry is lent, of which there are fewer to come
-  pub record LendsOrFails {X : Type 0} (old new : Entries R S H builds hashes)
-      (result : Result X Noted) : Type 0 where
-    pub fewer : IsSome (last_of new) → entries_left new < entries_left old
-    pub going : OnOk result (failure_of new ≡ None)
-    pub failure : NotesFailure new result
 
   -- The source is read once at most. The block and the reference to the source stay.
   pub record ReadsOnce {X : Type 0} (failures : R → ℕ) (old new : Entries R S H builds hashes)
-      (result : Result X Noted) : Type 0 where
-    pub read : CountsReads failures old new (answer_in (failure_of new) result)
+      (result : Result X Error) : Type 0 where
+    pub read : CountsReads failures old new result
     pub same_block : block_size new ≡ block_size old
     pub same_reference : loan_of new ≡ loan_of old
 
   -- The source is not read, and so no read failed.
   pub record ReadsNothing {X : Type 0} (old new : Entries R S H builds hashes)
-      (result : Result X Noted) : Type 0 where
-    pub never_reads : OnErr result (failure_of new ≢ Some errors.Read)
+      (result : Result X Error) : Type 0 where
+    pub never_reads : IfErr result (λ error. error ≢ errors.Read)
     pub unread : source_of new ≡ source_of old
     pub same_block : block_size new ≡ block_size old
     pub same_reference : loan_of new ≡ loan_of old

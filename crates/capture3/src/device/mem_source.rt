@@ -69,7 +69,8 @@ impl Source for MemSource<'_> {
         ensures within { IfOk result (λ n. n ≤ length buf.new) }
         ensures bytes { ReadGives (observed_in_memory self.old) (observed_in_memory self.new) result
             buf.new }
-        ensures spent { UpdatesSpent (observed_in_memory self.old) (observed_in_memory self.new) result }
+        ensures spent { UpdatesSpent (observed_in_memory self.old) (observed_in_memory self.new)
+            result }
         ensures count { Counts self.old.failures self.new.failures result }
 
         // How many bytes a call gives, and which call fails.

@@ -84,7 +84,7 @@ impl<'r, R: Source, S: BuildHasher + Drop> Entries<'r, R, S> {
     ghost use Rattle.capture3.specs.machinery.Stepping.{IsNextOfKind, kind_lent, kind_read};
     ghost use Rattle.capture3.specs.Numbering.{number_after, number_lent};
     ghost use Rattle.capture3.specs.Progress.{HasPassed};
-    ghost use Rattle.capture3.specs.machinery.EntriesHistory.{entries_left, HandsOutOrGoesOn, FillsOrEnds, HasRead, IsUsedUp, LendsOrFails, NotesFailure, ReadsNothing, JudgesOn, ReadsOnce, StandsFor, Turns};
+    ghost use Rattle.capture3.specs.machinery.EntriesHistory.{entries_left, FillsOrEnds, HasRead, IsUsedUp, NotesFailure, ReadsNothing, ReadsOnce, StandsFor};
 
     /// Returns a reader through a block that is not empty. It reads nothing yet. The hasher is for
     /// the calls of a connection by their xids, and affects no result.
@@ -207,7 +207,8 @@ impl<'r, R: Source, S: BuildHasher + Drop> Entries<'r, R, S> {
         // What is returned, and which entry is lent.
         ensures answers { (given : List ℕ) (handed : List spec.Entry)
             → StandsFor R.observed self.old given handed
-            → HandsOutGiven R.observed (IsNextOfKind V.rests V.stands visitor.old visitor.new) self.old
+            → HandsOutGiven R.observed (IsNextOfKind V.rests V.stands visitor.old visitor.new)
+            self.old
             self.new given handed result }
         ensures end { result ≡ Ok (Some Kind.End) → IsOver self.new }
         ensures over { IsOver self.old → (result ≡ Ok None) × (self.new ≡ self.old) }
@@ -225,13 +226,40 @@ impl<'r, R: Source, S: BuildHasher + Drop> Entries<'r, R, S> {
         ensures device { UsesSource R.failures self.old self.new result }
     {
         match self.stage {
-            Stage::Reading => match self.next_entry(visitor) {
-                Ok(()) => Ok(self.pairing.last),
-                Err(Noted) => Err(self.failure()),
-            },
-            Stage::Over => Ok(None),
-            Stage::Failed(error) => Err(error),
+            Stage::Reading => {}
+            Stage::Over => return Ok(None),
+            Stage::Failed(error) => return Err(error),
         }
+        while self.judged <= MOST_JUDGED {
+            // Written out, since `?` takes more instructions for each message.
+            match self.refill() {
+                Ok(true) => {}
+                Ok(false) => return self.finish(),
+                Err(error) => return Err(error),
+            }
+            let piece = &self.block[self.start..self.end];
+            match self.pairing.next(piece, visitor) {
+                Ok(count) => {
+                    self.start += count;
+                    self.judged += count as u64;
+                }
+                Err(Noted) => {
+                    self.pairing.last = None;
+                    self.stage = Stage::Failed(self.pairing.error);
+                    return Err(self.pairing.error);
+                }
+            }
+            if self.pairing.last.is_some() {
+                return Ok(self.pairing.last);
+            }
+        }
+        let error = Error::Refused(Fault {
+            place: Place::File { at: self.judged },
+            reason: Reason::AfterEnd,
+        });
+        self.pairing.last = None;
+        self.stage = Stage::Failed(error);
+        Err(error)
     }
 
     /// Returns how far the entries have come that were lent. After an error it says nothing.
@@ -275,57 +303,6 @@ impl<'r, R: Source, S: BuildHasher + Drop> Entries<'r, R, S> {
         }
     }
 
-    /// Returns the error for good.
-    #[inline(always)]
-    fn failure(&self) -> Error
-        requires { IsSome (failure_of self.now) }
-        ensures { failure_of self.now ≡ Some result }
-    {
-        match self.stage {
-            Stage::Failed(error) => error,
-            _ => unreachable!(),
-        }
-    }
-
-    /// Reads the next entry of a capture whose end was not returned.
-    fn next_entry<V: MessageVisit>(&mut self, visitor: &mut V) -> Result<(), Noted>
-        requires reading { self.old.stage ≡ Stage.Reading }
-
-        // Which entry is lent.
-        ensures turns { (given : List ℕ) (handed : List spec.Entry)
-            → StandsFor R.observed self.old given handed
-            → Turns R.observed V.rests V.stands self.old self.new visitor.old visitor.new given handed }
-        ensures end { last_of self.new ≡ Some Kind.End → IsOver self.new }
-        ensures some { OnOk result (IsSome (last_of self.new)) }
-        ensures lends { LendsOrFails self.old self.new result }
-
-        // The device.
-        ensures device { ReadsOnce R.failures self.old self.new result }
-    {
-        while self.judged <= MOST_JUDGED {
-            // Written out, since `?` takes more instructions for each message.
-            match self.refill() {
-                Ok(true) => {}
-                Ok(false) => return self.finish(),
-                Err(Noted) => return Err(Noted),
-            }
-            match self.judge(visitor) {
-                Ok(()) => {}
-                Err(Noted) => return Err(Noted),
-            }
-            if self.pairing.last.is_some() {
-                return Ok(());
-            }
-        }
-        self.pairing.last = None;
-        // Written out, since a call's result takes instructions for each message.
-        self.stage = Stage::Failed(Error::Refused(Fault {
-            place: Place::File { at: self.judged },
-            reason: Reason::AfterEnd,
-        }));
-        Err(Noted)
-    }
-
     /// Returns whether all bytes at hand are checked, and no kept streams are left.
     fn is_used_up(&self) -> bool
         ensures used_up { IsTrue result → IsUsedUp self.now }
@@ -337,7 +314,7 @@ impl<'r, R: Source, S: BuildHasher + Drop> Entries<'r, R, S> {
 
     /// Reads the next block if nothing is left at hand. Returns `false` at the end of the bytes.
     #[inline(always)]
-    fn refill(&mut self) -> Result<bool, Noted>
+    fn refill(&mut self) -> Result<bool, Error>
         requires reading { self.old.stage ≡ Stage.Reading }
         requires bounded { self.old.judged ≤ most_bytes Two + 1 }
 
@@ -370,46 +347,13 @@ impl<'r, R: Source, S: BuildHasher + Drop> Entries<'r, R, S> {
             Err(_) => {
                 self.pairing.last = None;
                 self.stage = Stage::Failed(Error::Read);
-                Err(Noted)
-            }
-        }
-    }
-
-    /// Checks what is left up to the next entry: kept streams, or the rest of the block.
-    fn judge<V: MessageVisit>(&mut self, visitor: &mut V) -> Result<(), Noted>
-        requires reading { self.old.stage ≡ Stage.Reading }
-        requires bounded { self.old.judged ≤ most_bytes Two + 1 }
-        requires some { self.old.pairing.container.cursor ≡ None → self.old.start < self.old.end }
-
-        // Which entry is lent.
-        ensures goes_on { (given : List ℕ) (handed : List spec.Entry)
-            → StandsFor R.observed self.old given handed
-            → HandsOutOrGoesOn R.observed V.rests V.stands self.new visitor.old visitor.new given handed
-            (last_of self.new) }
-        ensures not_end { last_of self.new ≢ Some Kind.End }
-        ensures on { OnOk result (JudgesOn self.old self.new visitor.old visitor.new) }
-        ensures lends { LendsOrFails self.old self.new result }
-
-        // The device is not read.
-        ensures device { ReadsNothing self.old self.new result }
-    {
-        let piece = &self.block[self.start..self.end];
-        match self.pairing.next(piece, visitor) {
-            Ok(count) => {
-                self.start += count;
-                self.judged += count as u64;
-                Ok(())
-            }
-            Err(Noted) => {
-                self.pairing.last = None;
-                self.stage = Stage::Failed(self.pairing.error);
-                Err(Noted)
+                Err(Error::Read)
             }
         }
     }
 
     /// Ends the capture, of which no byte is left.
-    fn finish(&mut self) -> Result<(), Noted>
+    fn finish(&mut self) -> Result<Option<Kind>, Error>
         requires reading { self.old.stage ≡ Stage.Reading }
         requires used_up { IsUsedUp self.old }
         requires end { IsSpent (R.observed (source_of self.old)) }
@@ -421,6 +365,7 @@ impl<'r, R: Source, S: BuildHasher + Drop> Entries<'r, R, S> {
         ensures err { (given : List ℕ) (handed : List spec.Entry)
             → StandsFor R.observed self.old given handed
             → OnErr result (StandsFor R.observed self.new given handed) }
+        ensures end { IfOk result (λ next. next ≡ Some Kind.End) }
         ensures last { OnOk result (last_of self.new ≡ Some Kind.End) }
         ensures over { OnOk result (self.new.stage ≡ Stage.Over) }
 
@@ -434,12 +379,12 @@ impl<'r, R: Source, S: BuildHasher + Drop> Entries<'r, R, S> {
             Ok(()) => {
                 self.pairing.last = Some(Kind::End);
                 self.stage = Stage::Over;
-                Ok(())
+                Ok(Some(Kind::End))
             }
             Err(error) => {
                 self.pairing.last = None;
                 self.stage = Stage::Failed(error);
-                Err(Noted)
+                Err(error)
             }
         }
     }

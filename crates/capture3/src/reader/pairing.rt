@@ -103,14 +103,30 @@ impl<C: CallTable + Drop> Pairing<C> {
         self.last = None;
         self.container.release();
         // Written out, since `?` takes more instructions for each message.
-        match self.container.next(piece, &mut self.error) {
-            Ok((count, Some(event))) => match self.entry(event, visitor) {
-                Ok(()) => Ok(count),
-                Err(Noted) => Err(Noted),
+        let (count, event) = match self.container.next(piece, &mut self.error) {
+            Ok(next) => next,
+            Err(Noted) => return Err(Noted),
+        };
+        match event {
+            Some(Event::Begin) => {
+                self.calls.clear();
+                self.last = Some(Kind::Begin);
+            }
+            Some(Event::Record(Side::Client)) => match self.call(visitor) {
+                Ok(()) => {}
+                Err(Noted) => return Err(Noted),
             },
-            Ok((count, None)) => Ok(count),
-            Err(Noted) => Err(Noted),
+            Some(Event::Record(Side::Server)) => match self.reply(visitor) {
+                Ok(()) => {}
+                Err(Noted) => return Err(Noted),
+            },
+            Some(Event::Turn) => self.last = Some(Kind::Turn),
+            Some(Event::Close) => self.last = Some(Kind::Close),
+            // The container gives what the streams hold, and not the streams.
+            Some(Event::Streams) => unreachable!(),
+            None => {}
         }
+        Ok(count)
     }
 
     /// Returns whether `next` takes no byte for what it returns, because kept streams are checked.
@@ -170,38 +186,6 @@ impl<C: CallTable + Drop> Pairing<C> {
             { place = Place.File size; reason = Reason.CaptureCut }))) }
     {
         self.container.end(size)
-    }
-
-    /// Takes the entry that is whole.
-    fn entry<V: MessageVisit>(&mut self, event: Event, visitor: &mut V) -> Result<(), Noted>
-        requires leaves { Leaves (Some event) self.old.container.joiner.taking }
-        requires opened { event ≢ Event.Streams }
-        ensures container { self.new.container ≡ self.old.container }
-        ensures inside { OnOk result (IsInside self.new.last) }
-        ensures counted { OnOk result (CountsMessages self.new.last self.old.calls_taken
-            self.old.replies_taken self.new.calls_taken self.new.replies_taken) }
-        ensures machine { (bytes : List ℕ) (entries : List spec.Entry)
-            → MeetsEvent self.old.container (C.known self.old.calls) event bytes entries
-            → OnOk result (GoesTo V.rests V.stands visitor.old visitor.new self.new.last
-            self.new.number self.new.container (C.known self.new.calls) bytes entries) }
-        ensures fault { (bytes : List ℕ) (entries : List spec.Entry)
-            → MeetsEvent self.old.container (C.known self.old.calls) event bytes entries
-            → OnErr result (FailsAt bytes entries self.new.error) }
-        ensures device { OnErr result (IsOfBytes self.new.error) }
-    {
-        match event {
-            Event::Begin => {
-                self.calls.clear();
-                self.last = Some(Kind::Begin);
-            }
-            Event::Record(Side::Client) => return self.call(visitor),
-            Event::Record(Side::Server) => return self.reply(visitor),
-            Event::Turn => self.last = Some(Kind::Turn),
-            Event::Close => self.last = Some(Kind::Close),
-            // The container gives what the streams hold, and not the streams.
-            Event::Streams => unreachable!(),
-        }
-        Ok(())
     }
 
     /// Takes the call that is whole, which joins the calls of its connection.

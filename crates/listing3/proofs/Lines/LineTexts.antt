@@ -144,7 +144,8 @@ stop_word : (l : List ℕ) → Ends l → Stops IsInWord l
 stop_word [] s = s
 stop_word (c ∷ l) s = λ h. absurd (omega arith)
 
-same_message : (id other : ProcId) (a b : List Item) (t u : List ℕ) → IsDetermined a → IsDetermined b
+same_message : (id other : ProcId) (a b : List Item) (t u : List ℕ) → IsDetermined a
+    → IsDetermined b
     → message_text id a ++ t ≡ message_text other b ++ u → (a ≡ b) × (t ≡ u)
 same_message id other [] b t u h k e = absurd (h.some refl)
 same_message id other (i ∷ a) [] t u h k e = absurd (k.some refl)
@@ -300,7 +301,8 @@ module _ (c d : ℕ) (s : List ℕ) (small : c < 2 ^ 64) (other_small : d < 2 ^ 
       apart p.0 p.1
 
 none_later : (n c : ℕ) (s : List ℕ) (cs : List Conversation) → AllByRecursion IsInWord s → c ≤ n
-    → n + length cs < 2 ^ 32 → AllByRecursion IsDeterminedConversation cs → NoLine c s (all_text n cs)
+    → n + length cs < 2 ^ 32 → AllByRecursion IsDeterminedConversation cs
+    → NoLine c s (all_text n cs)
 none_later n c s [] w le few h = λ k m ks me e. some_line c k s m e
 none_later n c s (x ∷ cs) w le few h =
     let later = none_later (n + 1) c s cs w (omega arith) (omega arith) h.1 in
@@ -313,7 +315,8 @@ none_later n c s (x ∷ cs) w le few h =
 -- ---- equal text
 
 same_calls : (c k : ℕ) (a b : List (List Item)) (t u : List ℕ) → c < 2 ^ 64 → k + length a < 2 ^ 64
-    → k + length b < 2 ^ 64 → AllByRecursion IsDetermined a → AllByRecursion IsDetermined b → NoLine c client t
+    → k + length b < 2 ^ 64 → AllByRecursion IsDetermined a → AllByRecursion IsDetermined b
+    → NoLine c client t
     → NoLine c client u
     → calls_text c k a t ≡ calls_text c k b u → (a ≡ b) × (t ≡ u)
 same_calls c k [] [] t u small la lb h g s r e = (refl, e)

@@ -5,7 +5,6 @@ use Rattle.rpc_head.specs.Names.{head_names}
 use Rattle.capture3.specs.Entry.{Entry}
 use Rattle.canon3.specs.Values.{handles_in}
 use Rattle.canon3.specs.HandleTable.{all_items}
-use Rattle.listing3.specs.declared.items_text.ItemsText.{ItemsText}
 use Rattle.listing3.specs.declared.line_writer.LineWriter.{LineWriter}
 use Rattle.listing3.specs.machinery.ItemsText.{TextStands}
 

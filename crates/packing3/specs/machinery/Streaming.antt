@@ -37,7 +37,8 @@ GrowsLittle room extent after =
 
 -- A chunk of the next n bytes of the source is written: of fewer than fill it only where no more
 -- are left, and no chunk where there are none.
-pub record HasChunk (old_observed observed : Observed) (old written : Option (List ℕ)) (extent after : Extent)
+pub record HasChunk (old_observed observed : Observed) (old written : Option (List ℕ))
+    (extent after : Extent)
     (n : ℕ) : Type 0 where
   pub chunk : List ℕ
   pub consumed : Gave old_observed observed chunk
@@ -77,7 +78,8 @@ pub record IsStopped (old written : Option (List ℕ)) (bytes : List ℕ) (at to
   pub observed : Explains error (at + length front) next total
 
 -- a front is written of the chunk of what was read
-pub record StopsInChunk (old_observed observed : Observed) (old written : Option (List ℕ)) (extent : Extent)
+pub record StopsInChunk (old_observed observed : Observed) (old written : Option (List ℕ))
+    (extent : Extent)
     (error : Error) : Type 0 where
   pub chunk : List ℕ
   pub consumed : Gave old_observed observed chunk
@@ -86,7 +88,8 @@ pub record StopsInChunk (old_observed observed : Observed) (old written : Option
       (extent.streamed + length chunk) error
 
 -- a front is written of the stream of what was read
-pub record StopsInStream (old_observed observed : Observed) (old written : Option (List ℕ)) (extent : Extent)
+pub record StopsInStream (old_observed observed : Observed) (old written : Option (List ℕ))
+    (extent : Extent)
     (error : Error) : Type 0 where
   pub stream : List ℕ
   pub bytes : List ℕ

@@ -175,7 +175,8 @@ module _ {R S H : Type 0} {builds : BuildHasher.Ghosts S H} {hashes : Hasher.Gho
 
 -- all that were left were handed out
 pub read_out : {R S H T X : Type 0} {builds : BuildHasher.Ghosts S H} {hashes : Hasher.Ghosts H}
-    (telling : R → Observed) (start : Observed) (handed : List Entry) (before : List Entry → List Item)
+    (telling : R → Observed) (start : Observed) (handed : List Entry)
+    (before : List Entry → List Item)
     (rests : T → List Item → Type 0) (going : T → Type 0) (reader : Entries R S H builds hashes)
     (writer : T) (new : Option (List ℕ)) (result : Result X Error)
     → WritesToTheEnd nothing before rests going telling start handed None reader writer new result

@@ -48,7 +48,8 @@ module _ (form : List Entry → List ℕ) (prefixes : KeepsPrefixes form) where
   pub met_stops : (error : Error) (observed : Observed) (old new : Option (List ℕ)) (given : List ℕ)
       (entries : List Entry) → IsMetBy error observed given entries → Appends old new (form entries)
       → IsStoppedBy form error observed given old new
-  met_stops (errors.Refused fault) observed old new given entries met written = (entries, met, written)
+  met_stops (errors.Refused fault) observed old new given entries met written =
+      (entries, met, written)
   met_stops errors.Read observed old new given entries met written = (entries, met, written)
   met_stops errors.Write observed old new given entries met written = absurd met
   met_stops errors.Memory observed old new given entries met written =
@@ -103,7 +104,8 @@ pub new_writing : {R S H T : Type 0} {builds : BuildHasher.Ghosts S H} {hashes :
     {rests : T → List Item → Type 0} {going : T → Type 0} {old : Option (List ℕ)}
     {reader : Entries R S H builds hashes} {writer : T} (observed : R → Observed)
     → StandsFor observed reader [] [] → going writer → rests writer (before []) → form [] ≡ []
-    → IsWriting form before rests going observed (observed (source_of reader)) [] old reader writer old
+    → IsWriting form before rests going observed (observed (source_of reader)) [] old reader writer
+    old
 new_writing {old = old} {reader = reader} observed stands goes new empty = record {
   given = [];
   more = [];
@@ -114,7 +116,8 @@ new_writing {old = old} {reader = reader} observed stands goes new empty = recor
 
 module _ {R S H T : Type 0} {builds : BuildHasher.Ghosts S H} {hashes : Hasher.Ghosts H}
     {form : List Entry → List ℕ} {before : List Entry → List Item}
-    {rests : T → List Item → Type 0} {going : T → Type 0} {observed : R → Observed} {first : Observed}
+    {rests : T → List Item → Type 0} {going : T → Type 0} {observed : R → Observed}
+    {first : Observed}
     {front : List Entry} {old between : Option (List ℕ)}
     {reader later : Entries R S H builds hashes} {was heard : T} {progress : Progress}
     {lent : LentEntry} (stands : T → List Item → Type 0)
@@ -162,7 +165,7 @@ module _ {R S H T : Type 0} {builds : BuildHasher.Ghosts S H} {hashes : Hasher.G
       → IsOfWriting error
       → WritesOne form before rests stands going heard heard progress lent between new
       {X = Unit {0}} (Err error)
-      → HasStopped form before rests going first old (observed (source_of later)) new error
+      → HasStopped form first old (observed (source_of later)) new error
   stops_at {new = new} prefixes error of wrote = record {
     given = u.given ++ a.more;
     consumed = gave_on first u.consumed a;

@@ -4,7 +4,8 @@ use Rattle.canon3.proofs.Lemmas.Writing.Visiting.{items_of_writer-same}
 
 module _ {S H : Type 0} (n : MessageWriter S H) (before : Before) where
   -- the tables hold what was there before, and nothing is noted
-  pub rests : HoldsBefore n before → Makes n.patches [] [] → WriterRests n (items_of_writer before [])
+  pub rests : HoldsBefore n before → Makes n.patches [] []
+      → WriterRests n (items_of_writer before [])
   rests h none going = record { before = before; are = refl; holds = h; fresh = none }
 
   pub is_held : IsGoing n → WriterRests n (items_of_writer before []) → HoldsBefore n before

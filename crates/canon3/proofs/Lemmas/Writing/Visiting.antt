@@ -292,7 +292,8 @@ module _ {S H : Type 0} (n : MessageWriter S H) (noted : Noted) where
         before = b.before;
         items = b.items ++ more;
         are =
-            ap (λ (l : List Item). l ++ more) b.are ∙ sym (items_of_writer-append b.before b.items more);
+            ap (λ (l : List Item). l ++ more) b.are
+            ∙ sym (items_of_writer-append b.before b.items more);
         under_way = record {
           name = u.name;
           xid = u.xid;

@@ -26,7 +26,8 @@ returns-in-Refused-clause-gave g c start other_start found =
 pub returns-in-Err-clause-gave : goal.returns-in-Err-clause-gave
 returns-in-Err-clause-gave g c start other_start found =
     let (a, given) =
-    first_of g.A.Source.observed g.B.Source.observed start other_start c.args.first.now c.args.second.now
+    first_of g.A.Source.observed g.B.Source.observed start other_start c.args.first.now
+    c.args.second.now
     c.args.finding found in
     first_stops start (g.A.Source.observed (source_of c.drain.new.entries)) other_start
     (g.B.Source.observed (source_of c.args.second.now)) c.in-Err.error

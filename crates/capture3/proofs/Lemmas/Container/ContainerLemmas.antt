@@ -1,6 +1,10 @@
 -- Containers, as the machine has them: chunks' bytes at once, and step after step.
 use Rattle.std.proofs.Math.Seq.{take-add, take-take}
-use Rattle.capture3.proofs.Common.{RecordTooLong, Joining, Joined, Between, Whole, TooLong, join_next, landed, Next, Runs, Stops, after, Run, Taking, IsRunning, joining_of, body_of, Error, Side, Event, Streams, with_more, Spot, Version, after-append, counted_runs, counted_stops, Transition, CanGoOn, Container, Reaches, unpacking_in, unpacking_of, Arrives, ShowsError, Leaves, WordPart, bytes_so_far, fault_in_record, ◌≡◌, subst, [], false, is_some, take_all, ℕ, ◌+◌, ◌-◌, ◌≤◌, Option, Some, None, Result, Ok, Err, IfOk, IfErr, List, length, take, drop, refl, sym, ap, ◌∙◌, arith, length-take, length-drop, ◌++◌, Record, Unpacking, Has, in_chunk, in_side_chunk, record_joined, unpack_next, IsBeforeMark, unpacking_at, cost_of, IsOfContainer, StepsFrom, Moves, MovesFrom, ShowsFault, StoredAt, StoredWith, version_of}
+use Rattle.capture3.proofs.Common.{RecordTooLong, Joining, Joined, Between, Whole, TooLong, join_next, landed, Next, Runs, Stops, after, Run, Taking, IsRunning, joining_of, body_of, Error, Side, Event, Streams, with_more, Spot, Version, after-append, counted_runs, counted_stops, Transition, CanGoOn, Container, Reaches, unpacking_in, unpacking_of, Arrives, ShowsError, Leaves, WordPart, bytes_so_far, fault_in_record, ◌≡◌, subst, [], false, is_some, take_all, ℕ, ◌+◌, ◌-◌, ◌≤◌, ◌≢◌, Cursor, Option, Some, None, Result, Ok, Err, IfOk, IfErr, List, length, take, drop, refl, sym, ap, ◌∙◌, arith, length-take, length-drop, ◌++◌, Record, Unpacking, Has, in_chunk, in_side_chunk, record_joined, unpack_next, IsBeforeMark, unpacking_at, cost_of, IsOfContainer, StepsFrom, Moves, MovesFrom, ShowsFault, StoredAt, StoredWith, version_of}
+use Rattle.record_mark.specs.Taking.{released}
+use Rattle.capture3.specs.declared.container.position.spot.Event.TheVariants as events
+use Rattle.capture3.specs.machinery.Container.{Comes, ComesNext, Recalled, room_in, StepsTo}
+use Rattle.capture3.specs.machinery.Position.{TakesSome}
 use Rattle.capture3.specs.machinery.PositionState.{standing_at}
 use Rattle.capture3.specs.declared.container.position.Position.TheInside.{Inside}
 use Rattle.capture3.specs.machinery.PositionInside.{position_shown}
@@ -80,6 +84,52 @@ module _ (c : Container) (inside : Inside) (spot : Spot) (bytes : List ℕ)
   step_fails moves =
       step_shows c bytes r ready
       (rw (← (shown_at inside c.position spot shown is)) moves)
+
+-- what a step leaves, of its parts
+pub steps_to : (old new : Container) (rest : List ℕ) (r : Result Transition Error)
+    → IfOk r (TakesSome rest)
+    → IfOk r (λ t. Reaches old (take t.count rest) t.event t.position new)
+    → new.cursor ≡ old.cursor → new.position ≡ old.position → IfOk r (StepsTo old new rest)
+steps_to old new rest (Ok t) taken reaches cursor position =
+    record { taken = taken; reaches = reaches; cursor = cursor; position = position }
+steps_to old new rest (Err error) taken reaches cursor position = tt
+
+-- ---- what comes next of streams that were kept
+
+-- it is no streams, and takes the room of one thing
+recalled_one : (cursor : Cursor) (p q : Position) (streams left : Streams) (taking : Taking)
+    (next : Option Cursor) (event : Event) → Recalled cursor p q streams left taking next event
+    → (Some event ≢ Some events.Streams) × (cost_of (Some event) left ≡ 1)
+recalled_one cursor p q streams left taking next (events.Record side) r = (λ e. absurd (cc), refl)
+recalled_one cursor p q streams left taking next events.Turn r = (λ e. absurd (cc), refl)
+recalled_one cursor p q streams left taking next events.Close r = (λ e. absurd (cc), refl)
+recalled_one cursor p q streams left taking next events.Begin r = absurd r
+recalled_one cursor p q streams left taking next events.Streams r = absurd r
+
+pub recalled_next : (old new : Container) (piece : List ℕ) (n : ℕ) (cursor : Cursor)
+    (p : Position) (streams : Streams) (event : Event)
+    → Recalled cursor p new.position streams new.streams.kept new.joiner.taking new.cursor event
+    → n ≤ length piece → (old.cursor ≢ None → n ≡ 0) → Comes old new (take n piece) (Some event)
+    → Leaves (Some event) new.joiner.taking
+    → CanGoOn new.cursor (released new.joiner.taking) new → room_in new + 1 ≤ room_in old
+    → ComesNext old new piece (n, Some event)
+recalled_next old new piece n cursor p streams event r within none comes joiner ready room =
+    let one =
+    recalled_one cursor p new.position streams new.streams.kept new.joiner.taking new.cursor event r
+    in
+    record {
+      taken = record {
+        within = within;
+        some = λ some is. absurd (cc);
+        more = λ is. absurd (cc);
+      };
+      recalling = λ some. (none some, λ is. absurd (cc));
+      opened = one.0;
+      comes = comes;
+      joiner = joiner;
+      ready = ready;
+      room = omega (arith, room, one.1);
+    }
 
 -- ---- bytes of a chunk
 
@@ -260,7 +310,9 @@ fails_more from bytes n p t before error within first shown = shown
 
 -- where a connection word is open, before its first byte
 pub mark_is : (version : Version) (spot : Spot) → IsBeforeMark version spot
-    → (observed : declared.Version) × (part : WordPart) × (spot ≡ spots.Word (words.Mark observed) part)
+    → (observed : declared.Version) × (part : WordPart)
+    × (spot ≡ spots.Word (words.Mark observed) part)
     × (version_of observed ≡ version) × (bytes_so_far part ≡ [])
-mark_is version (spots.Word (words.Mark observed) part) before = (observed, part, refl, before.0, before.1)
+mark_is version (spots.Word (words.Mark observed) part) before =
+    (observed, part, refl, before.0, before.1)
 mark_is version spot before = absurd before

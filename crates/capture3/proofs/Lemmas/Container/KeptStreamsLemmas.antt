@@ -7,7 +7,7 @@ use Rattle.capture3.proofs.Lemmas.Container.BytesOf.{split_bytes}
 use Rattle.capture3.proofs.Lemmas.Reader.WholeEntries.{call_added, reply_added}
 use Rattle.capture3.proofs.Lemmas.Sides.StreamEnds.{rest_accepts, rest_refuses, rest_leaves}
 use Rattle.capture3.proofs.Lemmas.Reached.ReachedBeforeFaults.{first_reached_at}
-use Rattle.capture3.proofs.Lemmas.Files.Verdicts.{clean_from_runs, shows_from_stops, stays, observed, verdict_from_typed}
+use Rattle.capture3.proofs.Lemmas.Files.Verdicts.{clean_from_runs, shows_from_stops, stays, run_shows, verdict_from_typed}
 use Rattle.capture3.proofs.Lemmas.Reached.ReachedLemmas.{stands_whole}
 use Rattle.capture3.proofs.Lemmas.Reader.FileStandingLemmas.{whole_connections}
 use Rattle.capture3.proofs.Lemmas.Connections.NumberingLemmas.{opened_more, opened_still}
@@ -274,7 +274,7 @@ first_of bytes rest handed fault are s = (
       clean = clean_from_runs s.front s.state s.runs;
       longest = inr (s.byte, s.back ++ rest, s.shown, refl, shows, refl);
     },
-    stands_whole s.front s.state (observed s.front (Runs s.state)
+    stands_whole s.front s.state (run_shows s.front (Runs s.state)
         (split_bytes bytes s.front (s.byte ∷ s.back) s.split are).0 s.runs),
     s.emits,
   ),

@@ -3,7 +3,7 @@ use Rattle.std.proofs.Common.{get_or}
 use Rattle.capture3.proofs.Common.{length-append, lengths, concat, Run, Runs, Stops, Stopped, IsWord, Joins, AreBytes, Streams, size, SidedChunk, IsSidedChunk, gathered, AreMixed, BeginsMixed, max_bytes, IsChunk, AreChunks, IsStream, BeginsStream, ShownFault, Entry, IsClean, Parsing, parsed, Version, One, Two, max_connections, total_size, magic, IsConnection, IsCapture, Opens, ReachesInside, AreWhole, InMagic, BetweenConnections, InConnection, ◌≡◌, ◌⊎◌, inl, inr, ℕ, ◌+◌, ◌*◌, ◌<◌, ◌≤◌, List, [], ◌∷◌, ◌++◌, length, refl, sym, ap, ◌∙◌, append_assoc, append-nil, arith, most_bytes, IsOfVersion, IsWithinVersion}
 use Rattle.capture3.proofs.Lemmas.Container.SidedChunksMachineLemmas.{size_of}
 use Rattle.capture3.proofs.Lemmas.Reached.ReachedLemmas.{stands_whole}
-use Rattle.capture3.proofs.Lemmas.Files.Verdicts.{observed, shows_from_stops, shown_before}
+use Rattle.capture3.proofs.Lemmas.Files.Verdicts.{run_shows, shows_from_stops, shown_before}
 
 -- each byte of a stream comes with at most four of a length word
 chunks_size : (chunks : List (List ℕ)) (bytes : List ℕ) → Joins IsChunk bytes chunks
@@ -208,7 +208,7 @@ whole_size bytes entries (InConnection version front mark rest connections befor
 run_size : (file : List ℕ) (run : Run Parsing ShownFault) → AreBytes file → parsed file ≡ run
     → IsClean file → IsWithinVersion file
 run_size file (Runs s) are e clean =
-    whole_size file _ (stands_whole file s (observed file (Runs s) are e))
+    whole_size file _ (stands_whole file s (run_shows file (Runs s) are e))
 run_size file (Stops fault) are e clean =
     absurd (clean file [] fault (sym (append-nil file)) (shows_from_stops file fault are e))
 run_size file (Stopped fault) are e clean =

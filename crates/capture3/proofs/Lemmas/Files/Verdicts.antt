@@ -7,9 +7,10 @@ use Rattle.capture3.proofs.Lemmas.Files.EndedMachines.{Over, stopped_at}
 use Rattle.capture3.proofs.Lemmas.Files.FileMachineLemmas.{AnyRefusal, Stands, AtMagic, AtMark, AtInside, AtEnd, file_tells, file_runs}
 
 -- the machine's runs, told of their bytes
-pub observed : (bytes : List ℕ) (run : Run Parsing ShownFault) → AreBytes bytes → parsed bytes ≡ run
+pub run_shows : (bytes : List ℕ) (run : Run Parsing ShownFault) → AreBytes bytes
+    → parsed bytes ≡ run
     → Tells Stands Rule bytes run
-observed bytes run are e = subst (λ r. Tells Stands Rule bytes r) e (file_tells bytes are)
+run_shows bytes run are e = subst (λ r. Tells Stands Rule bytes r) e (file_tells bytes are)
 
 -- where a rule holds, the machine has stopped
 over_not_runs : (run : Run Parsing ShownFault) (s : Parsing) (shown : ShownFault) → run ≡ Runs s
@@ -22,7 +23,7 @@ pub shows_from_stops : (bytes : List ℕ) (shown : ShownFault) → AreBytes byte
     → parsed bytes ≡ Stops shown → Shows bytes shown
 shows_from_stops bytes shown are e =
     record {
-      rule = observed bytes (Stops shown) are e;
+      rule = run_shows bytes (Stops shown) are e;
       first = λ front more byte other split rule.
           let before =
           ran_before file_next (Runs file_start) front byte more shown (ap parsed (sym split) ∙ e)
@@ -93,7 +94,8 @@ typed_from_stands file all s
 
 typed_from_run : (file : List ℕ) (all : List Entry) (run : Run Parsing ShownFault) → AreBytes file
     → parsed file ≡ run → verdict_of (length file) run ≡ Ok all → Typed file all
-typed_from_run file all (Runs s) are e v = typed_from_stands file all s (observed file (Runs s) are e) v
+typed_from_run file all (Runs s) are e v =
+    typed_from_stands file all s (run_shows file (Runs s) are e) v
 typed_from_run file all (Stops fault) are e v = absurd (cc)
 typed_from_run file all (Stopped fault) are e v = absurd (cc)
 

@@ -3,7 +3,7 @@ use Rattle.capture3.proofs.Common.{◌≡◌, ◌⊎◌, inl, inr, ℕ, List, []
 use Rattle.capture3.proofs.Lemmas.Container.BytesOf.{split_bytes}
 use Rattle.capture3.proofs.Lemmas.Files.FileMachineLemmas.{file_runs}
 use Rattle.capture3.proofs.Lemmas.Reached.ReachedLemmas.{whole_stands, stands_whole}
-use Rattle.capture3.proofs.Lemmas.Files.Verdicts.{observed, shows_from_stops, stops_from_shows, clean_from_runs, typed_from_verdict, verdict_from_typed}
+use Rattle.capture3.proofs.Lemmas.Files.Verdicts.{run_shows, shows_from_stops, stops_from_shows, clean_from_runs, typed_from_verdict, verdict_from_typed}
 
 -- what the machine emits is what the bytes reach
 pub landed_ends : (shown : ShownFault) (n : Next Parsing ShownFault) → landed n ≡ Stops shown
@@ -137,7 +137,7 @@ reached_cases bytes (Err fault) are e =
         longest = longest_cases bytes r.front s r.rest are r.split r.runs r.stops;
       },
       stands_whole r.front s
-          (observed r.front (Runs s) (split_bytes bytes r.front r.rest r.split are).0 r.runs),
+          (run_shows r.front (Runs s) (split_bytes bytes r.front r.rest r.split are).0 r.runs),
       refl,
     )
 

@@ -1,5 +1,5 @@
 -- What a reader of entries makes of its histories, step by step.
-use Rattle.std.proofs.Common.{◌≡◌, ◌⊎◌, inl, inr, ℕ, ◌+◌, ◌-◌, ◌≤◌, ◌<◌, Option, Some, None, Result, Ok, Err, IsSome, OnErr, OnOk, List, [], ◌∷◌, ◌++◌, length, take, drop, slice_range, refl, sym, ap, subst, ◌∙◌, append_assoc, append-nil, length-append, arith, take-append-drop, length-take, length-drop, vec_len}
+use Rattle.std.proofs.Common.{◌≡◌, ◌⊎◌, inl, inr, ℕ, ◌+◌, ◌-◌, ◌≤◌, ◌<◌, Option, Some, None, Result, Ok, Err, IsSome, IfErr, IfOk, OnErr, OnOk, List, [], ◌∷◌, ◌++◌, length, take, drop, slice_range, refl, sym, ap, subst, ◌∙◌, append_assoc, append-nil, length-append, arith, take-append-drop, length-take, length-drop, vec_len}
 use Rattle.capture3.proofs.Common.{CanGoOn, common_steps, Pairing, CountedCalls, known_of, open_xids, ∥∥₁_elim, CaptureCut, AreBytes, Item, Runs, Stops, Stopped, Taking, Led, OutOfMemory, IsRunning, released, Known, Kind, Error, Spot, Container, Cursor, Two, max_connections, Entry, End, FirstFault, IsClean, begins, most_bytes, Parsing, parsed, emitted, AreFirstReached, AreWhole, Reached, parsing_at, Streams, file_fault, IsWellFormed, props, Observed, Gave, IsSpent, AreStored, IsReady, room_in, unpacking_of}
 use Rattle.std.proofs.lemmas.List.{drop-take}
 use Rattle.capture3.specs.MessageVisit.{Hears}
@@ -16,7 +16,6 @@ use Rattle.capture3.specs.declared.reader.entries.Stage.{Stage}
 use Rattle.capture3.specs.declared.reader.entries.Stage.TheVariants.{Reading, Over, Failed}
 use Rattle.capture3.specs.declared.reader.entry.Kind.TheVariants as kinds
 use Rattle.capture3.specs.declared.fault.Error.TheVariants as errors
-use Rattle.capture3.specs.declared.fault.Noted.{Noted}
 use Rattle.capture3.specs.declared.container.position.Position.{Position}
 use Rattle.capture3.specs.declared.container.position.spot.Spot.TheVariants as spots
 use Rattle.capture3.specs.declared.container.position.spot.WordOf.TheVariants as words
@@ -37,7 +36,7 @@ use Rattle.capture3.proofs.Lemmas.Reached.ReachedLemmas.{stands_whole}
 use Rattle.capture3.proofs.Lemmas.Container.KeptStreamsLemmas.{first_of, recalled_first}
 use Rattle.capture3.proofs.Lemmas.Reached.ReachedBeforeFaults.{first_reached_at}
 use Rattle.capture3.proofs.Lemmas.Container.Sizes.{clean_most, most_of_one}
-use Rattle.capture3.proofs.Lemmas.Files.Verdicts.{clean_from_runs, observed, verdict_from_fault, verdict_from_typed}
+use Rattle.capture3.proofs.Lemmas.Files.Verdicts.{clean_from_runs, run_shows, verdict_from_fault, verdict_from_typed}
 
 -- ---- what is kept truncated
 
@@ -89,6 +88,12 @@ pub can_go_on : (cursor : Option Cursor) (t : Taking) (c : Container) → ∥ Ca
     → CanGoOn cursor t c
 can_go_on cursor t c h = ∥∥₁_elim h (going_on-prop cursor t c) (λ s. s)
 
+failed_stage : (stage : Stage) (error : Error) → failure_in stage ≡ Some error
+    → stage ≡ Failed error
+failed_stage Reading error is = absurd (cc)
+failed_stage Over error is = absurd (cc)
+failed_stage (Failed other) error is = cc
+
 kind_held : (kind : Kind) (t : Taking) (entry : Entry) → IsHeld kind t entry → IsOfKind kind entry
 kind_held kinds.Begin t entry is = is
 kind_held (kinds.Call id) t entry (items, whole, is_call, id_is, is) = (items, id_is, is)
@@ -118,7 +123,7 @@ module _ (bytes : List ℕ) (p : Position) (t : Taking) (streams : Streams)
   pub whole_here : AreWhole bytes model
   whole_here =
       subst (λ (entries : List Entry). AreWhole bytes entries) model_is
-      (stands_whole bytes state (observed bytes (Runs state) are runs_is))
+      (stands_whole bytes state (run_shows bytes (Runs state) are runs_is))
 
   pub clean_here : IsClean bytes
   clean_here = clean_from_runs bytes state runs_is
@@ -307,7 +312,8 @@ module _ {R S H : Type 0} {builds : BuildHasher.Ghosts S H} {hashes : Hasher.Gho
           most_of_one = most_of_one;
         };
     holds = holds;
-    here = subst (λ (stage : Stage). StandsIn stage (observed e.source.now) e given handed) (sym is) r;
+    here =
+        subst (λ (stage : Stage). StandsIn stage (observed e.source.now) e given handed) (sym is) r;
   }
 
   -- it has failed
@@ -332,7 +338,8 @@ module _ {R S H : Type 0} {builds : BuildHasher.Ghosts S H} {hashes : Hasher.Gho
         };
     holds = none_last new handed none;
     here =
-        subst (λ (stage : Stage). StandsIn stage (observed new.source.now) new given handed) (sym is)
+        subst (λ (stage : Stage). StandsIn stage (observed new.source.now) new given handed)
+        (sym is)
         met;
   }
 
@@ -374,7 +381,8 @@ module _ {R S H : Type 0} {builds : BuildHasher.Ghosts S H} {hashes : Hasher.Gho
       → old.pairing.container.cursor ≡ None → new.pairing ≡ old.pairing
       → new.judged ≡ old.judged → unjudged new ≡ more → AreBytes more
       → length more ≤ vec_len new.block
-      → Gave (observed old.source.now) (observed new.source.now) more → StandsFor observed old given handed
+      → Gave (observed old.source.now) (observed new.source.now) more
+      → StandsFor observed old given handed
       → HasRead observed old new given handed
   has_read old new given more handed is goes empty none same count block are within consumed
       s =
@@ -413,7 +421,8 @@ module _ {R S H : Type 0} {builds : BuildHasher.Ghosts S H} {hashes : Hasher.Gho
       → old.stage ≡ Reading → new.stage ≡ Failed errors.Read → last_of new ≡ None
       → vec_len new.block ≡ vec_len old.block → old.start ≡ old.end
       → old.pairing.container.cursor ≡ None
-      → Gave (observed old.source.now) (observed new.source.now) [] → StandsFor observed old given handed
+      → Gave (observed old.source.now) (observed new.source.now) []
+      → StandsFor observed old given handed
       → HasRead observed old new given handed
   has_failed old new given handed is fails none block empty unopened kept s =
       record {
@@ -534,6 +543,44 @@ module _ {R S H : Type 0} {builds : BuildHasher.Ghosts S H} {hashes : Hasher.Gho
       (fails_by old error given handed (observed new.source.now) s.bytes r
       (subst (λ (b : List ℕ). FailsAt b handed error) (sym r.split) (shows r.judged r.machine)))
 
+  -- the same of a piece of the block
+  pub judged_piece : {V : Type 0} (rests stands : V → List Item → Type 0) (was now : V)
+      (old new : Entries R S H builds hashes) (count : ℕ) (items given : List ℕ)
+      (handed : List Entry) (came : Option Kind) → items ≡ old.block.items
+      → length items ≡ vec_len old.block → old.stage ≡ Reading → new.stage ≡ Reading
+      → last_of new ≡ came → vec_len new.block ≡ vec_len old.block
+      → new.judged ≡ old.judged + count
+      → unjudged new ≡ slice_range old.block.items (old.start + count) old.end
+      → count ≤ length (slice_range items old.start old.end)
+      → room_in new.pairing.container + entry_cost came ≤ room_in old.pairing.container
+      → StandsFor observed old given handed
+      → ((judged : List ℕ)
+      → HasCome old.pairing.container (known_of old.pairing.calls) judged handed
+      → GoesTo rests stands was now came new.pairing.number new.pairing.container
+      (known_of new.pairing.calls)
+      (judged ++ take count (slice_range items old.start old.end)) handed)
+      → CountsMessages came old.pairing.calls_taken old.pairing.replies_taken
+      new.pairing.calls_taken new.pairing.replies_taken
+      → HandsOutOrGoesOn observed rests stands new was now given handed came
+  judged_piece rests stands was now old new count items given handed came same all is goes last
+      size judged block fits room s leads counts =
+      let within : old.end ≤ length old.block.items =
+      omega (arith, old.within, all, ap length same) in
+      judged_on rests stands was now old new count given handed came is goes last size judged block
+      (omega (arith, rw same at fits, length-take {A = ℕ}, length-drop {A = ℕ}, old.ordered)) within
+      room s (rw same at leads) counts
+
+  pub piece_failed : (old new : Entries R S H builds hashes) (error : Error)
+      (items given : List ℕ) (handed : List Entry) → items ≡ old.block.items
+      → old.stage ≡ Reading → new.stage ≡ Failed error → last_of new ≡ None
+      → vec_len new.block ≡ vec_len old.block → StandsFor observed old given handed
+      → ((judged : List ℕ)
+      → HasCome old.pairing.container (known_of old.pairing.calls) judged handed
+      → FailsAt (judged ++ slice_range items old.start old.end) handed error)
+      → StandsFor observed new given handed
+  piece_failed old new error items given handed same is fails none block s shows =
+      judged_failed old new error given handed is fails none block s (rw same at shows)
+
   -- ---- the end
 
   pub finished : (old new : Entries R S H builds hashes) (given : List ℕ) (handed : List Entry)
@@ -584,7 +631,8 @@ module _ {R S H : Type 0} {builds : BuildHasher.Ghosts S H} {hashes : Hasher.Gho
       (handed : List Entry) → old.stage ≡ Reading → new.stage ≡ Failed error → last_of new ≡ None
       → vec_len new.block ≡ vec_len old.block → old.start ≡ old.end
       → old.pairing.container.cursor ≡ None → (IsEndSpot old.pairing.container.position.spot → ⊥)
-      → error ≡ errors.Refused (file_fault old.judged CaptureCut) → IsSpent (observed new.source.now)
+      → error ≡ errors.Refused (file_fault old.judged CaptureCut)
+      → IsSpent (observed new.source.now)
       → StandsFor observed old given handed → StandsFor observed new given handed
   cut_short old new error given handed is fails none block empty unopened not cut end s =
       let r = reading_of old given handed is s in
@@ -636,7 +684,7 @@ module _ {R S H : Type 0} {builds : BuildHasher.Ghosts S H} {hashes : Hasher.Gho
   -- the end is handed out, of which a visitor is told nothing; or none is
   pub ended_on : {V X : Type 0} (rests stands : V → List Item → Type 0) (v : V)
       (new : Entries R S H builds hashes) (given : List ℕ) (handed : List Entry)
-      (result : Result X Noted)
+      (result : Result X Error)
       → OnOk result (StandsFor observed new given (handed ++ End ∷ []))
       → OnErr result (StandsFor observed new given handed)
       → OnOk result (last_of new ≡ Some kinds.End) → OnErr result (last_of new ≡ None)
@@ -645,7 +693,7 @@ module _ {R S H : Type 0} {builds : BuildHasher.Ghosts S H} {hashes : Hasher.Gho
   ended_on rests stands v new given handed (Ok done) ok err last unlent =
       subst (HandsOutOrGoesOn observed rests stands new v v given handed) (sym last)
       (End, refl, (λ before r. r), ok)
-  ended_on rests stands v new given handed (Err noted) ok err last unlent =
+  ended_on rests stands v new given handed (Err error) ok err last unlent =
       none_on rests stands v v new given handed unlent err
 
   -- after the turns so far, the block is read, and then it is judged
@@ -667,9 +715,11 @@ module _ {R S H : Type 0} {builds : BuildHasher.Ghosts S H} {hashes : Hasher.Gho
             (observed mid.source.now) first.more next.more first.consumed next.consumed);
         goes_on =
             subst (λ w.
-            HandsOutOrGoesOn observed rests stands new w now (given ++ (first.more ++ next.more)) handed
+            HandsOutOrGoesOn observed rests stands new w now (given ++ (first.more ++ next.more))
+            handed
             (last_of new)) unchanged
-            (subst (λ (b : List ℕ). HandsOutOrGoesOn observed rests stands new v now b handed (last_of
+            (subst
+            (λ (b : List ℕ). HandsOutOrGoesOn observed rests stands new v now b handed (last_of
             new))
             (append_assoc given first.more next.more)
             (goes ((given ++ first.more) ++ next.more) handed next.stands));
@@ -720,10 +770,63 @@ module _ {R S H : Type 0} {builds : BuildHasher.Ghosts S H} {hashes : Hasher.Gho
     where
       by_last : (last : Option Kind) → IsSome last
           → HandsOutOrGoesOn observed rests stands new was now (given ++ t.more) handed last
-          → HandsOut observed (IsNextOfKind rests stands was now) new (given ++ t.more) handed (Ok last)
+          → HandsOut observed (IsNextOfKind rests stands was now) new (given ++ t.more) handed
+          (Ok last)
       by_last None none h = absurd (cc)
       by_last (Some kind) some (entry, is, adds, s) =
           (entry, (is, adds), stands_first new (given ++ t.more) (handed ++ entry ∷ []) goes s, s)
+
+  -- an error is noted, and no entry is lent
+  pub answers_error : {V X : Type 0} (rests stands : V → List Item → Type 0) (was now : V)
+      (Is : List Entry → X → Entry → Type 0) (old new : Entries R S H builds hashes)
+      (given : List ℕ) (handed : List Entry) (error : Error) → failure_of new ≡ Some error
+      → last_of new ≡ None → Turns observed rests stands old new was now given handed
+      → HandsOutGiven observed Is old new given handed (Err error)
+  answers_error rests stands was now Is old new given handed error failed none t =
+      let s =
+      subst (HandsOutOrGoesOn observed rests stands new was now (given ++ t.more) handed) none
+      t.goes_on in
+      record {
+        more = t.more;
+        consumed = t.consumed;
+        hands_out = (
+          here_at new (Failed error) (given ++ t.more) handed (failed_stage new.stage error failed)
+              s,
+          s,
+        );
+      }
+
+  -- the end is handed out, or an error is noted
+  pub answers_end : {V : Type 0} (rests stands : V → List Item → Type 0) (was now : V)
+      (old new : Entries R S H builds hashes) (given : List ℕ) (handed : List Entry)
+      (result : Result (Option Kind) Error)
+      → IfOk result (λ next. next ≡ Some kinds.End) → OnOk result (last_of new ≡ Some kinds.End)
+      → OnOk result (new.stage ≡ Over) → IfErr result (λ error. failure_of new ≡ Some error)
+      → OnErr result (last_of new ≡ None)
+      → Turns observed rests stands old new was now given handed
+      → HandsOutGiven observed (IsNextOfKind rests stands was now) old new given handed result
+  answers_end rests stands was now old new given handed (Ok next) is last over failed none t =
+      subst
+      (λ n. HandsOutGiven observed (IsNextOfKind rests stands was now) old new given handed (Ok n))
+      (last ∙ sym is)
+      (answers_kind rests stands was now old new given handed (rw last refl) (ap failure_in over) t)
+  answers_end rests stands was now old new given handed (Err error) is last over failed none t =
+      answers_error rests stands was now (IsNextOfKind rests stands was now) old new given handed
+      error failed none t
+
+  pub answers_over : {X : Type 0} (Is : List Entry → X → Entry → Type 0)
+      (e : Entries R S H builds hashes) (given : List ℕ) (handed : List Entry)
+      → e.stage ≡ Over → StandsFor observed e given handed
+      → HandsOutGiven observed Is e e given handed (Ok None)
+  answers_over Is e given handed is s =
+      let here = here_at e Over given handed is s in
+      record {
+        more = [];
+        consumed = gave_none (observed e.source.now);
+        hands_out =
+            subst (λ (b : List ℕ). HandsOut observed Is e b handed (Ok None))
+            (sym (append-nil given)) (here.0, here.1, s);
+      }
 
   pub answers_again : {X : Type 0} (Is : List Entry → X → Entry → Type 0)
       (e : Entries R S H builds hashes) (error : Error) (given : List ℕ) (handed : List Entry)

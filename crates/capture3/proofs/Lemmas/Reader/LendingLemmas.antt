@@ -118,7 +118,8 @@ module _ {R S H : Type 0} {builds : BuildHasher.Ghosts S H} {hashes : Hasher.Gho
         → ((bytes : List ℕ) (before : List Entry) (entry : Entry)
         → StandsFor observed new bytes (before ++ entry ∷ [])
         → number_lent next ≡ number_after before entry)
-        → HandsOutGiven observed (IsNextLent rests stands was now) old new given handed (Ok (Some next))
+        → HandsOutGiven observed (IsNextLent rests stands was now) old new given handed
+        (Ok (Some next))
     lent_of kind next given handed h is_lent numbered =
         let (entry, (is, adds), reached, s) = h.hands_out in
         record {
@@ -188,7 +189,8 @@ module _ {R S H : Type 0} {builds : BuildHasher.Ghosts S H} {hashes : Hasher.Gho
 
     pub lends_error : (error : Error)
         → ((given : List ℕ) (handed : List Entry) → StandsFor observed old given handed
-        → HandsOutGiven observed (IsNextOfKind rests stands was now) old new given handed (Err error))
+        → HandsOutGiven observed (IsNextOfKind rests stands was now) old new given handed
+        (Err error))
         → (IsOver old → (◌≡◌ {A = Answer} (Err error) (Ok None)) × (new ≡ old))
         → KeepsErrors {X = Option Kind} old new (Err error)
         → UsesSource {X = Option Kind} failures old new (Err error)
@@ -304,7 +306,8 @@ module _ {R S H : Type 0} {builds : BuildHasher.Ghosts S H} {hashes : Hasher.Gho
 
     pub reads_error : (error : Error)
         → ((given : List ℕ) (handed : List Entry) → StandsFor observed old given handed
-        → HandsOutGiven observed (IsNextOfKind rests stands was now) old new given handed (Err error))
+        → HandsOutGiven observed (IsNextOfKind rests stands was now) old new given handed
+        (Err error))
         → (IsOver old → (◌≡◌ {A = Answer} (Err error) (Ok None)) × (new ≡ old))
         → KeepsErrors {X = Option Kind} old new (Err error)
         → UsesSource {X = Option Kind} failures old new (Err error)

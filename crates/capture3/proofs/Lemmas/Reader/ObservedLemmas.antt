@@ -15,7 +15,8 @@ use Rattle.xdr3.specs.Item.{Item}
 pub gave_none : (observed : Observed) → Gave observed observed []
 gave_none observed = (Consumes-nil observed.left, Appends-nil observed.given)
 
-pub gave_both : (a b c : Observed) (xs ys : List ℕ) → Gave a b xs → Gave b c ys → Gave a c (xs ++ ys)
+pub gave_both : (a b c : Observed) (xs ys : List ℕ) → Gave a b xs → Gave b c ys
+    → Gave a c (xs ++ ys)
 gave_both a b c xs ys p q = (
   Consumes-trans a.left b.left c.left xs ys p.0 q.0,
   Appends-trans a.given b.given c.given xs ys p.1 q.1,
@@ -25,7 +26,8 @@ gave_both a b c xs ys p q = (
 pub gave_on : {R S H X : Type 0} {builds : BuildHasher.Ghosts S H} {hashes : Hasher.Ghosts H}
     {observed : R → Observed} {Is : List Entry → X → Entry → Type 0}
     {old new : Entries R S H builds hashes} {given : List ℕ} {handed : List Entry}
-    {result : Result (Option X) Error} (first : Observed) → Gave first (observed old.source.now) given
+    {result : Result (Option X) Error} (first : Observed)
+    → Gave first (observed old.source.now) given
     → (a : HandsOutGiven observed Is old new given handed result)
     → Gave first (observed new.source.now) (given ++ a.more)
 gave_on {observed = observed} {old = old} {new = new} {given = given} first gave a =
@@ -87,7 +89,8 @@ module _ (old new : Observed) (given bytes : List ℕ) (p : GavePrefix old new b
   }
 
 -- the fault that the bytes given show is the first of all bytes
-pub shown_of_all : (observed : Observed) (given bytes : List ℕ) (handed : List Entry) (fault : Fault)
+pub shown_of_all : (observed : Observed) (given bytes : List ℕ) (handed : List Entry)
+    (fault : Fault)
     → IsPrefixOf observed given bytes → IsShownBy observed given handed fault
     → FirstFault bytes fault × Reached bytes handed
 shown_of_all observed given bytes handed fault p (inl whatever) =

@@ -7,7 +7,7 @@ use Rattle.capture3.specs.declared.reader.entry.Kind.TheVariants as kinds
 use Rattle.capture3.specs.declared.fault.Error.TheVariants as errors
 use Rattle.capture3.specs.declared.container.position.spot.Event.TheVariants.{Begin, Record, Turn, Close}
 use Rattle.capture3.specs.declared.container.position.Position.{Position}
-use Rattle.capture3.specs.machinery.Container.{AreStored, Comes, ComesToFault, FirstKept, FromFile, InFile, InFirstKept, InNextKept, IsStored, Leaves, NextKept, Recalled, first_cursor, RecallFails, unpacking_of, arrived, Arrives, ShowsError}
+use Rattle.capture3.specs.machinery.Container.{AreStored, Comes, ComesNext, ComesToFault, FirstKept, FromFile, InFile, InFirstKept, InNextKept, IsStored, Leaves, NextKept, Recalled, first_cursor, RecallFails, unpacking_of, arrived, Arrives, ShowsError}
 use Rattle.capture3.specs.Entry as entries
 use Rattle.capture3.specs.machinery.Pairing.{StandsAt, StandsOrRecalls, HasCome, after_side_word, HasMet, HasRecalled, MeetsEvent, met, met_in, GoesTo, FailsAt, IsOfBytes, error_at}
 use Rattle.capture3.specs.machinery.ScannedMessages.{ScansCall, ScansReply, StopsMessage}
@@ -712,6 +712,16 @@ module _ (old new : Container) (table : Known) (bytes : List ℕ) (all : List En
       one (rw also at leaves)
       (rw some at stored)
       recalled))
+
+-- the same of what comes next
+pub next_meets : (old new : Container) (table : Known) (bytes : List ℕ) (all : List Entry)
+    (piece : List ℕ) (next : ℕ × Option Event) → StandsOrRecalls old.cursor old.position
+    old.joiner.taking old.streams.kept table bytes all → IsStored old → ComesNext old new piece next
+    → (event : Event) → next.1 ≡ Some event
+    → MeetsEvent new table event (bytes ++ take next.0 piece) all
+next_meets old new table bytes all piece next s stored comes event is =
+    comes_meets old new table bytes all (take next.0 piece) next.1 s event is comes.joiner stored
+    comes.comes
 
 pub comes_to_fault : (old : Container) (table : Known) (bytes : List ℕ)
     (all : List Entry) (piece : List ℕ) (error : Error)

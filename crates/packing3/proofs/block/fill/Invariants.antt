@@ -5,7 +5,8 @@ abbrev pub invariant-loop-filled : goal.invariant-loop-filled
 invariant-loop-filled g l = record {
   within : l.filled ≤ length l.block;
   size : length l.block ≡ length l.fn.block;
-  bytes : Gave (g.R.Source.observed l.fn.source) (g.R.Source.observed l.source) (take l.filled l.block);
+  bytes : Gave (g.R.Source.observed l.fn.source) (g.R.Source.observed l.source)
+      (take l.filled l.block);
   count : g.R.Source.failures l.source ≡ g.R.Source.failures l.fn.source;
 }
 

@@ -22,7 +22,8 @@ returns-in_err-write_stream-clause-err g c =
     let begun : Extent =
     record { streamed = c.args.extent.now.streamed; at = c.args.extent.now.at + 4 } in
     rw (error_is _ _ c.from_residual-in_err-write_stream.ensures)
-    (stops_in_client (g.C.Source.observed c.args.client.now) (g.C.Source.observed c.write_stream.new.source)
+    (stops_in_client (g.C.Source.observed c.args.client.now)
+    (g.C.Source.observed c.write_stream.new.source)
     (g.S.Source.observed c.args.server.now) (g.W.Sink.written c.args.sink.now)
     (g.W.Sink.written c.write_all.new.sink) (g.W.Sink.written c.write_stream.new.sink)
     c.args.extent.now begun _ word (one_word 1 c.args.extent.now begun refl refl)

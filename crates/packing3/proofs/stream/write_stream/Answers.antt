@@ -5,7 +5,8 @@ use Rattle.packing3.proofs.stream.write_stream.Goals as goal
 pub returns-in_err-count-clause-err : goal.returns-in_err-count-clause-err
 returns-in_err-count-clause-err g c =
     rw (error_is _ _ c.from_residual.ensures)
-    (stops_in_chunk (g.R.Source.observed c.args.source.now) (g.R.Source.observed c.loop-count.source)
+    (stops_in_chunk (g.R.Source.observed c.args.source.now)
+    (g.R.Source.observed c.loop-count.source)
     (g.R.Source.observed c.write_chunk.new.source) (g.W.Sink.written c.args.sink.now)
     (g.W.Sink.written c.loop-count.sink) (g.W.Sink.written c.write_chunk.new.sink)
     c.args.extent.now c.loop-count.extent _ c.loop-count.invariant.full
@@ -20,7 +21,8 @@ loop-count-preserved g c =
       room = c.in_ok-count.ensures.room;
       small = omega (arith, inv.small, c.in_ok-count.ensures.small);
       full =
-          more_full (g.R.Source.observed c.args.source.now) (g.R.Source.observed c.loop-count.source)
+          more_full (g.R.Source.observed c.args.source.now)
+          (g.R.Source.observed c.loop-count.source)
           (g.R.Source.observed c.write_chunk.new.source) (g.W.Sink.written c.args.sink.now)
           (g.W.Sink.written c.loop-count.sink) (g.W.Sink.written c.write_chunk.new.sink)
           c.args.extent.now c.loop-count.extent c.write_chunk.new.extent c.in_ok-count.count

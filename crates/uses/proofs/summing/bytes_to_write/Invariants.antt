@@ -7,7 +7,8 @@ abbrev pub invariant-loop-entries : goal.invariant-loop-entries
 invariant-loop-entries g l = record {
   going : failure_of l.entries ≡ None;
   fresh : HasSummed l.data [];
-  returned : HasReturned g.R.Source.observed (g.R.Source.observed (source_of l.initial.entries)) l.entries
+  returned : HasReturned g.R.Source.observed (g.R.Source.observed (source_of l.initial.entries))
+      l.entries
       (λ handed. IsSum l.sum handed);
 }
 

@@ -7,7 +7,8 @@ returns-clause-writes g c old entries one of first few came observed written =
     written_or_cut c.write_after_magic.new.message_writer old (g.W.Sink.written c.args.sink.now)
     (g.W.Sink.written c.write_magic.new.sink) (g.W.Sink.written c.write_after_magic.new.sink)
     entries one _ first came.place.connections_are written c.write_after_magic.result
-    c.in_ok-write_magic.ensures.ok (c.write_after_magic.ensures.follows entries one of first observed)
+    c.in_ok-write_magic.ensures.ok
+    (c.write_after_magic.ensures.follows entries one of first observed)
 
 pub returns-in_err-write_magic-clause-writes : goal.returns-in_err-write_magic-clause-writes
 returns-in_err-write_magic-clause-writes g c old entries one of first few came observed written =

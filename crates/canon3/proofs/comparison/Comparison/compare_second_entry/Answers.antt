@@ -21,7 +21,8 @@ returns-in-Ok-None-clause-meets g c first now start a b e of order passed few so
     let (all, given) =
     rw (c.in-Ok-None.is, c.in-Ok-None.field-0-is) at
     (hands _ _ _ start _ _ _ _ b h _ (c.visit.follows.holds-at-none.answers h.given b h.stands)) in
-    not_ended g.B.Source.observed first now start c.visit.follows.lender-at-none c.args.self.now a b e
+    not_ended g.B.Source.observed first now start c.visit.follows.lender-at-none c.args.self.now a b
+    e
     order so_far.agree all
 
 pub returns-in-Err-clause-meets : goal.returns-in-Err-clause-meets

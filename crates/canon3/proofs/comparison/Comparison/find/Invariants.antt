@@ -9,7 +9,8 @@ invariant-loop-finding g l = record {
   under_way : (start other_start : Observed)
       → IsComparing g.A.Source.observed g.B.Source.observed start other_start l.fn.first l.fn.second
       l.fn.self
-      → IsComparing g.A.Source.observed g.B.Source.observed start other_start l.first l.second l.self;
+      → IsComparing g.A.Source.observed g.B.Source.observed start other_start l.first l.second
+      l.self;
   read_first : g.A.Source.failures (source_of l.first) ≡ g.A.Source.failures (source_of l.fn.first);
   read_second : g.B.Source.failures (source_of l.second)
       ≡ g.B.Source.failures (source_of l.fn.second);

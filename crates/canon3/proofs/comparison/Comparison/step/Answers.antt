@@ -11,9 +11,11 @@ returns-in-Ok-Some-clause-steps g c start other_start u =
     (ends.answers u.first_given.given u.a u.first_given.stands) in
     let so_far =
     received_first c.args.self.now u.a u.b c.visit.new.visitor e adds u.compared in
-    stepped g.A.Source.observed g.B.Source.observed start other_start new c.compare_second_entry.new.second
+    stepped g.A.Source.observed g.B.Source.observed start other_start new
+    c.compare_second_entry.new.second
     c.compare_second_entry.new.self u.a u.b e given c.compare_second_entry.result
-    (c.compare_second_entry.ensures.meets start (g.A.Source.observed (source_of new)) other_start u.a
+    (c.compare_second_entry.ensures.meets start (g.A.Source.observed (source_of new)) other_start
+    u.a
     u.b e is first
     (c.progress-before.ensures u.first_given.given u.a u.first_given.stands c.requires.going_first)
     (one_fewer u.a e _ given.stands.few) so_far u.second_given)

@@ -1,35 +1,91 @@
-use Rattle.canon3.proofs.Common.{Err, Ok, error_is, prefix_of_kept, IsSummary}
-use Rattle.canon3.proofs.Lemmas.Writing.EntryWriterLemmas.{all_written}
+use Rattle.canon3.proofs.Common.{[], sym, ◌≡◌, ◌∙◌, Ok, error_is, inl, source_of, gave_none, prefix_of_kept}
+use Rattle.std.proofs.KnownBytes.{Appends-kept}
+use Rattle.canon3.proofs.Lemmas.Writing.EntryWriterLemmas.{all_written, new_writing, nothing_written}
+use Rattle.canon3.proofs.Lemmas.Writing.SinkWritesLemmas.{whole_front}
 use Rattle.canon3.proofs.entries.entry_writer.write_entries.Goals as goal
 
-pub returns-clause-writes : goal.returns-clause-writes
-returns-clause-writes g c =
-    let w = c.in_ok-progress.ensures.ends in (
-      w.given,
-      w.ended.consumed,
+-- in each of these the reader gave back the source that it was lent
+pub returns-in-Ok-flush_all-clause-writes : goal.returns-in-Ok-flush_all-clause-writes
+returns-in-Ok-flush_all-clause-writes g c =
+    let w = c.write_rest-written in
+    let observed = g.R.Source.observed in
+    let old = g.W.Sink.written c.args.sink.now in
+    let back : _ ≡ source_of w.new.entries =
+    c.source-1.given.1 (sym (c.into_source.ensures.same_reference ∙ w.ensures.devices.same_reference
+    ∙ c.through-entries.ensures.same_reference)) ∙ c.into_source.ensures.value in
+    let done =
+    w.ensures.over (observed (source_of c.through-entries.result)) [] old
+    (new_writing observed c.through-entries.ensures.stands c.requires.well c.requires.new
+    c.requires.empty) in
+    let done = rw c.in_ok-written.was at done in
+    let came =
+    c.progress-progress.ensures done.given done.more done.reads c.in_ok-written.ensures.going in
+    rw (back, ← c.through-entries.ensures.unread) (
+      done.given,
+      done.ended.consumed,
       (
-        w.handed,
-        w.ended.ended,
-        w.ended.typed,
-        c.summary_of.ensures w.given w.handed w.ended.typed w.came
-            (c.handles.ensures w.handed w.writes.goes w.writes.stands_for),
-        w.writes.written,
+        done.more,
+        done.ended.ended,
+        done.ended.typed,
+        c.counts.ensures done.given done.more done.ended.typed came done.writes.goes
+            done.writes.stands_for,
+        Appends-kept old _ _ _ done.writes.written c.flush_all.ensures.bytes,
       ),
     )
 
-pub returns-clause-whole : goal.returns-clause-whole
-returns-clause-whole g c bytes gave =
+pub returns-in-Ok-flush_all-clause-whole : goal.returns-in-Ok-flush_all-clause-whole
+returns-in-Ok-flush_all-clause-whole g c bytes gave =
     let first = g.R.Source.observed c.args.source.now in
-    let observed = g.R.Source.observed c.write_whole.new.source in
-    all_written _ c.requires.prefixes IsSummary bytes first observed _ _ (Ok c.summary_of.result)
-    (λ given. prefix_of_kept first observed given bytes gave) (returns-clause-writes g c)
+    all_written _ c.requires.prefixes g.E.EntryWriter.are_counts bytes first _ _ _
+    (Ok c.counts.result) (λ given. prefix_of_kept first _ given bytes gave) (returns-in-Ok-flush_all-clause-writes g c)
 
-pub returns-in_err-progress-clause-whole : goal.returns-in_err-progress-clause-whole
-returns-in_err-progress-clause-whole g c bytes gave =
+pub returns-in-Err-flush_all-clause-writes : goal.returns-in-Err-flush_all-clause-writes
+returns-in-Err-flush_all-clause-writes g c =
+    let w = c.write_rest-written in
+    let observed = g.R.Source.observed in
+    let old = g.W.Sink.written c.args.sink.now in
+    let back : _ ≡ source_of w.new.entries =
+    c.source-1.given.1 (sym (c.into_source.ensures.same_reference ∙ w.ensures.devices.same_reference
+    ∙ c.through-entries.ensures.same_reference)) ∙ c.into_source.ensures.value in
+    let done =
+    w.ensures.over (observed (source_of c.through-entries.result)) [] old
+    (new_writing observed c.through-entries.ensures.stands c.requires.well c.requires.new
+    c.requires.empty) in
+    let done = rw c.in_ok-written.was at done in
+    let whole = Appends-kept old _ _ _ done.writes.written c.flush_all.ensures.bytes in
+    rw (back, ← c.through-entries.ensures.unread) (
+      done.given,
+      done.ended.consumed,
+      (done.more, inl done.ended.typed, whole_front old _ _ whole),
+    )
+
+pub returns-in_err-written-clause-writes : goal.returns-in_err-written-clause-writes
+returns-in_err-written-clause-writes g c =
+    let w = c.write_rest-written in
+    let observed = g.R.Source.observed in
+    let old = g.W.Sink.written c.args.sink.now in
+    let back : _ ≡ source_of w.new.entries =
+    c.source-1.given.1 (sym (c.into_source.ensures.same_reference ∙ w.ensures.devices.same_reference
+    ∙ c.through-entries.ensures.same_reference)) ∙ c.into_source.ensures.value in
+    let done =
+    w.ensures.over (observed (source_of c.through-entries.result)) [] old
+    (new_writing observed c.through-entries.ensures.stands c.requires.well c.requires.new
+    c.requires.empty) in
+    let done = rw c.in_err-written.was at done in
+    rw (error_is _ _ c.from_residual.ensures, back, ← c.through-entries.ensures.unread)
+    (done.given, done.consumed, done.stopped)
+
+pub returns-in_err-written-clause-whole : goal.returns-in_err-written-clause-whole
+returns-in_err-written-clause-whole g c bytes gave =
     let first = g.R.Source.observed c.args.source.now in
-    let observed = g.R.Source.observed c.write_whole.new.source in
-    let s = c.in_err-progress.ensures.ends in
-    rw (error_is _ _ c.from_residual.ensures)
-    (all_written _ c.requires.prefixes IsSummary bytes first observed _ _
-    (Err c.in_err-progress.field-0.0) (λ given. prefix_of_kept first observed given bytes gave)
-    (s.given, s.consumed, s.stopped))
+    all_written _ c.requires.prefixes g.E.EntryWriter.are_counts bytes first _ _ _ _
+    (λ given. prefix_of_kept first _ given bytes gave) (returns-in_err-written-clause-writes g c)
+
+pub returns-in-Err-clause-writes : goal.returns-in-Err-clause-writes
+returns-in-Err-clause-writes g c =
+    let observed = g.R.Source.observed c.args.source.now in (
+      [],
+      gave_none observed,
+      nothing_written g.E.EntryWriter.form c.requires.prefixes observed
+          (g.W.Sink.written c.args.sink.now),
+    )

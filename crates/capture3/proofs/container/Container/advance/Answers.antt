@@ -5,7 +5,7 @@ use Rattle.capture3.proofs.container.Container.advance.Goals as goal
 
 pub returns-then-is_some-clause-reaches : goal.returns-then-is_some-clause-reaches
 returns-then-is_some-clause-reaches c =
-    let reached = c.in_ok-step.ensures.reaches in
+    let reached = c.in_ok-step.ensures.ok.reaches in
     record {
       machine =
           arrives_more _ c.args.piece.now _ _ c.loop-taken.self.position _
@@ -17,10 +17,10 @@ returns-then-is_some-clause-reaches c =
 
 pub loop-taken-preserved : goal.loop-taken-preserved
 loop-taken-preserved c =
-    let reached = c.in_ok-step.ensures.reaches in
+    let reached = c.in_ok-step.ensures.ok.reaches in
     let none = sym c.is_some.ensures ∙ c.if-is_some.false in
     record {
-      within = grind (arith, common_steps, c.in_ok-step.ensures);
+      within = grind (arith, common_steps, c.in_ok-step.ensures.ok.taken);
       running =
           still_running c.in_ok-step.step.event c.step.new.self.joiner.taking none reached.joiner;
       machine =
@@ -29,7 +29,7 @@ loop-taken-preserved c =
           c.loop-taken.invariant.machine reached.machine;
       room =
           room_on c.in_ok-step.step.event _ _ _ none reached.room c.loop-taken.invariant.room;
-      cursor = c.in_ok-step.ensures.cursor ∙ c.loop-taken.invariant.cursor;
+      cursor = c.in_ok-step.ensures.ok.cursor ∙ c.loop-taken.invariant.cursor;
       stored =
           stored_on c.in_ok-step.step.event _ c.step.new.self.streams.kept none reached.stored;
     }

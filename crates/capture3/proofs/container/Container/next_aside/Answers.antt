@@ -1,20 +1,30 @@
-use Rattle.capture3.proofs.Common.{refl, FirstKept, InFirstKept, InNextKept, NextKept}
+use Rattle.capture3.proofs.Common.{FirstKept, InFirstKept, InNextKept, NextKept, arith, refl}
+use Rattle.capture3.proofs.Lemmas.Container.ContainerLemmas.{recalled_next}
 use Rattle.capture3.proofs.container.Container.next_aside.Goals as goal
 
-pub returns-in-Ok-clause-comes : goal.returns-in-Ok-clause-comes
-returns-in-Ok-clause-comes c =
-    NextKept c.in-Some.cursor c.in-Ok.event c.in-Some.is refl refl c.in-Ok.ensures.recalled
+pub returns-in-Ok-clause-ok : goal.returns-in-Ok-clause-ok
+returns-in-Ok-clause-ok c =
+    let recalled = c.in-Ok.ensures in
+    recalled_next c.args.self.now c.recall.new.self c.args.piece.now 0 c.in-Some.cursor _ _
+    c.in-Ok.event recalled.recalled (omega arith) (λ some. refl)
+    (NextKept c.in-Some.cursor c.in-Ok.event c.in-Some.is refl refl recalled.recalled)
+    recalled.joiner recalled.ready recalled.room
 
 pub returns-in-Err-clause-fault : goal.returns-in-Err-clause-fault
 returns-in-Err-clause-fault c = InNextKept c.in-Some.cursor c.in-Some.is c.in-Err.ensures.fault
 
-pub returns-in-Ok-first_recalled-clause-comes : goal.returns-in-Ok-first_recalled-clause-comes
-returns-in-Ok-first_recalled-clause-comes c =
+pub returns-in-Ok-first_recalled-clause-ok : goal.returns-in-Ok-first_recalled-clause-ok
+returns-in-Ok-first_recalled-clause-ok c =
     let came = c.in-Ok-default-Some-Streams in
     let mid = c.advance.new.self in
     let reaches = rw (came.field-0-1-is, came.field-0-1-0-is) at came.ensures.reaches in
-    FirstKept mid c.in-Ok-first_recalled.event c.in-None.is reaches.machine reaches.stored refl
-    c.in-Ok-first_recalled.ensures.recalled
+    let recalled = c.in-Ok-first_recalled.ensures in
+    recalled_next c.args.self.now c.first_recalled.new.self c.args.piece.now came.count _ _ _
+    c.in-Ok-first_recalled.event recalled.recalled came.ensures.taken.within
+    (λ some. absurd (some c.in-None.is))
+    (FirstKept mid c.in-Ok-first_recalled.event c.in-None.is reaches.machine reaches.stored refl
+    recalled.recalled) recalled.joiner recalled.ready
+    (omega (arith, recalled.room, reaches.room))
 
 pub returns-in-Err-first_recalled-clause-fault : goal.returns-in-Err-first_recalled-clause-fault
 returns-in-Err-first_recalled-clause-fault c =

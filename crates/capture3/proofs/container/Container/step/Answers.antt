@@ -1,20 +1,32 @@
-use Rattle.capture3.proofs.Common.{ap, ◌∙◌}
+use Rattle.capture3.proofs.Common.{ap, refl, ◌∙◌}
 use Rattle.capture3.specs.declared.container.position.spot.WordOf.{WordOf}
 use Rattle.capture3.specs.declared.container.position.spot.Spot.TheVariants.{Word}
-use Rattle.capture3.proofs.Lemmas.Container.ContainerLemmas.{shown_at, step_fails, step_reaches}
+use Rattle.capture3.proofs.Lemmas.Container.ContainerLemmas.{shown_at, step_fails, step_reaches, steps_to, stored_here}
 use Rattle.capture3.proofs.container.Container.step.Goals as goal
 
-pub returns-in-Length-clause-reaches : goal.returns-in-Length-clause-reaches
-returns-in-Length-clause-reaches c =
-    step_reaches c.args.self.now c.position.inside _ c.args.rest.now _ c.position.view_is
+pub returns-in-Length-clause-ok : goal.returns-in-Length-clause-ok
+returns-in-Length-clause-ok c =
+    let self = c.args.self.now in
+    steps_to self self c.args.rest.now _ c.take_word.ensures.taken
+    (step_reaches self c.position.inside _ c.args.rest.now _ c.position.view_is
     (c.in-Word.is ∙ ap (λ (w : WordOf). Word w c.in-Word.part) c.in-Length.is) c.requires.ready
-    c.take_word.ensures.steps (c.take_word.ensures.machine _ c.open_body.ensures)
+    c.take_word.ensures.steps (c.take_word.ensures.machine _ c.open_body.ensures)) refl refl
 
 pub returns-in-Length-clause-fault : goal.returns-in-Length-clause-fault
 returns-in-Length-clause-fault c =
     step_fails c.args.self.now c.position.inside _ c.args.rest.now _ c.position.view_is
     (c.in-Word.is ∙ ap (λ (w : WordOf). Word w c.in-Word.part) c.in-Length.is) c.requires.ready
     (c.take_word.ensures.machine _ c.open_body.ensures)
+
+pub returns-in-Chunk-clause-ok : goal.returns-in-Chunk-clause-ok
+returns-in-Chunk-clause-ok c =
+    let self = c.args.self.now in
+    let inside = c.position.inside in
+    let here = shown_at inside self.position _ c.position.view_is c.in-Chunk.is in
+    steps_to self _ c.args.rest.now _ c.join.ensures.taken
+    (rw (← here) (c.join.ensures.leads self.streams.kept
+    (stored_here inside self.position _ self.streams.kept c.position.view_is c.in-Chunk.is
+    c.requires.ready.stored))) refl refl
 
 pub returns-in-Chunk-clause-fault : goal.returns-in-Chunk-clause-fault
 returns-in-Chunk-clause-fault c =

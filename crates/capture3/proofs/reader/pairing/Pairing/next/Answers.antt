@@ -1,38 +1,109 @@
-use Rattle.std.proofs.Common.{take}
-use Rattle.capture3.proofs.Lemmas.Reader.PairingLemmas.{comes_meets, comes_of_bytes, comes_on, comes_to_fault, fails_longer}
+use Rattle.std.proofs.Common.{take, ap, ◌∙◌, Some}
+use Rattle.capture3.specs.declared.container.position.spot.Event.TheVariants.{Begin, Turn, Close, Record}
+use Rattle.capture3.specs.declared.fault.Side.TheVariants.{Client, Server}
+use Rattle.capture3.proofs.Lemmas.Reader.PairingLemmas.{begin_goes, close_goes, comes_of_bytes, comes_on, comes_to_fault, fails_longer, next_meets, turn_goes}
 use Rattle.capture3.proofs.reader.pairing.Pairing.next.Goals as goal
 
-pub returns-in-Ok-default-None-clause-machine : goal.returns-in-Ok-default-None-clause-machine
-returns-in-Ok-default-None-clause-machine g c bytes all s =
+pub returns-in-None-clause-machine : goal.returns-in-None-clause-machine
+returns-in-None-clause-machine g c bytes all s =
     let r = c.release.ensures in
-    let came = c.in-Ok-default-None in
-    comes_on c.release.new.self c.next.new.self _ bytes all (take came.count c.args.piece.now)
-    _ (rw (r.position, r.joiner, r.streams, r.cursor) s) came.field-0-1-is came.ensures.joiner
-    came.ensures.comes
+    let next = c.in-Ok.ensures.ok in
+    comes_on c.release.new.self c.next.new.self _ bytes all (take c.in-Ok.next.0 c.args.piece.now)
+    c.in-Ok.next.1 (rw (r.position, r.joiner, r.streams, r.cursor) s) c.in-None.is next.joiner
+    next.comes
 
-pub returns-in-Ok-clause-machine : goal.returns-in-Ok-clause-machine
-returns-in-Ok-clause-machine g c bytes all s =
+pub returns-in-Some-Begin-clause-machine : goal.returns-in-Some-Begin-clause-machine
+returns-in-Some-Begin-clause-machine g c bytes all s =
     let r = c.release.ensures in
-    let came = c.in-Ok-default-Some in
-    c.in-Ok.ensures.machine _ all (comes_meets c.release.new.self c.next.new.self _ bytes all
-    (take came.count c.args.piece.now) _ (rw (r.position, r.joiner, r.streams, r.cursor) s) _
-    came.field-0-1-is came.ensures.joiner
-    (rw (r.position, r.streams, r.cursor) c.requires.ready.stored) came.ensures.comes)
+    let next = c.in-Ok.ensures.ok in
+    let came = c.in-Some-Begin in
+    let is = came.is ∙ ap Some (rw came.is at came.field-0-is) in
+    begin_goes g.V.MessageVisit.rests g.V.Visit.stands c.args.visitor.now c.args.self.now.number
+    c.next.new.self (g.C.KnownCalls.known c.args.self.now.calls) _ _ all c.clear.ensures
+    (rw is at next.joiner)
+    (next_meets c.release.new.self c.next.new.self _ bytes all c.args.piece.now c.in-Ok.next
+    (rw (r.position, r.joiner, r.streams, r.cursor) s)
+    (rw (r.position, r.streams, r.cursor) c.requires.ready.stored) next Begin is)
 
-pub returns-in-Err-entry-clause-fault : goal.returns-in-Err-entry-clause-fault
-returns-in-Err-entry-clause-fault g c =
+pub returns-in-Some-Turn-clause-machine : goal.returns-in-Some-Turn-clause-machine
+returns-in-Some-Turn-clause-machine g c bytes all s =
     let r = c.release.ensures in
-    let came = c.in-Ok-default-Some in
+    let next = c.in-Ok.ensures.ok in
+    let came = c.in-Some-Turn in
+    let is = came.is ∙ ap Some (rw came.is at came.field-0-is) in
+    turn_goes g.V.MessageVisit.rests g.V.Visit.stands c.args.visitor.now c.args.self.now.number
+    c.next.new.self _ _ all (rw is at next.joiner)
+    (next_meets c.release.new.self c.next.new.self _ bytes all c.args.piece.now c.in-Ok.next
+    (rw (r.position, r.joiner, r.streams, r.cursor) s)
+    (rw (r.position, r.streams, r.cursor) c.requires.ready.stored) next Turn is)
+
+pub returns-in-Some-Close-clause-machine : goal.returns-in-Some-Close-clause-machine
+returns-in-Some-Close-clause-machine g c bytes all s =
+    let r = c.release.ensures in
+    let next = c.in-Ok.ensures.ok in
+    let came = c.in-Some-Close in
+    let is = came.is ∙ ap Some (rw came.is at came.field-0-is) in
+    close_goes g.V.MessageVisit.rests g.V.Visit.stands c.args.visitor.now c.args.self.now.number
+    c.next.new.self _ _ all (rw is at next.joiner)
+    (next_meets c.release.new.self c.next.new.self _ bytes all c.args.piece.now c.in-Ok.next
+    (rw (r.position, r.joiner, r.streams, r.cursor) s)
+    (rw (r.position, r.streams, r.cursor) c.requires.ready.stored) next Close is)
+
+pub returns-in-Ok-call-clause-machine : goal.returns-in-Ok-call-clause-machine
+returns-in-Ok-call-clause-machine g c bytes all s =
+    let r = c.release.ensures in
+    let came = c.in-Some-Record-Client in
+    let event = rw came.is at came.field-0-is in
+    let side = rw event at (rw came.is at came.field-0-0-is) in
+    c.in-Ok-call.ensures.machine _ all (next_meets c.release.new.self c.next.new.self _ bytes all
+    c.args.piece.now c.in-Ok.next (rw (r.position, r.joiner, r.streams, r.cursor) s)
+    (rw (r.position, r.streams, r.cursor) c.requires.ready.stored) c.in-Ok.ensures.ok
+    (Record Client) (came.is ∙ ap Some (event ∙ ap Record side)))
+
+pub returns-in-Err-call-clause-fault : goal.returns-in-Err-call-clause-fault
+returns-in-Err-call-clause-fault g c =
+    let r = c.release.ensures in
+    let came = c.in-Some-Record-Client in
+    let event = rw came.is at came.field-0-is in
+    let side = rw event at (rw came.is at came.field-0-0-is) in
     record {
-      device = c.in-Err-entry.ensures.device;
+      device = c.in-Err-call.ensures.device;
       fault =
           λ bytes all s.
-          fails_longer bytes c.args.piece.now came.count all c.entry.new.self.error
-          (c.in-Err-entry.ensures.fault _ all (comes_meets c.release.new.self c.next.new.self _
-          bytes all (take came.count c.args.piece.now) _
-          (rw (r.position, r.joiner, r.streams, r.cursor) s) _ came.field-0-1-is
-          came.ensures.joiner (rw (r.position, r.streams, r.cursor) c.requires.ready.stored)
-          came.ensures.comes));
+          fails_longer bytes c.args.piece.now c.in-Ok.next.0 all c.call.new.self.error
+          (c.in-Err-call.ensures.fault _ all (next_meets c.release.new.self c.next.new.self _ bytes
+          all c.args.piece.now c.in-Ok.next (rw (r.position, r.joiner, r.streams, r.cursor) s)
+          (rw (r.position, r.streams, r.cursor) c.requires.ready.stored) c.in-Ok.ensures.ok
+          (Record Client) (came.is ∙ ap Some (event ∙ ap Record side))));
+    }
+
+pub returns-in-Ok-reply-clause-machine : goal.returns-in-Ok-reply-clause-machine
+returns-in-Ok-reply-clause-machine g c bytes all s =
+    let r = c.release.ensures in
+    let came = c.in-Some-Record-Server in
+    let event = rw came.is at came.field-0-is in
+    let side = rw event at (rw came.is at came.field-0-0-is) in
+    c.in-Ok-reply.ensures.machine _ all (next_meets c.release.new.self c.next.new.self _ bytes all
+    c.args.piece.now c.in-Ok.next (rw (r.position, r.joiner, r.streams, r.cursor) s)
+    (rw (r.position, r.streams, r.cursor) c.requires.ready.stored) c.in-Ok.ensures.ok
+    (Record Server) (came.is ∙ ap Some (event ∙ ap Record side)))
+
+pub returns-in-Err-reply-clause-fault : goal.returns-in-Err-reply-clause-fault
+returns-in-Err-reply-clause-fault g c =
+    let r = c.release.ensures in
+    let came = c.in-Some-Record-Server in
+    let event = rw came.is at came.field-0-is in
+    let side = rw event at (rw came.is at came.field-0-0-is) in
+    record {
+      device = c.in-Err-reply.ensures.device;
+      fault =
+          λ bytes all s.
+          fails_longer bytes c.args.piece.now c.in-Ok.next.0 all c.reply.new.self.error
+          (c.in-Err-reply.ensures.fault _ all (next_meets c.release.new.self c.next.new.self _
+          bytes all c.args.piece.now c.in-Ok.next
+          (rw (r.position, r.joiner, r.streams, r.cursor) s)
+          (rw (r.position, r.streams, r.cursor) c.requires.ready.stored) c.in-Ok.ensures.ok
+          (Record Server) (came.is ∙ ap Some (event ∙ ap Record side))));
     }
 
 pub returns-in-Err-clause-fault : goal.returns-in-Err-clause-fault

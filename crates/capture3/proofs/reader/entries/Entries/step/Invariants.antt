@@ -1,7 +1,7 @@
 use Rattle.capture3.proofs.Common.{◌≡◌, ◌≤◌, ◌+◌, ◌-◌, List, ℕ, Entry, Two, most_bytes, entries_left, HasRead, StandsFor}
 use Rattle.capture3.specs.declared.reader.entries.Stage.TheVariants.{Reading}
 use Rattle.capture3.specs.Entries.{block_size}
-use Rattle.capture3.proofs.reader.entries.Entries.next_entry.Given as goal
+use Rattle.capture3.proofs.reader.entries.Entries.step.Given as goal
 
 abbrev pub invariant-loop-self : goal.invariant-loop-self
 invariant-loop-self g l = record {

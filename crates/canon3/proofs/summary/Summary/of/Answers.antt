@@ -1,6 +1,6 @@
 use Rattle.std.proofs.Common.{◌∙◌}
 use Rattle.canon3.proofs.Lemmas.Progress.SummaryLemmas.{few_distinct}
-use Rattle.canon3.proofs.summary.summary_of.Goals as goal
+use Rattle.canon3.proofs.summary.Summary.of.Goals as goal
 
 pub returns : goal.returns
 returns c bytes entries typed passed handles = record {

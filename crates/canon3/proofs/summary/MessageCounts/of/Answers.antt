@@ -1,4 +1,4 @@
-use Rattle.canon3.proofs.summary.counts_of.Goals as goal
+use Rattle.canon3.proofs.summary.MessageCounts.of.Goals as goal
 
 pub returns : goal.returns
 returns c bytes entries typed passed = record {
