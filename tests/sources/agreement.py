@@ -289,7 +289,7 @@ def trees_are_of_the_code(tools: Tools) -> None:
     tools.want('calls', call_trees.calls_not_there(page), [])
     planted = (('Entries::finish', 'Entries::entry', ['Entries::step does not call Entries::entry',
                                                       'Entries::entry does not call Pairing::end']),
-               ('Counts::take_word                    capture3/src/container/position/counts.rt', 'Counts::take_word',
+               ('Counts::take_word                      capture3/src/container/position/counts.rt', 'Counts::take_word',
                 ['Counts::take_word is not in capture3/src/container.rt']))
     for old, new, wrong in planted:
         tools.want(f'{new} for {old}', call_trees.calls_not_there(page.replace(old, new, 1)), wrong)

@@ -37,7 +37,8 @@ pub returns-in-Ok-flush_all-clause-whole : goal.returns-in-Ok-flush_all-clause-w
 returns-in-Ok-flush_all-clause-whole g c bytes gave =
     let first = g.R.Source.observed c.args.source.now in
     all_written _ c.requires.prefixes g.E.EntryWriter.are_counts bytes first _ _ _
-    (Ok c.counts.result) (λ given. prefix_of_kept first _ given bytes gave) (returns-in-Ok-flush_all-clause-writes g c)
+    (Ok c.counts.result) (λ given. prefix_of_kept first _ given bytes gave)
+    (returns-in-Ok-flush_all-clause-writes g c)
 
 pub returns-in-Err-flush_all-clause-writes : goal.returns-in-Err-flush_all-clause-writes
 returns-in-Err-flush_all-clause-writes g c =
