@@ -7,6 +7,8 @@ use Rattle.nfs3_types.specs.Names.{names}
 use Rattle.masking3.specs.declared.ways.Way.{Way}
 use Rattle.masking3.specs.declared.ways.Way.TheVariants.{Keep, Zero, Number}
 use Rattle.masking3.specs.declared.ways.Ways.{Ways}
+use Rattle.masking3.specs.declared.class.Class.TheVariants.{Machines, Raw, SillyNames}
+use Rattle.masking3.specs.Ways.{way_of}
 
 -- ---- names of files that were removed while they were open
 
@@ -49,8 +51,8 @@ host_by Number bytes = []
 -- results alone (section 5.2.2).
 abbrev pub text_by : Ways → (name bytes : List ℕ) → List ℕ
 text_by ways name bytes =
-    (if bytes_eq name names.name then silly_by ways.silly_names bytes else
-    (if bytes_eq name names.hostname then host_by ways.machines bytes else
+    (if bytes_eq name names.name then silly_by (way_of ways SillyNames) bytes else
+    (if bytes_eq name names.hostname then host_by (way_of ways Machines) bytes else
     bytes))
 
 -- ---- bodies of other programs and versions
@@ -67,5 +69,5 @@ raw_by Number bytes = replicate (length bytes) 0
 -- other item stays.
 abbrev pub with_text : Ways → Item → Item
 with_text ways (Opaque Text name bytes) = Opaque Text name (text_by ways name bytes)
-with_text ways (Rest name bytes) = Rest name (raw_by ways.raw bytes)
+with_text ways (Rest name bytes) = Rest name (raw_by (way_of ways Raw) bytes)
 with_text ways item = item

@@ -6,7 +6,9 @@ use Rattle.capture3.specs.Entry.{Entry, Call, Reply}
 use Rattle.masking3.specs.declared.ways.Way.{Way}
 use Rattle.masking3.specs.declared.ways.Way.TheVariants.{Keep, Zero, Number}
 use Rattle.masking3.specs.declared.ways.Ways.{Ways}
+use Rattle.masking3.specs.declared.class.Class.TheVariants.{Machines}
 use Rattle.masking3.specs.Texts.{with_text}
+use Rattle.masking3.specs.Ways.{way_of}
 
 -- how many bytes follow the length of a text, with its residual bytes (RFC 4506, section 4.11)
 abbrev pub text_size : Item → ℕ
@@ -51,7 +53,7 @@ named_by Number items = unnamed_items items
 
 -- each text, and then the name in the credential
 abbrev pub named_call : Ways → List Item → List Item
-named_call ways items = named_by ways.machines (map (with_text ways) items)
+named_call ways items = named_by (way_of ways Machines) (map (with_text ways) items)
 
 abbrev pub named_entry : Ways → Entry → Entry
 named_entry ways (Call items) = Call (named_call ways items)

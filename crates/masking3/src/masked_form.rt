@@ -38,7 +38,7 @@ use std::marker::Brand;
 ///   form is written.
 ///
 /// After an error nothing is flushed.
-pub fn mask<R: Source, W: Sink, S: BuildHasher + Drop>(
+pub fn mask<R: Source, W: Sink, S: BuildHasher + Copy + Drop>(
     alloc: Global,
     hashers: MaskHashers<S>,
     ways: Ways,
@@ -57,7 +57,7 @@ pub fn mask<R: Source, W: Sink, S: BuildHasher + Drop>(
 }
 
 /// Does the same, by ways that a type stands for.
-fn mask_by_plan<P: Plan, R: Source, W: Sink, S: BuildHasher + Drop>(
+fn mask_by_plan<P: Plan, R: Source, W: Sink, S: BuildHasher + Copy + Drop>(
     alloc: Global,
     hashers: MaskHashers<S>,
     ways: Ways,
@@ -73,7 +73,7 @@ fn mask_by_plan<P: Plan, R: Source, W: Sink, S: BuildHasher + Drop>(
     ensures read { CountsReading (R.failures source.old) (R.failures source.new) result }
     ensures write { CountsWriting (W.failures sink.old) (W.failures sink.new) result }
 {
-    let mut writer = MaskingWriter::<P, S>::new(alloc, ways, hashers.handles, hashers.classes);
+    let mut writer = MaskingWriter::<P, S>::new(alloc, ways, hashers.handles, hashers.values);
     write_entries(alloc, hashers.calls, source, sink, &mut writer)
 }
 

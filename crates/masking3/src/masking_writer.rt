@@ -9,16 +9,16 @@ ghost use Rattle.xdr3.specs.Visit.{Adds, body_limit};
 ghost use Rattle.canon3.specs.Bytes.{chunk_bytes, record_bytes};
 ghost use Rattle.canon3.specs.SinkWrites.{AppendsFront};
 ghost use Rattle.canon3.specs.WriteErrors.{CountsWriting, IsOfWriting};
-ghost use Rattle.masking3.specs.Ways.{usual};
+ghost use Rattle.masking3.specs.Ways.{usual, way_of};
+ghost use Rattle.masking3.specs.declared.class.Class.TheVariants.{Machines};
 ghost use Rattle.capture3.specs.declared.fault.Side.{Side};
 ghost use Rattle.masking3.specs.machinery.MaskingWriter.{HasMemory, HoldsMasked, MaskRests, MaskStands, after_messages, visited_items, written_as};
 ghost use Rattle.masking3.specs.machinery.MessageSpot.{first_spot};
 ghost use Rattle.masking3.specs.machinery.UnnamedBody.{body_by};
 
 use crate::attributes::are_attributes;
-use crate::class::{class_of_fixed, class_of_hyper, class_of_word};
+use crate::class::{Class, class_of_fixed, class_of_hyper, class_of_word};
 use crate::class_tables::ClassTables;
-use crate::hashers::ClassHashers;
 use crate::kept::{are_kept, is_free_name};
 use crate::spot::{Spot, first_spot, spot_after};
 use crate::texts::masked_text;
@@ -59,28 +59,25 @@ pub(crate) struct MaskingWriter<P: Plan, S: BuildHasher + Drop> {
     plan: PhantomData<P>,
 }
 
-impl<P: Plan, S: BuildHasher + Drop> MaskingWriter<P, S> {
+impl<P: Plan, S: BuildHasher + Copy + Drop> MaskingWriter<P, S> {
     /// Returns a writer before a capture.
-    pub(crate) fn new(
-        alloc: Global,
-        ways: Ways,
-        handles: S,
-        classes: ClassHashers<S>,
-    ) -> MaskingWriter<P, S>
+    pub(crate) fn new(alloc: Global, ways: Ways, handles: S, values: S) -> MaskingWriter<P, S>
         requires { ways ≡ P.ways }
         ensures rests { MaskRests P.ways result (after_messages [] []) }
         ensures going { HasMemory result }
     {
         MaskingWriter {
             handles: HandleTable::new(alloc, handles),
-            classes: ClassTables::new(alloc, ways, classes),
+            classes: ClassTables::new(alloc, ways, values),
             writer: Writer::new(alloc),
             spot: Spot::InCall,
             failed: false,
             plan: PhantomData,
         }
     }
+}
 
+impl<P: Plan, S: BuildHasher + Drop> MaskingWriter<P, S> {
     /// Lets the message go, and keeps its values.
     pub(crate) fn end_message(&mut self)
         ensures rests { (front items : List Item) (side : Side)
@@ -143,11 +140,11 @@ impl<P: Plan, S: BuildHasher + Drop> MaskingWriter<P, S> {
         ensures ok { OnOk result
             (Adds (MaskStands P.ways) self.old self.new (run_items fields.now bytes.now)) }
     {
-        if are_kept(fields, self.classes.ways.owners) {
-            return self.writer.plain(fields, bytes);
-        }
         if are_attributes(fields) {
             return self.write_attributes(bytes);
+        }
+        if are_kept(self.classes.ways.way(Class::Owners), fields) {
+            return self.writer.plain(fields, bytes);
         }
         self.write_each(fields, bytes)
     }
@@ -191,7 +188,7 @@ impl<P: Plan, S: BuildHasher + Drop> MaskingWriter<P, S> {
         ensures ok { OnOk result
             (Adds (MaskStands P.ways) self.old self.new (Rest name.now bytes.now ∷ [])) }
     {
-        match self.classes.ways.raw {
+        match self.classes.ways.way(Class::Raw) {
             Way::Keep => self.writer.rest(name, bytes),
             Way::Zero => write_zeros(&mut self.writer, bytes.len()),
             Way::Number => write_zeros(&mut self.writer, bytes.len()),
@@ -213,16 +210,16 @@ impl<P: Plan, S: BuildHasher + Drop> MaskingWriter<P, S> {
     /// Writes an entry, whose message the writer contains.
     pub(crate) fn write_entry<W: Sink>(&self, sink: &mut W, kind: Kind) -> Result<(), Error>
         ensures ok { OnOk result (Appends (W.written sink.old) (W.written sink.new)
-            (written_as self.now.classes.ways.machines kind self.now.writer)) }
+            (written_as (way_of self.now.classes.ways Machines) kind self.now.writer)) }
         ensures err { OnErr result (AppendsFront (W.written sink.old) (W.written sink.new)
-            (written_as self.now.classes.ways.machines kind self.now.writer)) }
+            (written_as (way_of self.now.classes.ways Machines) kind self.now.writer)) }
         ensures count { CountsWriting (W.failures sink.old) (W.failures sink.new) result }
         ensures error { IfErr result IsOfWriting }
     {
         let body = self.writer.bytes();
         match kind {
             Kind::Begin => write_word(sink, 1),
-            Kind::Call(_) => write_call(sink, self.classes.ways.machines, body),
+            Kind::Call(_) => write_call(sink, self.classes.ways.way(Class::Machines), body),
             Kind::Reply(_) => write_message(sink, body, &[]),
             Kind::Turn | Kind::Close | Kind::End => write_word(sink, 0),
         }

@@ -1,4 +1,4 @@
-use Rattle.masking3.proofs.Common.{◌≡◌, [], ◌∷◌, refl, sym, ◌++◌, subst, on_ok_weaker, Adds, Rest, raw_by}
+use Rattle.masking3.proofs.Common.{◌≡◌, [], ◌∷◌, refl, sym, ◌++◌, subst, on_ok_weaker, Adds, Rest, raw_by, way_of, Raw}
 use Rattle.masking3.proofs.Lemmas.Writing.RunLemmas.{spelled_item}
 use Rattle.masking3.proofs.Lemmas.Writing.WriterLemmas.{Spells, adds_plain}
 use Rattle.masking3.proofs.masking_writer.MaskingWriter.write_rest.Goals as goal
@@ -25,7 +25,7 @@ returns-in-Zero g c = record {
       adds_plain g.P.Plan.ways c.args.self.now c.write_zeros.new.writer
       (Rest c.args.name.now c.args.bytes.now) tt (λ spot. refl) refl
       (spelled_item c.args.self.now.writer c.write_zeros.new.writer
-      (Rest c.args.name.now (raw_by c.args.self.now.classes.ways.raw c.args.bytes.now))
+      (Rest c.args.name.now (raw_by (way_of c.args.self.now.classes.ways Raw) c.args.bytes.now))
       (subst
       (λ way. c.write_zeros.new.writer ≡ c.args.self.now.writer ++ raw_by way c.args.bytes.now)
       (sym c.in-Zero.is) write)))
@@ -40,7 +40,7 @@ returns-in-Number g c = record {
       adds_plain g.P.Plan.ways c.args.self.now c.write_zeros-in-Number.new.writer
       (Rest c.args.name.now c.args.bytes.now) tt (λ spot. refl) refl
       (spelled_item c.args.self.now.writer c.write_zeros-in-Number.new.writer
-      (Rest c.args.name.now (raw_by c.args.self.now.classes.ways.raw c.args.bytes.now))
+      (Rest c.args.name.now (raw_by (way_of c.args.self.now.classes.ways Raw) c.args.bytes.now))
       (subst
       (λ way.
       c.write_zeros-in-Number.new.writer ≡ c.args.self.now.writer ++ raw_by way c.args.bytes.now)
