@@ -13,6 +13,11 @@ way_of ways class = get_or ways.by_class (position class) Keep
 abbrev pub with_way : Ways → Class → Way → Ways
 with_way ways class way = record { by_class = slice_set ways.by_class (position class) way }
 
+-- names and bodies have no numbers: they stay, or change
+abbrev pub unless_kept : {A : Type 0} → Way → (A → A) → A → A
+unless_kept Keep change x = x
+unless_kept _ change x = change x
+
 -- what two ordinary runs of one script never share
 abbrev pub usual : Ways
 usual = record { by_class = map (λ class. (row class).usual) classes }

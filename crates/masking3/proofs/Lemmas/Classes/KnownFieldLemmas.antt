@@ -89,7 +89,8 @@ among_owners name t = by_test (bytes_eq name names.uid)
     (λ g. subst IsOwnerName (sym ((bytes_eq-Decides name names.gid).0 g)) gid_is_owner)
     (λ g. by_test (bytes_eq name head_names.group)
     (λ r. subst IsOwnerName (sym ((bytes_eq-Decides name head_names.group).0 r)) group_is_owner)
-    (λ r. absurd (cc (t, (rw (u, g, r) refl : is_one_of owner_names name ≡ false))))))
+    (λ r. let none : is_one_of owner_names name ≡ false = rw (u, g, r) refl in
+    absurd (cc (t, none)))))
 
 -- ---- items that stay
 

@@ -2,7 +2,7 @@
 use Rattle.std.proofs.lemmas.Bool.Decides.{nat_tests}
 use Rattle.xdr3.proofs.Lemmas.Reading.Decided.{zero_spelled_all}
 use Rattle.masking3.proofs.Common.{◌≡◌, ℕ, zero, suc, ◌+◌, ◌-◌, ◌<◌, ◌≤◌, true, List, [], ◌∷◌, ◌++◌, length, refl, ap, sym, ◌∙◌, subst, arith, length-append, ◌==◌, IsTrue, bytes_eq, if◌then◌else◌, length-replicate, bytes_eq-Decides, procedure_in, head_names, arguments_of, xid_in, zero_spelled_one, FitsCall, headed_call_fits, is_headed_call, by_test, Keep, Ways, Item, Word, Opaque, Var, Text, Spells, SpellsItem, residue, zero_spelling, zero_spelling_of, FitsLayout, word_in, Shape, ◌then◌, is_listed, listed, opaque, word, Fits, AreBytes-nil, after_first, emptied, length_of_opaque, less_by, named_by, named_call, text_size, unnamed_credential, unnamed_items, body_by, unnamed_body, auth_sys, call_head, credential, credential_flavors, gids, parameters, rpc_versions, verifier, way_of, Machines}
-use Rattle.masking3.proofs.Lemmas.Masked.MaskedMessages.{mtype_is}
+use Rattle.masking3.proofs.Lemmas.Masked.MaskedMessages.{four_words, mtype_is}
 use Rattle.masking3.proofs.Lemmas.Unnamed.TextShapes.{call_with_texts, length_with_texts, procedure_with_texts, spelled_with_texts, with_texts, xid_with_texts}
 use Rattle.masking3.proofs.Lemmas.Unnamed.UnnamedBodyLemmas.{not_spliced, spliced}
 use Rattle.masking3.proofs.Lemmas.Unnamed.UnnamedLemmas.{any_way}
@@ -68,12 +68,6 @@ after_length (suc n) (i ∷ l) = simp length-append (omega (arith, after_length 
 after_length n l = omega arith
 
 -- ---- the head of a call
-
--- the words before the credential
-abbrev four_words : (version prog vers proc : ℕ) → List Item → List Item
-four_words version prog vers proc back =
-    Word head_names.rpcvers version ∷ Word head_names.prog prog ∷ Word head_names.vers vers
-    ∷ Word head_names.proc proc ∷ back
 
 -- what follows the name of the machine
 abbrev owners : Shape

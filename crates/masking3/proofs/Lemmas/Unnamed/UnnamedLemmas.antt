@@ -40,7 +40,7 @@ module _ (d : Class) where
   entry_values by (Call items) =
       let l = map (with_text by) items in
       any_way (λ f. values_in d InCall (f l) ≡ values_in d InCall l) refl (after_values 7 l)
-      by.machines ∙ texts_values by d InCall items
+      (way_of by Machines) ∙ texts_values by d InCall items
   entry_values by (Reply id items) = texts_values by d InReply items
   entry_values by e = refl
 
@@ -108,7 +108,7 @@ module _ (ways : Ways) (seen : Class → List ℕ) where
       let l = map (with_text by) items in
       rw (← texts_masked by ways seen InCall items) (ap Call (any_way
       (λ f. masked_items ways seen InCall (f l) ≡ f (masked_items ways seen InCall l)) refl
-      (after_masked 7 l) by.machines))
+      (after_masked 7 l) (way_of by Machines)))
   entry_masked by (Reply id items) = ap (Reply id) (texts_masked by ways seen InReply items)
   entry_masked by e = refl
 

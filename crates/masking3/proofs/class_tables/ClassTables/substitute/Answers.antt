@@ -8,7 +8,7 @@ returns-in_ok-number-in-Number-clause-holds g c seen held =
     let old = c.args.self.now.numbers in
     let new = c.number.new.self.numbers in
     let given =
-    c.in_ok-number-in-Number.ensures.holds (seen d) (held d (sym c.of.ensures ∙ c.in-Number.is)) in
+    c.in_ok-number-in-Number.ensures.holds (seen d) (held d (sym c.way.ensures ∙ c.in-Number.is)) in
     subst (λ w. HoldsValues w new (with_one seen c.args.class c.args.n)) (sym c.number.ensures.ways)
     (holds_numbered c.args.self.now.ways old new seen c.args.class c.args.n d c.in-Some.is given
     c.number.ensures.others held)

@@ -31,7 +31,7 @@ returns-in_err-write_entry-clause-writes g c old entries one of first few came t
     (g.W.Sink.written c.write_magic.new.sink) (g.W.Sink.written c.write_entry.new.sink) entries one
     c.args.progress.connections first came.place.connections_are written
     (written_as (way_of c.args.self.now.classes.ways Machines) c.kind.result c.args.self.now.writer)
-    (ap (λ (w : Ways). written_as w.machines c.kind.result c.args.self.now.writer)
+    (ap (λ (w : Ways). written_as (way_of w Machines) c.kind.result c.args.self.now.writer)
     is.ways_are
     ∙ entry_is g.P.Plan.ways c.args.self.now.writer c.kind.result entries one
     (lent_kind c.args.entry c.kind.result one c.kind.ensures of.0) first is.written)
@@ -52,7 +52,7 @@ returns-clause-writes g c old entries one of first few came told written =
           entries one
           c.args.progress.connections first came.place.connections_are written
           (written_as (way_of c.args.self.now.classes.ways Machines) c.kind.result c.args.self.now.writer)
-          (ap (λ (w : Ways). written_as w.machines c.kind.result c.args.self.now.writer)
+          (ap (λ (w : Ways). written_as (way_of w Machines) c.kind.result c.args.self.now.writer)
           is.ways_are
           ∙ entry_is g.P.Plan.ways c.args.self.now.writer c.kind.result entries one
           (lent_kind c.args.entry c.kind.result one c.kind.ensures of.0) first
