@@ -77,7 +77,7 @@ fn mask_by_plan<P: Plan, R: Source, W: Sink, S: BuildHasher + Copy + Drop>(
     write_entries(alloc, hashers.calls, source, sink, &mut writer)
 }
 
-impl<P: Plan, S: BuildHasher + Drop> EntryWriter for MaskingWriter<P, S> {
+impl<P: Plan, S: BuildHasher + Copy + Drop> EntryWriter for MaskingWriter<P, S> {
     ghost use Rattle.masking3.specs.Masked.{masked_bytes};
     ghost use Rattle.masking3.specs.machinery.MaskingWriter.{HasMemory, visited_before};
 
@@ -103,7 +103,7 @@ impl<P: Plan, S: BuildHasher + Drop> EntryWriter for MaskingWriter<P, S> {
     }
 }
 
-impl<P: Plan, S: BuildHasher + Drop> CountingWriter for MaskingWriter<P, S> {
+impl<P: Plan, S: BuildHasher + Copy + Drop> CountingWriter for MaskingWriter<P, S> {
     fn handles(&self) -> u32 {
         self.handles.len()
     }

@@ -75,9 +75,7 @@ impl<P: Plan, S: BuildHasher + Copy + Drop> MaskingWriter<P, S> {
             plan: PhantomData,
         }
     }
-}
 
-impl<P: Plan, S: BuildHasher + Drop> MaskingWriter<P, S> {
     /// Lets the message go, and keeps its values.
     pub(crate) fn end_message(&mut self)
         ensures rests { (front items : List Item) (side : Side)
@@ -252,7 +250,7 @@ fn write_call<W: Sink>(sink: &mut W, machines: Way, body: &[u8]) -> Result<(), E
 }
 
 #[tactic(auto, unfolding(xdr3::specs::Visit::Adds, xdr3::specs::Visit::Keeps))]
-impl<P: Plan, S: BuildHasher + Drop> Visit for MaskingWriter<P, S> {
+impl<P: Plan, S: BuildHasher + Copy + Drop> Visit for MaskingWriter<P, S> {
     ghost use Rattle.masking3.specs.machinery.MaskingWriter.{MaskStands};
 
     ghost stands = { MaskStands P.ways };
@@ -307,7 +305,7 @@ impl<P: Plan, S: BuildHasher + Drop> Visit for MaskingWriter<P, S> {
     }
 }
 
-impl<P: Plan, S: BuildHasher + Drop> MessageVisit for MaskingWriter<P, S> {
+impl<P: Plan, S: BuildHasher + Copy + Drop> MessageVisit for MaskingWriter<P, S> {
     ghost use Rattle.masking3.specs.machinery.MaskingWriter.{MaskRests};
 
     ghost rests = { MaskRests P.ways };

@@ -65,7 +65,7 @@ values_so_far front side items class =
 pub record HoldsMasked {P S H : Type 0} (ways : Ways) (w : MaskingWriter P S H)
     (front : List Item) (side : Side) (items : List Item) : Type 0 where
   pub ways_are : w.classes.ways ≡ ways
-  pub tables : HoldsValues ways w.classes.numbers (values_so_far front side items)
+  pub tables : HoldsValues ways w.classes.numbers.items (values_so_far front side items)
   pub handles : Gathers w.handles (front ++ items)
   pub written : w.writer
       ≡ zero_spelling (map (with_text ways)

@@ -1,8 +1,7 @@
 -- Fields whose classes are known by their names.
-use Rattle.masking3.proofs.Common.{◌≡◌, ℕ, ◌+◌, true, false, Bool, ◌||◌, List, [], ◌∷◌, ◌++◌, refl, sym, ap, ap₂, ◌∙◌, subst, by_test, and_parts, bytes_eq, bytes_eq-Decides, drop, map, list_all, AllByRecursion, Option, None, Some, Item, Word, Hyper, Fixed, WriteVerf, Opaque, Rest, Class, Spot, Ways, head_names, names, class_of, class_of_hyper, class_of_word, class_value, big_number, substitute, value_where, values_in, masked_items, with_text, with_value, handle_in, handles_in, next_spot, spot_after, Way, Keep, Number, Zero, way_of, InCall, InReply, InDirectory, InWcc, Owners}
+use Rattle.masking3.proofs.Common.{◌≡◌, ℕ, ◌+◌, true, false, List, [], ◌∷◌, ◌++◌, refl, sym, ap, ap₂, ◌∙◌, subst, by_test, and_parts, bytes_eq, bytes_eq-Decides, drop, map, list_all, AllByRecursion, Option, None, Some, Item, Word, Hyper, Fixed, WriteVerf, Opaque, Rest, Class, Spot, Ways, head_names, names, class_of, class_of_hyper, class_of_word, class_value, big_number, substitute, value_where, values_in, masked_items, with_text, with_value, handle_in, handles_in, next_spot, spot_after, Way, Keep, Number, Zero, way_of, InCall, InReply, InDirectory, InWcc, Owners}
 use Rattle.std.proofs.lemmas.List.{drop-drop}
 use Rattle.std.specs.List.{list_any}
-use Rattle.std.proofs.Common.{Bor}
 use Rattle.xdr3.specs.declared.plain.PlainField.{PlainField}
 use Rattle.xdr3.specs.declared.plain.PlainField.TheVariants as fields
 use Rattle.xdr3.specs.Plain.{run_items, run_size}

@@ -5,8 +5,8 @@ use Rattle.masking3.proofs.class_tables.ClassTables.substitute.Goals as goal
 pub returns-in_ok-number-in-Number-clause-holds : goal.returns-in_ok-number-in-Number-clause-holds
 returns-in_ok-number-in-Number-clause-holds g c seen held =
     let d = c.in-Some.class in
-    let old = c.args.self.now.numbers in
-    let new = c.number.new.self.numbers in
+    let old = c.args.self.now.numbers.items in
+    let new = c.number.new.self.numbers.items in
     let given =
     c.in_ok-number-in-Number.ensures.holds (seen d) (held d (sym c.way.ensures ∙ c.in-Number.is)) in
     subst (λ w. HoldsValues w new (with_one seen c.args.class c.args.n)) (sym c.number.ensures.ways)

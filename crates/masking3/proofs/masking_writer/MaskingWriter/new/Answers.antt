@@ -10,7 +10,7 @@ returns-clause-rests g c going =
       holds = record {
         ways_are = are;
         tables =
-            subst (λ k. HoldsValues k (c.new-2.result.numbers) no_values) are
+            subst (λ k. HoldsValues k (c.new-2.result.numbers.items) no_values) are
             c.new-2.ensures.holds;
         handles = c.new.ensures;
         written = c.new-3.ensures;

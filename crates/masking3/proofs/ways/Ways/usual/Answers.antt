@@ -1,4 +1,4 @@
-use Rattle.masking3.proofs.Common.{◌≡◌, ◌<◌, ℕ, arith, ap, sym, ◌∙◌, slice_set, get_or, get_or-set_other, Keep, Times, classes, row}
+use Rattle.masking3.proofs.Common.{◌≡◌, ◌<◌, arith, ap, sym, ◌∙◌, slice_set, get_or, get_or-set_other, Keep, Times, classes, row}
 use borrow.Author.Count.{below_more}
 use Rattle.std.proofs.lemmas.List.{ext_get_or, get_or-map, get_or-set_same, length-set}
 use Rattle.masking3.proofs.ways.Ways.usual.Goals as goal
