@@ -65,7 +65,7 @@ all_ways l long =
 
 -- the words for the mask change the usual one into it
 pub told_again : (ways : Ways) → length ways.by_class ≡ 13 → ways_after (changes_of ways) ≡ ways
-told_again ways long = ap (λ l. record { by_class = l; }) (all_ways ways.by_class long)
+told_again ways long = ap (λ l. record { by_class = l }) (all_ways ways.by_class long)
 
 -- a text of the first classes, and of one more
 pub told_more : (f : Class → List ℕ) (n : ℕ) (before after : List ℕ) → n < 13

@@ -43,9 +43,9 @@ pub(crate) fn changed<'a>(words: &'a [String]) -> Result<Ways, &'a str>
 /// # Errors
 ///
 /// `AllocError` if memory ran out for the text.
-pub fn ways_text(alloc: Global, ways: &Ways) -> Result<String, AllocError>
-    ensures text { IfOk result (λ text. string_bytes text ≡ mask_text ways.now) }
-    ensures again { ways_after (changes_of ways.now) ≡ ways.now }
+pub fn ways_text(alloc: Global, ways: Ways) -> Result<String, AllocError>
+    ensures text { IfOk result (λ text. string_bytes text ≡ mask_text ways) }
+    ensures again { ways_after (changes_of ways) ≡ ways }
 {
     let mut text = String::new(alloc);
     for class in CLASSES {

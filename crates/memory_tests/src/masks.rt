@@ -74,7 +74,7 @@ fn a_line_of_a_mask_is_read(rt: HostRuntime) -> Result<(), Fail> {
 /// The words are all there, or memory ran out.
 #[test]
 fn a_mask_is_told(rt: HostRuntime) {
-    if let Ok(text) = ways_text(rt.alloc(), &Ways::usual()) {
+    if let Ok(text) = ways_text(rt.alloc(), Ways::usual()) {
         assert!(rt; text.as_str().starts_with(" times=zero "));
         assert!(rt; text.as_str().ends_with(" raw=keep"));
     }

@@ -135,7 +135,7 @@ fn run_mask<F: Files, S: BuildHasher + Copy + Drop>(
         result.0.outcome }
 {
     let ways = job.ways;
-    let Ok(words) = ways_text(alloc, &ways) else {
+    let Ok(words) = ways_text(alloc, ways) else {
         let ended = Ended::printing(Outcome::Counted(Err(Error::Memory)));
         return (ended, Readings::Nothing);
     };

@@ -1,4 +1,4 @@
-use Rattle.mask_line3.proofs.Common.{◌≡◌, flat_map, map, string_bytes, take, change_of, change_text, classes, way_of}
+use Rattle.mask_line3.proofs.Common.{◌≡◌, flat_map, string_bytes, take, change_of, change_text, classes, way_of}
 use Rattle.mask_line3.proofs.change.ways_text.Given as goal
 
 abbrev pub invariant-loop-class : goal.invariant-loop-class
