@@ -8,8 +8,9 @@ ghost use Rattle.canon3.specs.WriteErrors.{CountsWriting};
 ghost use Rattle.canon3.specs.SinkWrites.{IsFlushed};
 ghost use Rattle.masking3.specs.Masked.{masked_bytes};
 
+use crate::class::Class;
 use crate::hashers::MaskHashers;
-use crate::masking_writer::{MaskingWriter, Plan};
+use crate::masking_writer::{MaskingWriter, Plan, write_entry};
 use crate::ways::Ways;
 use canon3::{CountingWriter, EntryWriter, Sink, Summary, write_entries, write_magic};
 use capture3::{Error, LentEntry, Progress, Source};
@@ -97,7 +98,8 @@ impl<P: Plan, S: BuildHasher + Copy + Drop> EntryWriter for MaskingWriter<P, S> 
             return Err(Error::Memory);
         }
         write_magic(progress, sink)?;
-        self.write_entry(sink, entry.kind())?;
+        let machines = self.classes.ways.way(Class::Machines);
+        write_entry(sink, entry.kind(), machines, self.writer.bytes())?;
         self.end_message();
         Ok(())
     }

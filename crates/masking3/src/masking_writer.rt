@@ -9,8 +9,7 @@ ghost use Rattle.xdr3.specs.Visit.{Adds, body_limit};
 ghost use Rattle.canon3.specs.Bytes.{chunk_bytes, record_bytes};
 ghost use Rattle.canon3.specs.SinkWrites.{AppendsFront};
 ghost use Rattle.canon3.specs.WriteErrors.{CountsWriting, IsOfWriting};
-ghost use Rattle.masking3.specs.Ways.{usual, way_of};
-ghost use Rattle.masking3.specs.declared.class.Class.TheVariants.{Machines};
+ghost use Rattle.masking3.specs.Ways.{usual};
 ghost use Rattle.capture3.specs.declared.fault.Side.{Side};
 ghost use Rattle.masking3.specs.machinery.MaskingWriter.{HasMemory, HoldsMasked, MaskRests, MaskStands, after_messages, visited_items, written_as};
 ghost use Rattle.masking3.specs.machinery.MessageSpot.{first_spot};
@@ -204,24 +203,6 @@ impl<P: Plan, S: BuildHasher + Copy + Drop> MaskingWriter<P, S> {
         }
         written
     }
-
-    /// Writes an entry, whose message the writer contains.
-    pub(crate) fn write_entry<W: Sink>(&self, sink: &mut W, kind: Kind) -> Result<(), Error>
-        ensures ok { OnOk result (Appends (W.written sink.old) (W.written sink.new)
-            (written_as (way_of self.now.classes.ways Machines) kind self.now.writer)) }
-        ensures err { OnErr result (AppendsFront (W.written sink.old) (W.written sink.new)
-            (written_as (way_of self.now.classes.ways Machines) kind self.now.writer)) }
-        ensures count { CountsWriting (W.failures sink.old) (W.failures sink.new) result }
-        ensures error { IfErr result IsOfWriting }
-    {
-        let body = self.writer.bytes();
-        match kind {
-            Kind::Begin => write_word(sink, 1),
-            Kind::Call(_) => write_call(sink, self.classes.ways.way(Class::Machines), body),
-            Kind::Reply(_) => write_message(sink, body, &[]),
-            Kind::Turn | Kind::Close | Kind::End => write_word(sink, 0),
-        }
-    }
 }
 
 /// Returns the bytes of a number, the most significant first (RFC 4506, section 4.5).
@@ -231,6 +212,28 @@ pub(crate) fn spelled_hyper(n: u64) -> [u8; 8]
     let mut hyper = [0; 8];
     BigEndian::write_u64(&mut hyper, n);
     hyper
+}
+
+/// Writes an entry, whose message has this body, with the name of a call's machine as the way has it.
+pub(crate) fn write_entry<W: Sink>(
+    sink: &mut W,
+    kind: Kind,
+    machines: Way,
+    body: &[u8],
+) -> Result<(), Error>
+    ensures ok { OnOk result (Appends (W.written sink.old) (W.written sink.new)
+        (written_as machines kind body.now)) }
+    ensures err { OnErr result (AppendsFront (W.written sink.old) (W.written sink.new)
+        (written_as machines kind body.now)) }
+    ensures count { CountsWriting (W.failures sink.old) (W.failures sink.new) result }
+    ensures error { IfErr result IsOfWriting }
+{
+    match kind {
+        Kind::Begin => write_word(sink, 1),
+        Kind::Call(_) => write_call(sink, machines, body),
+        Kind::Reply(_) => write_message(sink, body, &[]),
+        Kind::Turn | Kind::Close | Kind::End => write_word(sink, 0),
+    }
 }
 
 /// Writes a call, with the name of its machine as the way has it.
