@@ -64,8 +64,10 @@ module _ (by : Ways) where
       → AllByRecursion HasFreeXid (names_by by a)
   free_names [] h = tt
   free_names (Begin ∷ a) h = (tt, free_names a h.1)
-  free_names (Call m ∷ a) h =
-      (named_xid_free (way_of by Machines) (map (with_text by) m) (texts_free m h.0), free_names a h.1)
+  free_names (Call m ∷ a) h = (
+    named_xid_free (way_of by Machines) (map (with_text by) m) (texts_free m h.0),
+    free_names a h.1,
+  )
   free_names (Turn ∷ a) h = (tt, free_names a h.1)
   free_names (Reply id m ∷ a) h = (texts_free m h.0, free_names a h.1)
   free_names (Close ∷ a) h = (tt, free_names a h.1)

@@ -142,7 +142,8 @@ stays ways (WriteVerf name bytes) kept = absurd kept
 stays ways (Opaque kind name bytes) kept = absurd kept
 stays ways (Rest name bytes) kept = absurd kept
 
-pub all_stay : (ways : Ways) (items : List Item) → AllByRecursion (IsKeptItem (way_of ways Owners)) items
+pub all_stay : (ways : Ways) (items : List Item)
+    → AllByRecursion (IsKeptItem (way_of ways Owners)) items
     → AllStay ways items
 all_stay ways [] all = tt
 all_stay ways (i ∷ items) (kept, all) = (stays ways i kept, all_stay ways items all)

@@ -88,7 +88,8 @@ raw_length way b = length-replicate {A = ℕ} (length b) 0
 
 -- what is so of names of files, of names of hosts and of bytes that stay is so of each text's
 pub by_name : (name : List ℕ) (P : (Ways → List ℕ → List ℕ) → Type 0)
-    → P (λ ways b. silly_by (way_of ways SillyNames) b) → P (λ ways b. host_by (way_of ways Machines) b)
+    → P (λ ways b. silly_by (way_of ways SillyNames) b)
+    → P (λ ways b. host_by (way_of ways Machines) b)
     → P (λ ways b. b) → P (λ ways b. text_by ways name b)
 by_name name P file host other =
     by_test (bytes_eq name names.name)
@@ -98,7 +99,8 @@ by_name name P file host other =
 pub text_shorter : (ways : Ways) (name b : List ℕ) → length (text_by ways name b) ≤ length b
 text_shorter ways name b =
     by_name name (λ f. length (f ways b) ≤ length b)
-    (omega (arith, silly_length (way_of ways SillyNames) b)) (host_length (way_of ways Machines) b) (omega arith)
+    (omega (arith, silly_length (way_of ways SillyNames) b)) (host_length (way_of ways Machines) b)
+    (omega arith)
 
 -- ---- what has no bytes has none
 
@@ -126,7 +128,8 @@ silly_absorbed Keep v t b = refl
 silly_absorbed w Keep t b = absurd t
 silly_absorbed w v t b = zero_again b
 
-host_absorbed : (w v : Way) → RevealsNoMore w v → (b : List ℕ) → host_by v (host_by w b) ≡ host_by v b
+host_absorbed : (w v : Way) → RevealsNoMore w v → (b : List ℕ)
+    → host_by v (host_by w b) ≡ host_by v b
 host_absorbed Keep v t b = refl
 host_absorbed w Keep t b = absurd t
 host_absorbed w v t b = refl
@@ -170,7 +173,8 @@ module _ (ways : Ways) (keeps : KeepsAll ways) where
       by_text ways (λ i j. j ≡ i) (λ i. refl)
       (λ name b.
       ap (Opaque Text name)
-      (by_name name (λ f. f ways b ≡ b) (rw (keeps SillyNames) refl) (rw (keeps Machines) refl) refl))
+      (by_name name (λ f. f ways b ≡ b) (rw (keeps SillyNames) refl) (rw (keeps Machines) refl)
+      refl))
       (λ name b. rw (keeps Raw) refl) i
 
   pub texts_kept : (l : List Item) → map (with_text ways) l ≡ l

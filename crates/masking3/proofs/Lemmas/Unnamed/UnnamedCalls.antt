@@ -241,7 +241,8 @@ module _ (ways : Ways) (m : List Item) where
   named_procedure =
       let stays = words_stay 7 texts in
       any_way (λ f. procedure_in (f texts) ≡ procedure_in texts) refl
-      (rw (stays 3 (omega arith), stays 4 (omega arith), stays 5 (omega arith)) refl) (way_of ways Machines)
+      (rw (stays 3 (omega arith), stays 4 (omega arith), stays 5 (omega arith)) refl)
+      (way_of ways Machines)
       ∙ procedure_with_texts ways m
 
   pub named_spelled : (bytes : List ℕ) → Spells m bytes

@@ -171,7 +171,8 @@ module _ (ways others : Ways) (much : MasksAsMuch ways others) where
       rw (text_absorbed ways others much i, after_later first second n l) refl
   after_later first second n l = texts_later l
 
-  call_later : (w v : Way) → way_of ways Machines ≡ w → way_of others Machines ≡ v → RevealsNoMore w v
+  call_later : (w v : Way) → way_of ways Machines ≡ w → way_of others Machines ≡ v
+      → RevealsNoMore w v
       → (l : List Item)
       → named_by v (map later (named_by w (map before l))) ≡ named_by v (map later l)
   call_later Keep v e f t l = ap (named_by v) (texts_later l)
@@ -181,7 +182,8 @@ module _ (ways others : Ways) (much : MasksAsMuch ways others) where
 
   entry_later : (e : Entry) → named_entry others (named_entry ways e) ≡ named_entry others e
   entry_later (Call items) =
-      ap Call (call_later (way_of ways Machines) (way_of others Machines) refl refl (much Machines) items)
+      ap Call (call_later (way_of ways Machines) (way_of others Machines) refl refl (much Machines)
+      items)
   entry_later (Reply id items) = ap (Reply id) (texts_later items)
   entry_later e = refl
 

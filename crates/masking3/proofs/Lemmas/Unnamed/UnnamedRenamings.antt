@@ -60,7 +60,8 @@ module _ {ps vs : Pairs (List ℕ)} where
     entries_renamed ended = ended
     entries_renamed (begins r) = begins (entries_renamed r)
     entries_renamed (calls (message b p) r) =
-        calls (message_renamed (way_of by Machines) (message b (texts_renamed p))) (entries_renamed r)
+        calls (message_renamed (way_of by Machines) (message b (texts_renamed p)))
+        (entries_renamed r)
     entries_renamed (turns r) = turns (entries_renamed r)
     entries_renamed (replies (message b p) r) =
         replies (message b (texts_renamed p)) (entries_renamed r)

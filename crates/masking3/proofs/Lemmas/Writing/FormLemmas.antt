@@ -83,7 +83,8 @@ pub entry_is : (ways : Ways) (body : List ℕ) (kind : Kind) (entries : List Ent
     (first_spot (entry_side one)) (items_of one)))
     → written_as (way_of ways Machines) kind body ≡ last_bytes ways entries one
 entry_is ways body kind entries one of first is =
-    of_kind ways (values_so_far (flat_map visited_entry entries) (entry_side one) (items_of one)) body
+    of_kind ways (values_so_far (flat_map visited_entry entries) (entry_side one) (items_of one))
+    body
     kind one of (last_fitting entries one first) is
     ∙ ap (λ (seen : Class → List ℕ). entry_bytes (named_entry ways (masked_entry ways seen one)))
     (values_with_last entries one)

@@ -13,7 +13,8 @@ returns-in-Keep g c = record {
       (subst
       (λ way.
       Adds Spells c.args.self.now.writer c.rest.new.self
-      (Rest c.args.name.now (raw_by way c.args.bytes.now) ∷ [])) (sym c.in-Keep.is ∙ c.way.ensures) write))
+      (Rest c.args.name.now (raw_by way c.args.bytes.now) ∷ [])) (sym c.in-Keep.is ∙ c.way.ensures)
+      write))
       c.rest.ensures.ok;
 }
 
