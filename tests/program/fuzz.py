@@ -24,6 +24,7 @@ sys.path.insert(0, str(pathlib.Path(__file__).resolve().parents[2]))
 from examples import messages
 from examples.messages import chunk, fragment, version_1, word
 from tests.program.masking import Masker, Renamer, masked_bodies
+from tests.shared.classes import usual_ways
 from tests.shared.containers import Container
 from tests.shared.running import BUILT, Runs
 from tests.shared.traffic import Names, Traffic, in_pieces, in_version_2, streams_of
@@ -211,9 +212,7 @@ def damaged(chance: random.Random, capture: bytes) -> bytes:
 
 
 # The words of nfs3mask without a way, and what each class is in the order of its lines.
-MASKED_CLASSES = {'times': 'zero', 'stamps': 'zero', 'machines': 'zero', 'space': 'zero', 'ids': 'number', 'fsids': 'number',
-                  'cookies': 'number', 'cookieverfs': 'number', 'createverfs': 'number', 'owners': 'keep', 'wcc': 'keep',
-                  'sillynames': 'zero', 'raw': 'keep'}
+MASKED_CLASSES = usual_ways()
 
 
 def drawn_mask(chance: random.Random) -> tuple[dict[str, str], list[str]]:

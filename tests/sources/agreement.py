@@ -18,12 +18,14 @@ from typing import NamedTuple
 sys.path.insert(0, str(pathlib.Path(__file__).resolve().parents[2]))
 from examples import messages
 from examples.messages import NFS, call, success
+from tests.shared import classes
 from tests.shared.rows import rows_of
 from tests.shared.running import Answer, ended, program_named, tried, try_all, words_of
 from tests.sources import call_trees, command_lines, crate_pages, pages, tool_rooms
 from tests.sources.rooms import (
     crowded_folders, in_the_wrong_room, long_lines, of_private_fields, of_several_meanings,
     of_two_files, scans_without_values)
+from tools.nfs3tools.comparison.values import classes as values
 from tools.tests.scripts import TOP, Tools, sums
 
 TEXTS = {str(path.relative_to(TOP)): path.read_text() for path in pages.all_pages()}
@@ -339,9 +341,20 @@ def pages_of_the_crates(tools: Tools) -> None:
     tools.want('docs/API.md is what dev/api prints', crate_pages.exports_are_current(), True)
 
 
+def classes_of_the_mask(tools: Tools) -> None:
+    """The help of nfs3mask, its manual page, its completions and the classes of the tools have the rows of the table of classes, in order."""
+    ways = classes.usual_ways()
+    tools.want('classes', len(ways), 13)
+    tools.want('classes of the tools', list(values.BY_NAME), list(ways))
+    for path, names in classes.listed().items():
+        tools.want(path, names, list(ways))
+    for path, told in classes.with_ways().items():
+        tools.want(path, list(told.items()), list(ways.items()))
+
+
 TESTS = [commands_of_the_pages, command_lines_of_the_pages, clause_on_the_page, lines_for_many_captures, examples_are_used, answers_of_the_examples, examples_are_made_alike, pages_agree, pages_of_the_tools,
          what_is_believed, rooms_stand_apart, rooms_of_the_tools, lines_of_the_tools, pages_are_plain, tables_are_whole, names_lead_somewhere, trees_are_of_the_code, what_is_not_proved, bugs_are_counted,
-         clauses_of_each_function, pages_of_the_crates]
+         clauses_of_each_function, pages_of_the_crates, classes_of_the_mask]
 
 
 def main() -> None:

@@ -1,11 +1,10 @@
 -- Words that change a mask one after another.
-use Rattle.mask_line3.proofs.Common.{sym, ap, ap₂, arith, zero, suc, ◌≡◌, ◌<◌, ◌∙◌, ◌+◌, ◌++◌, ℕ, List, [], ◌∷◌, length, map, slice_index_or, string_bytes, take, drop, ◌-◌, ◌≤◌, String, Global, append-nil, Change, change_text, change_word, with_change, AreChanges, flat_map}
+use Rattle.mask_line3.proofs.Common.{sym, ap, ap₂, arith, zero, suc, ◌≡◌, ◌<◌, ◌∙◌, ◌+◌, ◌++◌, ℕ, List, [], ◌∷◌, length, map, slice_index_or, string_bytes, take, drop, ◌-◌, ◌≤◌, String, Global, Change, change_word, with_change, AreChanges, flat_map, get_or, Class, Times, Way, Keep, Ways, classes, position, usual, ways_after, changes_of}
 use Rattle.std.proofs.Math.Seq.{take-length, take-suc}
-use Rattle.std.proofs.lemmas.Grind.{flat_map-append}
-use Rattle.std.proofs.lemmas.List.{map-append}
+use Rattle.std.proofs.lemmas.List.{ext_get_or, flat_map_more, map-append, take_more}
+use Rattle.std.specs.List.{range_with_len}
+use Rattle.std.proofs.lemmas.List.FromFn.{get_or-map-range_with_len}
 use Rattle.std.proofs.lemmas.List.Sums.{fold-append}
-use Rattle.masking3.specs.declared.ways.Ways.{Ways}
-use Rattle.masking3.specs.Ways.{usual}
 
 -- each of the words is that of a change
 pub says_each : (words : List (String Global)) (k : ℕ) (w : String Global) → k < length words
@@ -57,11 +56,22 @@ names_first (x ∷ y ∷ z ∷ more) a b input output low is_a is_b of_a of_b =
 
 -- ---- words that tell a mask
 
--- a text of the words for some changes, and the word for one more
-pub told_more : (changes : List Change) (c : Change) (before after : List ℕ)
-    → before ≡ flat_map change_text changes → after ≡ before ++ change_text c
-    → after ≡ flat_map change_text (changes ++ c ∷ [])
-told_more changes c before after is e =
-    e ∙ ap (λ t. t ++ change_text c) is
-    ∙ ap (λ t. flat_map change_text changes ++ t) (sym (append-nil (change_text c)))
-    ∙ sym (flat_map-append change_text changes (c ∷ []))
+-- all ways, of their classes one after another
+all_ways : (l : List Way) → length l ≡ 13
+    → map (λ class. get_or l (position class) Keep) classes ≡ l
+all_ways l long =
+    ext_get_or Keep (map (λ k. get_or l k Keep) (range_with_len 0 13)) l (sym long)
+    (λ i low. get_or-map-range_with_len (λ k. get_or l k Keep) 0 13 i i Keep low (omega arith))
+
+-- the words for the mask change the usual one into it
+pub told_again : (ways : Ways) → length ways.by_class ≡ 13 → ways_after (changes_of ways) ≡ ways
+told_again ways long = ap (λ l. record { by_class = l }) (all_ways ways.by_class long)
+
+-- a text of the first classes, and of one more
+pub told_more : (f : Class → List ℕ) (n : ℕ) (before after : List ℕ) → n < 13
+    → before ≡ flat_map f (take n classes) → after ≡ before ++ f (get_or classes n Times)
+    → after ≡ flat_map f (take (n + 1) classes)
+told_more f n before after low so_far e =
+    e ∙ ap (λ (t : List ℕ). t ++ f (get_or classes n Times)) so_far
+    ∙ flat_map_more f [] (take n classes) (get_or classes n Times)
+    ∙ ap (flat_map f) (sym (take_more classes n Times low))

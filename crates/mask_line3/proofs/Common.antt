@@ -2,9 +2,15 @@
 pub use Rattle.clap.specs.Lexer.{usize_max}
 pub use Rattle.clap.specs.Words.{App, Text, is_simple, takes}
 pub use Rattle.line3.specs.Asked.{IsFileWord, IsUsage, NameFiles, names_in, without_end}
-pub use Rattle.std.proofs.Common.{Bool, Global, IfErr, IfOk, List, None, Some, String, [], ap, append-nil, append_assoc, ap₂, arith, codes, drop, false, flat_map, fold, is_some, le-leb, length, map, refl, rules, slice_index_or, string_bytes, subst, suc, sym, take, true, zero, ℕ, ◌&&◌, ◌++◌, ◌+◌, ◌-◌, ◌<◌, ◌==◌, ◌∙◌, ◌∷◌, ◌≡◌, ◌≤◌}
-pub use Rattle.mask_line3.specs.Changes.{change_of, change_text, change_word, with_change}
+pub use Rattle.std.proofs.Common.{Bool, Global, IfErr, IfOk, List, None, Some, String, [], ap, append-nil, append_assoc, ap₂, arith, codes, drop, false, flat_map, fold, get_or, is_some, le-leb, length, map, refl, rules, slice_index_or, string_bytes, subst, suc, sym, take, true, zero, ℕ, ◌&&◌, ◌++◌, ◌+◌, ◌-◌, ◌<◌, ◌==◌, ◌∙◌, ◌∷◌, ◌≡◌, ◌≤◌}
+pub use Rattle.mask_line3.specs.Changes.{change_of, change_text, change_word, changes_of, with_change, ways_after}
 pub use Rattle.mask_line3.specs.MaskLine.{AreMaskWordsRefused, AsksForMask, IsMaskLine, mask_words}
 pub use Rattle.mask_line3.specs.declared.asked.Change.{Change}
-pub use Rattle.mask_line3.specs.declared.asked.MaskClass.TheVariants.{CookieVerifiers, Cookies, CreateVerifiers, Fsids, Ids, Machines, Owners, Raw, SillyNames, Space, Stamps, Times, Wcc}
 pub use Rattle.mask_line3.specs.machinery.ChangeWords.{AreChanges}
+pub use Rattle.masking3.specs.Classes.{classes, position, row}
+pub use Rattle.masking3.specs.Ways.{usual, way_of}
+pub use Rattle.masking3.specs.declared.class.Class.{Class}
+pub use Rattle.masking3.specs.declared.class.Class.TheVariants.{Times}
+pub use Rattle.masking3.specs.declared.ways.Way.{Way}
+pub use Rattle.masking3.specs.declared.ways.Way.TheVariants.{Keep}
+pub use Rattle.masking3.specs.declared.ways.Ways.{Ways}

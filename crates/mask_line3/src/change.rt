@@ -1,13 +1,12 @@
 //! The words of a line that change a mask, and the words that tell one.
 
 ghost use Rattle.std.specs.Prelude.{◌≡◌, ◌≢◌, ◌++◌, IfErr, IfOk, List, MatchOption, OnOk, map, string_bytes};
-ghost use Rattle.masking3.specs.Ways.{usual};
-ghost use Rattle.mask_line3.specs.Changes.{change_of, change_text, change_word, changes_of, mask_text, with_way, ways_after};
+ghost use Rattle.mask_line3.specs.Changes.{change_of, change_text, change_word, changes_of, mask_text, ways_after};
 ghost use Rattle.mask_line3.specs.machinery.ChangeWords.{AreChanges};
 
-use crate::asked::{Change, MaskClass};
-use crate::names::{class_name, class_named, way_name, way_named};
-use masking3::{Way, Ways};
+use crate::asked::Change;
+use crate::names::{way_name, way_named};
+use masking3::{CLASSES, Class, Way, Ways};
 use std::alloc::{AllocError, Global};
 
 /// Returns what a word changes, if it is CLASS=WAY.
@@ -17,51 +16,9 @@ pub(crate) fn change(word: &str) -> Option<Change>
 {
     let (class, way) = word.split_once('=')?;
     Some(Change {
-        class: class_named(class)?,
+        class: Class::named(class)?,
         way: way_named(way)?,
     })
-}
-
-/// Returns the ways with another one for a class.
-pub(crate) fn with_way(ways: Ways, class: MaskClass, way: Way) -> Ways
-    ensures { result ≡ with_way ways class way }
-{
-    match class {
-        MaskClass::Times => Ways { times: way, ..ways },
-        MaskClass::Stamps => Ways {
-            stamps: way,
-            ..ways
-        },
-        MaskClass::Machines => Ways {
-            machines: way,
-            ..ways
-        },
-        MaskClass::Space => Ways { space: way, ..ways },
-        MaskClass::Ids => Ways { ids: way, ..ways },
-        MaskClass::Fsids => Ways { fsids: way, ..ways },
-        MaskClass::Cookies => Ways {
-            cookies: way,
-            ..ways
-        },
-        MaskClass::CookieVerifiers => Ways {
-            cookie_verifiers: way,
-            ..ways
-        },
-        MaskClass::CreateVerifiers => Ways {
-            create_verifiers: way,
-            ..ways
-        },
-        MaskClass::Owners => Ways {
-            owners: way,
-            ..ways
-        },
-        MaskClass::Wcc => Ways { wcc: way, ..ways },
-        MaskClass::SillyNames => Ways {
-            silly_names: way,
-            ..ways
-        },
-        MaskClass::Raw => Ways { raw: way, ..ways },
-    }
 }
 
 /// Returns the usual ways, changed by these words one after another, or the first word that changes none.
@@ -73,7 +30,7 @@ pub(crate) fn changed<'a>(words: &'a [String]) -> Result<Ways, &'a str>
     let mut ways = Ways::usual();
     for word in words {
         match change(word.as_str()) {
-            Some(change) => ways = with_way(ways, change.class, change.way),
+            Some(change) => ways = ways.with(change.class, change.way),
             None => return Err(word.as_str()),
         }
     }
@@ -86,34 +43,24 @@ pub(crate) fn changed<'a>(words: &'a [String]) -> Result<Ways, &'a str>
 /// # Errors
 ///
 /// `AllocError` if memory ran out for the text.
-pub fn ways_text(alloc: Global, ways: &Ways) -> Result<String, AllocError>
-    ensures text { IfOk result (λ text. string_bytes text ≡ mask_text ways.now) }
-    ensures again { ways_after (changes_of ways.now) ≡ ways.now }
+pub fn ways_text(alloc: Global, ways: Ways) -> Result<String, AllocError>
+    ensures text { IfOk result (λ text. string_bytes text ≡ mask_text ways) }
+    ensures again { ways_after (changes_of ways) ≡ ways }
 {
     let mut text = String::new(alloc);
-    push_change(&mut text, MaskClass::Times, ways.times)?;
-    push_change(&mut text, MaskClass::Stamps, ways.stamps)?;
-    push_change(&mut text, MaskClass::Machines, ways.machines)?;
-    push_change(&mut text, MaskClass::Space, ways.space)?;
-    push_change(&mut text, MaskClass::Ids, ways.ids)?;
-    push_change(&mut text, MaskClass::Fsids, ways.fsids)?;
-    push_change(&mut text, MaskClass::Cookies, ways.cookies)?;
-    push_change(&mut text, MaskClass::CookieVerifiers, ways.cookie_verifiers)?;
-    push_change(&mut text, MaskClass::CreateVerifiers, ways.create_verifiers)?;
-    push_change(&mut text, MaskClass::Owners, ways.owners)?;
-    push_change(&mut text, MaskClass::Wcc, ways.wcc)?;
-    push_change(&mut text, MaskClass::SillyNames, ways.silly_names)?;
-    push_change(&mut text, MaskClass::Raw, ways.raw)?;
+    for class in CLASSES {
+        push_change(&mut text, class, ways.way(class))?;
+    }
     Ok(text)
 }
 
 /// Appends the word for a change, with a space before it.
-fn push_change(text: &mut String, class: MaskClass, way: Way) -> Result<(), AllocError>
+fn push_change(text: &mut String, class: Class, way: Way) -> Result<(), AllocError>
     ensures { OnOk result
         (string_bytes text.new ≡ string_bytes text.old ++ change_text (change_of class way)) }
 {
     text.push(' ')?;
-    text.push_str(class_name(class))?;
+    text.push_str(class.name())?;
     text.push('=')?;
     text.push_str(way_name(way))
 }

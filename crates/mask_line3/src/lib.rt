@@ -7,6 +7,6 @@ mod command;
 mod grammar;
 mod names;
 
-pub use asked::{Change, MaskClass, MaskJob};
+pub use asked::{Change, MaskJob};
 pub use change::ways_text;
 pub use command::{mask_job, taken};

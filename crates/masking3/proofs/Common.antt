@@ -49,8 +49,8 @@ pub use Rattle.xdr3.specs.Item.{AreBytes, Fixed, Handle, Hyper, Item, Opaque, Re
 pub use Rattle.xdr3.specs.Layout.{FitsLayout, Layout, after, exactly, number_of_word, rest, word_in}
 pub use Rattle.xdr3.specs.Shape.{Fits, Shape, both, choose, counted, fixed, hyper, is_listed, joined, linked, links, listed, nothing, opaque, sized, word, write_verf, ◌then◌}
 unfoldable pub use Rattle.xdr3.specs.Visit.{Adds, Keeps}
-pub use Rattle.masking3.specs.Classes.{class_of, class_of_fixed, class_of_hyper, class_of_word, class_value, position, zero_stays}
-pub use Rattle.masking3.specs.Laws.{HasRoomForNumbers, KeepsAll, KeepsValues, MaskedBytesDecide, MaskedFormsDecide, StaysMasked, RevealsNoMore}
+pub use Rattle.masking3.specs.Classes.{class_of, class_of_fixed, class_of_hyper, class_of_word, class_value, classes, position, row, zero_stays}
+pub use Rattle.masking3.specs.Laws.{HasRoomForNumbers, KeepsAll, MaskedBytesDecide, MaskedFormsDecide, MasksAsMuch, RevealsNoMore, StaysMasked}
 pub use Rattle.masking3.specs.Masked.{by_way, is_zero_that_stays, masked, masked_bytes, masked_entry, masked_item, masked_items, masked_values, number_among, substitute, value_in, value_where, values, values_in, values_in_entry, with_value}
 pub use Rattle.masking3.specs.SameBut.{AreAlike, ArePartners, ChangesBy, ChangesEntry, ChangesItem, ChangesItems, ChangesOf, IsNumbered, SameBut, SameButValues, along, begin, call, close, eights, end, hypers, over, reply, turn, words}
 pub use Rattle.masking3.specs.Spots.{after_word, next_spot}
@@ -58,12 +58,13 @@ pub use Rattle.masking3.specs.Texts.{host_by, is_silly_name, silly_by, silly_zer
 pub use Rattle.masking3.specs.Unnamed.{after_first, emptied, less_by, named_by, named_call, named_entry, names_by, text_size, unnamed_credential, unnamed_items}
 pub use Rattle.masking3.specs.Ways.{usual, way_of}
 pub use Rattle.masking3.specs.declared.class.Class.{Class}
+pub use Rattle.masking3.specs.declared.class.Class.TheVariants.{Machines, Owners, Raw, SillyNames, Times}
 pub use Rattle.masking3.specs.declared.spot.Spot.{Spot}
 pub use Rattle.masking3.specs.declared.spot.Spot.TheVariants.{InCall, InDirectory, InReply, InWcc}
 pub use Rattle.masking3.specs.declared.ways.Way.{Way}
 pub use Rattle.masking3.specs.declared.ways.Way.TheVariants.{Keep, Number, Zero}
 pub use Rattle.masking3.specs.declared.ways.Ways.{Ways}
-pub use Rattle.masking3.specs.machinery.ClassTables.{HoldsAt, HoldsValues, no_values, tables_in, with_one}
+pub use Rattle.masking3.specs.machinery.ClassTables.{HoldsAt, HoldsValues, no_values, with_one}
 pub use Rattle.masking3.specs.machinery.MaskingWriter.{HasMaskedUnderWay, HasMemory, HasNoneUnderWay, HoldsMasked, MaskRests, MaskStands, after_messages, visited_entry, visited_item, visited_items, visited_value, values_so_far, written_as}
 pub use Rattle.masking3.specs.machinery.MessageSpot.{BeginsOn, first_spot, mtype_of, side_by, spot_after}
 pub use Rattle.masking3.specs.machinery.UnnamedBody.{body_by, has_name, head_less_by, name_room, unnamed_body}

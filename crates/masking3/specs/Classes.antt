@@ -1,14 +1,50 @@
--- The classes of values that two runs of one script never share, by the names of items.
-use Rattle.std.specs.Prelude.{ℕ, Bool, true, false, bytes_eq, if◌then◌else◌, List, [], ◌∷◌, Option, None, Some}
+-- The classes of what two runs of one script never share, and the items that belong to them.
+use Rattle.std.specs.Prelude.{ℕ, Bool, true, false, bytes_eq, if◌then◌else◌, List, [], ◌∷◌, Option, None, Some, codes}
 use Rattle.std.specs.List.{list_any}
 use Rattle.byteorder.specs.Endian.{big_number}
 use Rattle.xdr3.specs.Item.{Item, Word, Hyper, Fixed}
 use Rattle.nfs3_types.specs.Names.{names}
 use Rattle.rpc_head.specs.Names.{head_names}
 use Rattle.masking3.specs.declared.class.Class.{Class}
-use Rattle.masking3.specs.declared.class.Class.TheVariants.{Times, Stamps, Space, Ids, Fsids, Cookies, CookieVerifiers, CreateVerifiers, Owners, Wcc}
+use Rattle.masking3.specs.declared.class.Class.TheVariants.{Times, Stamps, Machines, Space, Ids, Fsids, Cookies, CookieVerifiers, CreateVerifiers, Owners, Wcc, SillyNames, Raw}
 use Rattle.masking3.specs.declared.spot.Spot.{Spot}
 use Rattle.masking3.specs.declared.spot.Spot.TheVariants.{InCall, InDirectory, InWcc}
+use Rattle.masking3.specs.declared.ways.Way.{Way}
+use Rattle.masking3.specs.declared.ways.Way.TheVariants.{Keep, Zero, Number}
+
+-- ---- the table of classes
+
+-- the place of a class among the classes, its name on a command line, and what two ordinary runs
+-- make of it
+pub record Row : Type 0 where
+  pub place : ℕ
+  pub name : List ℕ
+  pub usual : Way
+
+abbrev pub row : Class → Row
+row Times = record { place = 0; name = codes "times"; usual = Zero }
+row Stamps = record { place = 1; name = codes "stamps"; usual = Zero }
+row Machines = record { place = 2; name = codes "machines"; usual = Zero }
+row Space = record { place = 3; name = codes "space"; usual = Zero }
+row Ids = record { place = 4; name = codes "ids"; usual = Number }
+row Fsids = record { place = 5; name = codes "fsids"; usual = Number }
+row Cookies = record { place = 6; name = codes "cookies"; usual = Number }
+row CookieVerifiers = record { place = 7; name = codes "cookieverfs"; usual = Number }
+row CreateVerifiers = record { place = 8; name = codes "createverfs"; usual = Number }
+row Owners = record { place = 9; name = codes "owners"; usual = Keep }
+row Wcc = record { place = 10; name = codes "wcc"; usual = Keep }
+row SillyNames = record { place = 11; name = codes "sillynames"; usual = Zero }
+row Raw = record { place = 12; name = codes "raw"; usual = Keep }
+
+-- every class, by its place
+abbrev pub classes : List Class
+classes = Times ∷ Stamps ∷ Machines ∷ Space ∷ Ids ∷ Fsids ∷ Cookies ∷ CookieVerifiers
+    ∷ CreateVerifiers ∷ Owners ∷ Wcc ∷ SillyNames ∷ Raw ∷ []
+
+abbrev pub position : Class → ℕ
+position class = (row class).place
+
+-- ---- the classes of items
 
 -- the name is one of these
 abbrev pub is_one_of : List (List ℕ) → List ℕ → Bool
@@ -88,16 +124,3 @@ abbrev pub zero_stays : Class → Bool
 zero_stays Cookies = true
 zero_stays CookieVerifiers = true
 zero_stays _ = false
-
--- the class's place among the classes
-abbrev pub position : Class → ℕ
-position Times = 0
-position Stamps = 1
-position Space = 2
-position Ids = 3
-position Fsids = 4
-position Cookies = 5
-position CookieVerifiers = 6
-position CreateVerifiers = 7
-position Owners = 8
-position Wcc = 9

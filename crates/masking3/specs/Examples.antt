@@ -3,11 +3,12 @@ use Rattle.std.specs.Prelude.{◌≡◌, ℕ, List, [], ◌∷◌, codes}
 use Rattle.xdr3.specs.Item.{Item, Word, Hyper, Fixed, Opaque, Text, Var, Handle}
 use Rattle.capture3.specs.Entry.{Entry, Call}
 use Rattle.canon3.specs.Examples.{aa, bb, call_of, getattr, one, success_reply}
+use Rattle.masking3.specs.declared.class.Class.TheVariants.{Owners, Wcc}
 use Rattle.masking3.specs.declared.ways.Way.TheVariants.{Number}
 use Rattle.masking3.specs.declared.ways.Ways.{Ways}
 use Rattle.masking3.specs.Masked.{masked}
 use Rattle.masking3.specs.SameBut.{SameBut}
-use Rattle.masking3.specs.Ways.{usual}
+use Rattle.masking3.specs.Ways.{usual, with_way}
 
 -- the entries are masked as these
 abbrev pub AreMaskedAs : List Entry → List Entry → Type 0
@@ -108,7 +109,7 @@ MasksCredentials = AreMaskedAs (system_null 7 32 123456 (codes "box") 1000 100 2
 
 -- owners have numbers too
 abbrev pub numbered_owners : Ways
-numbered_owners = record usual { owners = Number }
+numbered_owners = with_way usual Owners Number
 
 -- EXPORT's reply (RFC 1813, section 5.2.5) of one directory for one group
 abbrev pub exported : (xid : ℕ) → Entry
@@ -127,7 +128,7 @@ MasksOwners =
 
 -- sizes and counts of links that others may change have numbers too
 abbrev pub numbered_wcc : Ways
-numbered_wcc = record usual { wcc = Number }
+numbered_wcc = with_way usual Wcc Number
 
 -- a fattr3 (RFC 1813, section 2.5) of this type, with so many links and this size
 abbrev pub attributes_of : (kind links size : ℕ) → List Item → List Item

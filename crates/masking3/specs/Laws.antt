@@ -20,14 +20,9 @@ HasRoomForNumbers entries = (class : Class) → length (values entries class) < 
 abbrev pub StaysMasked : Ways → List Entry → Type 0
 StaysMasked ways entries = masked ways (masked ways entries) ≡ masked ways entries
 
--- every class stays as it is
-abbrev pub KeepsValues : Ways → Type 0
-KeepsValues ways = (class : Class) → way_of ways class ≡ Keep
-
--- so do the names, and the bodies that are not looked into
+-- every value stays as it is, every name and every body
 abbrev pub KeepsAll : Ways → Type 0
-KeepsAll ways = KeepsValues ways × (ways.machines ≡ Keep) × (ways.silly_names ≡ Keep)
-    × (ways.raw ≡ Keep)
+KeepsAll ways = (class : Class) → way_of ways class ≡ Keep
 
 -- what the second way leaves of a value is no more than what the first one does
 abbrev pub RevealsNoMore : Way → Way → Type 0
@@ -38,15 +33,8 @@ RevealsNoMore Zero Zero = ⊤
 RevealsNoMore Zero way = ⊥
 
 -- so for each class
-abbrev pub MasksValuesAsMuch : Ways → Ways → Type 0
-MasksValuesAsMuch ways others =
-    (class : Class) → RevealsNoMore (way_of ways class) (way_of others class)
-
--- and so for the names and the bodies
 abbrev pub MasksAsMuch : Ways → Ways → Type 0
-MasksAsMuch ways others =
-    MasksValuesAsMuch ways others × RevealsNoMore ways.machines others.machines
-    × RevealsNoMore ways.silly_names others.silly_names × RevealsNoMore ways.raw others.raw
+MasksAsMuch ways others = (class : Class) → RevealsNoMore (way_of ways class) (way_of others class)
 
 -- the form of the first entries is the first entries of the form
 abbrev pub MasksFronts : Ways → List Entry → List Entry → Type 0

@@ -5,8 +5,9 @@ use Rattle.std.specs.List.{list_all}
 use Rattle.xdr3.specs.Item.{Item, Opaque, Rest, Text}
 use Rattle.nfs3_types.specs.Names.{names}
 use Rattle.masking3.specs.declared.ways.Way.{Way}
-use Rattle.masking3.specs.declared.ways.Way.TheVariants.{Keep, Zero, Number}
 use Rattle.masking3.specs.declared.ways.Ways.{Ways}
+use Rattle.masking3.specs.declared.class.Class.TheVariants.{Machines, Raw, SillyNames}
+use Rattle.masking3.specs.Ways.{unless_kept, way_of}
 
 -- ---- names of files that were removed while they were open
 
@@ -28,19 +29,14 @@ silly_zero = codes ".nfs000000000000000000000000"
 abbrev pub zero_name : List ℕ → List ℕ
 zero_name bytes = if is_silly_name bytes then silly_zero else bytes
 
--- a name has no number
 abbrev pub silly_by : Way → List ℕ → List ℕ
-silly_by Keep bytes = bytes
-silly_by Zero bytes = zero_name bytes
-silly_by Number bytes = zero_name bytes
+silly_by way bytes = unless_kept way zero_name bytes
 
 -- ---- names of hosts
 
 -- what becomes of the name of a machine that is a text of its own
 abbrev pub host_by : Way → List ℕ → List ℕ
-host_by Keep bytes = bytes
-host_by Zero bytes = []
-host_by Number bytes = []
+host_by way bytes = unless_kept way (λ b. []) bytes
 
 -- ---- any text
 
@@ -49,17 +45,15 @@ host_by Number bytes = []
 -- results alone (section 5.2.2).
 abbrev pub text_by : Ways → (name bytes : List ℕ) → List ℕ
 text_by ways name bytes =
-    (if bytes_eq name names.name then silly_by ways.silly_names bytes else
-    (if bytes_eq name names.hostname then host_by ways.machines bytes else
+    (if bytes_eq name names.name then silly_by (way_of ways SillyNames) bytes else
+    (if bytes_eq name names.hostname then host_by (way_of ways Machines) bytes else
     bytes))
 
 -- ---- bodies of other programs and versions
 
--- the arguments or the results stay, or each of their bytes is 0; a body has no number
+-- the arguments or the results stay, or each of their bytes is 0
 abbrev pub raw_by : Way → List ℕ → List ℕ
-raw_by Keep bytes = bytes
-raw_by Zero bytes = replicate (length bytes) 0
-raw_by Number bytes = replicate (length bytes) 0
+raw_by way bytes = unless_kept way (λ b. replicate (length b) 0) bytes
 
 -- ---- any item
 
@@ -67,5 +61,5 @@ raw_by Number bytes = replicate (length bytes) 0
 -- other item stays.
 abbrev pub with_text : Ways → Item → Item
 with_text ways (Opaque Text name bytes) = Opaque Text name (text_by ways name bytes)
-with_text ways (Rest name bytes) = Rest name (raw_by ways.raw bytes)
+with_text ways (Rest name bytes) = Rest name (raw_by (way_of ways Raw) bytes)
 with_text ways item = item

@@ -4,9 +4,10 @@ use Rattle.xdr3.specs.Item.{Item, Word, Opaque, Text, residue}
 use Rattle.rpc_head.specs.Names.{head_names}
 use Rattle.capture3.specs.Entry.{Entry, Call, Reply}
 use Rattle.masking3.specs.declared.ways.Way.{Way}
-use Rattle.masking3.specs.declared.ways.Way.TheVariants.{Keep, Zero, Number}
 use Rattle.masking3.specs.declared.ways.Ways.{Ways}
+use Rattle.masking3.specs.declared.class.Class.TheVariants.{Machines}
 use Rattle.masking3.specs.Texts.{with_text}
+use Rattle.masking3.specs.Ways.{unless_kept, way_of}
 
 -- how many bytes follow the length of a text, with its residual bytes (RFC 4506, section 4.11)
 abbrev pub text_size : Item → ℕ
@@ -43,15 +44,13 @@ after_first (suc n) change (item ∷ items) = item ∷ after_first n change item
 abbrev pub unnamed_items : List Item → List Item
 unnamed_items items = after_first 7 unnamed_credential items
 
--- names in credentials stay, or become empty; they have no numbers
+-- names in credentials stay, or become empty
 abbrev pub named_by : Way → List Item → List Item
-named_by Keep items = items
-named_by Zero items = unnamed_items items
-named_by Number items = unnamed_items items
+named_by way items = unless_kept way unnamed_items items
 
 -- each text, and then the name in the credential
 abbrev pub named_call : Ways → List Item → List Item
-named_call ways items = named_by ways.machines (map (with_text ways) items)
+named_call ways items = named_by (way_of ways Machines) (map (with_text ways) items)
 
 abbrev pub named_entry : Ways → Entry → Entry
 named_entry ways (Call items) = Call (named_call ways items)

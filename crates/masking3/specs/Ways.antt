@@ -1,36 +1,23 @@
 -- What becomes of the values of each class.
+use Rattle.std.specs.Prelude.{get_or, map, slice_set}
 use Rattle.masking3.specs.declared.class.Class.{Class}
-use Rattle.masking3.specs.declared.class.Class.TheVariants.{Times, Stamps, Space, Ids, Fsids, Cookies, CookieVerifiers, CreateVerifiers, Owners, Wcc}
 use Rattle.masking3.specs.declared.ways.Way.{Way}
-use Rattle.masking3.specs.declared.ways.Way.TheVariants.{Keep, Zero, Number}
+use Rattle.masking3.specs.declared.ways.Way.TheVariants.{Keep}
 use Rattle.masking3.specs.declared.ways.Ways.{Ways}
+use Rattle.masking3.specs.Classes.{classes, position, row}
 
 abbrev pub way_of : Ways → Class → Way
-way_of ways Times = ways.times
-way_of ways Stamps = ways.stamps
-way_of ways Space = ways.space
-way_of ways Ids = ways.ids
-way_of ways Fsids = ways.fsids
-way_of ways Cookies = ways.cookies
-way_of ways CookieVerifiers = ways.cookie_verifiers
-way_of ways CreateVerifiers = ways.create_verifiers
-way_of ways Owners = ways.owners
-way_of ways Wcc = ways.wcc
+way_of ways class = get_or ways.by_class (position class) Keep
+
+-- the ways with another one for a class
+abbrev pub with_way : Ways → Class → Way → Ways
+with_way ways class way = record { by_class = slice_set ways.by_class (position class) way }
+
+-- names and bodies have no numbers: they stay, or change
+abbrev pub unless_kept : {A : Type 0} → Way → (A → A) → A → A
+unless_kept Keep change x = x
+unless_kept _ change x = change x
 
 -- what two ordinary runs of one script never share
 abbrev pub usual : Ways
-usual = record {
-  times = Zero;
-  stamps = Zero;
-  machines = Zero;
-  space = Zero;
-  ids = Number;
-  fsids = Number;
-  cookies = Number;
-  cookie_verifiers = Number;
-  create_verifiers = Number;
-  owners = Keep;
-  wcc = Keep;
-  silly_names = Zero;
-  raw = Keep;
-}
+usual = record { by_class = map (λ class. (row class).usual) classes }

@@ -86,7 +86,7 @@ pub(crate) fn are_attributes(fields: &[PlainField]) -> bool
         && are_last_fields(&fields[10..])
 }
 
-impl<P: Plan, S: BuildHasher + Drop> MaskingWriter<P, S> {
+impl<P: Plan, S: BuildHasher + Copy + Drop> MaskingWriter<P, S> {
     /// Writes attributes after the type.
     #[tactic(auto, using(crate::proofs::Lemmas::Classes::KnownFieldLemmas::known), unfolding(nfs3_types::specs::Names::names, rpc_head::specs::Names::head_names))]
     pub(crate) fn write_attributes(&mut self, bytes: &[u8]) -> Result<(), AllocError>

@@ -1,14 +1,13 @@
 //! The numbers of the values of each class.
 
-ghost use Rattle.std.specs.Prelude.{◌≡◌, ◌≢◌, ◌++◌, ◌∷◌, ℕ, List, [], Some, get_or, min, nat_eq, slice_set, IfOk, OnOk};
+ghost use Rattle.std.specs.Prelude.{◌≡◌, ◌≢◌, ◌<◌, ◌++◌, ◌∷◌, ℕ, List, [], Some, get_or, length, min, nat_eq, IfOk, OnOk};
 ghost use Rattle.std.specs.Option.{unwrap_or};
 ghost use Rattle.capture3.specs.Rank.{number_limit, rank};
 ghost use Rattle.masking3.specs.Classes.{position};
 ghost use Rattle.masking3.specs.Masked.{number_among, substitute, value_where};
-ghost use Rattle.masking3.specs.machinery.ClassTables.{HoldsAt, HoldsValues, no_values, tables_in, with_one};
+ghost use Rattle.masking3.specs.machinery.ClassTables.{HoldsAt, HoldsValues, no_values, with_one};
 
 use crate::class::Class;
-use crate::hashers::ClassHashers;
 use crate::ways::{Way, Ways};
 use canon3::Numbers;
 use std::alloc::{AllocError, Global};
@@ -18,36 +17,23 @@ use std::hash::BuildHasher;
 #[derive(Drop)]
 pub(crate) struct ClassTables<S: BuildHasher + Drop> {
     pub(crate) ways: Ways,
-    pub(crate) times: Numbers<u64, S>,
-    pub(crate) stamps: Numbers<u64, S>,
-    pub(crate) space: Numbers<u64, S>,
-    pub(crate) ids: Numbers<u64, S>,
-    pub(crate) fsids: Numbers<u64, S>,
-    pub(crate) cookies: Numbers<u64, S>,
-    pub(crate) cookie_verifiers: Numbers<u64, S>,
-    pub(crate) create_verifiers: Numbers<u64, S>,
-    pub(crate) owners: Numbers<u64, S>,
-    pub(crate) wcc: Numbers<u64, S>,
+    /// By the places of the classes, as far as one had a number.
+    pub(crate) numbers: Vec<Numbers<u64, S>>,
+    alloc: Global,
+    hasher: S,
 }
 
-impl<S: BuildHasher + Drop> ClassTables<S> {
+impl<S: BuildHasher + Copy + Drop> ClassTables<S> {
     /// Returns tables before a capture.
-    pub(crate) fn new(alloc: Global, ways: Ways, hashers: ClassHashers<S>) -> ClassTables<S>
+    pub(crate) fn new(alloc: Global, ways: Ways, hasher: S) -> ClassTables<S>
         ensures ways { result.ways ≡ ways }
-        ensures holds { HoldsValues result.ways (tables_in result) no_values }
+        ensures holds { HoldsValues result.ways result.numbers.items no_values }
     {
         ClassTables {
             ways,
-            times: Numbers::new(alloc, hashers.times),
-            stamps: Numbers::new(alloc, hashers.stamps),
-            space: Numbers::new(alloc, hashers.space),
-            ids: Numbers::new(alloc, hashers.ids),
-            fsids: Numbers::new(alloc, hashers.fsids),
-            cookies: Numbers::new(alloc, hashers.cookies),
-            cookie_verifiers: Numbers::new(alloc, hashers.cookie_verifiers),
-            create_verifiers: Numbers::new(alloc, hashers.create_verifiers),
-            owners: Numbers::new(alloc, hashers.owners),
-            wcc: Numbers::new(alloc, hashers.wcc),
+            numbers: Vec::new(alloc),
+            alloc,
+            hasher,
         }
     }
 
@@ -60,18 +46,18 @@ impl<S: BuildHasher + Drop> ClassTables<S> {
     ) -> Result<Option<u32>, AllocError>
         ensures ways { self.new.ways ≡ self.old.ways }
         ensures stands { (seen : Class → List ℕ)
-            → HoldsValues self.old.ways (tables_in self.old) seen
+            → HoldsValues self.old.ways self.old.numbers.items seen
             → IfOk result
             (λ m. m ≡ substitute self.old.ways (with_one seen class n) class n) }
         ensures holds { (seen : Class → List ℕ)
-            → HoldsValues self.old.ways (tables_in self.old) seen
+            → HoldsValues self.old.ways self.old.numbers.items seen
             → OnOk result
-            (HoldsValues self.new.ways (tables_in self.new) (with_one seen class n)) }
+            (HoldsValues self.new.ways self.new.numbers.items (with_one seen class n)) }
     {
         let Some(class) = class else {
             return Ok(None);
         };
-        match self.ways.of(class) {
+        match self.ways.way(class) {
             Way::Keep => Ok(None),
             Way::Zero => Ok(Some(0)),
             Way::Number => Ok(Some(self.number(class, n)?)),
@@ -83,11 +69,11 @@ impl<S: BuildHasher + Drop> ClassTables<S> {
     pub(crate) fn replaced_word(&mut self, class: Option<Class>, n: u32) -> Result<u32, AllocError>
         ensures ways { self.new.ways ≡ self.old.ways }
         ensures put { (seen : Class → List ℕ)
-            → HoldsValues self.old.ways (tables_in self.old) seen → IfOk result
+            → HoldsValues self.old.ways self.old.numbers.items seen → IfOk result
             (λ m. m ≡ unwrap_or (substitute self.old.ways (with_one seen class n) class n) n) }
         ensures holds { (seen : Class → List ℕ)
-            → HoldsValues self.old.ways (tables_in self.old) seen → OnOk result
-            (HoldsValues self.new.ways (tables_in self.new) (with_one seen class n)) }
+            → HoldsValues self.old.ways self.old.numbers.items seen → OnOk result
+            (HoldsValues self.new.ways self.new.numbers.items (with_one seen class n)) }
     {
         Ok(self.substitute(class, u64::from(n))?.unwrap_or(n))
     }
@@ -97,11 +83,11 @@ impl<S: BuildHasher + Drop> ClassTables<S> {
     pub(crate) fn replaced_hyper(&mut self, class: Option<Class>, n: u64) -> Result<u64, AllocError>
         ensures ways { self.new.ways ≡ self.old.ways }
         ensures put { (seen : Class → List ℕ)
-            → HoldsValues self.old.ways (tables_in self.old) seen → IfOk result
+            → HoldsValues self.old.ways self.old.numbers.items seen → IfOk result
             (λ m. m ≡ unwrap_or (substitute self.old.ways (with_one seen class n) class n) n) }
         ensures holds { (seen : Class → List ℕ)
-            → HoldsValues self.old.ways (tables_in self.old) seen → OnOk result
-            (HoldsValues self.new.ways (tables_in self.new) (with_one seen class n)) }
+            → HoldsValues self.old.ways self.old.numbers.items seen → OnOk result
+            (HoldsValues self.new.ways self.new.numbers.items (with_one seen class n)) }
     {
         Ok(self.substitute(class, n)?.map_or(n, u64::from))
     }
@@ -110,14 +96,14 @@ impl<S: BuildHasher + Drop> ClassTables<S> {
     #[inline(always)]
     fn number(&mut self, class: Class, n: u64) -> Result<u32, AllocError>
         ensures ways { self.new.ways ≡ self.old.ways }
-        ensures number { (seen : List ℕ) → HoldsAt (tables_in self.old) (position class) seen
+        ensures number { (seen : List ℕ) → HoldsAt self.old.numbers.items (position class) seen
             → IfOk result (λ m. m ≡
             number_among (seen ++ value_where class (Some class) n) class n) }
-        ensures holds { (seen : List ℕ) → HoldsAt (tables_in self.old) (position class) seen
-            → OnOk result (HoldsAt (tables_in self.new) (position class)
+        ensures holds { (seen : List ℕ) → HoldsAt self.old.numbers.items (position class) seen
+            → OnOk result (HoldsAt self.new.numbers.items (position class)
             (seen ++ value_where class (Some class) n)) }
         ensures others { (place : ℕ) → place ≢ position class
-            → get_or (tables_in self.new) place [] ≡ get_or (tables_in self.old) place [] }
+            → get_or self.new.numbers.items place [] ≡ get_or self.old.numbers.items place [] }
     {
         if n == 0 && class.zero_stays() {
             return Ok(0);
@@ -131,26 +117,34 @@ impl<S: BuildHasher + Drop> ClassTables<S> {
     }
 
     /// Returns the number of a value in its class's table.
+    #[inline(always)]
     fn number_in_table(&mut self, class: Class, n: u64) -> Result<u32, AllocError>
         ensures ways { self.new.ways ≡ self.old.ways }
-        ensures number { (seen : List ℕ) → HoldsAt (tables_in self.old) (position class) seen
+        ensures number { (seen : List ℕ) → HoldsAt self.old.numbers.items (position class) seen
             → IfOk result (λ m. m ≡ min (rank nat_eq n (seen ++ n ∷ [])) number_limit) }
-        ensures holds { (seen : List ℕ) → HoldsAt (tables_in self.old) (position class) seen
-            → OnOk result (HoldsAt (tables_in self.new) (position class) (seen ++ n ∷ [])) }
-        ensures others { tables_in self.new ≡ slice_set (tables_in self.old) (position class)
-            (get_or (tables_in self.new) (position class) []) }
+        ensures holds { (seen : List ℕ) → HoldsAt self.old.numbers.items (position class) seen
+            → OnOk result (HoldsAt self.new.numbers.items (position class) (seen ++ n ∷ [])) }
+        ensures others { (place : ℕ) → place ≢ position class
+            → get_or self.new.numbers.items place [] ≡ get_or self.old.numbers.items place [] }
     {
-        match class {
-            Class::Times => self.times.number_of(n),
-            Class::Stamps => self.stamps.number_of(n),
-            Class::Space => self.space.number_of(n),
-            Class::Ids => self.ids.number_of(n),
-            Class::Fsids => self.fsids.number_of(n),
-            Class::Cookies => self.cookies.number_of(n),
-            Class::CookieVerifiers => self.cookie_verifiers.number_of(n),
-            Class::CreateVerifiers => self.create_verifiers.number_of(n),
-            Class::Owners => self.owners.number_of(n),
-            Class::Wcc => self.wcc.number_of(n),
+        let place = class.position();
+        if place >= self.numbers.len() {
+            self.make_tables(place)?;
         }
+        self.numbers[place].number_of(n)
+    }
+
+    /// Makes tables without values, up to this place.
+    #[inline(never)]
+    fn make_tables(&mut self, place: usize) -> Result<(), AllocError>
+        ensures ways { self.new.ways ≡ self.old.ways }
+        ensures ok { OnOk result (place < length self.new.numbers.items) }
+        ensures same { (at : ℕ) → get_or self.new.numbers.items at []
+            ≡ get_or self.old.numbers.items at [] }
+    {
+        while self.numbers.len() <= place {
+            self.numbers.push(Numbers::new(self.alloc, self.hasher))?;
+        }
+        Ok(())
     }
 }

@@ -1,8 +1,8 @@
 //! Words that stay as they are, and after which the spot is the same.
 
-ghost use Rattle.std.specs.Prelude.{◌≡◌, IsTrue, true};
+ghost use Rattle.std.specs.Prelude.{◌≡◌};
 ghost use Rattle.std.specs.List.{list_all};
-ghost use Rattle.masking3.specs.machinery.KnownFields.{is_free_field, is_free_name, is_kept_field, is_owner_field, is_owner_name};
+ghost use Rattle.masking3.specs.machinery.KnownFields.{is_free_name, is_kept_field, is_kept_name};
 
 use crate::ways::Way;
 use xdr3::PlainField;
@@ -24,66 +24,42 @@ pub(crate) fn is_free_name(name: &str) -> bool
     }
 }
 
-/// Returns whether these are two or five words of such names, as heads have them.
-#[inline(always)]
-fn are_free(fields: &[PlainField]) -> bool
-    ensures { IsTrue result → list_all is_free_field fields.now ≡ true }
-{
-    match *fields {
-        [a, b] => is_free(a) && is_free(b),
-        [a, b, c, d, e] => is_free(a) && is_free(b) && is_free(c) && is_free(d) && is_free(e),
-        _ => false,
-    }
-}
-
-#[inline(always)]
-fn is_free(field: PlainField) -> bool
-    ensures { result ≡ is_free_field field }
-{
-    match field {
-        PlainField::Word(name) => is_free_name(name),
-        PlainField::Hyper(_) => false,
-    }
-}
-
-/// Returns whether a word of this name is free, or a user or a group.
+/// Returns whether a word of this name stays, if this becomes of users and groups. It may miss some.
 #[inline(always)]
 #[tactic(auto, unfolding(nfs3_types::specs::Names::names, rpc_head::specs::Names::head_names))]
-fn is_owner_name(name: &str) -> bool
-    ensures { result ≡ is_owner_name name.now }
+fn is_kept_name(owners: Way, name: &str) -> bool
+    ensures { result ≡ is_kept_name owners name.now }
 {
     match name {
-        "uid" | "gid" | "group" => true,
+        "uid" | "gid" | "group" => matches!(owners, Way::Keep),
         _ => is_free_name(name),
     }
 }
 
-/// Returns whether all of these are words of such names.
 #[inline(always)]
-fn are_owners(fields: &[PlainField]) -> bool
-    ensures { result ≡ list_all is_owner_field fields.now }
-{
-    match *fields {
-        [a, b, c] => is_owner(a) && is_owner(b) && is_owner(c),
-        _ => fields.iter().all(|field| is_owner(*field)),
-    }
-}
-
-#[inline(always)]
-fn is_owner(field: PlainField) -> bool
-    ensures { result ≡ is_owner_field field }
+fn is_kept(owners: Way, field: PlainField) -> bool
+    ensures { result ≡ is_kept_field owners field }
 {
     match field {
-        PlainField::Word(name) => is_owner_name(name),
+        PlainField::Word(name) => is_kept_name(owners, name),
         PlainField::Hyper(_) => false,
     }
 }
 
 /// Returns whether all of these are words that stay, if this becomes of users and groups. It may miss some.
+/// Heads have two, three or five of them.
 #[inline(always)]
-#[tactic(auto, using(crate::proofs::Lemmas::Classes::KnownFieldLemmas::kept_if_free))]
-pub(crate) fn are_kept(fields: &[PlainField], owners: Way) -> bool
-    ensures { IsTrue result → list_all (is_kept_field owners) fields.now ≡ true }
+pub(crate) fn are_kept(owners: Way, fields: &[PlainField]) -> bool
+    ensures { result ≡ list_all (is_kept_field owners) fields.now }
 {
-    are_free(fields) || (owners == Way::Keep && are_owners(fields))
+    match *fields {
+        [a, b] => is_kept(owners, a) && is_kept(owners, b),
+        [a, b, c] => is_kept(owners, a) && is_kept(owners, b) && is_kept(owners, c),
+        [a, b, c, d, e] => is_kept(owners, a)
+            && is_kept(owners, b)
+            && is_kept(owners, c)
+            && is_kept(owners, d)
+            && is_kept(owners, e),
+        _ => fields.iter().all(|field| is_kept(owners, *field)),
+    }
 }

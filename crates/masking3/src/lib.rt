@@ -16,8 +16,8 @@ mod unnamed_body;
 mod ways;
 mod zeros;
 
-pub use class::Class;
-pub use hashers::{ClassHashers, MaskHashers};
+pub use class::{CLASSES, Class};
+pub use hashers::MaskHashers;
 pub use masked_form::mask;
 pub use spot::Spot;
 pub use ways::{Way, Ways};

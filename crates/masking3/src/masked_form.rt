@@ -8,8 +8,9 @@ ghost use Rattle.canon3.specs.WriteErrors.{CountsWriting};
 ghost use Rattle.canon3.specs.SinkWrites.{IsFlushed};
 ghost use Rattle.masking3.specs.Masked.{masked_bytes};
 
+use crate::class::Class;
 use crate::hashers::MaskHashers;
-use crate::masking_writer::{MaskingWriter, Plan};
+use crate::masking_writer::{MaskingWriter, Plan, write_entry};
 use crate::ways::Ways;
 use canon3::{EntryWriter, Sink, Summary, write_entries, write_magic};
 use capture3::{Error, LentEntry, Progress, Source};
@@ -38,7 +39,7 @@ use std::marker::Brand;
 ///   form is written.
 ///
 /// After an error nothing is flushed.
-pub fn mask<R: Source, W: Sink, S: BuildHasher + Drop>(
+pub fn mask<R: Source, W: Sink, S: BuildHasher + Copy + Drop>(
     alloc: Global,
     hashers: MaskHashers<S>,
     ways: Ways,
@@ -58,7 +59,7 @@ pub fn mask<R: Source, W: Sink, S: BuildHasher + Drop>(
 }
 
 /// Does the same, by ways that a type stands for.
-fn mask_by_plan<P: Plan, R: Source, W: Sink, S: BuildHasher + Drop>(
+fn mask_by_plan<P: Plan, R: Source, W: Sink, S: BuildHasher + Copy + Drop>(
     alloc: Global,
     hashers: MaskHashers<S>,
     ways: Ways,
@@ -66,8 +67,8 @@ fn mask_by_plan<P: Plan, R: Source, W: Sink, S: BuildHasher + Drop>(
     sink: &mut W,
 ) -> Result<Summary, Error>
     requires { ways ≡ P.ways }
-    ensures masks { WritesGiven (masked_bytes P.ways) (R.observed source.old) (R.observed source.new)
-        (W.written sink.old) (W.written sink.new) result }
+    ensures masks { WritesGiven (masked_bytes P.ways) (R.observed source.old)
+        (R.observed source.new) (W.written sink.old) (W.written sink.new) result }
     ensures whole { (bytes : List ℕ)
         → GavePrefix (R.observed source.old) (R.observed source.new) bytes
         → WritesAll (masked_bytes P.ways) bytes (W.written sink.old) (W.written sink.new) result }
@@ -75,11 +76,11 @@ fn mask_by_plan<P: Plan, R: Source, W: Sink, S: BuildHasher + Drop>(
     ensures read { CountsReading (R.failures source.old) (R.failures source.new) result }
     ensures write { CountsWriting (W.failures sink.old) (W.failures sink.new) result }
 {
-    let mut writer = MaskingWriter::<P, S>::new(alloc, ways, hashers.handles, hashers.classes);
+    let mut writer = MaskingWriter::<P, S>::new(alloc, ways, hashers.handles, hashers.values);
     write_entries(alloc, hashers.calls, source, sink, &mut writer)
 }
 
-impl<P: Plan, S: BuildHasher + Drop> EntryWriter for MaskingWriter<P, S> {
+impl<P: Plan, S: BuildHasher + Copy + Drop> EntryWriter for MaskingWriter<P, S> {
     ghost use Rattle.canon3.specs.Summary.{IsSummary};
     ghost use Rattle.masking3.specs.Masked.{masked_bytes};
     ghost use Rattle.masking3.specs.machinery.MaskingWriter.{HasMemory, visited_before};
@@ -104,7 +105,8 @@ impl<P: Plan, S: BuildHasher + Drop> EntryWriter for MaskingWriter<P, S> {
             return Err(Error::Memory);
         }
         write_magic(progress, sink)?;
-        self.write_entry(sink, entry.kind())?;
+        let machines = self.classes.ways.way(Class::Machines);
+        write_entry(sink, entry.kind(), machines, self.writer.bytes())?;
         self.end_message();
         Ok(())
     }

@@ -16,9 +16,8 @@ ghost use Rattle.masking3.specs.machinery.MessageSpot.{first_spot};
 ghost use Rattle.masking3.specs.machinery.UnnamedBody.{body_by};
 
 use crate::attributes::are_attributes;
-use crate::class::{class_of_fixed, class_of_hyper, class_of_word};
+use crate::class::{Class, class_of_fixed, class_of_hyper, class_of_word};
 use crate::class_tables::ClassTables;
-use crate::hashers::ClassHashers;
 use crate::kept::{are_kept, is_free_name};
 use crate::spot::{Spot, first_spot, spot_after};
 use crate::texts::masked_text;
@@ -59,21 +58,16 @@ pub(crate) struct MaskingWriter<P: Plan, S: BuildHasher + Drop> {
     plan: PhantomData<P>,
 }
 
-impl<P: Plan, S: BuildHasher + Drop> MaskingWriter<P, S> {
+impl<P: Plan, S: BuildHasher + Copy + Drop> MaskingWriter<P, S> {
     /// Returns a writer before a capture.
-    pub(crate) fn new(
-        alloc: Global,
-        ways: Ways,
-        handles: S,
-        classes: ClassHashers<S>,
-    ) -> MaskingWriter<P, S>
+    pub(crate) fn new(alloc: Global, ways: Ways, handles: S, values: S) -> MaskingWriter<P, S>
         requires { ways ≡ P.ways }
         ensures rests { MaskRests P.ways result (after_messages [] []) }
         ensures going { HasMemory result }
     {
         MaskingWriter {
             handles: HandleTable::new(alloc, handles),
-            classes: ClassTables::new(alloc, ways, classes),
+            classes: ClassTables::new(alloc, ways, values),
             writer: Writer::new(alloc),
             spot: Spot::InCall,
             failed: false,
@@ -143,11 +137,11 @@ impl<P: Plan, S: BuildHasher + Drop> MaskingWriter<P, S> {
         ensures ok { OnOk result
             (Adds (MaskStands P.ways) self.old self.new (run_items fields.now bytes.now)) }
     {
-        if are_kept(fields, self.classes.ways.owners) {
-            return self.writer.plain(fields, bytes);
-        }
         if are_attributes(fields) {
             return self.write_attributes(bytes);
+        }
+        if are_kept(self.classes.ways.way(Class::Owners), fields) {
+            return self.writer.plain(fields, bytes);
         }
         self.write_each(fields, bytes)
     }
@@ -191,7 +185,7 @@ impl<P: Plan, S: BuildHasher + Drop> MaskingWriter<P, S> {
         ensures ok { OnOk result
             (Adds (MaskStands P.ways) self.old self.new (Rest name.now bytes.now ∷ [])) }
     {
-        match self.classes.ways.raw {
+        match self.classes.ways.way(Class::Raw) {
             Way::Keep => self.writer.rest(name, bytes),
             Way::Zero => write_zeros(&mut self.writer, bytes.len()),
             Way::Number => write_zeros(&mut self.writer, bytes.len()),
@@ -209,24 +203,6 @@ impl<P: Plan, S: BuildHasher + Drop> MaskingWriter<P, S> {
         }
         written
     }
-
-    /// Writes an entry, whose message the writer contains.
-    pub(crate) fn write_entry<W: Sink>(&self, sink: &mut W, kind: Kind) -> Result<(), Error>
-        ensures ok { OnOk result (Appends (W.written sink.old) (W.written sink.new)
-            (written_as self.now.classes.ways.machines kind self.now.writer)) }
-        ensures err { OnErr result (AppendsFront (W.written sink.old) (W.written sink.new)
-            (written_as self.now.classes.ways.machines kind self.now.writer)) }
-        ensures count { CountsWriting (W.failures sink.old) (W.failures sink.new) result }
-        ensures error { IfErr result IsOfWriting }
-    {
-        let body = self.writer.bytes();
-        match kind {
-            Kind::Begin => write_word(sink, 1),
-            Kind::Call(_) => write_call(sink, self.classes.ways.machines, body),
-            Kind::Reply(_) => write_message(sink, body, &[]),
-            Kind::Turn | Kind::Close | Kind::End => write_word(sink, 0),
-        }
-    }
 }
 
 /// Returns the bytes of a number, the most significant first (RFC 4506, section 4.5).
@@ -236,6 +212,28 @@ pub(crate) fn spelled_hyper(n: u64) -> [u8; 8]
     let mut hyper = [0; 8];
     BigEndian::write_u64(&mut hyper, n);
     hyper
+}
+
+/// Writes an entry, whose message has this body, with the name of a call's machine as the way has it.
+pub(crate) fn write_entry<W: Sink>(
+    sink: &mut W,
+    kind: Kind,
+    machines: Way,
+    body: &[u8],
+) -> Result<(), Error>
+    ensures ok { OnOk result (Appends (W.written sink.old) (W.written sink.new)
+        (written_as machines kind body.now)) }
+    ensures err { OnErr result (AppendsFront (W.written sink.old) (W.written sink.new)
+        (written_as machines kind body.now)) }
+    ensures count { CountsWriting (W.failures sink.old) (W.failures sink.new) result }
+    ensures error { IfErr result IsOfWriting }
+{
+    match kind {
+        Kind::Begin => write_word(sink, 1),
+        Kind::Call(_) => write_call(sink, machines, body),
+        Kind::Reply(_) => write_message(sink, body, &[]),
+        Kind::Turn | Kind::Close | Kind::End => write_word(sink, 0),
+    }
 }
 
 /// Writes a call, with the name of its machine as the way has it.
@@ -255,7 +253,7 @@ fn write_call<W: Sink>(sink: &mut W, machines: Way, body: &[u8]) -> Result<(), E
 }
 
 #[tactic(auto, unfolding(xdr3::specs::Visit::Adds, xdr3::specs::Visit::Keeps))]
-impl<P: Plan, S: BuildHasher + Drop> Visit for MaskingWriter<P, S> {
+impl<P: Plan, S: BuildHasher + Copy + Drop> Visit for MaskingWriter<P, S> {
     ghost use Rattle.masking3.specs.machinery.MaskingWriter.{MaskStands};
 
     ghost stands = { MaskStands P.ways };
@@ -310,7 +308,7 @@ impl<P: Plan, S: BuildHasher + Drop> Visit for MaskingWriter<P, S> {
     }
 }
 
-impl<P: Plan, S: BuildHasher + Drop> MessageVisit for MaskingWriter<P, S> {
+impl<P: Plan, S: BuildHasher + Copy + Drop> MessageVisit for MaskingWriter<P, S> {
     ghost use Rattle.masking3.specs.machinery.MaskingWriter.{MaskRests};
 
     ghost rests = { MaskRests P.ways };

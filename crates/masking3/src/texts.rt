@@ -4,6 +4,7 @@ ghost use Rattle.std.specs.Prelude.{◌≡◌, ◌≤◌, length};
 ghost use Rattle.std.specs.List.{list_all};
 ghost use Rattle.masking3.specs.Texts.{host_by, is_silly_digit, is_silly_name, silly_by, text_by, zero_name};
 
+use crate::class::Class;
 use crate::ways::{Way, Ways};
 
 /// The name of a removed file with each digit 0.
@@ -63,8 +64,8 @@ pub(crate) fn masked_text<'a>(ways: &Ways, name: &str, bytes: &'a [u8]) -> &'a [
     ensures within { length result.now ≤ length bytes.now }
 {
     match name {
-        "name" => file_name(ways.silly_names, bytes),
-        "hostname" => host_name(ways.machines, bytes),
+        "name" => file_name(ways.way(Class::SillyNames), bytes),
+        "hostname" => host_name(ways.way(Class::Machines), bytes),
         _ => bytes,
     }
 }

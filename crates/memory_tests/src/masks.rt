@@ -6,7 +6,7 @@ use canon3::MemSink;
 use capture3::MemSource;
 use line3::LineFault;
 use mask_line3::{mask_job, taken, ways_text};
-use masking3::{ClassHashers, MaskHashers, Way, Ways, mask};
+use masking3::{Class, MaskHashers, Way, Ways, mask};
 use std::hash::{BuildHasherDefault, FoldHasher};
 use std::test::Fail;
 
@@ -25,18 +25,7 @@ fn hashers() -> MaskHashers<BuildHasherDefault<FoldHasher>> {
     MaskHashers {
         calls: BuildHasherDefault::default(),
         handles: BuildHasherDefault::default(),
-        classes: ClassHashers {
-            times: BuildHasherDefault::default(),
-            stamps: BuildHasherDefault::default(),
-            space: BuildHasherDefault::default(),
-            ids: BuildHasherDefault::default(),
-            fsids: BuildHasherDefault::default(),
-            cookies: BuildHasherDefault::default(),
-            cookie_verifiers: BuildHasherDefault::default(),
-            create_verifiers: BuildHasherDefault::default(),
-            owners: BuildHasherDefault::default(),
-            wcc: BuildHasherDefault::default(),
-        },
+        values: BuildHasherDefault::default(),
     }
 }
 
@@ -76,7 +65,7 @@ fn a_line_of_a_mask_is_read(rt: HostRuntime) -> Result<(), Fail> {
         }
     };
     match mask_job(rt.alloc(), &said) {
-        Ok(asked) => assert_eq!(rt; asked.ways.owners, Way::Number),
+        Ok(asked) => assert_eq!(rt; asked.ways.way(Class::Owners), Way::Number),
         Err(fault) => assert!(rt; matches!(fault, LineFault::Memory)),
     }
     Ok(())
@@ -85,7 +74,7 @@ fn a_line_of_a_mask_is_read(rt: HostRuntime) -> Result<(), Fail> {
 /// The words are all there, or memory ran out.
 #[test]
 fn a_mask_is_told(rt: HostRuntime) {
-    if let Ok(text) = ways_text(rt.alloc(), &Ways::usual()) {
+    if let Ok(text) = ways_text(rt.alloc(), Ways::usual()) {
         assert!(rt; text.as_str().starts_with(" times=zero "));
         assert!(rt; text.as_str().ends_with(" raw=keep"));
     }

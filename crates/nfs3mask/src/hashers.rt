@@ -1,6 +1,6 @@
 //! The hashers of a masked form's tables.
 
-use masking3::{ClassHashers, MaskHashers};
+use masking3::MaskHashers;
 use program3::SecretHasher;
 use std::io;
 
@@ -13,21 +13,6 @@ pub fn mask_hashers(rt: &HostRuntime) -> io::Result<MaskHashers<SecretHasher>> {
     Ok(MaskHashers {
         calls: SecretHasher::new(rt)?,
         handles: SecretHasher::new(rt)?,
-        classes: class_hashers(rt)?,
-    })
-}
-
-fn class_hashers(rt: &HostRuntime) -> io::Result<ClassHashers<SecretHasher>> {
-    Ok(ClassHashers {
-        times: SecretHasher::new(rt)?,
-        stamps: SecretHasher::new(rt)?,
-        space: SecretHasher::new(rt)?,
-        ids: SecretHasher::new(rt)?,
-        fsids: SecretHasher::new(rt)?,
-        cookies: SecretHasher::new(rt)?,
-        cookie_verifiers: SecretHasher::new(rt)?,
-        create_verifiers: SecretHasher::new(rt)?,
-        owners: SecretHasher::new(rt)?,
-        wcc: SecretHasher::new(rt)?,
+        values: SecretHasher::new(rt)?,
     })
 }

@@ -23,12 +23,12 @@ use std::hash::BuildHasher;
 
 /// The masked form.
 #[derive(Drop)]
-struct MaskedForm<S: BuildHasher + Drop> {
+struct MaskedForm<S: BuildHasher + Copy + Drop> {
     hashers: MaskHashers<S>,
     ways: Ways,
 }
 
-impl<S: BuildHasher + Drop> Rewriting for MaskedForm<S> {
+impl<S: BuildHasher + Copy + Drop> Rewriting for MaskedForm<S> {
     ghost use Rattle.canon3.specs.Summary.{IsSummary};
     ghost use Rattle.masking3.specs.Masked.{masked_bytes};
 
@@ -56,7 +56,7 @@ pub struct Answer {
 }
 
 /// Does what the words of a command line ask for. `hashers` is `None` if the system gave no random bytes.
-pub fn answered<F: Files, S: BuildHasher + Drop>(
+pub fn answered<F: Files, S: BuildHasher + Copy + Drop>(
     alloc: Global,
     hashers: Option<MaskHashers<S>>,
     files: &mut F,
@@ -74,7 +74,7 @@ pub fn answered<F: Files, S: BuildHasher + Drop>(
 }
 
 /// Does what the words of a line without a `--` ask for.
-fn said_answered<F: Files, S: BuildHasher + Drop>(
+fn said_answered<F: Files, S: BuildHasher + Copy + Drop>(
     alloc: Global,
     hashers: Option<MaskHashers<S>>,
     files: &mut F,
@@ -102,7 +102,7 @@ fn refused(fault: LineFault) -> Answer
     }
 }
 
-fn done<F: Files, S: BuildHasher + Drop>(
+fn done<F: Files, S: BuildHasher + Copy + Drop>(
     alloc: Global,
     hashers: Option<MaskHashers<S>>,
     files: &mut F,
@@ -124,7 +124,7 @@ fn done<F: Files, S: BuildHasher + Drop>(
 
 /// Masks the capture of one name into the file of another. The output is made once the input is open, and
 /// there is memory for the words that tell the mask.
-fn run_mask<F: Files, S: BuildHasher + Drop>(
+fn run_mask<F: Files, S: BuildHasher + Copy + Drop>(
     alloc: Global,
     hashers: MaskHashers<S>,
     files: &mut F,
@@ -135,7 +135,7 @@ fn run_mask<F: Files, S: BuildHasher + Drop>(
         result.0.outcome }
 {
     let ways = job.ways;
-    let Ok(words) = ways_text(alloc, &ways) else {
+    let Ok(words) = ways_text(alloc, ways) else {
         let ended = Ended::printing(Outcome::Counted(Err(Error::Memory)));
         return (ended, Readings::Nothing);
     };

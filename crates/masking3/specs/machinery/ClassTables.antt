@@ -1,19 +1,12 @@
 -- Tables of the values of each class.
-use Rattle.std.specs.Prelude.{◌≡◌, ℕ, nat_eq, Option, List, [], ◌∷◌, ◌++◌, get_or}
+use Rattle.std.specs.Prelude.{◌≡◌, ℕ, nat_eq, Option, List, [], ◌++◌, get_or}
 use Rattle.capture3.specs.Rank.{HoldsDistinct}
 use Rattle.masking3.specs.declared.class.Class.{Class}
-use Rattle.masking3.specs.declared.class_tables.ClassTables.{ClassTables}
 use Rattle.masking3.specs.declared.ways.Way.TheVariants.{Number}
 use Rattle.masking3.specs.declared.ways.Ways.{Ways}
 use Rattle.masking3.specs.Classes.{position}
 use Rattle.masking3.specs.Masked.{value_where}
 use Rattle.masking3.specs.Ways.{way_of}
-
--- by the places of the classes
-abbrev pub tables_in : {S H : Type 0} → ClassTables S H → List (List ℕ)
-tables_in t =
-    t.times ∷ t.stamps ∷ t.space ∷ t.ids ∷ t.fsids ∷ t.cookies ∷ t.cookie_verifiers
-    ∷ t.create_verifiers ∷ t.owners ∷ t.wcc ∷ []
 
 -- the table at a place holds these values
 abbrev pub HoldsAt : List (List ℕ) → ℕ → List ℕ → Type 0

@@ -1,5 +1,5 @@
 -- Fields whose classes are known by their names: those of attributes, and words that stay.
-use Rattle.std.specs.Prelude.{◌≡◌, ℕ, ◌==◌, ◌+◌, true, false, Bool, not, ◌||◌, if◌then◌else◌, List, [], ◌∷◌, ◌++◌, Option, drop, get_or, length}
+use Rattle.std.specs.Prelude.{◌≡◌, ℕ, ◌==◌, ◌+◌, true, false, Bool, not, if◌then◌else◌, List, [], ◌∷◌, ◌++◌, Option, drop, get_or, length}
 use Rattle.byteorder.specs.Endian.{big_number}
 use Rattle.xdr3.specs.declared.plain.PlainField.{PlainField}
 use Rattle.xdr3.specs.declared.plain.PlainField.TheVariants as fields
@@ -32,26 +32,17 @@ is_free_name name =
     (if length name == 10 then get_or name 0 0 == 114 else
     (length name == 11))))))
 
--- the name is of a word that is free, or that is a user or a group
-abbrev pub is_owner_name : List ℕ → Bool
-is_owner_name name = is_one_of owner_names name || is_free_name name
-
-abbrev pub is_free_field : PlainField → Bool
-is_free_field (fields.Word name) = is_free_name name.now
-is_free_field (fields.Hyper name) = false
-
-abbrev pub is_owner_field : PlainField → Bool
-is_owner_field (fields.Word name) = is_owner_name name.now
-is_owner_field (fields.Hyper name) = false
+abbrev pub is_keep : Way → Bool
+is_keep Keep = true
+is_keep _ = false
 
 -- a word of this name stays, where this becomes of users and groups
 abbrev pub is_kept_name : Way → List ℕ → Bool
-is_kept_name Keep name = is_owner_name name
-is_kept_name _ name = is_free_name name
+is_kept_name owners name = if is_one_of owner_names name then is_keep owners else is_free_name name
 
 abbrev pub is_kept_field : Way → PlainField → Bool
-is_kept_field Keep field = is_owner_field field
-is_kept_field _ field = is_free_field field
+is_kept_field owners (fields.Word name) = is_kept_name owners name.now
+is_kept_field owners (fields.Hyper name) = false
 
 abbrev pub IsKeptItem : Way → Item → Type 0
 IsKeptItem owners (Word name n) = is_kept_name owners name ≡ true

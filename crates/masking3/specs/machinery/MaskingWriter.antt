@@ -19,7 +19,7 @@ use Rattle.masking3.specs.Classes.{class_of, class_value, position}
 use Rattle.masking3.specs.Masked.{is_zero_that_stays, masked_items, values_in}
 use Rattle.masking3.specs.Spots.{next_spot}
 use Rattle.masking3.specs.Texts.{with_text}
-use Rattle.masking3.specs.machinery.ClassTables.{HoldsValues, tables_in}
+use Rattle.masking3.specs.machinery.ClassTables.{HoldsValues}
 use Rattle.masking3.specs.machinery.MessageSpot.{BeginsOn, first_spot, spot_after}
 use Rattle.masking3.specs.machinery.UnnamedBody.{body_by}
 
@@ -65,7 +65,7 @@ values_so_far front side items class =
 pub record HoldsMasked {P S H : Type 0} (ways : Ways) (w : MaskingWriter P S H)
     (front : List Item) (side : Side) (items : List Item) : Type 0 where
   pub ways_are : w.classes.ways ≡ ways
-  pub tables : HoldsValues ways (tables_in w.classes) (values_so_far front side items)
+  pub tables : HoldsValues ways w.classes.numbers.items (values_so_far front side items)
   pub handles : Gathers w.handles (front ++ items)
   pub written : w.writer
       ≡ zero_spelling (map (with_text ways)

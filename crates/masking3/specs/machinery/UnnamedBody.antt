@@ -3,7 +3,7 @@ use Rattle.std.specs.Prelude.{ℕ, ◌+◌, ◌-◌, ◌==◌, ◌&&◌, nat_le,
 use Rattle.byteorder.specs.Endian.{big_number}
 use Rattle.xdr3.specs.Item.{residue, word_bytes}
 use Rattle.masking3.specs.declared.ways.Way.{Way}
-use Rattle.masking3.specs.declared.ways.Way.TheVariants.{Keep, Zero, Number}
+use Rattle.masking3.specs.Ways.{unless_kept}
 
 -- the word at a place
 abbrev pub body_word : ℕ → List ℕ → ℕ
@@ -31,6 +31,4 @@ unnamed_body body =
 
 -- the name stays, or becomes empty
 abbrev pub body_by : Way → List ℕ → List ℕ
-body_by Keep body = body
-body_by Zero body = unnamed_body body
-body_by Number body = unnamed_body body
+body_by way body = unless_kept way unnamed_body body

@@ -164,7 +164,7 @@ fn a_magic_that_is_not_written(rt: HostRuntime) {
 struct Endless;
 
 impl Source for Endless {
-    ghost told = { λ s. record { left = None; given = None; is_spent = false } };
+    ghost observed = { λ s. record { left = None; given = None; is_spent = false } };
 
     ghost failures = { λ s. 0 };
 

@@ -3,7 +3,7 @@
 use crate::samples::{hasher, push_words};
 use canon3::{MemSink, Summary};
 use capture3::{Error, MemSource};
-use masking3::{ClassHashers, MaskHashers, Way, Ways, mask};
+use masking3::{Class, MaskHashers, Way, Ways, mask};
 use std::alloc::{AllocError, Global};
 use std::hash::{BuildHasherDefault, FoldHasher};
 use std::test::Fail;
@@ -70,18 +70,7 @@ fn hashers() -> MaskHashers<BuildHasherDefault<FoldHasher>> {
     MaskHashers {
         calls: hasher(),
         handles: hasher(),
-        classes: ClassHashers {
-            times: hasher(),
-            stamps: hasher(),
-            space: hasher(),
-            ids: hasher(),
-            fsids: hasher(),
-            cookies: hasher(),
-            cookie_verifiers: hasher(),
-            create_verifiers: hasher(),
-            owners: hasher(),
-            wcc: hasher(),
-        },
+        values: hasher(),
     }
 }
 
@@ -145,8 +134,7 @@ fn no_ways(rt: HostRuntime) -> Result<(), Fail> {
 
 #[test]
 fn numbered_times(rt: HostRuntime) -> Result<(), Fail> {
-    let mut ways = Ways::none();
-    ways.times = Way::Number;
+    let ways = Ways::none().with(Class::Times, Way::Number);
     let form = Run { time: 1, ..FIRST };
     let mut sink = MemSink::new(rt.alloc(), 999, 9, 0)?;
     let bytes = capture(rt.alloc(), FIRST)?;
@@ -173,8 +161,7 @@ fn lists_of_groups(rt: HostRuntime) -> Result<(), Fail> {
         (Way::Zero, [0, 0, 0, 0]),
         (Way::Number, [1, 2, 3, 1]),
     ] {
-        let mut ways = Ways::none();
-        ways.owners = owners;
+        let ways = Ways::none().with(Class::Owners, owners);
         let mut sink = MemSink::new(rt.alloc(), 999, 9, 0)?;
         assert_eq!(rt; masked(&rt, ways, &bytes, &mut sink).is_ok(), true);
         assert_eq!(rt; sink.bytes(), null_by(rt.alloc(), form)?.as_slice());
@@ -199,8 +186,7 @@ fn sizes_of_files_and_directories(rt: HostRuntime) -> Result<(), Fail> {
         (2, Way::Number, 1, 2),
         (1, Way::Number, 3, 4096),
     ] {
-        let mut ways = Ways::none();
-        ways.wcc = wcc;
+        let ways = Ways::none().with(Class::Wcc, wcc);
         let bytes = capture_of(rt.alloc(), FIRST, attributes_of(kind, 3, 4096))?;
         let form = capture_of(rt.alloc(), FIRST, attributes_of(kind, links, size))?;
         let mut sink = MemSink::new(rt.alloc(), 999, 9, 0)?;
@@ -247,8 +233,7 @@ fn removal(alloc: Global, name: &[u32; 7]) -> Result<Vec<u8>, AllocError> {
 fn names_of_removed_files(rt: HostRuntime) -> Result<(), Fail> {
     let bytes = removal(rt.alloc(), &SILLY)?;
     for (way, form) in [(Way::Keep, SILLY), (Way::Zero, ZEROS), (Way::Number, ZEROS)] {
-        let mut ways = Ways::none();
-        ways.silly_names = way;
+        let ways = Ways::none().with(Class::SillyNames, way);
         let mut sink = MemSink::new(rt.alloc(), 999, 9, 0)?;
         assert_eq!(rt; masked(&rt, ways, &bytes, &mut sink).is_ok(), true);
         assert_eq!(rt; sink.bytes(), removal(rt.alloc(), &form)?.as_slice());
@@ -277,8 +262,7 @@ fn names_of_hosts(rt: HostRuntime) -> Result<(), Fail> {
         (Way::Zero, &without),
         (Way::Number, &without),
     ] {
-        let mut ways = Ways::none();
-        ways.machines = way;
+        let ways = Ways::none().with(Class::Machines, way);
         let mut sink = MemSink::new(rt.alloc(), 999, 9, 0)?;
         assert_eq!(rt; masked(&rt, ways, &bytes, &mut sink).is_ok(), true);
         assert_eq!(rt; sink.bytes(), form.as_slice());

@@ -55,7 +55,7 @@ fn a_change_of_every_class(rt: HostRuntime) -> Result<(), Fail> {
 
 #[test]
 fn no_value_is_masked(rt: HostRuntime) -> Result<(), Fail> {
-    let found = ways_text(rt.alloc(), &Ways::none())?;
+    let found = ways_text(rt.alloc(), Ways::none())?;
     assert_eq!(rt; found.as_str().matches("=keep").count(), 13);
     Ok(())
 }
@@ -73,7 +73,7 @@ fn told(alloc: Global, line: &str) -> Result<String, AllocError> {
 
 fn mask_of(alloc: Global, job: MaskJob<'_>) -> Result<String, AllocError> {
     match (job.input, job.output) {
-        ("a", "b") => ways_text(alloc, &job.ways),
+        ("a", "b") => ways_text(alloc, job.ways),
         _ => String::from_str(alloc, "other files"),
     }
 }

@@ -11,7 +11,7 @@ returns-in-None-clause-err c = λ changes all.
 
 pub loop-word-preserved : goal.loop-word-preserved
 loop-word-preserved c =
-    subst (AreChanges _) (sym c.with_way-ways.ensures)
+    subst (AreChanges _) (sym c.with-ways.ensures)
     (one_more c.args.words.now c.loop-word.word-index c.word-item.result c.loop-word.ways
     c.in-Some.change c.loop-word-test.true c.word-item.is
     (sym c.as_str.ensures.value ∙ c.in-Some.ensures) c.loop-word.invariant)

@@ -1,50 +1,18 @@
 -- Classes, their places, and their values.
-use Rattle.masking3.proofs.Common.{◌≡◌, ◌≢◌, ℕ, List, [], ◌++◌, refl, sym, ap, ◌∙◌, subst, append-nil, Decides-eqb, by_test, Class, Number, Ways, position, value_where, way_of, ◌==◌, if◌then◌else◌, get_or, Option, None, Some, HoldsAt, HoldsValues, with_one}
-use Rattle.masking3.specs.declared.class.Class.TheVariants.{Times, Stamps, Space, Ids, Fsids, Cookies, CookieVerifiers, CreateVerifiers, Owners, Wcc}
+use Rattle.masking3.proofs.Common.{◌≡◌, ◌≢◌, ◌<◌, ℕ, List, [], ◌++◌, refl, sym, ap, ◌∙◌, subst, arith, append-nil, Decides-eqb, by_test, Class, Times, Number, Ways, classes, position, value_where, way_of, ◌==◌, get_or, Option, None, Some, HoldsAt, HoldsValues, with_one}
 
 -- ---- places
 
-class_at : ℕ → Class
-class_at n =
-    (if n == 0 then Times else
-    (if n == 1 then Stamps else
-    (if n == 2 then Space else
-    (if n == 3 then Ids else
-    (if n == 4 then Fsids else
-    (if n == 5 then Cookies else
-    (if n == 6 then CookieVerifiers else
-    (if n == 7 then CreateVerifiers else
-    (if n == 8 then Owners else
-    Wcc)))))))))
+pub class_back : (c : Class) → get_or classes (position c) Times ≡ c
+class_back c =
+    elim c as (λ k. get_or classes (position k) Times ≡ k) [ Times ↦ refl | _ ↦ refl ]
 
-class_back : (c : Class) → class_at (position c) ≡ c
-unfolding class_at
-class_back Times = refl
-class_back Stamps = refl
-class_back Space = refl
-class_back Ids = refl
-class_back Fsids = refl
-class_back Cookies = refl
-class_back CookieVerifiers = refl
-class_back CreateVerifiers = refl
-class_back Owners = refl
-class_back Wcc = refl
-
-pub for_each : (P : Class → Type 0) → P Times → P Stamps → P Space → P Ids → P Fsids → P Cookies
-    → P CookieVerifiers → P CreateVerifiers → P Owners → P Wcc → (c : Class) → P c
-for_each P a b c d e f g h i j Times = a
-for_each P a b c d e f g h i j Stamps = b
-for_each P a b c d e f g h i j Space = c
-for_each P a b c d e f g h i j Ids = d
-for_each P a b c d e f g h i j Fsids = e
-for_each P a b c d e f g h i j Cookies = f
-for_each P a b c d e f g h i j CookieVerifiers = g
-for_each P a b c d e f g h i j CreateVerifiers = h
-for_each P a b c d e f g h i j Owners = i
-for_each P a b c d e f g h i j Wcc = j
+pub place_within : (c : Class) → position c < 13
+place_within c = elim c as (λ k. position k < 13) [ Times ↦ omega arith | _ ↦ omega arith ]
 
 pub same_class : (c d : Class) → position c ≡ position d → c ≡ d
-same_class c d e = sym (class_back c) ∙ (ap class_at e ∙ class_back d)
+same_class c d e =
+    sym (class_back c) ∙ (ap (λ n. get_or classes n Times) e ∙ class_back d)
 
 -- ---- values
 

@@ -1,6 +1,6 @@
 -- The first entries of a well-formed file have xids of no class, and room for the numbers of their
 -- values.
-use Rattle.masking3.proofs.Common.{◌<◌, ◌^◌, List, [], ◌∷◌, ◌++◌, length, map, sym, subst, arith, ap, ◌∙◌, AllByRecursion, Item, Word, Hyper, Fixed, WriteVerf, Opaque, Rest, Entry, Begin, Call, Turn, Reply, Close, End, AreFirst, Same, all_entries, holds, is_headed_call, is_headed_reply, Class, Way, Keep, Zero, Number, Ways, masked, masked_values, values, with_text, ReplyItems, bytes_of, IsSpelledCall, IsSpelledReply, SameBut, named_by, names_by, unnamed_items, MaskedBytesDecide, MaskedFormsDecide}
+use Rattle.masking3.proofs.Common.{◌<◌, ◌^◌, List, [], ◌∷◌, ◌++◌, length, map, sym, subst, arith, ap, ◌∙◌, AllByRecursion, Item, Word, Hyper, Fixed, WriteVerf, Opaque, Rest, Entry, Begin, Call, Turn, Reply, Close, End, AreFirst, Same, all_entries, holds, is_headed_call, is_headed_reply, Class, Way, Keep, Zero, Number, Ways, masked, masked_values, values, with_text, ReplyItems, bytes_of, IsSpelledCall, IsSpelledReply, SameBut, named_by, names_by, unnamed_items, MaskedBytesDecide, MaskedFormsDecide, way_of, Machines}
 use Rattle.canon3.proofs.Lemmas.Renaming.Equality.{same_reflexive, same_symmetric, same_transitive}
 use Rattle.canon3.proofs.Lemmas.Order.First.{first_in_order, same_from_bytes}
 use Rattle.canon3.proofs.Lemmas.Canonical.OneFormLemmas.{canonical-same}
@@ -64,8 +64,10 @@ module _ (by : Ways) where
       → AllByRecursion HasFreeXid (names_by by a)
   free_names [] h = tt
   free_names (Begin ∷ a) h = (tt, free_names a h.1)
-  free_names (Call m ∷ a) h =
-      (named_xid_free by.machines (map (with_text by) m) (texts_free m h.0), free_names a h.1)
+  free_names (Call m ∷ a) h = (
+    named_xid_free (way_of by Machines) (map (with_text by) m) (texts_free m h.0),
+    free_names a h.1,
+  )
   free_names (Turn ∷ a) h = (tt, free_names a h.1)
   free_names (Reply id m ∷ a) h = (texts_free m h.0, free_names a h.1)
   free_names (Close ∷ a) h = (tt, free_names a h.1)

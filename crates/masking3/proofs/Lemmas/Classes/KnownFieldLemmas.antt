@@ -1,14 +1,12 @@
 -- Fields whose classes are known by their names.
-use Rattle.masking3.proofs.Common.{◌≡◌, ℕ, ◌+◌, true, false, Bool, ◌||◌, List, [], ◌∷◌, ◌++◌, refl, sym, ap, ap₂, ◌∙◌, subst, by_test, and_parts, bytes_eq, bytes_eq-Decides, drop, map, list_all, AllByRecursion, Option, None, Some, Item, Word, Hyper, Fixed, WriteVerf, Opaque, Rest, Class, Spot, Ways, head_names, names, class_of, class_of_hyper, class_of_word, class_value, big_number, substitute, value_where, values_in, masked_items, with_text, with_value, handle_in, handles_in, next_spot, spot_after, Way, Keep, Number, Zero, way_of, InCall, InReply, InDirectory, InWcc}
+use Rattle.masking3.proofs.Common.{◌≡◌, ℕ, ◌+◌, true, false, List, [], ◌∷◌, ◌++◌, refl, sym, ap, ap₂, ◌∙◌, subst, by_test, and_parts, bytes_eq, bytes_eq-Decides, drop, map, list_all, AllByRecursion, Option, None, Some, Item, Word, Hyper, Fixed, WriteVerf, Opaque, Rest, Class, Spot, Ways, head_names, names, class_of, class_of_hyper, class_of_word, class_value, big_number, substitute, value_where, values_in, masked_items, with_text, with_value, handle_in, handles_in, next_spot, spot_after, Way, Keep, Number, Zero, way_of, InCall, InReply, InDirectory, InWcc, Owners}
 use Rattle.std.proofs.lemmas.List.{drop-drop}
 use Rattle.std.specs.List.{list_any}
-use Rattle.std.proofs.Common.{Bor}
 use Rattle.xdr3.specs.declared.plain.PlainField.{PlainField}
 use Rattle.xdr3.specs.declared.plain.PlainField.TheVariants as fields
 use Rattle.xdr3.specs.Plain.{run_items, run_size}
 use Rattle.masking3.specs.Classes.{class_of_group, is_one_of, names_of_owners, names_of_times}
-use Rattle.masking3.specs.declared.class.Class.TheVariants.{Owners}
-use Rattle.masking3.specs.machinery.KnownFields.{IsKeptItem, IsKnown, attribute_fields, attributes_in, is_free_field, is_free_name, is_kept_field, is_kept_name, is_owner_name, owner_names, field_item, numbered_from}
+use Rattle.masking3.specs.machinery.KnownFields.{IsKeptItem, IsKnown, attribute_fields, attributes_in, is_free_name, is_keep, is_kept_field, is_kept_name, owner_names, field_item, numbered_from}
 use Rattle.masking3.specs.machinery.UnnamedBody.{body_word}
 use Rattle.masking3.proofs.Lemmas.Classes.ClassLemmas.{none_of_other}
 use Rattle.masking3.proofs.Lemmas.Classes.SpotLemmas.{IsFree, still_after, still_name}
@@ -83,20 +81,15 @@ group_is_owner =
       owner_moves_not = λ spot n. still_name spot head_names.group n refl refl;
     }
 
-free_is_owner : (name : List ℕ) → is_free_name name ≡ true → IsOwnerName name
-free_is_owner name free = record {
-  owned = λ spot d is. absurd (cc (is, free_classless name free spot));
-  owner_moves_not = free_moves_not name free;
-}
-
-among_owners : (name : List ℕ) → is_owner_name name ≡ true → IsOwnerName name
+among_owners : (name : List ℕ) → is_one_of owner_names name ≡ true → IsOwnerName name
 among_owners name t = by_test (bytes_eq name names.uid)
     (λ u. subst IsOwnerName (sym ((bytes_eq-Decides name names.uid).0 u)) uid_is_owner)
     (λ u. by_test (bytes_eq name names.gid)
     (λ g. subst IsOwnerName (sym ((bytes_eq-Decides name names.gid).0 g)) gid_is_owner)
     (λ g. by_test (bytes_eq name head_names.group)
     (λ r. subst IsOwnerName (sym ((bytes_eq-Decides name head_names.group).0 r)) group_is_owner)
-    (λ r. free_is_owner name (rw (u, g, r) at t))))
+    (λ r. let none : is_one_of owner_names name ≡ false = rw (u, g, r) refl in
+    absurd (cc (t, none)))))
 
 -- ---- items that stay
 
@@ -120,29 +113,28 @@ free_stays ways name free n = record {
   same_text = refl;
 }
 
-name_stays : (ways : Ways) (name : List ℕ) → is_kept_name ways.owners name ≡ true → (n : ℕ)
+is_kept_way : (w : Way) → is_keep w ≡ true → w ≡ Keep
+is_kept_way Keep t = refl
+is_kept_way Zero t = absurd cc
+is_kept_way Number t = absurd cc
+
+name_stays : (ways : Ways) (name : List ℕ) → is_kept_name (way_of ways Owners) name ≡ true → (n : ℕ)
     → Stays ways (Word name n)
-name_stays ways name kept n = of_way ways.owners refl kept
-  where
-    of_free : is_free_name name ≡ true → Stays ways (Word name n)
-    of_free t =
-        free_stays ways name
-        (record { classless = free_classless name t; moves_not = free_moves_not name t }) n
+name_stays ways name kept n = by_test (is_one_of owner_names name)
+    (λ t. let h = among_owners name t in
+    record {
+      keeps =
+          λ spot d is. ap (way_of ways) (h.owned spot d is)
+          ∙ is_kept_way (way_of ways Owners) (rw t at kept);
+      moves_not = λ spot. h.owner_moves_not spot n;
+      no_handle = refl;
+      same_text = refl;
+    })
+    (λ f. let free = rw f at kept in
+    free_stays ways name
+    (record { classless = free_classless name free; moves_not = free_moves_not name free }) n)
 
-    of_way : (owners : Way) → ways.owners ≡ owners → is_kept_name owners name ≡ true
-        → Stays ways (Word name n)
-    of_way Keep are t =
-        let h = among_owners name t in
-        record {
-          keeps = λ spot d is. ap (way_of ways) (h.owned spot d is) ∙ are;
-          moves_not = λ spot. h.owner_moves_not spot n;
-          no_handle = refl;
-          same_text = refl;
-        }
-    of_way Zero are t = of_free t
-    of_way Number are t = of_free t
-
-stays : (ways : Ways) (i : Item) → IsKeptItem ways.owners i → Stays ways i
+stays : (ways : Ways) (i : Item) → IsKeptItem (way_of ways Owners) i → Stays ways i
 stays ways (Word name n) kept = name_stays ways name kept n
 stays ways (Hyper name n) kept = absurd kept
 stays ways (Fixed name bytes) kept = absurd kept
@@ -150,14 +142,11 @@ stays ways (WriteVerf name bytes) kept = absurd kept
 stays ways (Opaque kind name bytes) kept = absurd kept
 stays ways (Rest name bytes) kept = absurd kept
 
-pub all_stay : (ways : Ways) (items : List Item) → AllByRecursion (IsKeptItem ways.owners) items
+pub all_stay : (ways : Ways) (items : List Item)
+    → AllByRecursion (IsKeptItem (way_of ways Owners)) items
     → AllStay ways items
 all_stay ways [] all = tt
 all_stay ways (i ∷ items) (kept, all) = (stays ways i kept, all_stay ways items all)
-
-or_true : (b : Bool) → (b || true) ≡ true
-or_true true = refl
-or_true false = refl
 
 module _ (ways : Ways) where
   kept_value : (d : Class) (o : Option Class) (n : ℕ) → way_of ways d ≡ Number
@@ -205,49 +194,19 @@ module _ (ways : Ways) where
   kept_spot spot (i ∷ items) (kept, all) =
       kept_spot (next_spot spot i) items all ∙ kept.moves_not spot
 
-kept_field : (owners : Way) (name : Bor (List ℕ)) → is_kept_field owners (fields.Word name)
-    ≡ is_kept_name owners name.now
-kept_field Keep name = refl
-kept_field Zero name = refl
-kept_field Number name = refl
-
-no_hyper : (owners : Way) (name : Bor (List ℕ)) → is_kept_field owners (fields.Hyper name) ≡ false
-no_hyper Keep name = refl
-no_hyper Zero name = refl
-no_hyper Number name = refl
-
 pub kept_run : (owners : Way) (all : List PlainField) (bytes : List ℕ)
     → list_all (is_kept_field owners) all ≡ true
     → AllByRecursion (IsKeptItem owners) (run_items all bytes)
 kept_run owners [] bytes t = tt
 kept_run owners (fields.Word name ∷ more) bytes t =
-    let parts = and_parts (is_kept_field owners (fields.Word name))
-    (list_all (is_kept_field owners) more) t in
-    (sym (kept_field owners name) ∙ parts.0, kept_run owners more (drop 4 bytes) parts.1)
-kept_run owners (fields.Hyper name ∷ more) bytes t =
-    let parts = and_parts (is_kept_field owners (fields.Hyper name))
-    (list_all (is_kept_field owners) more) t in
-    absurd (cc (parts.0, no_hyper owners name))
+    let parts = and_parts (is_kept_name owners name.now) (list_all (is_kept_field owners) more) t in
+    (parts.0, kept_run owners more (drop 4 bytes) parts.1)
+kept_run owners (fields.Hyper name ∷ more) bytes t = absurd cc
 
 pub free_name_is_kept : (owners : Way) (name : List ℕ) → is_free_name name ≡ true
     → is_kept_name owners name ≡ true
-free_name_is_kept Keep name t = rw t (or_true (is_one_of owner_names name))
-free_name_is_kept Zero name t = t
-free_name_is_kept Number name t = t
-
-free_is_kept : (owners : Way) (field : PlainField) → is_free_field field ≡ true
-    → is_kept_field owners field ≡ true
-free_is_kept Keep (fields.Word name) t = free_name_is_kept Keep name.now t
-free_is_kept Keep (fields.Hyper name) t = t
-free_is_kept Zero field t = t
-free_is_kept Number field t = t
-
-pub kept_if_free : (owners : Way) (all : List PlainField) → list_all is_free_field all ≡ true
-    → list_all (is_kept_field owners) all ≡ true
-kept_if_free owners [] t = refl
-kept_if_free owners (field ∷ more) t =
-    let parts = and_parts (is_free_field field) (list_all is_free_field more) t in
-    rw (free_is_kept owners field parts.0, kept_if_free owners more parts.1) refl
+unfolding names head_names
+free_name_is_kept owners name t = rw (none_of name t owner_names (refl, (refl, (refl, tt)))) t
 
 -- ---- attributes
 

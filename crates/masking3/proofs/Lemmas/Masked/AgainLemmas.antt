@@ -15,5 +15,5 @@ again ways entries room =
 pub all_kept : (ways : Ways) → KeepsAll ways → (entries : List Entry)
     → masked ways entries ≡ entries
 all_kept ways keeps entries =
-    names_kept ways keeps.1 keeps.2 keeps.3 (masked_values ways entries)
-    ∙ values_kept ways keeps.0 entries
+    names_kept ways keeps (masked_values ways entries)
+    ∙ values_kept ways keeps entries

@@ -21,11 +21,15 @@ pub mtype_is : (types : List ℕ) (items : List Item) → Fits (listed head_name
     → (n : ℕ) × (items ≡ Word head_names.mtype n ∷ [])
 mtype_is types items p = (p.0, rw (p.4, p.3) refl)
 
+-- the words of a call before its credential
+abbrev pub four_words : (version prog vers proc : ℕ) → List Item → List Item
+four_words version prog vers proc back =
+    Word head_names.rpcvers version ∷ Word head_names.prog prog ∷ Word head_names.vers vers
+    ∷ Word head_names.proc proc ∷ back
+
 call_words : (head : List Item) → Fits call_head head
     → (version prog vers proc : ℕ) × (back : List Item)
-    × (head
-    ≡ Word head_names.rpcvers version ∷ Word head_names.prog prog ∷ Word head_names.vers vers
-    ∷ Word head_names.proc proc ∷ back)
+    × (head ≡ four_words version prog vers proc back)
 unfolding call_head
 call_words head p =
     let a =

@@ -1,6 +1,6 @@
 -- Ways that mask more tell no more captures apart.
 use Rattle.masking3.proofs.Common.{◌≡◌, inl, inr, ℕ, List, [], nat_eq, Some, Decides-eqb, Item, Entry, Pairs, Same, by_test, Class, Spot, Way, Keep, Zero, Number, Ways, class_of, class_value, is_zero_that_stays, values, names_by, way_of, Agree, agree-graph, graph, member-graph, AreAlike, ChangesBy, IsNumbered, SameBut, SameButValues}
-use Rattle.masking3.specs.Laws.{KeepsAll, MasksAsMuch, MasksValuesAsMuch, RevealsNoMore}
+use Rattle.masking3.specs.Laws.{KeepsAll, MasksAsMuch, RevealsNoMore}
 use Rattle.masking3.proofs.Lemmas.Masked.MaskedLemmas.{IsAmong}
 use Rattle.masking3.proofs.Lemmas.Masked.SameButLemmas.{AreAgreeing, agree_of, alike_met, alike_put, from_agreeing, kept_of_same, same_of_kept, values_numbered}
 use Rattle.masking3.proofs.Lemmas.Unnamed.UnnamedLemmas.{names_absorbed, names_kept}
@@ -40,7 +40,7 @@ module _ (all : List Entry) (pairs : Class → Pairs ℕ) (agree : AreAgreeing p
   by_way_more Zero Zero t spot d i j among is h = h
   by_way_more w v t spot d i j among is h = absurd t
 
-pub values_more : (ways others : Ways) (a b : List Entry) → MasksValuesAsMuch ways others
+pub values_more : (ways others : Ways) (a b : List Entry) → MasksAsMuch ways others
     → SameButValues ways a b → SameButValues others a b
 values_more ways others a b much s =
     let agree = agree_of s.value_pairs s.values_one_to_one in
@@ -65,8 +65,8 @@ values_with_names ways by a b s = record {
 pub same_but_more : (ways others : Ways) (a b : List Entry) → MasksAsMuch ways others
     → SameBut ways a b → SameBut others a b
 same_but_more ways others a b much s =
-    let absorbed = names_absorbed ways others much.1 much.2 much.3 in
-    values_more ways others (names_by others a) (names_by others b) much.0
+    let absorbed = names_absorbed ways others much in
+    values_more ways others (names_by others a) (names_by others b) much
     (rw (absorbed a, absorbed b) at (values_with_names ways others (names_by ways a)
     (names_by ways b) s))
 
@@ -75,11 +75,11 @@ same_but_more ways others a b much s =
 pub same_of_all_kept : (ways : Ways) → KeepsAll ways → (a b : List Entry) → SameBut ways a b
     → Same a b
 same_of_all_kept ways keeps a b s =
-    let kept = names_kept ways keeps.1 keeps.2 keeps.3 in
-    same_of_kept ways keeps.0 a b (rw (kept a, kept b) at s)
+    let kept = names_kept ways keeps in
+    same_of_kept ways keeps a b (rw (kept a, kept b) at s)
 
 pub all_kept_of_same : (ways : Ways) → KeepsAll ways → (a b : List Entry) → Same a b
     → SameBut ways a b
 all_kept_of_same ways keeps a b s =
-    let kept = names_kept ways keeps.1 keeps.2 keeps.3 in
-    rw (kept a, kept b) (kept_of_same ways keeps.0 a b s)
+    let kept = names_kept ways keeps in
+    rw (kept a, kept b) (kept_of_same ways keeps a b s)

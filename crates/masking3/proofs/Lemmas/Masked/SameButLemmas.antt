@@ -1,6 +1,6 @@
 -- Two masked captures are the same exactly if the captures are the same but for the values that are
 -- masked.
-use Rattle.masking3.proofs.Common.{and_parts, ◌⊎◌, ◌+◌, append-nil, arith, big_bytes, big_number, big_number-reads_back, rank-le-length, zero_stays, ◌≡◌, inl, inr, ⊎_elim, ℕ, ◌<◌, ◌^◌, true, false, List, [], ◌∷◌, length, map, refl, sym, ap, ◌∙◌, subst, ⊤, ◌==◌, ◌&&◌, not, nat_eq, Option, None, Some, AllByRecursion, Decides-eqb, Item, Word, Hyper, Fixed, Entry, Begin, Call, Turn, Reply, Close, End, rank, Class, Spot, InCall, InReply, InDirectory, Way, Keep, Zero, Number, Ways, class_of, class_value, position, by_way, is_zero_that_stays, masked_values, masked_entry, masked_item, masked_items, number_among, substitute, value_in, value_where, values, values_in, with_value, next_spot, way_of, KeepsValues, AreAlike, words, hypers, eights, IsNumbered, ArePartners, ChangesBy, ChangesOf, ChangesItem, ChangesItems, over, along, ChangesEntry, begin, call, turn, reply, close, end, SameButValues, Member, here, there, Pairs, OneToOne, none, more, Same, Agree, agree-graph, graph, member-graph, by_test, member-append_cases, rank_paired, same_rank, IsPlain, RenamesItem, handle, plain, Pairwise, RenamesMessage, message, Renames, ended, begins, calls, turns, replies, closes, ends}
+use Rattle.masking3.proofs.Common.{and_parts, ◌⊎◌, ◌+◌, append-nil, arith, big_bytes, big_number, big_number-reads_back, rank-le-length, zero_stays, ◌≡◌, inl, inr, ⊎_elim, ℕ, ◌<◌, ◌^◌, true, false, List, [], ◌∷◌, length, map, refl, sym, ap, ◌∙◌, subst, ⊤, ◌==◌, ◌&&◌, not, nat_eq, Option, None, Some, AllByRecursion, Decides-eqb, Item, Word, Hyper, Fixed, Entry, Begin, Call, Turn, Reply, Close, End, rank, Class, Spot, InCall, InReply, InDirectory, Way, Keep, Zero, Number, Ways, class_of, class_value, position, by_way, is_zero_that_stays, masked_values, masked_entry, masked_item, masked_items, number_among, substitute, value_in, value_where, values, values_in, with_value, next_spot, way_of, KeepsAll, AreAlike, words, hypers, eights, IsNumbered, ArePartners, ChangesBy, ChangesOf, ChangesItem, ChangesItems, over, along, ChangesEntry, begin, call, turn, reply, close, end, SameButValues, Member, here, there, Pairs, OneToOne, none, more, Same, Agree, agree-graph, graph, member-graph, by_test, member-append_cases, rank_paired, same_rank, IsPlain, RenamesItem, handle, plain, Pairwise, RenamesMessage, message, Renames, ended, begins, calls, turns, replies, closes, ends}
 use Rattle.canon3.specs.Renaming.{verifier}
 use Rattle.canon3.proofs.Lemmas.Canonical.OneFormLemmas.{In}
 use Rattle.canon3.proofs.Lemmas.Numbers.RankLemmas.{pairwise-append}
@@ -623,7 +623,7 @@ same_but_from_same ways a b room other_room free s =
 
 -- ---- where nothing is masked
 
-module _ (ways : Ways) (keeps : KeepsValues ways) (pairs : Class → Pairs ℕ) where
+module _ (ways : Ways) (keeps : KeepsAll ways) (pairs : Class → Pairs ℕ) where
   stays_equal : (o : Option Class) (i j : Item) → ChangesOf ways pairs o i j → i ≡ j
   stays_equal None i j h = h
   stays_equal (Some d) i j h = subst (λ w. ChangesBy w d (pairs d) i j) (keeps d) h
@@ -639,7 +639,7 @@ module _ (ways : Ways) (keeps : KeepsValues ways) (pairs : Class → Pairs ℕ) 
   entries_stay (more (reply c) p) = cc (message_stays InReply c, entries_stay p)
   entries_stay (more c p) = cc (entries_stay p)
 
-module _ (ways : Ways) (keeps : KeepsValues ways) where
+module _ (ways : Ways) (keeps : KeepsAll ways) where
   kept_changes : (a : List Entry) → Changes ways (number_pairs (values a)) a (masked_values ways a)
   kept_changes a = own_masked ways a (λ c n. absurd (cc (keeps c, n)))
 

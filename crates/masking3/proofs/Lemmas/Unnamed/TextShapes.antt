@@ -1,7 +1,7 @@
 -- Messages with masked texts are messages of the same procedures, and no longer.
 use Rattle.capture3.proofs.Lemmas.Container.BytesOf.{all_bytes, checked}
 use Rattle.canon3.proofs.Lemmas.WellFormed.Messages.{IsHeaded}
-use Rattle.masking3.proofs.Common.{◌≡◌, ℕ, zero, suc, ◌≤◌, List, [], ◌∷◌, ◌++◌, length, map, replicate, refl, sym, ap, ◌∙◌, arith, append-nil, length-append, ProcId, procedure_in, head_names, call_head, reply_head, arguments_of, xid_in, cond_either, Spot, InCall, InReply, Way, Keep, Ways, length-map, length-replicate, map-append, Shape, choose, opaque, nothing, both, linked, counted, sized, listed, Fits, HasParts, Part, parts_weaker, fixed_part, opaque_part, rest_part, AreBytes-nil, all_mapped, FitsCall, FitsReply, call_next, headed_call_fits, headed_reply_fits, is_headed_call, is_headed_reply, reply_next, host_by, is_silly_name, silly_by, silly_zero, raw_by, text_by, with_text, AllByRecursion, Item, Word, Text, AreBytes, Spells, SpellsItem, residue, zero_spelling, zero_spelling_of, Layout, exactly, rest, after, FitsLayout, number_of_word, word_in, IsEach, all_in_message, joined_mapped, length_of_opaque, links_mapped, zero_spelled_one}
+use Rattle.masking3.proofs.Common.{◌≡◌, ℕ, zero, suc, ◌≤◌, List, [], ◌∷◌, ◌++◌, length, map, replicate, refl, sym, ap, ◌∙◌, arith, append-nil, length-append, ProcId, procedure_in, head_names, call_head, reply_head, arguments_of, xid_in, cond_either, Spot, InCall, InReply, Way, Keep, Ways, length-map, length-replicate, map-append, Shape, choose, opaque, nothing, both, linked, counted, sized, listed, Fits, HasParts, Part, parts_weaker, fixed_part, opaque_part, rest_part, AreBytes-nil, all_mapped, FitsCall, FitsReply, call_next, headed_call_fits, headed_reply_fits, is_headed_call, is_headed_reply, reply_next, host_by, is_silly_name, silly_by, silly_zero, raw_by, text_by, with_text, AllByRecursion, Item, Word, Text, AreBytes, Spells, SpellsItem, residue, zero_spelling, zero_spelling_of, Layout, exactly, rest, after, FitsLayout, number_of_word, word_in, IsEach, all_in_message, joined_mapped, length_of_opaque, links_mapped, zero_spelled_one, way_of, Machines, Raw, SillyNames}
 use Rattle.masking3.proofs.Lemmas.Masked.MaskedShapes.{KeepsSize, RowTakesMasks, TakesMasks, arguments_take, call_head_takes, mtype_takes, reply_head_takes, reply_takes}
 use Rattle.masking3.proofs.Lemmas.Unnamed.TextsLemmas.{by_name, by_text, raw_length, text_shorter}
 
@@ -68,7 +68,7 @@ module _ (ways : Ways) where
   row_texts : (spot : Spot) (layout : Layout) (items : List Item) → RowTakesMasks spot layout
       → FitsLayout layout items → FitsLayout layout (with_texts items)
   row_texts spot (exactly s) items h p = fits_texts spot s items h p
-  row_texts spot (rest name) items h p = (raw_by ways.raw p.0, ap with_texts p.1)
+  row_texts spot (rest name) items h p = (raw_by (way_of ways Raw) p.0, ap with_texts p.1)
   row_texts spot (after s next) items h p = absurd h
 
   -- ---- words stay
@@ -153,12 +153,12 @@ module _ (ways : Ways) where
       let n = residue (length (text_by ways name b)) in (
         replicate n 0,
         omega (arith, q.1, text_shorter ways name b),
-        by_name name (λ f. AreBytes (f ways b)) (silly_bytes ways.silly_names b q.2)
-            (host_bytes ways.machines b q.2) q.2,
+        by_name name (λ f. AreBytes (f ways b)) (silly_bytes (way_of ways SillyNames) b q.2)
+            (host_bytes (way_of ways Machines) b q.2) q.2,
         length-replicate {A = ℕ} n 0,
         zeros_are_bytes n,
         refl,
-      )) (λ name b q. (raw_bytes ways.raw b q.0, refl)) i (zero_spelled_one i bytes p)
+      )) (λ name b q. (raw_bytes (way_of ways Raw) b q.0, refl)) i (zero_spelled_one i bytes p)
 
   pub spelled_with_texts : (l : List Item) (bytes : List ℕ) → Spells l bytes
       → Spells (with_texts ways l) (zero_spelling (with_texts ways l))
@@ -174,7 +174,7 @@ module _ (ways : Ways) where
       by_text ways (λ i j. length (zero_spelling_of j) ≤ length (zero_spelling_of i))
       (λ i. omega arith)
       (λ name b. omega (arith, text_shorter ways name b, length_of_opaque))
-      (λ name b. omega (arith, raw_length ways.raw b)) i
+      (λ name b. omega (arith, raw_length (way_of ways Raw) b)) i
 
   pub length_with_texts : (l : List Item)
       → length (zero_spelling (with_texts ways l)) ≤ length (zero_spelling l)

@@ -1,5 +1,5 @@
 -- Masked texts, apart from the values that are masked.
-use Rattle.masking3.proofs.Common.{◌≡◌, ℕ, ◌+◌, ◌≤◌, List, [], ◌∷◌, length, map, refl, sym, ap, ◌∙◌, arith, ◌==◌, bytes_eq, Option, None, Some, Decides-eqb, Item, Opaque, Text, residue, names, by_test, Class, Spot, Way, Keep, Ways, class_of, class_value, RevealsNoMore, masked_item, masked_items, substitute, values_in, with_value, next_spot, emptied, less_by, text_size, and_parts, host_by, is_silly_name, silly_by, raw_by, text_by, with_text, zero_name, length-replicate, replicate, Rest}
+use Rattle.masking3.proofs.Common.{◌≡◌, ℕ, ◌+◌, ◌≤◌, List, [], ◌∷◌, length, map, refl, sym, ap, ◌∙◌, arith, ◌==◌, bytes_eq, Option, None, Some, Decides-eqb, Item, Opaque, Text, residue, names, by_test, Class, Spot, Way, Keep, Ways, class_of, class_value, KeepsAll, MasksAsMuch, RevealsNoMore, way_of, Machines, Raw, SillyNames, masked_item, masked_items, substitute, values_in, with_value, next_spot, emptied, less_by, text_size, and_parts, host_by, is_silly_name, silly_by, raw_by, text_by, with_text, zero_name, length-replicate, replicate, Rest}
 use Rattle.masking3.proofs.Lemmas.Classes.SpotLemmas.{still_after}
 
 -- ---- an item and its masked text
@@ -9,7 +9,7 @@ module _ (ways : Ways) where
   pub by_text : (P : Item → Item → Type 0) → ((i : Item) → P i i)
       → ((name bytes : List ℕ)
       → P (Opaque Text name bytes) (Opaque Text name (text_by ways name bytes)))
-      → ((name bytes : List ℕ) → P (Rest name bytes) (Rest name (raw_by ways.raw bytes)))
+      → ((name bytes : List ℕ) → P (Rest name bytes) (Rest name (raw_by (way_of ways Raw) bytes)))
       → (i : Item) → P i (with_text ways i)
   by_text P same text raw (Opaque Text name b) = text name b
   by_text P same text raw (Rest name b) = raw name b
@@ -32,7 +32,7 @@ module _ (ways : Ways) where
       still_after spot (Opaque Text name (text_by ways name b)) tt
       ∙ sym (still_after spot (Opaque Text name b) tt))
       (λ name b.
-      still_after spot (Rest name (raw_by ways.raw b)) tt
+      still_after spot (Rest name (raw_by (way_of ways Raw) b)) tt
       ∙ sym (still_after spot (Rest name b) tt)) i
 
   -- ---- values stay
@@ -88,7 +88,8 @@ raw_length way b = length-replicate {A = ℕ} (length b) 0
 
 -- what is so of names of files, of names of hosts and of bytes that stay is so of each text's
 pub by_name : (name : List ℕ) (P : (Ways → List ℕ → List ℕ) → Type 0)
-    → P (λ ways b. silly_by ways.silly_names b) → P (λ ways b. host_by ways.machines b)
+    → P (λ ways b. silly_by (way_of ways SillyNames) b)
+    → P (λ ways b. host_by (way_of ways Machines) b)
     → P (λ ways b. b) → P (λ ways b. text_by ways name b)
 by_name name P file host other =
     by_test (bytes_eq name names.name)
@@ -98,7 +99,8 @@ by_name name P file host other =
 pub text_shorter : (ways : Ways) (name b : List ℕ) → length (text_by ways name b) ≤ length b
 text_shorter ways name b =
     by_name name (λ f. length (f ways b) ≤ length b)
-    (omega (arith, silly_length ways.silly_names b)) (host_length ways.machines b) (omega arith)
+    (omega (arith, silly_length (way_of ways SillyNames) b)) (host_length (way_of ways Machines) b)
+    (omega arith)
 
 -- ---- what has no bytes has none
 
@@ -106,8 +108,8 @@ module _ (ways : Ways) where
   pub text_emptied : (i : Item) → with_text ways (emptied i) ≡ emptied (with_text ways i)
   text_emptied (Opaque Text name b) =
       ap (Opaque Text name) (by_name name (λ f. f ways [] ≡ [])
-      (elim (ways.silly_names) as (λ way. silly_by way [] ≡ []) [ Keep ↦ refl | _ ↦ refl ])
-      (elim (ways.machines) as (λ way. host_by way [] ≡ []) [ Keep ↦ refl | _ ↦ refl ]) refl)
+      (elim (way_of ways SillyNames) as (λ way. silly_by way [] ≡ []) [ Keep ↦ refl | _ ↦ refl ])
+      (elim (way_of ways Machines) as (λ way. host_by way [] ≡ []) [ Keep ↦ refl | _ ↦ refl ]) refl)
   text_emptied i = refl
 
   pub text_less : (size : ℕ) (i : Item)
@@ -126,7 +128,8 @@ silly_absorbed Keep v t b = refl
 silly_absorbed w Keep t b = absurd t
 silly_absorbed w v t b = zero_again b
 
-host_absorbed : (w v : Way) → RevealsNoMore w v → (b : List ℕ) → host_by v (host_by w b) ≡ host_by v b
+host_absorbed : (w v : Way) → RevealsNoMore w v → (b : List ℕ)
+    → host_by v (host_by w b) ≡ host_by v b
 host_absorbed Keep v t b = refl
 host_absorbed w Keep t b = absurd t
 host_absorbed w v t b = refl
@@ -136,17 +139,15 @@ raw_absorbed Keep v t b = refl
 raw_absorbed w Keep t b = absurd t
 raw_absorbed w v t b = ap (λ n. replicate n 0) (length-replicate {A = ℕ} (length b) 0)
 
-module _ (ways others : Ways) (machines : RevealsNoMore ways.machines others.machines)
-    (silly : RevealsNoMore ways.silly_names others.silly_names)
-    (raw : RevealsNoMore ways.raw others.raw) where
+module _ (ways others : Ways) (much : MasksAsMuch ways others) where
   pub text_absorbed : (i : Item) → with_text others (with_text ways i) ≡ with_text others i
   text_absorbed i =
       by_text ways (λ i j. with_text others j ≡ with_text others i) (λ i. refl)
       (λ name b.
       ap (Opaque Text name) (by_name name (λ f. f others (f ways b) ≡ f others b)
-      (silly_absorbed ways.silly_names others.silly_names silly b)
-      (host_absorbed ways.machines others.machines machines b) refl))
-      (λ name b. ap (Rest name) (raw_absorbed ways.raw others.raw raw b)) i
+      (silly_absorbed (way_of ways SillyNames) (way_of others SillyNames) (much SillyNames) b)
+      (host_absorbed (way_of ways Machines) (way_of others Machines) (much Machines) b) refl))
+      (λ name b. ap (Rest name) (raw_absorbed (way_of ways Raw) (way_of others Raw) (much Raw) b)) i
 
   pub texts_absorbed : (l : List Item)
       → map (with_text others) (map (with_text ways) l) ≡ map (with_text others) l
@@ -155,26 +156,26 @@ module _ (ways others : Ways) (machines : RevealsNoMore ways.machines others.mac
 
 -- ---- sizes under ways that empty names of machines
 
-module _ (ways others : Ways) (first : (b : List ℕ) → host_by ways.machines b ≡ [])
-    (second : (b : List ℕ) → host_by others.machines b ≡ []) where
+module _ (ways others : Ways) (first : (b : List ℕ) → host_by (way_of ways Machines) b ≡ [])
+    (second : (b : List ℕ) → host_by (way_of others Machines) b ≡ []) where
   pub same_size : (i : Item) → text_size (with_text ways i) ≡ text_size (with_text others i)
   same_size (Opaque Text name b) =
       ap (λ (n : ℕ). n + residue n) (by_name name (λ f. length (f ways b) ≡ length (f others b))
-      (silly_length ways.silly_names b ∙ sym (silly_length others.silly_names b))
+      (silly_length (way_of ways SillyNames) b ∙ sym (silly_length (way_of others SillyNames) b))
       (rw (first b, second b) refl) refl)
   same_size i = refl
 
 -- ---- texts that stay
 
-module _ (ways : Ways) (machines : ways.machines ≡ Keep) (silly : ways.silly_names ≡ Keep)
-    (raw : ways.raw ≡ Keep) where
+module _ (ways : Ways) (keeps : KeepsAll ways) where
   text_kept : (i : Item) → with_text ways i ≡ i
   text_kept i =
       by_text ways (λ i j. j ≡ i) (λ i. refl)
       (λ name b.
       ap (Opaque Text name)
-      (by_name name (λ f. f ways b ≡ b) (rw silly refl) (rw machines refl) refl))
-      (λ name b. rw raw refl) i
+      (by_name name (λ f. f ways b ≡ b) (rw (keeps SillyNames) refl) (rw (keeps Machines) refl)
+      refl))
+      (λ name b. rw (keeps Raw) refl) i
 
   pub texts_kept : (l : List Item) → map (with_text ways) l ≡ l
   texts_kept [] = refl

@@ -1,8 +1,8 @@
 -- Calls with masked names are calls of the same procedures, and no longer.
 use Rattle.std.proofs.lemmas.Bool.Decides.{nat_tests}
 use Rattle.xdr3.proofs.Lemmas.Reading.Decided.{zero_spelled_all}
-use Rattle.masking3.proofs.Common.{◌≡◌, ℕ, zero, suc, ◌+◌, ◌-◌, ◌<◌, ◌≤◌, true, List, [], ◌∷◌, ◌++◌, length, refl, ap, sym, ◌∙◌, subst, arith, length-append, ◌==◌, IsTrue, bytes_eq, if◌then◌else◌, length-replicate, bytes_eq-Decides, procedure_in, head_names, arguments_of, xid_in, zero_spelled_one, FitsCall, headed_call_fits, is_headed_call, by_test, Keep, Ways, Item, Word, Opaque, Var, Text, Spells, SpellsItem, residue, zero_spelling, zero_spelling_of, FitsLayout, word_in, Shape, ◌then◌, is_listed, listed, opaque, word, Fits, AreBytes-nil, after_first, emptied, length_of_opaque, less_by, named_by, named_call, text_size, unnamed_credential, unnamed_items, body_by, unnamed_body, auth_sys, call_head, credential, credential_flavors, gids, parameters, rpc_versions, verifier}
-use Rattle.masking3.proofs.Lemmas.Masked.MaskedMessages.{mtype_is}
+use Rattle.masking3.proofs.Common.{◌≡◌, ℕ, zero, suc, ◌+◌, ◌-◌, ◌<◌, ◌≤◌, true, List, [], ◌∷◌, ◌++◌, length, refl, ap, sym, ◌∙◌, subst, arith, length-append, ◌==◌, IsTrue, bytes_eq, if◌then◌else◌, length-replicate, bytes_eq-Decides, procedure_in, head_names, arguments_of, xid_in, zero_spelled_one, FitsCall, headed_call_fits, is_headed_call, by_test, Keep, Ways, Item, Word, Opaque, Var, Text, Spells, SpellsItem, residue, zero_spelling, zero_spelling_of, FitsLayout, word_in, Shape, ◌then◌, is_listed, listed, opaque, word, Fits, AreBytes-nil, after_first, emptied, length_of_opaque, less_by, named_by, named_call, text_size, unnamed_credential, unnamed_items, body_by, unnamed_body, auth_sys, call_head, credential, credential_flavors, gids, parameters, rpc_versions, verifier, way_of, Machines}
+use Rattle.masking3.proofs.Lemmas.Masked.MaskedMessages.{four_words, mtype_is}
 use Rattle.masking3.proofs.Lemmas.Unnamed.TextShapes.{call_with_texts, length_with_texts, procedure_with_texts, spelled_with_texts, with_texts, xid_with_texts}
 use Rattle.masking3.proofs.Lemmas.Unnamed.UnnamedBodyLemmas.{not_spliced, spliced}
 use Rattle.masking3.proofs.Lemmas.Unnamed.UnnamedLemmas.{any_way}
@@ -68,12 +68,6 @@ after_length (suc n) (i ∷ l) = simp length-append (omega (arith, after_length 
 after_length n l = omega arith
 
 -- ---- the head of a call
-
--- the words before the credential
-abbrev four_words : (version prog vers proc : ℕ) → List Item → List Item
-four_words version prog vers proc back =
-    Word head_names.rpcvers version ∷ Word head_names.prog prog ∷ Word head_names.vers vers
-    ∷ Word head_names.proc proc ∷ back
 
 -- what follows the name of the machine
 abbrev owners : Shape
@@ -236,18 +230,19 @@ module _ (ways : Ways) (m : List Item) where
   pub call_named : FitsCall m → FitsCall (named_call ways m)
   call_named p =
       let q = call_with_texts ways m p in
-      any_way (λ f. FitsCall (f texts)) q (call_unnamed texts q) ways.machines
+      any_way (λ f. FitsCall (f texts)) q (call_unnamed texts q) (way_of ways Machines)
 
   pub named_xid : xid_in (named_call ways m) ≡ xid_in m
   named_xid =
       any_way (λ f. xid_in (f texts) ≡ xid_in texts) refl (words_stay 7 texts 0 (omega arith))
-      ways.machines ∙ xid_with_texts ways m
+      (way_of ways Machines) ∙ xid_with_texts ways m
 
   pub named_procedure : procedure_in (named_call ways m) ≡ procedure_in m
   named_procedure =
       let stays = words_stay 7 texts in
       any_way (λ f. procedure_in (f texts) ≡ procedure_in texts) refl
-      (rw (stays 3 (omega arith), stays 4 (omega arith), stays 5 (omega arith)) refl) ways.machines
+      (rw (stays 3 (omega arith), stays 4 (omega arith), stays 5 (omega arith)) refl)
+      (way_of ways Machines)
       ∙ procedure_with_texts ways m
 
   pub named_spelled : (bytes : List ℕ) → Spells m bytes
@@ -255,17 +250,17 @@ module _ (ways : Ways) (m : List Item) where
   named_spelled bytes p =
       let q = spelled_with_texts ways m bytes p in
       any_way (λ f. Spells (f texts) (zero_spelling (f texts))) q
-      (after_spelled 7 texts (zero_spelling texts) q) ways.machines
+      (after_spelled 7 texts (zero_spelling texts) q) (way_of ways Machines)
 
   pub named_length : length (zero_spelling (named_call ways m)) ≤ length (zero_spelling m)
   named_length =
       let shorter = length_with_texts ways m in
       any_way (λ f. length (zero_spelling (f texts)) ≤ length (zero_spelling m)) shorter
-      (omega (arith, shorter, after_length 7 texts)) ways.machines
+      (omega (arith, shorter, after_length 7 texts)) (way_of ways Machines)
 
   pub named_bytes_of : FitsCall m
-      → body_by ways.machines (zero_spelling texts) ≡ zero_spelling (named_call ways m)
+      → body_by (way_of ways Machines) (zero_spelling texts) ≡ zero_spelling (named_call ways m)
   named_bytes_of p =
-      elim (ways.machines)
+      elim (way_of ways Machines)
       as (λ way. body_by way (zero_spelling texts) ≡ zero_spelling (named_by way texts))
       [ Keep ↦ refl | _ ↦ call_bytes texts (call_with_texts ways m p) ]

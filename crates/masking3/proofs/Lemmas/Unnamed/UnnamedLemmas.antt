@@ -1,5 +1,5 @@
 -- Names of machines and masked texts, apart from the values that are masked.
-use Rattle.masking3.proofs.Common.{◌≡◌, ℕ, zero, suc, ◌-◌, true, false, List, [], ◌∷◌, map, refl, sym, ap, ◌∙◌, arith, bytes_eq, Option, None, Some, bytes_eq-Decides, Item, Word, Opaque, Text, head_names, names, Entry, Call, Reply, by_test, Class, Spot, InCall, InReply, Way, Keep, Ways, class_of, class_of_word, class_value, masked_entry, masked_item, masked_items, masked_values, substitute, value_in, values, values_in, values_in_entry, with_value, RevealsNoMore, with_text, after_first, emptied, host_by, less_by, named_by, named_entry, names_by, text_size, unnamed_credential, unnamed_items}
+use Rattle.masking3.proofs.Common.{◌≡◌, ℕ, zero, suc, ◌-◌, true, false, List, [], ◌∷◌, map, refl, sym, ap, ◌∙◌, arith, bytes_eq, Option, None, Some, bytes_eq-Decides, Item, Word, Opaque, Text, head_names, names, Entry, Call, Reply, by_test, Class, Spot, InCall, InReply, Way, Keep, Ways, class_of, class_of_word, class_value, masked_entry, masked_item, masked_items, masked_values, substitute, value_in, values, values_in, values_in_entry, with_value, KeepsAll, MasksAsMuch, RevealsNoMore, way_of, Machines, with_text, after_first, emptied, host_by, less_by, named_by, named_entry, names_by, text_size, unnamed_credential, unnamed_items}
 use Rattle.masking3.proofs.Lemmas.Classes.ClassLemmas.{seen_alike}
 use Rattle.masking3.proofs.Lemmas.Unnamed.TextsLemmas.{same_size, text_absorbed, text_emptied, text_less, texts_absorbed, texts_kept, texts_masked, texts_values}
 
@@ -40,7 +40,7 @@ module _ (d : Class) where
   entry_values by (Call items) =
       let l = map (with_text by) items in
       any_way (λ f. values_in d InCall (f l) ≡ values_in d InCall l) refl (after_values 7 l)
-      by.machines ∙ texts_values by d InCall items
+      (way_of by Machines) ∙ texts_values by d InCall items
   entry_values by (Reply id items) = texts_values by d InReply items
   entry_values by e = refl
 
@@ -108,7 +108,7 @@ module _ (ways : Ways) (seen : Class → List ℕ) where
       let l = map (with_text by) items in
       rw (← texts_masked by ways seen InCall items) (ap Call (any_way
       (λ f. masked_items ways seen InCall (f l) ≡ f (masked_items ways seen InCall l)) refl
-      (after_masked 7 l) by.machines))
+      (after_masked 7 l) (way_of by Machines)))
   entry_masked by (Reply id items) = ap (Reply id) (texts_masked by ways seen InReply items)
   entry_masked by e = refl
 
@@ -150,9 +150,7 @@ after_again n l = refl
 
 -- ---- masking as much or more leaves nothing of masking before
 
-module _ (ways others : Ways) (machines : RevealsNoMore ways.machines others.machines)
-    (silly : RevealsNoMore ways.silly_names others.silly_names)
-    (raw : RevealsNoMore ways.raw others.raw) where
+module _ (ways others : Ways) (much : MasksAsMuch ways others) where
   abbrev before : Item → Item
   before = with_text ways
 
@@ -160,20 +158,21 @@ module _ (ways others : Ways) (machines : RevealsNoMore ways.machines others.mac
   later = with_text others
 
   texts_later : (l : List Item) → map later (map before l) ≡ map later l
-  texts_later = texts_absorbed ways others machines silly raw
+  texts_later = texts_absorbed ways others much
 
-  after_later : ((b : List ℕ) → host_by ways.machines b ≡ [])
-      → ((b : List ℕ) → host_by others.machines b ≡ []) → (n : ℕ) (l : List Item)
+  after_later : ((b : List ℕ) → host_by (way_of ways Machines) b ≡ [])
+      → ((b : List ℕ) → host_by (way_of others Machines) b ≡ []) → (n : ℕ) (l : List Item)
       → map later (after_first n unnamed_credential (map before l))
       ≡ after_first n unnamed_credential (map later l)
   after_later first second zero (i ∷ j ∷ k ∷ l) =
       rw (same_size ways others first second k, texts_later l)
-      (simp (text_less others, text_emptied others, text_absorbed ways others machines silly raw))
+      (simp (text_less others, text_emptied others, text_absorbed ways others much))
   after_later first second (suc n) (i ∷ l) =
-      rw (text_absorbed ways others machines silly raw i, after_later first second n l) refl
+      rw (text_absorbed ways others much i, after_later first second n l) refl
   after_later first second n l = texts_later l
 
-  call_later : (w v : Way) → ways.machines ≡ w → others.machines ≡ v → RevealsNoMore w v
+  call_later : (w v : Way) → way_of ways Machines ≡ w → way_of others Machines ≡ v
+      → RevealsNoMore w v
       → (l : List Item)
       → named_by v (map later (named_by w (map before l))) ≡ named_by v (map later l)
   call_later Keep v e f t l = ap (named_by v) (texts_later l)
@@ -183,7 +182,8 @@ module _ (ways others : Ways) (machines : RevealsNoMore ways.machines others.mac
 
   entry_later : (e : Entry) → named_entry others (named_entry ways e) ≡ named_entry others e
   entry_later (Call items) =
-      ap Call (call_later ways.machines others.machines refl refl machines items)
+      ap Call (call_later (way_of ways Machines) (way_of others Machines) refl refl (much Machines)
+      items)
   entry_later (Reply id items) = ap (Reply id) (texts_later items)
   entry_later e = refl
 
@@ -199,16 +199,14 @@ as_much way = tt
 pub names_again : (ways : Ways) (entries : List Entry)
     → names_by ways (names_by ways entries) ≡ names_by ways entries
 names_again ways entries =
-    names_absorbed ways ways (as_much ways.machines) (as_much ways.silly_names) (as_much ways.raw)
-    entries
+    names_absorbed ways ways (λ class. as_much (way_of ways class)) entries
 
 -- ---- names that stay
 
-module _ (ways : Ways) (machines : ways.machines ≡ Keep) (silly : ways.silly_names ≡ Keep)
-    (raw : ways.raw ≡ Keep) where
+module _ (ways : Ways) (keeps : KeepsAll ways) where
   entry_kept : (e : Entry) → named_entry ways e ≡ e
-  entry_kept (Call items) = rw (texts_kept ways machines silly raw items, machines) refl
-  entry_kept (Reply id items) = rw (texts_kept ways machines silly raw items) refl
+  entry_kept (Call items) = rw (texts_kept ways keeps items, keeps Machines) refl
+  entry_kept (Reply id items) = rw (texts_kept ways keeps items) refl
   entry_kept e = refl
 
   pub names_kept : (entries : List Entry) → names_by ways entries ≡ entries

@@ -1,5 +1,5 @@
 -- Captures that are renamed, or whose values change, do so with masked names as well.
-use Rattle.masking3.proofs.Common.{◌≡◌, ℕ, zero, suc, List, map, refl, ap, subst, bytes_eq, Option, None, Some, Item, Word, Opaque, Rest, Text, head_names, Entry, Pairs, by_test, Class, Spot, InCall, InReply, Way, Keep, Zero, Number, Ways, class_of, next_spot, with_text, after_first, emptied, less_by, named_by, named_entry, names_by, text_size, unnamed_credential, way_of, AreAlike, words, ChangesBy, ChangesOf, ChangesItem, ChangesItems, over, along, ChangesEntry, call, reply, IsPlain, RenamesItem, plain, Pairwise, none, more, RenamesMessage, message, Renames, ended, begins, calls, turns, replies, closes, ends, Same}
+use Rattle.masking3.proofs.Common.{◌≡◌, ℕ, zero, suc, List, map, refl, ap, subst, bytes_eq, Option, None, Some, Item, Word, Opaque, Rest, Text, head_names, Entry, Pairs, by_test, Class, Spot, InCall, InReply, Way, Keep, Zero, Number, Ways, class_of, next_spot, with_text, after_first, emptied, less_by, named_by, named_entry, names_by, text_size, unnamed_credential, way_of, AreAlike, words, ChangesBy, ChangesOf, ChangesItem, ChangesItems, over, along, ChangesEntry, call, reply, IsPlain, RenamesItem, plain, Pairwise, none, more, RenamesMessage, message, Renames, ended, begins, calls, turns, replies, closes, ends, Same, Machines}
 use Rattle.masking3.proofs.Lemmas.Unnamed.TextsLemmas.{by_text, text_spot}
 use Rattle.masking3.proofs.Lemmas.Unnamed.UnnamedLemmas.{IsNoLength, any_way, free_length, less_stays}
 
@@ -60,7 +60,8 @@ module _ {ps vs : Pairs (List ℕ)} where
     entries_renamed ended = ended
     entries_renamed (begins r) = begins (entries_renamed r)
     entries_renamed (calls (message b p) r) =
-        calls (message_renamed by.machines (message b (texts_renamed p))) (entries_renamed r)
+        calls (message_renamed (way_of by Machines) (message b (texts_renamed p)))
+        (entries_renamed r)
     entries_renamed (turns r) = turns (entries_renamed r)
     entries_renamed (replies (message b p) r) =
         replies (message b (texts_renamed p)) (entries_renamed r)
@@ -169,7 +170,7 @@ module _ (ways : Ways) (pairs : Class → Pairs ℕ) where
     entry_changed a b (call {a = l} {b = m} c) =
         call (any_way (λ f. ChangesItems ways pairs InCall (f (map (with_text by) l)) (f
         (map (with_text by) m))) (texts_changed InCall c) (after_changed 7
-        (texts_changed InCall c)) by.machines)
+        (texts_changed InCall c)) (way_of by Machines))
     entry_changed a b (reply c) = reply (texts_changed InReply c)
     entry_changed a b c = c
 

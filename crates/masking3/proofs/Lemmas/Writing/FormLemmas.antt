@@ -1,5 +1,5 @@
 -- What was written of the masked form, entry by entry.
-use Rattle.masking3.proofs.Common.{◌≡◌, ℕ, List, [], ◌∷◌, ◌++◌, Option, refl, sym, ap, ◌∙◌, subst, append_assoc, ⊤, AllByRecursion, flat_map, zero_spelling, Entry, Begin, Call, Turn, Reply, Close, End, items_of, AreFirst, AppendsFront, all_entries, holds, FitsCall, FitsReply, Class, InCall, Ways, named_entry, first_spot, body_by, Appends, chunk_bytes, entry_bytes, record_bytes, masked_bytes, masked_entry, masked_items, visited_entry, values_so_far, written_as, are_some, magic_unless, magic_before}
+use Rattle.masking3.proofs.Common.{◌≡◌, ℕ, List, [], ◌∷◌, ◌++◌, Option, refl, sym, ap, ◌∙◌, subst, append_assoc, ⊤, AllByRecursion, flat_map, zero_spelling, Entry, Begin, Call, Turn, Reply, Close, End, items_of, AreFirst, AppendsFront, all_entries, holds, FitsCall, FitsReply, Class, InCall, Ways, named_entry, first_spot, body_by, Appends, chunk_bytes, entry_bytes, record_bytes, masked_bytes, masked_entry, masked_items, visited_entry, values_so_far, written_as, are_some, magic_unless, magic_before, way_of, Machines}
 use Rattle.std.proofs.KnownBytes.{Appends-trans}
 use Rattle.capture3.specs.declared.reader.entry.Kind.{Kind}
 use Rattle.capture3.specs.declared.reader.entry.Kind.TheVariants as kinds
@@ -58,14 +58,14 @@ module _ (ways : Ways) (seen : Class → List ℕ) (body : List ℕ) where
       → body
       ≡ zero_spelling (with_texts ways
       (masked_items ways seen (first_spot (entry_side one)) (items_of one)))
-      → written_as ways.machines kind body
+      → written_as (way_of ways Machines) kind body
       ≡ entry_bytes (named_entry ways (masked_entry ways seen one))
 
   of_kind : (kind : Kind) (one : Entry) → IsOfKind kind one → IsWrittenAs kind one
   of_kind kinds.Begin one is = subst (IsWrittenAs kinds.Begin) (sym is) (λ f b. refl)
   of_kind (kinds.Call id) one (items, asks, is) =
       subst (IsWrittenAs (kinds.Call id)) (sym is) (λ f b.
-      ap (λ (l : List ℕ). chunk_bytes (record_bytes l)) (ap (body_by ways.machines) b
+      ap (λ (l : List ℕ). chunk_bytes (record_bytes l)) (ap (body_by (way_of ways Machines)) b
       ∙ named_bytes_of ways (masked_items ways seen InCall items)
       (call_under ways seen items f)))
   of_kind kinds.Turn one is = subst (IsWrittenAs kinds.Turn) (sym is) (λ f b. refl)
@@ -81,9 +81,10 @@ pub entry_is : (ways : Ways) (body : List ℕ) (kind : Kind) (entries : List Ent
     ≡ zero_spelling (with_texts ways (masked_items ways
     (values_so_far (flat_map visited_entry entries) (entry_side one) (items_of one))
     (first_spot (entry_side one)) (items_of one)))
-    → written_as ways.machines kind body ≡ last_bytes ways entries one
+    → written_as (way_of ways Machines) kind body ≡ last_bytes ways entries one
 entry_is ways body kind entries one of first is =
-    of_kind ways (values_so_far (flat_map visited_entry entries) (entry_side one) (items_of one)) body
+    of_kind ways (values_so_far (flat_map visited_entry entries) (entry_side one) (items_of one))
+    body
     kind one of (last_fitting entries one first) is
     ∙ ap (λ (seen : Class → List ℕ). entry_bytes (named_entry ways (masked_entry ways seen one)))
     (values_with_last entries one)

@@ -1,5 +1,5 @@
 -- A message is masked item by item.
-use Rattle.masking3.proofs.Common.{◌≡◌, ℕ, List, [], ◌∷◌, ◌++◌, length, map, refl, sym, ap, ap₂, ◌∙◌, subst, append_assoc, append-nil, arith, Option, None, Some, flat_map, flat_map-append, map-append, Item, Word, Hyper, zero_spelling, Side, Client, Entry, Begin, Call, Turn, Reply, Close, End, items_of, head_names, Spot, Ways, Class, class_of, class_value, masked_item, masked_items, substitute, value_in, value_where, values_in, with_value, with_text, HoldsAt, HoldsValues, position, tables_in, with_one, handle_in, handles_in, member-append_right, BeginsOn, first_spot, next_spot, side_by, spot_after, Adds, Keeps, Gathers, HoldsHandles, after_messages, HoldsMasked, HasMemory, MaskRests, MaskStands, visited_items, visited_value, values_so_far}
+use Rattle.masking3.proofs.Common.{◌≡◌, ℕ, List, [], ◌∷◌, ◌++◌, length, map, refl, sym, ap, ap₂, ◌∙◌, subst, append_assoc, append-nil, arith, Option, None, Some, flat_map, flat_map-append, map-append, Item, Word, Hyper, zero_spelling, Side, Client, Entry, Begin, Call, Turn, Reply, Close, End, items_of, head_names, Spot, Ways, Class, class_of, class_value, masked_item, masked_items, substitute, value_in, value_where, values_in, with_value, with_text, HoldsAt, HoldsValues, position, with_one, handle_in, handles_in, member-append_right, BeginsOn, first_spot, next_spot, side_by, spot_after, Adds, Keeps, Gathers, HoldsHandles, after_messages, HoldsMasked, HasMemory, MaskRests, MaskStands, visited_items, visited_value, values_so_far}
 use Rattle.nfs3_types.specs.declared.values.handle.Handle as handles
 use Rattle.canon3.proofs.Lemmas.Numbers.HandleTableLemmas.{gathers_none}
 use Rattle.masking3.specs.declared.class_tables.ClassTables.{ClassTables}
@@ -188,7 +188,7 @@ module _ {P S H : Type 0} (ways : Ways) (w : MaskingWriter P S H) where
     holds = record {
       ways_are = h.ways_are;
       tables =
-          subst (HoldsValues ways (tables_in w.classes)) (so_far_over side front Client items)
+          subst (HoldsValues ways w.classes.numbers.items) (so_far_over side front Client items)
           h.tables;
       handles = subst (HoldsHandles w.handles) (handles_over side front items) h.handles;
       written = empty;
@@ -234,7 +234,7 @@ module _ {P S H : Type 0} (ways : Ways) (w : MaskingWriter P S H) where
     one_more : (front : List Item) (side : Side) (items : List Item)
         → HoldsMasked ways w front side items → own ≡ class_of (spot_of_next side items) i
         → classes.ways ≡ ways
-        → HoldsValues ways (tables_in classes) (more_values (values_so_far front side items))
+        → HoldsValues ways classes.numbers.items (more_values (values_so_far front side items))
         → Gathers gathered (front ++ (items ++ i ∷ []))
         → Adds Spells w.writer bytes (put ways (values_so_far front side items) ∷ [])
         → HoldsMasked ways (with_parts gathered classes bytes spot) front side (items ++ i ∷ [])
@@ -267,7 +267,7 @@ module _ {P S H : Type 0} (ways : Ways) (w : MaskingWriter P S H) where
         ∙ ap texts masked in
         record {
           ways_are = are;
-          tables = subst (HoldsValues ways (tables_in classes)) now tables;
+          tables = subst (HoldsValues ways classes.numbers.items) now tables;
           handles = gathers;
           written =
               subst
@@ -282,11 +282,11 @@ module _ {P S H : Type 0} (ways : Ways) (w : MaskingWriter P S H) where
     IsFound = (own ≡ class_of w.spot i) × (spot ≡ next_spot w.spot i)
 
     abbrev Held : (Class → List ℕ) → Type 0
-    Held seen = HoldsValues w.classes.ways (tables_in w.classes) seen
+    Held seen = HoldsValues w.classes.ways w.classes.numbers.items seen
 
     adds : classes.ways ≡ w.classes.ways → IsFound
         → ((seen : Class → List ℕ) → Held seen
-        → HoldsValues classes.ways (tables_in classes) (more_values seen))
+        → HoldsValues classes.ways classes.numbers.items (more_values seen))
         → ((items : List Item) → Gathers w.handles items → Gathers gathered (items ++ i ∷ []))
         → ((seen : Class → List ℕ) → Held seen
         → Adds Spells w.writer bytes (put w.classes.ways seen ∷ []))
@@ -297,7 +297,7 @@ module _ {P S H : Type 0} (ways : Ways) (w : MaskingWriter P S H) where
         let h = u.holds in
         let so_far : Class → List ℕ = values_so_far u.front u.side u.items in
         let held : Held so_far =
-        subst (λ k. HoldsValues k (tables_in w.classes) so_far) (sym h.ways_are) h.tables in
+        subst (λ k. HoldsValues k w.classes.numbers.items so_far) (sym h.ways_are) h.tables in
         let class : own ≡ class_of (spot_of_next u.side u.items) i =
         found.0 ∙ ap (λ (s : Spot). class_of s i) u.spot_is in
         record {
@@ -313,7 +313,7 @@ module _ {P S H : Type 0} (ways : Ways) (w : MaskingWriter P S H) where
               ∙ sym (fold-append next_spot (first_spot u.side) u.items (i ∷ []));
           holds =
               one_more u.front u.side u.items h class (same ∙ h.ways_are)
-              (subst (λ k. HoldsValues k (tables_in classes) (more_values so_far))
+              (subst (λ k. HoldsValues k classes.numbers.items (more_values so_far))
               (same ∙ h.ways_are) (tables so_far held))
               (subst (Gathers gathered) (append_assoc u.front u.items (i ∷ []))
               (gathers (u.front ++ u.items) h.handles))
@@ -325,9 +325,9 @@ module _ {P S H : Type 0} (ways : Ways) (w : MaskingWriter P S H) where
   pub adds_of_class : (own : Option Class) (n : ℕ) (classes : ClassTables S H) (bytes : List ℕ)
       (spot : Spot) (i j : Item) → n ≡ class_value i → handles_in (i ∷ []) ≡ []
       → classes.ways ≡ w.classes.ways → IsFound own w.handles classes bytes spot i
-      → ((seen : Class → List ℕ) → HoldsValues w.classes.ways (tables_in w.classes) seen
-      → HoldsValues classes.ways (tables_in classes) (with_one seen own n))
-      → ((seen : Class → List ℕ) → HoldsValues w.classes.ways (tables_in w.classes) seen
+      → ((seen : Class → List ℕ) → HoldsValues w.classes.ways w.classes.numbers.items seen
+      → HoldsValues classes.ways classes.numbers.items (with_one seen own n))
+      → ((seen : Class → List ℕ) → HoldsValues w.classes.ways w.classes.numbers.items seen
       → with_text w.classes.ways
       (with_value i (substitute w.classes.ways (with_one seen own n) own n)) ≡ j)
       → Adds Spells w.writer bytes (j ∷ [])
@@ -335,7 +335,7 @@ module _ {P S H : Type 0} (ways : Ways) (w : MaskingWriter P S H) where
   adds_of_class own n classes bytes spot i j value none same found tables is write =
       adds own w.handles classes bytes spot i same found
       (λ seen h.
-      subst (λ m. HoldsValues classes.ways (tables_in classes) (with_one seen own m)) value
+      subst (λ m. HoldsValues classes.ways classes.numbers.items (with_one seen own m)) value
       (tables seen h)) (λ items g. gathers_none w.handles items (i ∷ []) none g)
       (λ seen h.
       subst
@@ -362,7 +362,7 @@ module _ {P S H : Type 0} (ways : Ways) (w : MaskingWriter P S H) where
       adds None gathered w.classes bytes w.spot i refl
       (sym (none w.spot), stays_found i other)
       (λ seen h.
-      holds_without w.classes.ways (tables_in w.classes) seen None (class_value i) refl h)
+      holds_without w.classes.ways w.classes.numbers.items seen None (class_value i) refl h)
       gathers (λ seen h. write)
 
   pub adds_plain : (bytes : List ℕ) (i : Item) → IsNoWord i → IsClassless i
@@ -410,9 +410,9 @@ module _ {P S H : Type 0} (ways : Ways) (w : MaskingWriter P S H) where
       record {
         ways_are = h.ways_are;
         tables =
-            subst (HoldsValues ways (tables_in w.classes)) (so_far_grown side front own items)
+            subst (HoldsValues ways w.classes.numbers.items) (so_far_grown side front own items)
             (λ d numbered.
-            subst (HoldsAt (tables_in w.classes) (position d))
+            subst (HoldsAt w.classes.numbers.items (position d))
             (sym (ap (λ (l : List ℕ). so_far d ++ l)
             (kept_values ways d later items numbered kept) ∙ append-nil (so_far d)))
             (h.tables d numbered));

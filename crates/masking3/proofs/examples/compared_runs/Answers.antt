@@ -1,8 +1,7 @@
-use Rattle.masking3.proofs.Common.{◌≢◌, ℕ, ◌<◌, ◌^◌, List, length, refl, arith, AllByRecursion, names, head_names, Entry, Class, masked_values, values, SameButValues, usual}
+use Rattle.masking3.proofs.Common.{◌≢◌, ℕ, ◌<◌, ◌^◌, List, length, refl, arith, AllByRecursion, names, head_names, Entry, Class, Times, masked_values, values, SameButValues, usual}
 use Rattle.canon3.specs.Canonical.{canonical}
 use Rattle.canon3.proofs.Checks.{not_same_by, same_by}
 use Rattle.masking3.specs.Examples.{list_from, getattrs_of_two}
-use Rattle.masking3.proofs.Lemmas.Classes.ClassLemmas.{for_each}
 use Rattle.masking3.proofs.Lemmas.Classes.SpotLemmas.{xid_free}
 use Rattle.masking3.proofs.Lemmas.Masked.SameButLemmas.{HasFreeXid, same_but_from_same, same_from_same_but}
 use Rattle.masking3.proofs.examples.compared_runs.Goals as goal
@@ -26,9 +25,8 @@ room : (first second sec : ℕ) (d : Class)
     → length (values (getattrs_of_two first second sec) d) < 2 ^ 64
 unfolding names head_names
 room first second sec d =
-    for_each (λ d. length (values (getattrs_of_two first second sec) d) < 2 ^ 64) (omega arith)
-    (omega arith) (omega arith) (omega arith) (omega arith) (omega arith) (omega arith)
-    (omega arith) (omega arith) (omega arith) d
+    elim d as (λ d. length (values (getattrs_of_two first second sec) d) < 2 ^ 64)
+    [ Times ↦ omega arith | _ ↦ omega arith ]
 
 pub returns : goal.returns
 unfolding names head_names

@@ -1,4 +1,4 @@
-use Rattle.masking3.proofs.Common.{List, [], ap, subst, sym, ◌∙◌, flat_map, Item, items_of, Ways, after_messages, visited_entry, MaskRests, written_as}
+use Rattle.masking3.proofs.Common.{List, [], ap, ap₂, subst, sym, ◌∙◌, flat_map, Item, items_of, Ways, after_messages, visited_entry, MaskRests, written_as, way_of, Machines}
 use Rattle.capture3.proofs.Lemmas.Reader.PassedOn.{error_is}
 use Rattle.canon3.proofs.Lemmas.Writing.EntryWriterLemmas.{lent_kind}
 use Rattle.masking3.proofs.Lemmas.Writing.FormLemmas.{all_written, cut_in_entry, cut_in_magic, entry_is, last_begins, nothing_more}
@@ -30,9 +30,9 @@ returns-in_err-write_entry-clause-writes g c old entries one of first few came t
     (cut_in_entry g.P.Plan.ways old (g.W.Sink.written c.args.sink.now)
     (g.W.Sink.written c.write_magic.new.sink) (g.W.Sink.written c.write_entry.new.sink) entries one
     c.args.progress.connections first came.place.connections_are written
-    (written_as c.args.self.now.classes.ways.machines c.kind.result c.args.self.now.writer)
-    (ap (λ (w : Ways). written_as w.machines c.kind.result c.args.self.now.writer)
-    is.ways_are
+    (written_as c.way-machines.result c.kind.result c.bytes.result.now)
+    (ap₂ (λ way body. written_as way c.kind.result body)
+    (c.way-machines.ensures ∙ ap (λ (w : Ways). way_of w Machines) is.ways_are) c.bytes.ensures
     ∙ entry_is g.P.Plan.ways c.args.self.now.writer c.kind.result entries one
     (lent_kind c.args.entry c.kind.result one c.kind.ensures of.0) first is.written)
     c.in_ok-write_magic.ensures.ok c.in_err-write_entry.ensures.err)
@@ -51,9 +51,10 @@ returns-clause-writes g c old entries one of first few came told written =
           (g.W.Sink.written c.write_magic.new.sink) (g.W.Sink.written c.write_entry.new.sink)
           entries one
           c.args.progress.connections first came.place.connections_are written
-          (written_as c.args.self.now.classes.ways.machines c.kind.result c.args.self.now.writer)
-          (ap (λ (w : Ways). written_as w.machines c.kind.result c.args.self.now.writer)
-          is.ways_are
+          (written_as c.way-machines.result c.kind.result c.bytes.result.now)
+          (ap₂ (λ way body. written_as way c.kind.result body)
+          (c.way-machines.ensures ∙ ap (λ (w : Ways). way_of w Machines) is.ways_are)
+          c.bytes.ensures
           ∙ entry_is g.P.Plan.ways c.args.self.now.writer c.kind.result entries one
           (lent_kind c.args.entry c.kind.result one c.kind.ensures of.0) first
           is.written) c.in_ok-write_magic.ensures.ok c.in_ok-write_entry.ensures.ok,

@@ -1,4 +1,4 @@
-use Rattle.masking3.proofs.Common.{[], refl, subst, ◌∙◌, HoldsValues, no_values, tables_in}
+use Rattle.masking3.proofs.Common.{[], refl, subst, ◌∙◌, HoldsValues, no_values}
 use Rattle.masking3.proofs.masking_writer.MaskingWriter.new.Goals as goal
 
 pub returns-clause-rests : goal.returns-clause-rests
@@ -10,7 +10,7 @@ returns-clause-rests g c going =
       holds = record {
         ways_are = are;
         tables =
-            subst (λ k. HoldsValues k (tables_in c.new-2.result) no_values) are
+            subst (λ k. HoldsValues k (c.new-2.result.numbers.items) no_values) are
             c.new-2.ensures.holds;
         handles = c.new.ensures;
         written = c.new-3.ensures;

@@ -1,4 +1,4 @@
-use Rattle.masking3.proofs.Common.{◌≡◌, [], ◌∷◌, refl, sym, ◌++◌, subst, on_ok_weaker, Adds, Rest, raw_by}
+use Rattle.masking3.proofs.Common.{◌≡◌, [], ◌∷◌, refl, sym, ◌∙◌, ◌++◌, subst, on_ok_weaker, Adds, Rest, raw_by, way_of, Raw}
 use Rattle.masking3.proofs.Lemmas.Writing.RunLemmas.{spelled_item}
 use Rattle.masking3.proofs.Lemmas.Writing.WriterLemmas.{Spells, adds_plain}
 use Rattle.masking3.proofs.masking_writer.MaskingWriter.write_rest.Goals as goal
@@ -13,7 +13,8 @@ returns-in-Keep g c = record {
       (subst
       (λ way.
       Adds Spells c.args.self.now.writer c.rest.new.self
-      (Rest c.args.name.now (raw_by way c.args.bytes.now) ∷ [])) (sym c.in-Keep.is) write))
+      (Rest c.args.name.now (raw_by way c.args.bytes.now) ∷ [])) (sym c.in-Keep.is ∙ c.way.ensures)
+      write))
       c.rest.ensures.ok;
 }
 
@@ -25,10 +26,10 @@ returns-in-Zero g c = record {
       adds_plain g.P.Plan.ways c.args.self.now c.write_zeros.new.writer
       (Rest c.args.name.now c.args.bytes.now) tt (λ spot. refl) refl
       (spelled_item c.args.self.now.writer c.write_zeros.new.writer
-      (Rest c.args.name.now (raw_by c.args.self.now.classes.ways.raw c.args.bytes.now))
+      (Rest c.args.name.now (raw_by (way_of c.args.self.now.classes.ways Raw) c.args.bytes.now))
       (subst
       (λ way. c.write_zeros.new.writer ≡ c.args.self.now.writer ++ raw_by way c.args.bytes.now)
-      (sym c.in-Zero.is) write)))
+      (sym c.in-Zero.is ∙ c.way.ensures) write)))
       c.write_zeros.ensures;
 }
 
@@ -40,10 +41,10 @@ returns-in-Number g c = record {
       adds_plain g.P.Plan.ways c.args.self.now c.write_zeros-in-Number.new.writer
       (Rest c.args.name.now c.args.bytes.now) tt (λ spot. refl) refl
       (spelled_item c.args.self.now.writer c.write_zeros-in-Number.new.writer
-      (Rest c.args.name.now (raw_by c.args.self.now.classes.ways.raw c.args.bytes.now))
+      (Rest c.args.name.now (raw_by (way_of c.args.self.now.classes.ways Raw) c.args.bytes.now))
       (subst
       (λ way.
       c.write_zeros-in-Number.new.writer ≡ c.args.self.now.writer ++ raw_by way c.args.bytes.now)
-      (sym c.in-Number.is) write)))
+      (sym c.in-Number.is ∙ c.way.ensures) write)))
       c.write_zeros-in-Number.ensures;
 }

@@ -1,5 +1,6 @@
-use Rattle.masking3.proofs.Common.{◌∙◌, refl, on_ok_weaker}
+use Rattle.masking3.proofs.Common.{◌∙◌, ◌≡◌, true, refl, sym, subst, list_all, on_ok_weaker, way_of, Owners}
 use Rattle.xdr3.specs.Plain.{run_items}
+use Rattle.masking3.specs.machinery.KnownFields.{is_kept_field}
 use Rattle.masking3.proofs.Lemmas.Classes.KnownFieldLemmas.{all_stay, attributes_named, attributes_size, kept_run}
 use Rattle.masking3.proofs.Lemmas.Writing.WriterLemmas.{adds_kept}
 use Rattle.masking3.proofs.masking_writer.MaskingWriter.write_run.Goals as goal
@@ -12,8 +13,9 @@ returns-then-are_kept g c =
           (adds_kept g.P.Plan.ways c.args.self.now c.plain.new.self
           (run_items c.args.fields.now c.args.bytes.now)
           (all_stay c.args.self.now.classes.ways (run_items c.args.fields.now c.args.bytes.now)
-          (kept_run c.args.self.now.classes.ways.owners c.args.fields.now c.args.bytes.now
-          (c.if-are_kept.ensures refl)))) c.plain.ensures.ok;
+          (kept_run (way_of c.args.self.now.classes.ways Owners) c.args.fields.now c.args.bytes.now
+          (subst (λ way. list_all (is_kept_field way) c.args.fields.now ≡ true) c.way.ensures
+          (sym c.are_kept.ensures ∙ c.if-are_kept.true))))) c.plain.ensures.ok;
     }
 
 pub write_attributes-requires : goal.write_attributes-requires
