@@ -63,7 +63,8 @@ values_with_last entries one =
     seen_alike (values_so_far (flat_map visited_entry entries) (entry_side one) (items_of one))
     (values (entries ++ one ∷ [])) (λ d. with_last d entries one)
 
-visited_on_side : (e : Entry) → visited_entry e ≡ visited_items (first_spot (entry_side e)) (items_of e)
+visited_on_side : (e : Entry)
+    → visited_entry e ≡ visited_items (first_spot (entry_side e)) (items_of e)
 visited_on_side Begin = refl
 visited_on_side (Call items) = refl
 visited_on_side Turn = refl
@@ -96,7 +97,8 @@ fixed_without : (o : Option Class) (name bytes : List ℕ)
 fixed_without None name bytes = refl
 fixed_without (Some d) name bytes = refl
 
-visited_handle : (spot : Spot) (i : Item) → handle_in (visited_item (class_of spot i) i) ≡ handle_in i
+visited_handle : (spot : Spot) (i : Item)
+    → handle_in (visited_item (class_of spot i) i) ≡ handle_in i
 visited_handle spot (Word name n) = word_without (class_of_word spot name) name n
 visited_handle spot (Hyper name n) = hyper_without (class_of_hyper spot name) name n
 visited_handle spot (Fixed name bytes) = fixed_without (class_of_fixed name) name bytes
