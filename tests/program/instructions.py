@@ -31,13 +31,13 @@ LIMITS = {
     'show mixed': 19.4,
     'same mixed': 12.7,
     'pack small': 0.39,
-    'nfs3mask small': 13.25,
+    'nfs3mask small': 12.95,
     'nfs3mask mixed': 15.1,
     'check recorded': 3.6,
     'canon recorded': 7.0,
     'show recorded': 14.0,
     'same recorded': 8.85,
-    'nfs3mask recorded': 8.25,
+    'nfs3mask recorded': 8.15,
 }
 MIXES = {'small': (make.SMALL, 1), 'mixed': (make.MIXED, 4), 'recorded': (make.RECORDED, 2)}
 
