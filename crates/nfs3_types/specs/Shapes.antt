@@ -97,7 +97,8 @@ guard = optional names.check (time names.ctime_sec names.ctime_nsec)
 unfoldable pub dir_op : Shape
 dir_op = handle then opaque Text names.name no_maximum
 
--- a status, and then what was done on 0, else what is told of the failure (RFC 1813, section 3.3)
+-- a status, then the parts of a success if it is 0, otherwise those of a failure (RFC 1813,
+-- section 3.3)
 unfoldable pub results : Shape → Shape → Shape
 results done failed =
     choose names.status (is_listed status_words) BadEnum (λ n. if n == 0 then done else failed)

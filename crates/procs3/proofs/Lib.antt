@@ -2,3 +2,4 @@ pub mod ProtocolParts
 pub mod ProcedureParts
 pub mod HeadParts
 pub mod Common
+pub mod ItemLemmas

@@ -1,5 +1,5 @@
 -- What is so of each part of the protocol's shapes: for which reason it is refused, which room it
--- has, and that its name tells its kind.
+-- has, and that its name determines its kind.
 use Rattle.std.proofs.Common.{◌≡◌, ℕ, List, [], ◌∷◌, Bool, true, ◌≤◌}
 use Rattle.std.specs.Prelude.{⊤, ◌==◌, not, bytes_eq, codes, if◌then◌else◌}
 use Rattle.std.specs.List.{list_all, list_any}

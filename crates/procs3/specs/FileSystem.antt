@@ -1,4 +1,4 @@
--- The items of what is told of a file system (RFC 1813, sections 3.3.18 to 3.3.20).
+-- The items of the results about a file system (RFC 1813, sections 3.3.18 to 3.3.20).
 use Rattle.std.specs.Prelude.{List, [], ◌∷◌}
 use Rattle.xdr3.specs.Item.{Item, followed_by, Hyper, Word}
 use Rattle.xdr3.specs.View.{word_of}

@@ -57,8 +57,8 @@ mount_arguments n =
     (if n == 5 then exactly nothing else
     rest names.rest))))))
 
--- Procedure n of NFS has the results of section 3.3.n of RFC 1813: after a status what is told of a
--- success, and what is told of a failure.
+-- Procedure n of NFS has the results of section 3.3.n of RFC 1813: after a status the parts of a
+-- success, or those of a failure.
 abbrev pub nfs_results : ℕ → Layout
 nfs_results n =
     (if n == 0 then exactly nothing else

@@ -224,12 +224,12 @@ pub run_size_is : (size : ℕ) (body run : List ℕ) (at to : ℕ) → run_at si
     → length run ≡ size
 run_size_is size body run at to e = (run_takes size body run at to e).len_is
 
-told_words : (a0 a1 b c0 c1 d0 d1 f0 f1 : ℕ) → a0 ≡ a1 → c0 ≡ c1 → d0 ≡ d1 → f0 ≡ f1
+passed_words : (a0 a1 b c0 c1 d0 d1 f0 f1 : ℕ) → a0 ≡ a1 → c0 ≡ c1 → d0 ≡ d1 → f0 ≡ f1
     → (Word head_names.rpcvers a0 ∷ Word head_names.prog b ∷ Word head_names.vers c0
     ∷ Word head_names.proc d0 ∷ Word head_names.cred_flavor f0 ∷ [])
     ≡ (Word head_names.rpcvers a1 ∷ Word head_names.prog b ∷ Word head_names.vers c1
     ∷ Word head_names.proc d1 ∷ Word head_names.cred_flavor f1 ∷ [])
-told_words a0 a1 b c0 c1 d0 d1 f0 f1 a c d f = cc
+passed_words a0 a1 b c0 c1 d0 d1 f0 f1 a c d f = cc
 
 pub opening_scans : {V : Type 0} (stands : V → List Item → Type 0) (run : List ℕ) (v0 v1 : View)
     (s0 s1 : V) → run_at 20 v0.body v0.at ≡ Ok (run, v1.at) → MovesOn v0 v1
@@ -261,7 +261,7 @@ opening_scans stands run v0 v1 s0 s1 e moves is few a =
       moves = moves;
       adds =
           subst (Adds stands s0 s1)
-          (told_words _ 2 (big_number 4 (drop 4 run)) _ (big_number 4 (drop 8 run))
+          (passed_words _ 2 (big_number 4 (drop 4 run)) _ (big_number 4 (drop 8 run))
           _ (big_number 4 (drop 12 run)) _ (big_number 4 (drop 16 run)) is
           (ap (big_number 4) d8) (ap (big_number 4) d12) (ap (big_number 4) d16)) a;
     }

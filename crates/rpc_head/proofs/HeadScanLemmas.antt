@@ -79,7 +79,7 @@ reply_accepted stands stat v0 v2 v3 v4 s0 s2 s3 s4 a b c =
     let last : reading accept v0.body v3.at ≡ Ok (c.0, v4.at) =
     subst (λ (body : List ℕ). reading accept body v3.at ≡ Ok (c.0, v4.at)) body3 c.1 in
     let one = one_opaque head_names.verf_body 400 v0.body b.0 v2.at v3.at opaque_body in
-    let told : (word_in
+    let same_stat : (word_in
     (Word head_names.reply_stat 0 ∷ Word head_names.verf_flavor 0 ∷ (b.0 ++ c.0)) 3)
     ≡ stat =
     subst
@@ -88,7 +88,7 @@ reply_accepted stands stat v0 v2 v3 v4 s0 s2 s3 s4 a b c =
     3 ≡ stat) one.1 c.2 in (
       Word head_names.reply_stat 0 ∷ Word head_names.verf_flavor 0 ∷ (b.0 ++ c.0),
       rw (a.reply_stat, a.next, opaque_body, last) refl,
-      rw told refl,
+      rw same_stat refl,
       moves_both v0 v2 v4 a.moves (moves_both v2 v3 v4 b.2 c.3),
       adds_joined stands s0 s2 s4
           (Word head_names.reply_stat 0 ∷ Word head_names.verf_flavor 0 ∷ []) (b.0 ++ c.0)
@@ -170,10 +170,10 @@ are_two v v1 run e =
           (omega (arith, end));
     }
 
-two_told : (name : List ℕ) (a0 a1 b0 b1 : ℕ) → a0 ≡ a1 → b0 ≡ b1
+two_passed : (name : List ℕ) (a0 a1 b0 b1 : ℕ) → a0 ≡ a1 → b0 ≡ b1
     → (Word head_names.reply_stat a0 ∷ Word name b0 ∷ [])
     ≡ (Word head_names.reply_stat a1 ∷ Word name b1 ∷ [])
-two_told name a0 a1 b0 b1 a b = cc
+two_passed name a0 a1 b0 b1 a b = cc
 
 pub accepted_begins : {V : Type 0} (stands : V → List Item → Type 0) (run : List ℕ) (v v1 : View)
     (s0 s1 : V) → run_at 8 v.body v.at ≡ Ok (run, v1.at) → MovesOn v v1
@@ -191,7 +191,7 @@ accepted_begins stands run v v1 s0 s1 e moves is then_is a =
           run_accepts (is_listed verifier_flavors) Flavor v.body 0 (v.at + 4) v1.at
           (w.second ∙ ap (λ (n : ℕ). Ok (n, v1.at)) then_is) refl;
       moves = moves;
-      adds = subst (Adds stands s0 s1) (two_told head_names.verf_flavor _ 0 _ 0 is then_is) a;
+      adds = subst (Adds stands s0 s1) (two_passed head_names.verf_flavor _ 0 _ 0 is then_is) a;
     }
 
 pub denied_begins : {V : Type 0} (stands : V → List Item → Type 0) (run : List ℕ) (v v1 : View)
@@ -212,7 +212,7 @@ denied_begins stands run v v1 s0 s1 e moves is few a =
       moves = moves;
       adds =
           subst (Adds stands s0 s1)
-          (two_told head_names.reject_stat _ 1 (big_number 4 (drop 4 run)) _ is refl) a;
+          (two_passed head_names.reject_stat _ 1 (big_number 4 (drop 4 run)) _ is refl) a;
     }
 
 pub is_zero : (n : ℕ) → n ≤ 1 → (n ≡ 1 → ⊥) → n ≡ 0

@@ -144,7 +144,7 @@ owner_scans stands run v0 v1 v2 s0 s1 s2 e moves few a y =
     let parts : times_at (reading (word head_names.group)) (big_number 4 (drop 8 run)) v0.body v1.at
     ≡ Ok (y.0, v2.at) = sym (times_reads (big_number 4 (drop 8 run)) v0.body v1.at) ∙ there in
     let d8 : drop 4 (drop 4 run) ≡ drop 8 run = drop-drop 4 4 run in
-    let told : Adds stands s0 s1 (Word head_names.uid (big_number 4 run)
+    let passed : Adds stands s0 s1 (Word head_names.uid (big_number 4 run)
     ∷ Word head_names.gid (big_number 4 (drop 4 run))
     ∷ Word head_names.gids (big_number 4 (drop 8 run)) ∷ []) =
     subst
@@ -160,7 +160,7 @@ owner_scans stands run v0 v1 v2 s0 s1 s2 e moves few a y =
           (Word head_names.uid (big_number 4 run) ∷ Word head_names.gid (big_number 4 (drop 4 run))
           ∷ Word head_names.gids (big_number 4 (drop 8 run)) ∷ []) y.0
           (Word head_names.uid (big_number 4 run) ∷ Word head_names.gid (big_number 4 (drop 4 run))
-          ∷ Word head_names.gids (big_number 4 (drop 8 run)) ∷ y.0) told y.3 refl,
+          ∷ Word head_names.gids (big_number 4 (drop 8 run)) ∷ y.0) passed y.3 refl,
     )
 
 pub groups_stop : (run : List ℕ) (v0 v1 : View) (error : GetError)

@@ -1,4 +1,4 @@
--- Heads that are read and told at once.
+-- Heads that are passed to a visitor as they are read.
 use Rattle.std.specs.Prelude.{◌≡◌, Bool, ◌==◌, ◌&&◌, List, Ok}
 use Rattle.xdr3.specs.Layout.{word_in}
 use Rattle.xdr3.specs.Item.{Item}
@@ -19,8 +19,8 @@ procedure_in_head items =
 abbrev pub success_in_head : List Item → Bool
 success_in_head items = (word_in items 0 == 0) && (word_in items 3 == 0)
 
--- A call's head of this procedure stands between two places of one body, and a visitor was told its
--- items.
+-- A call's head of this procedure is between two positions of one body, and a visitor was passed
+-- its items.
 unfoldable pub ScansCallHead : {V : Type 0} → (V → List Item → Type 0) → ProcId → View → View → V
     → V → Type 0
 ScansCallHead stands id old new before after =
@@ -28,8 +28,8 @@ ScansCallHead stands id old new before after =
     × (procedure_in_head items ≡ id) × MovesOn old new
     × Adds stands before after items
 
--- A reply's head, of a success or not, stands between two places of one body, and a visitor was
--- told its items.
+-- A reply's head, of a success or not, is between two positions of one body, and a visitor was
+-- passed its items.
 unfoldable pub ScansReplyHead : {V : Type 0} → (V → List Item → Type 0) → Bool → View → View → V → V
     → Type 0
 ScansReplyHead stands success old new before after =

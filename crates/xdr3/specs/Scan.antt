@@ -1,4 +1,4 @@
--- What is read and told at once.
+-- What is passed to a visitor as it is read.
 use Rattle.std.specs.Prelude.{◌≡◌, ℕ, Bool, List, [], ◌∷◌, Ok}
 use Rattle.xdr3.specs.declared.reason.GetError.{GetError}
 use Rattle.xdr3.specs.declared.reason.Reason.{Reason}
@@ -10,14 +10,14 @@ use Rattle.xdr3.specs.Shape.{Shape}
 use Rattle.xdr3.specs.View.{MovesOn, View}
 use Rattle.xdr3.specs.Visit.{Adds}
 
--- Items of the shape stand between two places of one body, and a visitor was told them.
+-- Items of the shape are between two positions of one body, and a visitor was passed them.
 unfoldable pub Scans : {V : Type 0} → (V → List Item → Type 0) → Shape → View → View → V → V
     → Type 0
 Scans stands shape old new before after =
     (items : List Item) × (reading shape old.body old.at ≡ Ok (items, new.at)) × MovesOn old new
     × Adds stands before after items
 
--- A word that is accepted stands there, and a visitor was told it.
+-- A word that is accepted is there, and a visitor was passed it.
 unfoldable pub ScansWord : {V : Type 0} → (V → List Item → Type 0) → List ℕ → (ℕ → Bool) → Reason
     → ℕ → View → View → V → V → Type 0
 ScansWord stands name accepted other n old new before after =
@@ -31,7 +31,7 @@ Stops shape old error = Fails error (reading shape old.body old.at)
 unfoldable pub StopsWord : (ℕ → Bool) → Reason → View → GetError → Type 0
 StopsWord accepted other old error = Fails error (word_at accepted other old.body old.at)
 
--- Items of the layout stand between two places of one body, and a visitor was told them.
+-- Items of the layout are between two positions of one body, and a visitor was passed them.
 unfoldable pub ScansLayout : {V : Type 0} → (V → List Item → Type 0) → Layout → View → View → V → V
     → Type 0
 ScansLayout stands layout old new before after =

@@ -1,4 +1,5 @@
 //! Items that are passed to a visitor as they are read.
+#![tactic(auto, unfolding(crate::specs::Scan::Scans, crate::specs::Scan::Stops, crate::specs::Reading::reading, crate::specs::Scan::ScansWord, crate::specs::Scan::StopsWord))]
 
 ghost use Rattle.std.specs.Prelude.{◌≡◌, ◌<◌, IfErr, IfOk, OnOk};
 ghost use Rattle.std.specs.Int.{from_bool};
@@ -33,7 +34,6 @@ pub trait Scan {
 
 /// Reads a word and visits it (RFC 4506, sections 4.1 and 4.2).
 #[inline]
-#[tactic(auto, unfolding(crate::specs::Scan::ScansWord, crate::specs::Scan::StopsWord))]
 pub fn scan_word<V: Visit>(
     name: &'static str,
     input: &mut Input,
@@ -50,7 +50,6 @@ pub fn scan_word<V: Visit>(
 
 /// Reads a word that must be one of these, and visits it (RFC 4506, section 4.3).
 #[inline]
-#[tactic(auto, unfolding(crate::specs::Scan::ScansWord, crate::specs::Scan::StopsWord))]
 pub fn scan_listed<V: Visit>(
     name: &'static str,
     words: &[u32],
@@ -70,7 +69,6 @@ pub fn scan_listed<V: Visit>(
 
 /// Reads a bool and visits it (RFC 4506, section 4.4).
 #[inline]
-#[tactic(auto, unfolding(crate::specs::Scan::ScansWord, crate::specs::Scan::StopsWord))]
 pub fn scan_boolean<V: Visit>(
     name: &'static str,
     input: &mut Input,
@@ -89,7 +87,6 @@ pub fn scan_boolean<V: Visit>(
 
 /// Reads a length or a count of at most `max`, and visits it (RFC 4506, sections 4.10 and 4.13).
 #[inline]
-#[tactic(auto, unfolding(crate::specs::Scan::ScansWord, crate::specs::Scan::StopsWord))]
 fn scan_at_most<V: Visit>(
     name: &'static str,
     max: u32,
@@ -108,7 +105,6 @@ fn scan_at_most<V: Visit>(
 
 /// Reads a hyper and visits it (RFC 4506, section 4.5).
 #[inline]
-#[tactic(auto, unfolding(crate::specs::Scan::Scans, crate::specs::Scan::Stops, crate::specs::Reading::reading))]
 pub fn scan_hyper<V: Visit>(
     name: &'static str,
     input: &mut Input,
@@ -125,7 +121,6 @@ pub fn scan_hyper<V: Visit>(
 
 /// Reads eight bytes of opaque data and visits them (RFC 4506, section 4.9).
 #[inline]
-#[tactic(auto, unfolding(crate::specs::Scan::Scans, crate::specs::Scan::Stops, crate::specs::Reading::reading))]
 pub fn scan_fixed<V: Visit>(
     name: &'static str,
     input: &mut Input,
@@ -142,7 +137,6 @@ pub fn scan_fixed<V: Visit>(
 
 /// Reads a write verifier of eight bytes and visits it (RFC 4506, section 4.9).
 #[inline]
-#[tactic(auto, unfolding(crate::specs::Scan::Scans, crate::specs::Scan::Stops, crate::specs::Reading::reading))]
 pub fn scan_write_verf<V: Visit>(
     name: &'static str,
     input: &mut Input,
@@ -159,7 +153,6 @@ pub fn scan_write_verf<V: Visit>(
 
 /// Reads opaque data of at most `max` bytes and visits it (RFC 4506, section 4.10).
 #[inline(always)]
-#[tactic(auto, unfolding(crate::specs::Scan::Scans, crate::specs::Scan::Stops, crate::specs::Reading::reading))]
 pub fn scan_var<V: Visit>(
     name: &'static str,
     max: u32,
@@ -177,7 +170,6 @@ pub fn scan_var<V: Visit>(
 
 /// Reads a string of at most `max` bytes and visits it (RFC 4506, section 4.11).
 #[inline(always)]
-#[tactic(auto, unfolding(crate::specs::Scan::Scans, crate::specs::Scan::Stops, crate::specs::Reading::reading))]
 pub fn scan_text<V: Visit>(
     name: &'static str,
     max: u32,
@@ -195,7 +187,6 @@ pub fn scan_text<V: Visit>(
 
 /// Reads a file handle of at most 64 bytes and visits it (RFC 1813, section 2.4).
 #[inline]
-#[tactic(auto, unfolding(crate::specs::Scan::Scans, crate::specs::Scan::Stops, crate::specs::Reading::reading))]
 pub fn scan_handle<V: Visit>(
     name: &'static str,
     input: &mut Input,

@@ -1,5 +1,6 @@
 //! Names in directories, and optional handles, passed to a visitor as they are read (RFC 1813,
 //! section 2.6).
+#![tactic(auto, using(xdr3::proofs::Lemmas::Scans::ScanLemmas::scans), unfolding(crate::specs::Shapes::dir_op, crate::specs::Shapes::post_op_fh, crate::specs::Names::names))]
 
 ghost use Rattle.std.specs.Prelude.{IfErr, OnOk};
 ghost use Rattle.xdr3.specs.Scan.{Scans, Stops};
@@ -13,7 +14,6 @@ impl<'a> Scan for DirOp<'a> {
 
     ghost shape = { dir_op };
 
-    #[tactic(auto, using(xdr3::proofs::Lemmas::Scans::ScanLemmas::scans), unfolding(crate::specs::Shapes::dir_op, crate::specs::Names::names))]
     fn scan<V: Visit>(input: &mut Input, visitor: &mut V) -> Result<(), GetError>
         ensures ok { OnOk result
             (Scans V.stands dir_op input.old input.new visitor.old visitor.new) }
@@ -29,7 +29,6 @@ impl Scan for PostOpFh {
 
     ghost shape = { post_op_fh };
 
-    #[tactic(auto, unfolding(crate::specs::Shapes::post_op_fh, crate::specs::Names::names))]
     fn scan<V: Visit>(input: &mut Input, visitor: &mut V) -> Result<(), GetError> {
         scan_optional::<Handle, V>("handle", input, visitor)
     }

@@ -1,4 +1,5 @@
 //! Parts of MOUNT version 3, passed to a visitor as they are read (RFC 1813, section 5).
+#![tactic(auto, using(xdr3::proofs::Lemmas::Scans::ScanLemmas::scans), unfolding(crate::specs::Shapes::flavor, crate::specs::Shapes::mount_ok, crate::specs::Shapes::mounted, crate::specs::Shapes::mount_list, crate::specs::Shapes::group, crate::specs::Shapes::export, crate::specs::Shapes::exports, crate::specs::Names::names))]
 
 ghost use Rattle.std.specs.Prelude.{IfErr, OnOk};
 ghost use Rattle.xdr3.specs.Item.{Text};
@@ -29,7 +30,6 @@ impl Scan for Flavor {
     ghost shape = { flavor };
 
     #[inline]
-    #[tactic(auto, using(xdr3::proofs::Lemmas::Scans::ScanLemmas::scans), unfolding(crate::specs::Shapes::flavor, crate::specs::Names::names))]
     fn scan<V: Visit>(input: &mut Input, visitor: &mut V) -> Result<(), GetError> {
         scan_word("flavor", input, visitor)?;
         Ok(())
@@ -41,7 +41,6 @@ impl Scan for MountOk {
 
     ghost shape = { mount_ok };
 
-    #[tactic(auto, using(xdr3::proofs::Lemmas::Scans::ScanLemmas::scans), unfolding(crate::specs::Shapes::mount_ok, crate::specs::Names::names))]
     fn scan<V: Visit>(input: &mut Input, visitor: &mut V) -> Result<(), GetError> {
         Handle::scan(input, visitor)?;
         scan_counted::<Flavor, V>("flavors", u32::MAX, input, visitor)
@@ -53,7 +52,6 @@ impl<'a> Scan for Mounted<'a> {
 
     ghost shape = { mounted };
 
-    #[tactic(auto, using(xdr3::proofs::Lemmas::Scans::ScanLemmas::scans), unfolding(crate::specs::Shapes::mounted, crate::specs::Names::names))]
     fn scan<V: Visit>(input: &mut Input, visitor: &mut V) -> Result<(), GetError>
         ensures ok { OnOk result
             (Scans V.stands mounted input.old input.new visitor.old visitor.new) }
@@ -69,7 +67,6 @@ impl<'a> Scan for MountList<'a> {
 
     ghost shape = { mount_list };
 
-    #[tactic(auto, unfolding(crate::specs::Shapes::mount_list, crate::specs::Names::names))]
     fn scan<V: Visit>(input: &mut Input, visitor: &mut V) -> Result<(), GetError>
         ensures ok { OnOk result
             (Scans V.stands mount_list input.old input.new visitor.old visitor.new) }
@@ -84,7 +81,6 @@ impl<'a> Scan for Group<'a> {
 
     ghost shape = { group };
 
-    #[tactic(auto, unfolding(crate::specs::Shapes::group, crate::specs::Names::names))]
     fn scan<V: Visit>(input: &mut Input, visitor: &mut V) -> Result<(), GetError>
         ensures ok { OnOk result
             (Scans V.stands group input.old input.new visitor.old visitor.new) }
@@ -99,7 +95,6 @@ impl<'a> Scan for Export<'a> {
 
     ghost shape = { export };
 
-    #[tactic(auto, using(xdr3::proofs::Lemmas::Scans::ScanLemmas::scans), unfolding(crate::specs::Shapes::export, crate::specs::Names::names))]
     fn scan<V: Visit>(input: &mut Input, visitor: &mut V) -> Result<(), GetError>
         ensures ok { OnOk result
             (Scans V.stands export input.old input.new visitor.old visitor.new) }
@@ -115,7 +110,6 @@ impl<'a> Scan for Exports<'a> {
 
     ghost shape = { exports };
 
-    #[tactic(auto, unfolding(crate::specs::Shapes::exports, crate::specs::Names::names))]
     fn scan<V: Visit>(input: &mut Input, visitor: &mut V) -> Result<(), GetError>
         ensures ok { OnOk result
             (Scans V.stands exports input.old input.new visitor.old visitor.new) }

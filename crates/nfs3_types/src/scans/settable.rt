@@ -1,5 +1,6 @@
 //! Attributes that a caller sets, passed to a visitor as they are read (RFC 1813, sections 2.6 and
 //! 3.3.2).
+#![tactic(auto, using(xdr3::proofs::Lemmas::Scans::ScanLemmas::scans), unfolding(crate::specs::Shapes::set_word, crate::specs::Shapes::set_hyper, crate::specs::Shapes::guard, crate::specs::machinery::AttributeTails::settable_times, xdr3::specs::Shape::optional, crate::specs::Names::names))]
 
 ghost use Rattle.std.specs.Prelude.{IfErr, OnOk};
 ghost use Rattle.nfs3_types.specs.machinery.AttributeTails.{settable_times};
@@ -12,7 +13,6 @@ use xdr3::{GetError, Input, Scan, Visit, scan_boolean, scan_hyper, scan_word};
 
 /// Reads and visits an optional word (RFC 1813, section 2.6).
 #[inline]
-#[tactic(auto, using(xdr3::proofs::Lemmas::Scans::ScanLemmas::scans), unfolding(crate::specs::Shapes::set_word, xdr3::specs::Shape::optional))]
 fn scan_set_word<V: Visit>(
     set: &'static str,
     name: &'static str,
@@ -31,7 +31,6 @@ fn scan_set_word<V: Visit>(
 
 /// Reads and visits an optional hyper (RFC 1813, section 2.6).
 #[inline]
-#[tactic(auto, using(xdr3::proofs::Lemmas::Scans::ScanLemmas::scans), unfolding(crate::specs::Shapes::set_hyper, xdr3::specs::Shape::optional))]
 fn scan_set_hyper<V: Visit>(
     set: &'static str,
     name: &'static str,
@@ -66,7 +65,6 @@ impl Scan for Sattr {
 }
 
 #[inline]
-#[tactic(auto, using(xdr3::proofs::Lemmas::Scans::ScanLemmas::scans), unfolding(crate::specs::machinery::AttributeTails::settable_times, crate::specs::Names::names))]
 fn scan_settable_times<V: Visit>(input: &mut Input, visitor: &mut V) -> Result<(), GetError>
     ensures ok { OnOk result
         (Scans V.stands settable_times input.old input.new visitor.old visitor.new) }
@@ -81,7 +79,6 @@ impl Scan for Guard {
 
     ghost shape = { guard };
 
-    #[tactic(auto, using(xdr3::proofs::Lemmas::Scans::ScanLemmas::scans), unfolding(crate::specs::Shapes::guard, xdr3::specs::Shape::optional, crate::specs::Names::names))]
     fn scan<V: Visit>(input: &mut Input, visitor: &mut V) -> Result<(), GetError> {
         if scan_boolean("check", input, visitor)? {
             scan_time("ctime_sec", "ctime_nsec", input, visitor)

@@ -1,4 +1,5 @@
 //! Times, passed to a visitor as they are read (RFC 1813, sections 2.5 and 2.6).
+#![tactic(auto, using(xdr3::proofs::Lemmas::Scans::ScanLemmas::scans), unfolding(crate::specs::Shapes::time, crate::specs::Shapes::time_how))]
 
 ghost use Rattle.std.specs.Prelude.{IfErr, OnOk};
 ghost use Rattle.nfs3_types.specs.Shapes as shapes;
@@ -9,7 +10,6 @@ use xdr3::{GetError, Input, Visit, scan_listed, scan_word};
 /// Reads and visits a time: `nfstime3` (RFC 1813, section 2.5). Its words are named after the time
 /// that it is.
 #[inline]
-#[tactic(auto, using(xdr3::proofs::Lemmas::Scans::ScanLemmas::scans), unfolding(crate::specs::Shapes::time))]
 pub(crate) fn scan_time<V: Visit>(
     sec: &'static str,
     nsec: &'static str,
@@ -27,7 +27,6 @@ pub(crate) fn scan_time<V: Visit>(
 
 /// Reads and visits how a time is set, and the time if the word is 2 (RFC 1813, section 2.6).
 #[inline]
-#[tactic(auto, using(xdr3::proofs::Lemmas::Scans::ScanLemmas::scans), unfolding(crate::specs::Shapes::time_how))]
 pub(crate) fn scan_time_how<V: Visit>(
     how: &'static str,
     sec: &'static str,

@@ -1,4 +1,5 @@
 //! Attributes (RFC 1813, sections 2.5 and 2.6).
+#![tactic(auto, using(xdr3::proofs::Lemmas::Shapes::Walks::steps), unfolding(xdr3::specs::Reading::reading, crate::specs::Shapes::attributes, crate::specs::Shapes::post_op_attr, crate::specs::Shapes::wcc_attr, crate::specs::Names::names))]
 
 use crate::values::kind::FileKind;
 use crate::values::time::{Time, Times};
@@ -29,7 +30,6 @@ impl<'a> Xdr<'a> for Fattr {
 
     ghost shape = { attributes };
 
-    #[tactic(auto, unfolding(xdr3::specs::Reading::reading, crate::specs::Shapes::attributes))]
     fn get(alloc: Global, input: &mut Input<'a>) -> Result<Fattr, GetError> {
         let kind = FileKind::get(alloc, input)?;
         let mode = input.word()?;
@@ -67,7 +67,6 @@ impl Walk for Fattr {
 
     ghost items = { attributes_items };
 
-    #[tactic(auto, unfolding(crate::specs::Names::names))]
     fn walk<V: Visit>(&self, visitor: &mut V) -> Result<(), AllocError> {
         let all = [
             Field::Word("type", self.kind.number()),
@@ -103,7 +102,6 @@ impl<'a> Xdr<'a> for PostOpAttr {
 
     ghost shape = { post_op_attr };
 
-    #[tactic(auto, unfolding(crate::specs::Shapes::post_op_attr))]
     fn get(alloc: Global, input: &mut Input<'a>) -> Result<PostOpAttr, GetError> {
         let attr = get_optional(alloc, input)?;
         Ok(PostOpAttr { attr })
@@ -115,7 +113,6 @@ impl Walk for PostOpAttr {
 
     ghost items = { post_op_attr_items };
 
-    #[tactic(auto, unfolding(crate::specs::Names::names))]
     fn walk<V: Visit>(&self, visitor: &mut V) -> Result<(), AllocError> {
         walk_optional("attr", &self.attr, visitor)
     }
@@ -135,7 +132,6 @@ impl<'a> Xdr<'a> for WccAttr {
 
     ghost shape = { wcc_attr };
 
-    #[tactic(auto, unfolding(xdr3::specs::Reading::reading, crate::specs::Shapes::wcc_attr))]
     fn get(_alloc: Global, input: &mut Input<'a>) -> Result<WccAttr, GetError> {
         let size = input.hyper()?;
         let mtime = Time::take(input)?;
@@ -149,7 +145,6 @@ impl Walk for WccAttr {
 
     ghost items = { wcc_attr_items };
 
-    #[tactic(auto, unfolding(crate::specs::Names::names))]
     fn walk<V: Visit>(&self, visitor: &mut V) -> Result<(), AllocError> {
         let all = [
             Field::Hyper("size", self.size),
@@ -188,7 +183,6 @@ impl Walk for Wcc {
 
     ghost items = { wcc_items };
 
-    #[tactic(auto, using(xdr3::proofs::Lemmas::Shapes::Walks::steps), unfolding(crate::specs::Names::names))]
     fn walk<V: Visit>(&self, visitor: &mut V) -> Result<(), AllocError> {
         walk_optional("before", &self.before, visitor)?;
         self.after.walk(visitor)?;

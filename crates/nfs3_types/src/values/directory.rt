@@ -1,4 +1,5 @@
 //! Names in directories, and optional handles (RFC 1813, section 2.6).
+#![tactic(auto, unfolding(xdr3::specs::Reading::reading, crate::specs::Shapes::dir_op, crate::specs::Shapes::post_op_fh, crate::specs::Names::names))]
 
 use crate::values::handle::Handle;
 use std::alloc::{AllocError, Global};
@@ -16,7 +17,6 @@ impl<'a> Xdr<'a> for DirOp<'a> {
 
     ghost shape = { dir_op };
 
-    #[tactic(auto, unfolding(xdr3::specs::Reading::reading, crate::specs::Shapes::dir_op))]
     fn get(alloc: Global, input: &mut Input<'a>) -> Result<DirOp<'a>, GetError> {
         let dir = Handle::get(alloc, input)?;
         let name = input.var(u32::MAX)?;
@@ -29,7 +29,6 @@ impl<'a> Walk for DirOp<'a> {
 
     ghost items = { dir_op_items };
 
-    #[tactic(auto, unfolding(crate::specs::Names::names))]
     fn walk<V: Visit>(&self, visitor: &mut V) -> Result<(), AllocError> {
         let all = [
             Field::Handle("fh", self.dir.as_slice()),
@@ -50,7 +49,6 @@ impl<'a> Xdr<'a> for PostOpFh {
 
     ghost shape = { post_op_fh };
 
-    #[tactic(auto, unfolding(crate::specs::Shapes::post_op_fh))]
     fn get(alloc: Global, input: &mut Input<'a>) -> Result<PostOpFh, GetError> {
         let handle = get_optional(alloc, input)?;
         Ok(PostOpFh { handle })
@@ -62,7 +60,6 @@ impl Walk for PostOpFh {
 
     ghost items = { post_op_fh_items };
 
-    #[tactic(auto, unfolding(crate::specs::Names::names))]
     fn walk<V: Visit>(&self, visitor: &mut V) -> Result<(), AllocError> {
         walk_optional("handle", &self.handle, visitor)
     }

@@ -1,4 +1,5 @@
 //! The parts of MOUNT version 3 (RFC 1813, section 5).
+#![tactic(auto, using(xdr3::proofs::Lemmas::Shapes::Walks::steps), unfolding(xdr3::specs::Reading::reading, crate::specs::Shapes::mount_status, crate::specs::Shapes::flavor, crate::specs::Shapes::mounted, crate::specs::Shapes::group, crate::specs::Shapes::exports, crate::specs::Names::names))]
 
 ghost use Rattle.std.specs.Prelude.{◌≡◌, ◌↔◌, IfSome, IsSome, IsTrue};
 ghost use Rattle.xdr3.specs.Reading.{word_at};
@@ -99,7 +100,6 @@ impl<'a> Xdr<'a> for MountStatus {
 
     ghost shape = { mount_status };
 
-    #[tactic(auto, unfolding(xdr3::specs::Reading::reading, crate::specs::Shapes::mount_status))]
     fn get(_alloc: Global, input: &mut Input<'a>) -> Result<MountStatus, GetError> {
         let value = MountStatus::take(input)?;
         Ok(value)
@@ -111,7 +111,6 @@ impl Walk for MountStatus {
 
     ghost items = { mount_status_items };
 
-    #[tactic(auto, unfolding(crate::specs::Names::names))]
     fn walk<V: Visit>(&self, visitor: &mut V) -> Result<(), AllocError> {
         walk_fields(&[Field::Word("status", self.number())], visitor)
     }
@@ -128,7 +127,6 @@ impl<'a> Xdr<'a> for Flavor {
 
     ghost shape = { flavor };
 
-    #[tactic(auto, unfolding(xdr3::specs::Reading::reading, crate::specs::Shapes::flavor))]
     fn get(_alloc: Global, input: &mut Input<'a>) -> Result<Flavor, GetError> {
         let number = input.word()?;
         Ok(Flavor { number })
@@ -140,7 +138,6 @@ impl Walk for Flavor {
 
     ghost items = { flavor_items };
 
-    #[tactic(auto, unfolding(crate::specs::Names::names))]
     fn walk<V: Visit>(&self, visitor: &mut V) -> Result<(), AllocError> {
         walk_fields(&[Field::Word("flavor", self.number)], visitor)
     }
@@ -193,7 +190,6 @@ impl<'a> Xdr<'a> for Mounted<'a> {
 
     ghost shape = { mounted };
 
-    #[tactic(auto, unfolding(xdr3::specs::Reading::reading, crate::specs::Shapes::mounted))]
     fn get(_alloc: Global, input: &mut Input<'a>) -> Result<Mounted<'a>, GetError> {
         let hostname = input.var(255)?;
         let directory = input.var(1024)?;
@@ -209,7 +205,6 @@ impl<'a> Walk for Mounted<'a> {
 
     ghost items = { mounted_items };
 
-    #[tactic(auto, unfolding(crate::specs::Names::names))]
     fn walk<V: Visit>(&self, visitor: &mut V) -> Result<(), AllocError> {
         let all = [
             Field::Text("hostname", self.hostname),
@@ -242,7 +237,6 @@ impl<'a> Walk for MountList<'a> {
 
     ghost items = { mount_list_items };
 
-    #[tactic(auto, unfolding(crate::specs::Names::names))]
     fn walk<V: Visit>(&self, visitor: &mut V) -> Result<(), AllocError> {
         walk_linked("entry", self.entries.as_slice(), visitor)
     }
@@ -260,7 +254,6 @@ impl<'a> Xdr<'a> for Group<'a> {
 
     ghost shape = { group };
 
-    #[tactic(auto, unfolding(xdr3::specs::Reading::reading, crate::specs::Shapes::group))]
     fn get(_alloc: Global, input: &mut Input<'a>) -> Result<Group<'a>, GetError> {
         let name = input.var(255)?;
         Ok(Group { name })
@@ -272,7 +265,6 @@ impl<'a> Walk for Group<'a> {
 
     ghost items = { export_group_items };
 
-    #[tactic(auto, unfolding(crate::specs::Names::names))]
     fn walk<V: Visit>(&self, visitor: &mut V) -> Result<(), AllocError> {
         walk_fields(&[Field::Text("name", self.name)], visitor)
     }
@@ -304,7 +296,6 @@ impl<'a> Walk for Export<'a> {
 
     ghost items = { export_items };
 
-    #[tactic(auto, using(xdr3::proofs::Lemmas::Shapes::Walks::steps), unfolding(crate::specs::Names::names))]
     fn walk<V: Visit>(&self, visitor: &mut V) -> Result<(), AllocError> {
         walk_fields(&[Field::Text("directory", self.directory)], visitor)?;
         walk_linked("group", self.groups.as_slice(), visitor)?;
@@ -323,7 +314,6 @@ impl<'a> Xdr<'a> for Exports<'a> {
 
     ghost shape = { exports };
 
-    #[tactic(auto, unfolding(crate::specs::Shapes::exports))]
     fn get(alloc: Global, input: &mut Input<'a>) -> Result<Exports<'a>, GetError> {
         let entries = get_linked(alloc, input)?;
         Ok(Exports { entries })
@@ -335,7 +325,6 @@ impl<'a> Walk for Exports<'a> {
 
     ghost items = { exports_items };
 
-    #[tactic(auto, unfolding(crate::specs::Names::names))]
     fn walk<V: Visit>(&self, visitor: &mut V) -> Result<(), AllocError> {
         walk_linked("entry", self.entries.as_slice(), visitor)
     }

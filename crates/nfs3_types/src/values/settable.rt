@@ -1,4 +1,5 @@
 //! Attributes that a caller sets (RFC 1813, sections 2.6 and 3.3.2).
+#![tactic(auto, using(xdr3::proofs::Lemmas::Shapes::Walks::steps), unfolding(xdr3::specs::Reading::reading, xdr3::specs::Shape::optional, crate::specs::Shapes::set_word, crate::specs::Shapes::set_hyper, crate::specs::Shapes::guard, crate::specs::Names::names))]
 
 ghost use Rattle.std.specs.Prelude.{ℕ, List, OnErr, OnOk};
 ghost use Rattle.xdr3.specs.Reading.{reading};
@@ -51,7 +52,6 @@ impl Walk for Sattr {
 
     ghost items = { settable_items };
 
-    #[tactic(auto, using(xdr3::proofs::Lemmas::Shapes::Walks::steps), unfolding(crate::specs::Names::names))]
     fn walk<V: Visit>(&self, visitor: &mut V) -> Result<(), AllocError> {
         walk_set_word("set_mode", "mode", self.mode, visitor)?;
         walk_set_word("set_uid", "uid", self.uid, visitor)?;
@@ -66,7 +66,6 @@ impl Walk for Sattr {
 }
 
 /// Reads a bool, and a word if it is true.
-#[tactic(auto, unfolding(xdr3::specs::Reading::reading, xdr3::specs::Shape::optional, crate::specs::Shapes::set_word))]
 fn set_word(input: &mut Input) -> Result<Option<u32>, Stop>
     ensures read { (set name : List ℕ)
         → Answers (set_word_items set name) result input.new.at
@@ -82,7 +81,6 @@ fn set_word(input: &mut Input) -> Result<Option<u32>, Stop>
 }
 
 /// Reads a bool, and a hyper if it is true.
-#[tactic(auto, unfolding(xdr3::specs::Reading::reading, xdr3::specs::Shape::optional, crate::specs::Shapes::set_hyper))]
 fn set_hyper(input: &mut Input) -> Result<Option<u64>, Stop>
     ensures read { (set name : List ℕ)
         → Answers (set_hyper_items set name) result input.new.at
@@ -145,7 +143,6 @@ impl<'a> Xdr<'a> for Guard {
 
     ghost shape = { guard };
 
-    #[tactic(auto, unfolding(xdr3::specs::Reading::reading, xdr3::specs::Shape::optional, crate::specs::Shapes::guard))]
     fn get(_alloc: Global, input: &mut Input<'a>) -> Result<Guard, GetError> {
         if input.boolean()? {
             let time = Time::take(input)?;
@@ -161,7 +158,6 @@ impl Walk for Guard {
 
     ghost items = { guard_items };
 
-    #[tactic(auto, unfolding(crate::specs::Names::names))]
     fn walk<V: Visit>(&self, visitor: &mut V) -> Result<(), AllocError> {
         match self.check {
             None => walk_fields(&[Field::Word("check", 0)], visitor),

@@ -1,4 +1,5 @@
 //! Statuses, and results that depend on them (RFC 1813, section 2.6).
+#![tactic(auto, using(xdr3::proofs::Lemmas::Shapes::Walks::steps), unfolding(xdr3::specs::Reading::reading, crate::specs::Shapes::status, crate::specs::Names::names))]
 
 ghost use Rattle.std.specs.Prelude.{◌≡◌, ◌≢◌, ◌↔◌, IfSome, IsSome, IsTrue};
 ghost use Rattle.xdr3.specs.Reading.{word_at};
@@ -201,7 +202,6 @@ impl<'a> Xdr<'a> for Status {
 
     ghost shape = { status };
 
-    #[tactic(auto, unfolding(xdr3::specs::Reading::reading, crate::specs::Shapes::status))]
     fn get(_alloc: Global, input: &mut Input<'a>) -> Result<Status, GetError> {
         let value = Status::take(input)?;
         Ok(value)
@@ -213,7 +213,6 @@ impl Walk for Status {
 
     ghost items = { status_items };
 
-    #[tactic(auto, unfolding(crate::specs::Names::names))]
     fn walk<V: Visit>(&self, visitor: &mut V) -> Result<(), AllocError> {
         walk_fields(&[Field::Word("status", self.number())], visitor)
     }
@@ -240,8 +239,8 @@ impl<'a, T: Xdr<'a> + Drop, F: Xdr<'a> + Drop> Xdr<'a> for Res<T, F> {
                 Ok(Res::Done(done))
             }
             Status::Failed(failure) => {
-                let told = F::get(alloc, input)?;
-                Ok(Res::Failed(failure, told))
+                let failed = F::get(alloc, input)?;
+                Ok(Res::Failed(failure, failed))
             }
         }
     }
@@ -252,7 +251,6 @@ impl<T: Walk, F: Walk> Walk for Res<T, F> {
 
     ghost items = { λ r. items_by_status T.items F.items r };
 
-    #[tactic(auto, using(xdr3::proofs::Lemmas::Shapes::Walks::steps), unfolding(crate::specs::Names::names))]
     fn walk<V: Visit>(&self, visitor: &mut V) -> Result<(), AllocError> {
         match self {
             Res::Done(done) => {
@@ -260,9 +258,9 @@ impl<T: Walk, F: Walk> Walk for Res<T, F> {
                 done.walk(visitor)?;
                 Ok(())
             }
-            Res::Failed(failure, told) => {
+            Res::Failed(failure, failed) => {
                 visitor.word("status", failure.number())?;
-                told.walk(visitor)?;
+                failed.walk(visitor)?;
                 Ok(())
             }
         }

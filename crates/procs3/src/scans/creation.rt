@@ -1,4 +1,5 @@
 //! Creation of files and directories (RFC 1813, sections 3.3.8 to 3.3.11).
+#![tactic(auto, using(xdr3::proofs::Lemmas::Scans::ScanLemmas::scans), unfolding(crate::specs::Shapes::create_how, crate::specs::Shapes::mknod_what, crate::specs::Shapes::device, nfs3_types::specs::Names::names))]
 
 ghost use Rattle.nfs3_types.specs.Names.{names};
 ghost use Rattle.procs3.specs.Shapes.{create_how, mknod_what};
@@ -16,7 +17,6 @@ pub(crate) struct CreateHow;
 impl Scan for CreateHow {
     ghost shape = { create_how };
 
-    #[tactic(auto, using(xdr3::proofs::Lemmas::Scans::ScanLemmas::scans), unfolding(crate::specs::Shapes::create_how, nfs3_types::specs::Names::names))]
     fn scan<V: Visit>(input: &mut Input, visitor: &mut V) -> Result<(), GetError> {
         if scan_listed("how", &[0, 1, 2], input, visitor)? == 2 {
             CreateVerf::scan(input, visitor)
@@ -42,7 +42,6 @@ impl Scan for SpecData {
     ghost shape = { word names.spec1 then word names.spec2 };
 
     #[inline]
-    #[tactic(auto, using(xdr3::proofs::Lemmas::Scans::ScanLemmas::scans), unfolding(nfs3_types::specs::Names::names))]
     fn scan<V: Visit>(input: &mut Input, visitor: &mut V) -> Result<(), GetError> {
         scan_word("spec1", input, visitor)?;
         scan_word("spec2", input, visitor)?;
@@ -59,7 +58,6 @@ pub(crate) struct MkNodWhat;
 impl Scan for MkNodWhat {
     ghost shape = { mknod_what };
 
-    #[tactic(auto, using(xdr3::proofs::Lemmas::Scans::ScanLemmas::scans), unfolding(crate::specs::Shapes::mknod_what, crate::specs::Shapes::device, nfs3_types::specs::Names::names))]
     fn scan<V: Visit>(input: &mut Input, visitor: &mut V) -> Result<(), GetError> {
         match scan_listed("type", &[1, 2, 3, 4, 5, 6, 7], input, visitor)? {
             3 | 4 => Device::scan(input, visitor),

@@ -1,4 +1,5 @@
 //! Directories (RFC 1813, sections 3.3.3 and 3.3.14 to 3.3.17).
+#![tactic(auto, using(xdr3::proofs::Lemmas::Scans::ScanLemmas::scans), unfolding(nfs3_types::specs::Names::names))]
 
 ghost use Rattle.nfs3_types.specs.Names.{names};
 ghost use Rattle.xdr3.specs.Scan.{Scans};
@@ -38,7 +39,6 @@ impl<E: Scan> Scan for Entries<E> {
     ghost shape = { linked names.entry E.shape };
 
     #[inline(always)]
-    #[tactic(auto, using(xdr3::proofs::Lemmas::Scans::ScanLemmas::scans), unfolding(nfs3_types::specs::Names::names))]
     fn scan<V: Visit>(input: &mut Input, visitor: &mut V) -> Result<(), GetError> {
         scan_linked::<E, V>("entry", input, visitor)
     }
@@ -57,7 +57,6 @@ impl Scan for DirCounts {
     ghost shape = { word names.dircount then word names.maxcount };
 
     #[inline]
-    #[tactic(auto, using(xdr3::proofs::Lemmas::Scans::ScanLemmas::scans), unfolding(nfs3_types::specs::Names::names))]
     fn scan<V: Visit>(input: &mut Input, visitor: &mut V) -> Result<(), GetError> {
         scan_word("dircount", input, visitor)?;
         scan_word("maxcount", input, visitor)?;

@@ -1,4 +1,5 @@
 //! File systems (RFC 1813, sections 3.3.18 to 3.3.20).
+#![tactic(auto, using(xdr3::proofs::Lemmas::Shapes::FlatLemmas::flats), unfolding(nfs3_types::specs::Shapes::time, nfs3_types::specs::Names::names))]
 
 ghost use Rattle.nfs3_types.specs.Names.{names};
 ghost use Rattle.nfs3_types.specs.Shapes.{time};
@@ -35,7 +36,6 @@ impl Scan for FsStatNumbers {
         then word names.invarsec };
 
     #[inline]
-    #[tactic(auto, using(xdr3::proofs::Lemmas::Shapes::FlatLemmas::flats), unfolding(nfs3_types::specs::Names::names))]
     fn scan<V: Visit>(input: &mut Input, visitor: &mut V) -> Result<(), GetError> {
         scan_plain(&FSSTAT, 52, input, visitor)?;
         Ok(())
@@ -70,7 +70,6 @@ impl Scan for FsInfoNumbers {
         then time names.delta_sec names.delta_nsec then word names.properties };
 
     #[inline]
-    #[tactic(auto, using(xdr3::proofs::Lemmas::Shapes::FlatLemmas::flats), unfolding(nfs3_types::specs::Shapes::time, nfs3_types::specs::Names::names))]
     fn scan<V: Visit>(input: &mut Input, visitor: &mut V) -> Result<(), GetError> {
         scan_plain(&FSINFO, 48, input, visitor)?;
         Ok(())

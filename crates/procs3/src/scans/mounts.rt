@@ -1,4 +1,5 @@
 //! MOUNT version 3 (RFC 1813, section 5.2).
+#![tactic(auto, using(xdr3::proofs::Lemmas::Scans::ScanLemmas::scans), unfolding(crate::specs::Shapes::dirpath, crate::specs::Shapes::mount_results, nfs3_types::specs::Names::names))]
 
 ghost use Rattle.xdr3.specs.Scan.{Scans};
 
@@ -14,7 +15,6 @@ impl Scan for DirPath {
 
     ghost shape = { dirpath };
 
-    #[tactic(auto, using(xdr3::proofs::Lemmas::Scans::ScanLemmas::scans), unfolding(crate::specs::Shapes::dirpath, nfs3_types::specs::Names::names))]
     fn scan<V: Visit>(input: &mut Input, visitor: &mut V) -> Result<(), GetError> {
         scan_path("dirpath", input, visitor)
     }
@@ -28,7 +28,6 @@ impl Scan for MountRes {
 
     ghost shape = { mount_results };
 
-    #[tactic(auto, using(xdr3::proofs::Lemmas::Scans::ScanLemmas::scans), unfolding(crate::specs::Shapes::mount_results, nfs3_types::specs::Names::names))]
     fn scan<V: Visit>(input: &mut Input, visitor: &mut V) -> Result<(), GetError> {
         let words = [0, 1, 2, 5, 13, 20, 22, 63, 10_004, 10_006];
         if scan_listed("status", &words, input, visitor)? == 0 {

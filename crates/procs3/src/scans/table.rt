@@ -1,5 +1,6 @@
 //! Arguments and results by procedure, passed to a visitor as they are read (RFC 1813, sections 3.3
 //! and 5.2).
+#![tactic(auto, using(xdr3::proofs::Lemmas::Scans::ScanLemmas::layouts), unfolding(crate::specs::Table::arguments_of, crate::specs::Shapes::setattr_args, crate::specs::Shapes::access_args, crate::specs::Shapes::file_range, crate::specs::Shapes::write_args, crate::specs::Shapes::create_args, crate::specs::Shapes::mkdir_args, crate::specs::Shapes::symlink_args, crate::specs::Shapes::mknod_args, crate::specs::Shapes::rename_args, crate::specs::Shapes::link_args, crate::specs::Shapes::readdir_args, crate::specs::Shapes::readdirplus_args, crate::specs::Table::results_of, crate::specs::Shapes::lookup_ok, crate::specs::Shapes::access_ok, crate::specs::Shapes::readlink_ok, crate::specs::Shapes::read_ok, crate::specs::Shapes::write_ok, crate::specs::Shapes::create_ok, crate::specs::Shapes::rename_wcc, crate::specs::Shapes::link_wcc, crate::specs::Shapes::readdir_ok, crate::specs::Shapes::entry, crate::specs::Shapes::readdirplus_ok, crate::specs::Shapes::entry_plus, crate::specs::Shapes::fsstat_ok, crate::specs::Shapes::fsinfo_ok, crate::specs::Shapes::pathconf_ok, crate::specs::Shapes::commit_ok, nfs3_types::specs::Names::names))]
 
 ghost use Rattle.std.specs.Prelude.{◌≤◌, IfErr, OnOk};
 ghost use Rattle.procs3.specs.Table.{arguments_of, mount_arguments, mount_results_of, nfs_arguments, nfs_results, results_of};
@@ -28,7 +29,6 @@ use xdr3::{GetError, Input, Scan, Visit, scan_rest};
 ///
 /// - `Stop` with the position and the reason of the first fault.
 /// - `Memory` if the visitor fails.
-#[tactic(auto, using(xdr3::proofs::Lemmas::Scans::ScanLemmas::layouts), unfolding(crate::specs::Table::arguments_of, nfs3_types::specs::Names::names))]
 pub fn scan_arguments<V: Visit>(
     id: ProcId,
     input: &mut Input,
@@ -46,7 +46,6 @@ pub fn scan_arguments<V: Visit>(
 }
 
 /// Those of a procedure of NFS version 3 (RFC 1813, section 3.3).
-#[tactic(auto, using(xdr3::proofs::Lemmas::Scans::ScanLemmas::layouts), unfolding(crate::specs::Shapes::setattr_args, crate::specs::Shapes::access_args, crate::specs::Shapes::file_range, crate::specs::Shapes::write_args, nfs3_types::specs::Names::names))]
 fn scan_nfs_arguments<V: Visit>(
     proc_no: u32,
     input: &mut Input,
@@ -70,7 +69,6 @@ fn scan_nfs_arguments<V: Visit>(
 }
 
 /// Those of CREATE, or a procedure after it.
-#[tactic(auto, using(xdr3::proofs::Lemmas::Scans::ScanLemmas::layouts), unfolding(crate::specs::Shapes::create_args, crate::specs::Shapes::mkdir_args, crate::specs::Shapes::symlink_args, crate::specs::Shapes::mknod_args, crate::specs::Shapes::rename_args, nfs3_types::specs::Names::names))]
 fn scan_nfs_arguments_from_create<V: Visit>(
     proc_no: u32,
     input: &mut Input,
@@ -94,7 +92,6 @@ fn scan_nfs_arguments_from_create<V: Visit>(
 }
 
 /// Those of LINK, or a procedure after it.
-#[tactic(auto, using(xdr3::proofs::Lemmas::Scans::ScanLemmas::layouts), unfolding(crate::specs::Shapes::link_args, crate::specs::Shapes::readdir_args, crate::specs::Shapes::readdirplus_args, crate::specs::Shapes::file_range, nfs3_types::specs::Names::names))]
 fn scan_nfs_arguments_from_link<V: Visit>(
     proc_no: u32,
     input: &mut Input,
@@ -118,7 +115,6 @@ fn scan_nfs_arguments_from_link<V: Visit>(
 }
 
 /// Those of a procedure of MOUNT version 3 (RFC 1813, section 5.2).
-#[tactic(auto, using(xdr3::proofs::Lemmas::Scans::ScanLemmas::layouts), unfolding(nfs3_types::specs::Names::names))]
 fn scan_mount_arguments<V: Visit>(
     proc_no: u32,
     input: &mut Input,
@@ -147,7 +143,6 @@ fn scan_mount_arguments<V: Visit>(
 ///
 /// - `Stop` with the position and the reason of the first fault.
 /// - `Memory` if the visitor fails.
-#[tactic(auto, using(xdr3::proofs::Lemmas::Scans::ScanLemmas::layouts), unfolding(crate::specs::Table::results_of, nfs3_types::specs::Names::names))]
 pub fn scan_results<V: Visit>(
     id: ProcId,
     input: &mut Input,
@@ -165,7 +160,6 @@ pub fn scan_results<V: Visit>(
 }
 
 /// Those of a procedure of NFS version 3 (RFC 1813, section 3.3).
-#[tactic(auto, using(xdr3::proofs::Lemmas::Scans::ScanLemmas::layouts), unfolding(crate::specs::Shapes::lookup_ok, crate::specs::Shapes::access_ok, crate::specs::Shapes::readlink_ok, crate::specs::Shapes::read_ok, crate::specs::Shapes::write_ok, nfs3_types::specs::Names::names))]
 fn scan_nfs_results<V: Visit>(
     proc_no: u32,
     input: &mut Input,
@@ -189,7 +183,6 @@ fn scan_nfs_results<V: Visit>(
 }
 
 /// Those of CREATE, or a procedure after it.
-#[tactic(auto, using(xdr3::proofs::Lemmas::Scans::ScanLemmas::layouts), unfolding(crate::specs::Shapes::create_ok, crate::specs::Shapes::rename_wcc, nfs3_types::specs::Names::names))]
 fn scan_nfs_results_from_create<V: Visit>(
     proc_no: u32,
     input: &mut Input,
@@ -213,7 +206,6 @@ fn scan_nfs_results_from_create<V: Visit>(
 }
 
 /// Those of LINK, or a procedure after it.
-#[tactic(auto, using(xdr3::proofs::Lemmas::Scans::ScanLemmas::layouts), unfolding(crate::specs::Shapes::link_wcc, crate::specs::Shapes::readdir_ok, crate::specs::Shapes::entry, crate::specs::Shapes::readdirplus_ok, crate::specs::Shapes::entry_plus, crate::specs::Shapes::fsstat_ok, crate::specs::Shapes::fsinfo_ok, crate::specs::Shapes::pathconf_ok, crate::specs::Shapes::commit_ok, nfs3_types::specs::Names::names))]
 fn scan_nfs_results_from_link<V: Visit>(
     proc_no: u32,
     input: &mut Input,
@@ -237,7 +229,6 @@ fn scan_nfs_results_from_link<V: Visit>(
 }
 
 /// Those of a procedure of MOUNT version 3 (RFC 1813, section 5.2).
-#[tactic(auto, using(xdr3::proofs::Lemmas::Scans::ScanLemmas::layouts), unfolding(nfs3_types::specs::Names::names))]
 fn scan_mount_results<V: Visit>(
     proc_no: u32,
     input: &mut Input,

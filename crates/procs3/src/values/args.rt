@@ -1,4 +1,5 @@
 //! The arguments of calls.
+#![tactic(auto, unfolding(xdr3::specs::Reading::reading, xdr3::specs::Layout::reading_layout, crate::specs::Table::arguments_of, nfs3_types::specs::Names::names))]
 
 ghost use Rattle.std.specs.Prelude.{◌≡◌, ◌≤◌, IfOk};
 ghost use Rattle.procs3.specs.Items.{args_items};
@@ -100,7 +101,6 @@ impl<'a> Args<'a> {
         Args::of_procedure(alloc, id, input)
     }
 
-    #[tactic(auto, unfolding(xdr3::specs::Layout::reading_layout, crate::specs::Table::arguments_of))]
     fn of_procedure(alloc: Global, id: ProcId, input: &mut Input<'a>) -> Result<Args<'a>, GetError>
         ensures read { Gives args_items result input.new.at
             (reading_layout (arguments_of id) input.old.body input.old.at) }
@@ -117,7 +117,6 @@ impl<'a> Args<'a> {
     }
 
     /// Those of a procedure of NFS version 3.
-    #[tactic(auto, unfolding(xdr3::specs::Reading::reading, xdr3::specs::Layout::reading_layout))]
     fn get_nfs(alloc: Global, proc_no: u32, input: &mut Input<'a>) -> Result<Args<'a>, GetError>
         ensures read { Gives args_items result input.new.at
             (reading_layout (nfs_arguments proc_no) input.old.body input.old.at) }
@@ -140,7 +139,6 @@ impl<'a> Args<'a> {
     }
 
     /// Those of CREATE, or a procedure after it.
-    #[tactic(auto, unfolding(xdr3::specs::Reading::reading, xdr3::specs::Layout::reading_layout))]
     fn get_nfs_from_create(
         alloc: Global,
         proc_no: u32,
@@ -167,7 +165,6 @@ impl<'a> Args<'a> {
     }
 
     /// Those of LINK, or a procedure after it.
-    #[tactic(auto, unfolding(xdr3::specs::Reading::reading, xdr3::specs::Layout::reading_layout))]
     fn get_nfs_from_link(
         alloc: Global,
         proc_no: u32,
@@ -194,7 +191,6 @@ impl<'a> Args<'a> {
     }
 
     /// Those of a procedure of MOUNT version 3.
-    #[tactic(auto, unfolding(xdr3::specs::Reading::reading, xdr3::specs::Layout::reading_layout))]
     fn get_mount(alloc: Global, proc_no: u32, input: &mut Input<'a>) -> Result<Args<'a>, GetError>
         ensures read { Gives args_items result input.new.at
             (reading_layout (mount_arguments proc_no) input.old.body input.old.at) }
@@ -220,7 +216,6 @@ impl Walk for Args<'_> {
 
     ghost items = { args_items };
 
-    #[tactic(auto, unfolding(nfs3_types::specs::Names::names))]
     fn walk<V: Visit>(&self, visitor: &mut V) -> Result<(), AllocError> {
         match self {
             Args::Null | Args::MountNull | Args::Dump | Args::UmntAll | Args::Export => walk_fields(

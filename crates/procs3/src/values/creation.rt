@@ -1,4 +1,5 @@
 //! Arguments and results of the procedures that make a file (RFC 1813, sections 3.3.8 to 3.3.11).
+#![tactic(auto, using(xdr3::proofs::Lemmas::Shapes::Walks::steps), unfolding(xdr3::specs::Reading::reading, nfs3_types::specs::Names::names))]
 
 use crate::values::tagged::walk_tagged;
 use nfs3_types::{DirOp, PostOpAttr, PostOpFh, Sattr, Wcc};
@@ -30,7 +31,6 @@ impl<'a> Walk for CreateArgs<'a> {
 
     ghost items = { create_args_items };
 
-    #[tactic(auto, using(xdr3::proofs::Lemmas::Shapes::Walks::steps), unfolding(nfs3_types::specs::Names::names))]
     fn walk<V: Visit>(&self, visitor: &mut V) -> Result<(), AllocError> {
         self.place.walk(visitor)?;
         self.how.walk(visitor)?;
@@ -63,7 +63,6 @@ impl<'a> Walk for MkDirArgs<'a> {
 
     ghost items = { mkdir_args_items };
 
-    #[tactic(auto, using(xdr3::proofs::Lemmas::Shapes::Walks::steps), unfolding(nfs3_types::specs::Names::names))]
     fn walk<V: Visit>(&self, visitor: &mut V) -> Result<(), AllocError> {
         self.place.walk(visitor)?;
         self.attr.walk(visitor)?;
@@ -99,7 +98,6 @@ impl<'a> Walk for SymLinkArgs<'a> {
 
     ghost items = { symlink_args_items };
 
-    #[tactic(auto, using(xdr3::proofs::Lemmas::Shapes::Walks::steps), unfolding(nfs3_types::specs::Names::names))]
     fn walk<V: Visit>(&self, visitor: &mut V) -> Result<(), AllocError> {
         self.place.walk(visitor)?;
         self.attr.walk(visitor)?;
@@ -136,7 +134,6 @@ impl Walk for Device {
 
     ghost items = { device_items };
 
-    #[tactic(auto, using(xdr3::proofs::Lemmas::Shapes::Walks::steps), unfolding(nfs3_types::specs::Names::names))]
     fn walk<V: Visit>(&self, visitor: &mut V) -> Result<(), AllocError> {
         self.attr.walk(visitor)?;
         let all = [
@@ -173,7 +170,6 @@ impl<'a> Walk for MkNodArgs<'a> {
 
     ghost items = { mknod_args_items };
 
-    #[tactic(auto, using(xdr3::proofs::Lemmas::Shapes::Walks::steps), unfolding(nfs3_types::specs::Names::names))]
     fn walk<V: Visit>(&self, visitor: &mut V) -> Result<(), AllocError> {
         self.place.walk(visitor)?;
         self.what.walk(visitor)?;
@@ -209,7 +205,6 @@ impl Walk for CreateOk {
 
     ghost items = { create_ok_items };
 
-    #[tactic(auto, using(xdr3::proofs::Lemmas::Shapes::Walks::steps), unfolding(nfs3_types::specs::Names::names))]
     fn walk<V: Visit>(&self, visitor: &mut V) -> Result<(), AllocError> {
         self.handle.walk(visitor)?;
         self.attr.walk(visitor)?;
@@ -256,7 +251,6 @@ impl Walk for CreateHow {
 
     ghost items = { create_how_items };
 
-    #[tactic(auto, unfolding(nfs3_types::specs::Names::names))]
     fn walk<V: Visit>(&self, visitor: &mut V) -> Result<(), AllocError> {
         match self {
             CreateHow::Unchecked(attr) => walk_tagged("how", 0, attr, visitor),
@@ -319,7 +313,6 @@ impl Walk for MkNodWhat {
 
     ghost items = { mknod_what_items };
 
-    #[tactic(auto, unfolding(nfs3_types::specs::Names::names))]
     fn walk<V: Visit>(&self, visitor: &mut V) -> Result<(), AllocError> {
         match self {
             MkNodWhat::Reg => walk_fields(&[Field::Word("type", 1)], visitor),

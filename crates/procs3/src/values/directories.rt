@@ -1,4 +1,5 @@
 //! Arguments and results of the procedures on names in directories (RFC 1813, section 3.3).
+#![tactic(auto, using(xdr3::proofs::Lemmas::Shapes::Walks::steps), unfolding(xdr3::specs::Reading::reading, crate::specs::Shapes::readdir_args, crate::specs::Shapes::readdirplus_args, nfs3_types::specs::Names::names))]
 
 use nfs3_types::{DirOp, Handle, PostOpAttr, PostOpFh, Wcc};
 use std::alloc::{AllocError, Global};
@@ -32,7 +33,6 @@ impl Walk for LookupOk {
 
     ghost items = { lookup_ok_items };
 
-    #[tactic(auto, using(xdr3::proofs::Lemmas::Shapes::Walks::steps), unfolding(nfs3_types::specs::Names::names))]
     fn walk<V: Visit>(&self, visitor: &mut V) -> Result<(), AllocError> {
         self.handle.walk(visitor)?;
         self.attr.walk(visitor)?;
@@ -66,7 +66,6 @@ impl<'a> Walk for RenameArgs<'a> {
 
     ghost items = { rename_args_items };
 
-    #[tactic(auto, using(xdr3::proofs::Lemmas::Shapes::Walks::steps), unfolding(nfs3_types::specs::Names::names))]
     fn walk<V: Visit>(&self, visitor: &mut V) -> Result<(), AllocError> {
         self.from.walk(visitor)?;
         self.to.walk(visitor)?;
@@ -100,7 +99,6 @@ impl Walk for RenameWcc {
 
     ghost items = { rename_wcc_items };
 
-    #[tactic(auto, using(xdr3::proofs::Lemmas::Shapes::Walks::steps), unfolding(nfs3_types::specs::Names::names))]
     fn walk<V: Visit>(&self, visitor: &mut V) -> Result<(), AllocError> {
         self.from.walk(visitor)?;
         self.to.walk(visitor)?;
@@ -133,7 +131,6 @@ impl<'a> Walk for LinkArgs<'a> {
 
     ghost items = { link_args_items };
 
-    #[tactic(auto, using(xdr3::proofs::Lemmas::Shapes::Walks::steps), unfolding(nfs3_types::specs::Names::names))]
     fn walk<V: Visit>(&self, visitor: &mut V) -> Result<(), AllocError> {
         self.handle.walk(visitor)?;
         self.place.walk(visitor)?;
@@ -167,7 +164,6 @@ impl Walk for LinkWcc {
 
     ghost items = { link_wcc_items };
 
-    #[tactic(auto, using(xdr3::proofs::Lemmas::Shapes::Walks::steps), unfolding(nfs3_types::specs::Names::names))]
     fn walk<V: Visit>(&self, visitor: &mut V) -> Result<(), AllocError> {
         self.attr.walk(visitor)?;
         self.dir.walk(visitor)?;
@@ -189,7 +185,6 @@ impl<'a> Xdr<'a> for ReadDirArgs {
 
     ghost shape = { readdir_args };
 
-    #[tactic(auto, unfolding(xdr3::specs::Reading::reading, crate::specs::Shapes::readdir_args))]
     fn get(alloc: Global, input: &mut Input<'a>) -> Result<ReadDirArgs, GetError> {
         let handle = Handle::get(alloc, input)?;
         let cookie = input.hyper()?;
@@ -209,7 +204,6 @@ impl Walk for ReadDirArgs {
 
     ghost items = { readdir_args_items };
 
-    #[tactic(auto, unfolding(nfs3_types::specs::Names::names))]
     fn walk<V: Visit>(&self, visitor: &mut V) -> Result<(), AllocError> {
         let all = [
             Field::Handle("fh", self.handle.as_slice()),
@@ -252,7 +246,6 @@ impl<'a> Walk for Entry<'a> {
 
     ghost items = { entry_items };
 
-    #[tactic(auto, unfolding(nfs3_types::specs::Names::names))]
     fn walk<V: Visit>(&self, visitor: &mut V) -> Result<(), AllocError> {
         let all = [
             Field::Hyper("fileid", self.fileid),
@@ -297,7 +290,6 @@ impl<'a> Walk for ReadDirOk<'a> {
 
     ghost items = { readdir_ok_items };
 
-    #[tactic(auto, using(xdr3::proofs::Lemmas::Shapes::Walks::steps), unfolding(nfs3_types::specs::Names::names))]
     fn walk<V: Visit>(&self, visitor: &mut V) -> Result<(), AllocError> {
         self.attr.walk(visitor)?;
         walk_fields(&[Field::Fixed("cookieverf", self.cookieverf)], visitor)?;
@@ -322,7 +314,6 @@ impl<'a> Xdr<'a> for ReadDirPlusArgs {
 
     ghost shape = { readdirplus_args };
 
-    #[tactic(auto, unfolding(xdr3::specs::Reading::reading, crate::specs::Shapes::readdirplus_args))]
     fn get(alloc: Global, input: &mut Input<'a>) -> Result<ReadDirPlusArgs, GetError> {
         let handle = Handle::get(alloc, input)?;
         let cookie = input.hyper()?;
@@ -344,7 +335,6 @@ impl Walk for ReadDirPlusArgs {
 
     ghost items = { readdirplus_args_items };
 
-    #[tactic(auto, unfolding(nfs3_types::specs::Names::names))]
     fn walk<V: Visit>(&self, visitor: &mut V) -> Result<(), AllocError> {
         let all = [
             Field::Handle("fh", self.handle.as_slice()),
@@ -395,7 +385,6 @@ impl<'a> Walk for EntryPlus<'a> {
 
     ghost items = { entry_plus_items };
 
-    #[tactic(auto, using(xdr3::proofs::Lemmas::Shapes::Walks::steps), unfolding(nfs3_types::specs::Names::names))]
     fn walk<V: Visit>(&self, visitor: &mut V) -> Result<(), AllocError> {
         let all = [
             Field::Hyper("fileid", self.fileid),
@@ -443,7 +432,6 @@ impl<'a> Walk for ReadDirPlusOk<'a> {
 
     ghost items = { readdirplus_ok_items };
 
-    #[tactic(auto, using(xdr3::proofs::Lemmas::Shapes::Walks::steps), unfolding(nfs3_types::specs::Names::names))]
     fn walk<V: Visit>(&self, visitor: &mut V) -> Result<(), AllocError> {
         self.attr.walk(visitor)?;
         walk_fields(&[Field::Fixed("cookieverf", self.cookieverf)], visitor)?;

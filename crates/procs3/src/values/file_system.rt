@@ -1,4 +1,5 @@
 //! The results of the procedures on a file system (RFC 1813, sections 3.3.18 to 3.3.20).
+#![tactic(auto, using(xdr3::proofs::Lemmas::Shapes::Walks::steps), unfolding(xdr3::specs::Reading::reading, nfs3_types::specs::Names::names))]
 
 use nfs3_types::{PostOpAttr, Time};
 use std::alloc::{AllocError, Global};
@@ -51,7 +52,6 @@ impl Walk for FsStatOk {
 
     ghost items = { fsstat_ok_items };
 
-    #[tactic(auto, using(xdr3::proofs::Lemmas::Shapes::Walks::steps), unfolding(nfs3_types::specs::Names::names))]
     fn walk<V: Visit>(&self, visitor: &mut V) -> Result<(), AllocError> {
         self.attr.walk(visitor)?;
         let all = [
@@ -124,7 +124,6 @@ impl Walk for FsInfoOk {
 
     ghost items = { fsinfo_ok_items };
 
-    #[tactic(auto, using(xdr3::proofs::Lemmas::Shapes::Walks::steps), unfolding(nfs3_types::specs::Names::names))]
     fn walk<V: Visit>(&self, visitor: &mut V) -> Result<(), AllocError> {
         self.attr.walk(visitor)?;
         let all = [
@@ -188,7 +187,6 @@ impl Walk for PathConfOk {
 
     ghost items = { pathconf_ok_items };
 
-    #[tactic(auto, using(xdr3::proofs::Lemmas::Shapes::Walks::steps), unfolding(nfs3_types::specs::Names::names))]
     fn walk<V: Visit>(&self, visitor: &mut V) -> Result<(), AllocError> {
         self.attr.walk(visitor)?;
         let all = [

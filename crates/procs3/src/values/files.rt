@@ -1,4 +1,5 @@
 //! Arguments and results of the procedures on a file (RFC 1813, section 3.3).
+#![tactic(auto, using(xdr3::proofs::Lemmas::Shapes::Walks::steps, crate::proofs::ItemLemmas::followed_items), unfolding(xdr3::specs::Reading::reading, crate::specs::Shapes::access_args, crate::specs::Shapes::file_range, crate::specs::Shapes::write_args, crate::specs::Shapes::setattr_args, crate::specs::Shapes::access_ok, crate::specs::Shapes::readlink_ok, crate::specs::Shapes::read_ok, crate::specs::Shapes::write_ok, crate::specs::Shapes::commit_ok, nfs3_types::specs::Names::names))]
 
 use nfs3_types::{Guard, Handle, PostOpAttr, Sattr, Stable, Wcc};
 use std::alloc::{AllocError, Global};
@@ -17,7 +18,6 @@ impl<'a> Xdr<'a> for SetAttrArgs {
 
     ghost shape = { setattr_args };
 
-    #[tactic(auto, unfolding(xdr3::specs::Reading::reading, crate::specs::Shapes::setattr_args, xdr3::specs::Item::followed_by))]
     fn get(alloc: Global, input: &mut Input<'a>) -> Result<SetAttrArgs, GetError> {
         let handle = Handle::get(alloc, input)?;
         let attr = Sattr::get(alloc, input)?;
@@ -35,7 +35,6 @@ impl Walk for SetAttrArgs {
 
     ghost items = { setattr_args_items };
 
-    #[tactic(auto, using(xdr3::proofs::Lemmas::Shapes::Walks::steps), unfolding(nfs3_types::specs::Names::names))]
     fn walk<V: Visit>(&self, visitor: &mut V) -> Result<(), AllocError> {
         self.handle.walk(visitor)?;
         self.attr.walk(visitor)?;
@@ -56,7 +55,6 @@ impl<'a> Xdr<'a> for AccessArgs {
 
     ghost shape = { access_args };
 
-    #[tactic(auto, unfolding(xdr3::specs::Reading::reading, crate::specs::Shapes::access_args))]
     fn get(alloc: Global, input: &mut Input<'a>) -> Result<AccessArgs, GetError> {
         let handle = Handle::get(alloc, input)?;
         let access = input.word()?;
@@ -69,7 +67,6 @@ impl Walk for AccessArgs {
 
     ghost items = { access_args_items };
 
-    #[tactic(auto, unfolding(nfs3_types::specs::Names::names))]
     fn walk<V: Visit>(&self, visitor: &mut V) -> Result<(), AllocError> {
         let all = [
             Field::Handle("fh", self.handle.as_slice()),
@@ -91,7 +88,6 @@ impl<'a> Xdr<'a> for AccessOk {
 
     ghost shape = { access_ok };
 
-    #[tactic(auto, unfolding(xdr3::specs::Reading::reading, crate::specs::Shapes::access_ok, xdr3::specs::Item::followed_by))]
     fn get(alloc: Global, input: &mut Input<'a>) -> Result<AccessOk, GetError> {
         let attr = PostOpAttr::get(alloc, input)?;
         let access = input.word()?;
@@ -104,7 +100,6 @@ impl Walk for AccessOk {
 
     ghost items = { access_ok_items };
 
-    #[tactic(auto, using(xdr3::proofs::Lemmas::Shapes::Walks::steps), unfolding(nfs3_types::specs::Names::names))]
     fn walk<V: Visit>(&self, visitor: &mut V) -> Result<(), AllocError> {
         self.attr.walk(visitor)?;
         walk_fields(&[Field::Word("access", self.access)], visitor)?;
@@ -125,7 +120,6 @@ impl<'a> Xdr<'a> for ReadLinkOk<'a> {
 
     ghost shape = { readlink_ok };
 
-    #[tactic(auto, unfolding(xdr3::specs::Reading::reading, crate::specs::Shapes::readlink_ok, xdr3::specs::Item::followed_by))]
     fn get(alloc: Global, input: &mut Input<'a>) -> Result<ReadLinkOk<'a>, GetError> {
         let attr = PostOpAttr::get(alloc, input)?;
         let path = input.var(u32::MAX)?;
@@ -138,7 +132,6 @@ impl<'a> Walk for ReadLinkOk<'a> {
 
     ghost items = { readlink_ok_items };
 
-    #[tactic(auto, using(xdr3::proofs::Lemmas::Shapes::Walks::steps), unfolding(nfs3_types::specs::Names::names))]
     fn walk<V: Visit>(&self, visitor: &mut V) -> Result<(), AllocError> {
         self.attr.walk(visitor)?;
         walk_fields(&[Field::Text("path", self.path)], visitor)?;
@@ -160,7 +153,6 @@ impl<'a> Xdr<'a> for FileRange {
 
     ghost shape = { file_range };
 
-    #[tactic(auto, unfolding(xdr3::specs::Reading::reading, crate::specs::Shapes::file_range))]
     fn get(alloc: Global, input: &mut Input<'a>) -> Result<FileRange, GetError> {
         let handle = Handle::get(alloc, input)?;
         let offset = input.hyper()?;
@@ -178,7 +170,6 @@ impl Walk for FileRange {
 
     ghost items = { file_range_items };
 
-    #[tactic(auto, unfolding(nfs3_types::specs::Names::names))]
     fn walk<V: Visit>(&self, visitor: &mut V) -> Result<(), AllocError> {
         let all = [
             Field::Handle("fh", self.handle.as_slice()),
@@ -204,7 +195,6 @@ impl<'a> Xdr<'a> for ReadOk<'a> {
 
     ghost shape = { read_ok };
 
-    #[tactic(auto, unfolding(xdr3::specs::Reading::reading, crate::specs::Shapes::read_ok, xdr3::specs::Item::followed_by))]
     fn get(alloc: Global, input: &mut Input<'a>) -> Result<ReadOk<'a>, GetError> {
         let attr = PostOpAttr::get(alloc, input)?;
         let count = input.word()?;
@@ -224,7 +214,6 @@ impl<'a> Walk for ReadOk<'a> {
 
     ghost items = { read_ok_items };
 
-    #[tactic(auto, using(xdr3::proofs::Lemmas::Shapes::Walks::steps), unfolding(nfs3_types::specs::Names::names))]
     fn walk<V: Visit>(&self, visitor: &mut V) -> Result<(), AllocError> {
         self.attr.walk(visitor)?;
         let all = [
@@ -252,7 +241,6 @@ impl<'a> Xdr<'a> for WriteArgs<'a> {
 
     ghost shape = { write_args };
 
-    #[tactic(auto, unfolding(xdr3::specs::Reading::reading, crate::specs::Shapes::write_args))]
     fn get(alloc: Global, input: &mut Input<'a>) -> Result<WriteArgs<'a>, GetError> {
         let handle = Handle::get(alloc, input)?;
         let offset = input.hyper()?;
@@ -274,7 +262,6 @@ impl<'a> Walk for WriteArgs<'a> {
 
     ghost items = { write_args_items };
 
-    #[tactic(auto, unfolding(nfs3_types::specs::Names::names))]
     fn walk<V: Visit>(&self, visitor: &mut V) -> Result<(), AllocError> {
         let all = [
             Field::Handle("fh", self.handle.as_slice()),
@@ -301,7 +288,6 @@ impl<'a> Xdr<'a> for WriteOk {
 
     ghost shape = { write_ok };
 
-    #[tactic(auto, unfolding(xdr3::specs::Reading::reading, crate::specs::Shapes::write_ok, xdr3::specs::Item::followed_by))]
     fn get(alloc: Global, input: &mut Input<'a>) -> Result<WriteOk, GetError> {
         let wcc = Wcc::get(alloc, input)?;
         let count = input.word()?;
@@ -321,7 +307,6 @@ impl Walk for WriteOk {
 
     ghost items = { write_ok_items };
 
-    #[tactic(auto, using(xdr3::proofs::Lemmas::Shapes::Walks::steps), unfolding(nfs3_types::specs::Names::names))]
     fn walk<V: Visit>(&self, visitor: &mut V) -> Result<(), AllocError> {
         self.wcc.walk(visitor)?;
         let all = [
@@ -346,7 +331,6 @@ impl<'a> Xdr<'a> for CommitOk {
 
     ghost shape = { commit_ok };
 
-    #[tactic(auto, unfolding(xdr3::specs::Reading::reading, crate::specs::Shapes::commit_ok, xdr3::specs::Item::followed_by))]
     fn get(alloc: Global, input: &mut Input<'a>) -> Result<CommitOk, GetError> {
         let wcc = Wcc::get(alloc, input)?;
         let verf = input.fixed8()?;
@@ -359,7 +343,6 @@ impl Walk for CommitOk {
 
     ghost items = { commit_ok_items };
 
-    #[tactic(auto, using(xdr3::proofs::Lemmas::Shapes::Walks::steps), unfolding(nfs3_types::specs::Names::names))]
     fn walk<V: Visit>(&self, visitor: &mut V) -> Result<(), AllocError> {
         self.wcc.walk(visitor)?;
         walk_fields(&[Field::WriteVerf("verf", self.verf)], visitor)?;

@@ -1,4 +1,5 @@
 //! Arguments and results of MOUNT's procedures (RFC 1813, section 5.2).
+#![tactic(auto, unfolding(xdr3::specs::Reading::reading, crate::specs::Shapes::dirpath, nfs3_types::specs::Names::names))]
 
 use crate::values::tagged::walk_tagged;
 use nfs3_types::mount3::{MountOk, MountStatus};
@@ -17,7 +18,6 @@ impl<'a> Xdr<'a> for DirPath<'a> {
 
     ghost shape = { dirpath };
 
-    #[tactic(auto, unfolding(xdr3::specs::Reading::reading, crate::specs::Shapes::dirpath))]
     fn get(_alloc: Global, input: &mut Input<'a>) -> Result<DirPath<'a>, GetError> {
         let dirpath = input.var(1024)?;
         Ok(DirPath { dirpath })
@@ -29,7 +29,6 @@ impl<'a> Walk for DirPath<'a> {
 
     ghost items = { dirpath_items };
 
-    #[tactic(auto, unfolding(nfs3_types::specs::Names::names))]
     fn walk<V: Visit>(&self, visitor: &mut V) -> Result<(), AllocError> {
         let all = [Field::Text("dirpath", self.dirpath)];
         walk_fields(&all, visitor)
@@ -66,7 +65,6 @@ impl Walk for MountRes {
 
     ghost items = { mount_results_items };
 
-    #[tactic(auto, unfolding(nfs3_types::specs::Names::names))]
     fn walk<V: Visit>(&self, visitor: &mut V) -> Result<(), AllocError> {
         match self {
             MountRes::Done(done) => walk_tagged("status", 0, done, visitor),

@@ -1,4 +1,5 @@
 //! The results of accepted calls.
+#![tactic(auto, unfolding(xdr3::specs::Reading::reading, xdr3::specs::Layout::reading_layout, crate::specs::Table::results_of, nfs3_types::specs::Names::names))]
 
 ghost use Rattle.std.specs.Prelude.{◌≡◌, ◌≤◌, IfOk};
 ghost use Rattle.procs3.specs.Items.{results_items};
@@ -102,7 +103,6 @@ impl<'a> Results<'a> {
         Results::of_procedure(alloc, id, input)
     }
 
-    #[tactic(auto, unfolding(xdr3::specs::Layout::reading_layout, crate::specs::Table::results_of))]
     fn of_procedure(
         alloc: Global,
         id: ProcId,
@@ -123,7 +123,6 @@ impl<'a> Results<'a> {
     }
 
     /// Those of a procedure of NFS version 3.
-    #[tactic(auto, unfolding(xdr3::specs::Reading::reading, xdr3::specs::Layout::reading_layout))]
     fn get_nfs(alloc: Global, proc_no: u32, input: &mut Input<'a>) -> Result<Results<'a>, GetError>
         ensures read { Gives results_items result input.new.at
             (reading_layout (nfs_results proc_no) input.old.body input.old.at) }
@@ -146,7 +145,6 @@ impl<'a> Results<'a> {
     }
 
     /// Those of CREATE, or a procedure after it.
-    #[tactic(auto, unfolding(xdr3::specs::Reading::reading, xdr3::specs::Layout::reading_layout))]
     fn get_nfs_from_create(
         alloc: Global,
         proc_no: u32,
@@ -173,7 +171,6 @@ impl<'a> Results<'a> {
     }
 
     /// Those of LINK, or a procedure after it.
-    #[tactic(auto, unfolding(xdr3::specs::Reading::reading, xdr3::specs::Layout::reading_layout))]
     fn get_nfs_from_link(
         alloc: Global,
         proc_no: u32,
@@ -200,7 +197,6 @@ impl<'a> Results<'a> {
     }
 
     /// Those of a procedure of MOUNT version 3.
-    #[tactic(auto, unfolding(xdr3::specs::Reading::reading, xdr3::specs::Layout::reading_layout))]
     fn get_mount(
         alloc: Global,
         proc_no: u32,
@@ -230,7 +226,6 @@ impl Walk for Results<'_> {
 
     ghost items = { results_items };
 
-    #[tactic(auto, unfolding(nfs3_types::specs::Names::names))]
     fn walk<V: Visit>(&self, visitor: &mut V) -> Result<(), AllocError> {
         match self {
             Results::Null | Results::MountNull | Results::Umnt | Results::UmntAll => walk_fields(

@@ -32,8 +32,8 @@ opening_in run =
       flavor = big_number 4 (drop 16 run);
     }
 
--- The words of a call's head up to the credential's flavor stand between two places of one body,
--- and a visitor was told them.
+-- The words of a call's head up to the credential's flavor are between two positions of one body,
+-- and a visitor was passed them.
 pub record ScansOpening {V : Type 0} (stands : V → List Item → Type 0) (opening : Opening)
     (old new : View) (before after : V) : Type 0 where
   pub rpcvers : word_at (is_listed rpc_versions) RpcVersion old.body old.at ≡ Ok (2, old.at + 4)
@@ -47,8 +47,8 @@ pub record ScansOpening {V : Type 0} (stands : V → List Item → Type 0) (open
       ∷ Word head_names.prog opening.id.prog ∷ Word head_names.vers opening.id.vers
       ∷ Word head_names.proc opening.id.proc_no ∷ Word head_names.cred_flavor opening.flavor ∷ [])
 
--- The first two words of a reply's head stand between two places of one body, and a visitor was
--- told them.
+-- The first two words of a reply's head are between two positions of one body, and a visitor was
+-- passed them.
 pub record BeginsReply {V : Type 0} (stands : V → List Item → Type 0) (stat : ℕ)
     (accepted : ℕ → Bool) (other : Reason) (name : List ℕ) (second : ℕ) (old new : View)
     (before after : V) : Type 0 where

@@ -1,5 +1,6 @@
 //! Credentials and verifiers, passed to a visitor as they are read (RFC 5531, sections 8.2 and 9,
 //! appendix A).
+#![tactic(auto, using(xdr3::proofs::Lemmas::Scans::ScanLemmas::scans), unfolding(crate::specs::Shapes::auth_sys, crate::specs::Shapes::credential, crate::specs::Shapes::verifier, crate::specs::Names::head_names))]
 
 ghost use Rattle.std.specs.Prelude.{◌≤◌, IfErr, IfOk, OnOk};
 ghost use Rattle.rpc_head.specs.Shapes as shapes;
@@ -19,7 +20,6 @@ use xdr3::{
 // The prover follows the name of a function, but not the letters of a long name of an item.
 
 #[inline(always)]
-#[tactic(auto, unfolding(crate::specs::Names::head_names))]
 fn scan_cred_flavor<V: Visit>(input: &mut Input, visitor: &mut V) -> Result<u32, GetError>
     ensures ok { IfOk result
         (λ n. ScansWord V.stands head_names.cred_flavor
@@ -32,7 +32,6 @@ fn scan_cred_flavor<V: Visit>(input: &mut Input, visitor: &mut V) -> Result<u32,
 }
 
 #[inline(always)]
-#[tactic(auto, unfolding(crate::specs::Names::head_names))]
 fn scan_cred_body<V: Visit>(input: &mut Input, visitor: &mut V) -> Result<(), GetError>
     ensures ok { OnOk result
         (Scans V.stands (opaque Var head_names.cred_body 400) input.old input.new
@@ -44,7 +43,6 @@ fn scan_cred_body<V: Visit>(input: &mut Input, visitor: &mut V) -> Result<(), Ge
 }
 
 #[inline(always)]
-#[tactic(auto, unfolding(crate::specs::Names::head_names))]
 fn scan_machinename<V: Visit>(input: &mut Input, visitor: &mut V) -> Result<(), GetError>
     ensures ok { OnOk result
         (Scans V.stands (opaque Text head_names.machinename 255) input.old input.new
@@ -56,7 +54,6 @@ fn scan_machinename<V: Visit>(input: &mut Input, visitor: &mut V) -> Result<(), 
 }
 
 #[inline(always)]
-#[tactic(auto, unfolding(crate::specs::Names::head_names))]
 fn scan_verf_flavor<V: Visit>(input: &mut Input, visitor: &mut V) -> Result<u32, GetError>
     ensures ok { IfOk result
         (λ n. ScansWord V.stands head_names.verf_flavor
@@ -69,7 +66,6 @@ fn scan_verf_flavor<V: Visit>(input: &mut Input, visitor: &mut V) -> Result<u32,
 }
 
 #[inline(always)]
-#[tactic(auto, unfolding(crate::specs::Names::head_names))]
 pub(crate) fn scan_verf_body<V: Visit>(input: &mut Input, visitor: &mut V) -> Result<(), GetError>
     ensures ok { OnOk result
         (Scans V.stands (opaque Var head_names.verf_body 400) input.old input.new
@@ -146,7 +142,6 @@ impl<'a> Scan for AuthSys<'a> {
     ghost shape = { auth_sys };
 
     #[inline(always)]
-    #[tactic(auto, unfolding(crate::specs::Shapes::auth_sys, crate::specs::Names::head_names))]
     fn scan<V: Visit>(input: &mut Input, visitor: &mut V) -> Result<(), GetError>
         ensures ok { OnOk result
             (Scans V.stands auth_sys input.old input.new visitor.old visitor.new) }
@@ -162,7 +157,6 @@ impl<'a> Scan for Cred<'a> {
     ghost shape = { credential };
 
     #[inline(always)]
-    #[tactic(auto, using(xdr3::proofs::Lemmas::Scans::ScanLemmas::scans), unfolding(crate::specs::Shapes::credential, crate::specs::Names::head_names))]
     fn scan<V: Visit>(input: &mut Input, visitor: &mut V) -> Result<(), GetError>
         ensures ok { OnOk result
             (Scans V.stands credential input.old input.new visitor.old visitor.new) }
@@ -197,7 +191,6 @@ impl<'a> Scan for Verf<'a> {
     ghost shape = { verifier };
 
     #[inline(always)]
-    #[tactic(auto, using(xdr3::proofs::Lemmas::Scans::ScanLemmas::scans), unfolding(crate::specs::Shapes::verifier))]
     fn scan<V: Visit>(input: &mut Input, visitor: &mut V) -> Result<(), GetError>
         ensures ok { OnOk result
             (Scans V.stands verifier input.old input.new visitor.old visitor.new) }

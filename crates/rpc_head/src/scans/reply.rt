@@ -1,4 +1,5 @@
 //! The head of a reply, passed to a visitor as it is read (RFC 5531, section 9).
+#![tactic(auto, using(xdr3::proofs::Lemmas::Scans::ScanLemmas::scans), unfolding(crate::specs::Shapes::accept, crate::specs::Shapes::deny, crate::specs::Names::head_names))]
 
 ghost use Rattle.std.specs.Prelude.{◌≡◌, ◌+◌, ◌<◌, length, Err, IfErr, IfOk, OnOk};
 ghost use Rattle.rpc_head.specs.HeadScan.{ScansReplyHead};
@@ -38,7 +39,6 @@ pub(crate) enum Beginning {
 // The prover follows the name of a function, but not the letters of a long name of an item.
 
 #[inline]
-#[tactic(auto, unfolding(crate::specs::Names::head_names))]
 fn scan_accept_stat<V: Visit>(input: &mut Input, visitor: &mut V) -> Result<u32, GetError>
     ensures ok { IfOk result
         (λ n. ScansWord V.stands head_names.accept_stat
@@ -51,7 +51,6 @@ fn scan_accept_stat<V: Visit>(input: &mut Input, visitor: &mut V) -> Result<u32,
 }
 
 #[inline]
-#[tactic(auto, unfolding(crate::specs::Names::head_names))]
 fn scan_reject_stat<V: Visit>(input: &mut Input, visitor: &mut V) -> Result<u32, GetError>
     ensures ok { IfOk result
         (λ n. ScansWord V.stands head_names.reject_stat
@@ -64,7 +63,6 @@ fn scan_reject_stat<V: Visit>(input: &mut Input, visitor: &mut V) -> Result<u32,
 }
 
 #[inline]
-#[tactic(auto, unfolding(crate::specs::Names::head_names))]
 fn scan_auth_stat<V: Visit>(input: &mut Input, visitor: &mut V) -> Result<u32, GetError>
     ensures ok { IfOk result (λ n. ScansWord V.stands head_names.auth_stat
         (is_listed shapes.auth_stats) Reason.BadEnum n input.old input.new visitor.old
@@ -81,7 +79,6 @@ impl Scan for Deny {
 
     ghost shape = { deny };
 
-    #[tactic(auto, using(xdr3::proofs::Lemmas::Scans::ScanLemmas::scans), unfolding(crate::specs::Shapes::deny))]
     fn scan<V: Visit>(input: &mut Input, visitor: &mut V) -> Result<(), GetError> {
         let reject_stat = scan_reject_stat(input, visitor)?;
         scan_denied(reject_stat, input, visitor)
@@ -89,7 +86,6 @@ impl Scan for Deny {
 }
 
 /// Reads and visits what follows a reject_stat.
-#[tactic(auto, using(xdr3::proofs::Lemmas::Scans::ScanLemmas::scans), unfolding(crate::specs::Names::head_names))]
 fn scan_denied<V: Visit>(
     reject_stat: u32,
     input: &mut Input,
@@ -181,7 +177,6 @@ fn short_beginning(input: &mut Input) -> Stop
 /// Reads and visits what became of an accepted call, and returns its accept_stat (RFC 5531, section
 /// 9).
 #[inline(always)]
-#[tactic(auto, using(xdr3::proofs::Lemmas::Scans::ScanLemmas::scans), unfolding(crate::specs::Shapes::accept, crate::specs::Names::head_names))]
 fn scan_accept<V: Visit>(input: &mut Input, visitor: &mut V) -> Result<u32, GetError>
     ensures ok { IfOk result
         (λ stat. ScansAccept V.stands stat input.old input.new visitor.old visitor.new) }

@@ -1,4 +1,5 @@
 //! Credentials and verifiers (RFC 5531, sections 8.2, 9 and appendix A).
+#![tactic(auto, using(xdr3::proofs::Lemmas::Shapes::Walks::steps), unfolding(xdr3::specs::Reading::reading, crate::specs::Shapes::verifier, crate::specs::Names::head_names))]
 
 ghost use Rattle.std.specs.Prelude.{◌≡◌, ◌≤◌, length, OnErr, OnOk};
 ghost use Rattle.xdr3.specs.Reading.{reading};
@@ -112,7 +113,6 @@ impl<'a> Walk for AuthSys<'a> {
 
     ghost items = { auth_sys_items };
 
-    #[tactic(auto, using(xdr3::proofs::Lemmas::Shapes::Walks::steps), unfolding(crate::specs::Names::head_names))]
     fn walk<V: Visit>(&self, visitor: &mut V) -> Result<(), AllocError> {
         visitor.word("cred_length", self.body_len())?;
         Parameters(*self).walk(visitor)?;
@@ -151,7 +151,6 @@ impl<'a> Walk for Parameters<'a> {
 
     ghost items = { λ p. parameter_items p.0 };
 
-    #[tactic(auto, using(xdr3::proofs::Lemmas::Shapes::Walks::steps), unfolding(crate::specs::Names::head_names))]
     fn walk<V: Visit>(&self, visitor: &mut V) -> Result<(), AllocError> {
         let all = [
             Field::Word("stamp", self.0.stamp),
@@ -196,7 +195,6 @@ impl<'a> Walk for Cred<'a> {
 
     ghost items = { credential_items };
 
-    #[tactic(auto, using(xdr3::proofs::Lemmas::Shapes::Walks::steps), unfolding(crate::specs::Names::head_names))]
     fn walk<V: Visit>(&self, visitor: &mut V) -> Result<(), AllocError> {
         match self {
             Cred::Plain(body) => {
@@ -225,7 +223,6 @@ impl<'a> Xdr<'a> for Verf<'a> {
 
     ghost shape = { verifier };
 
-    #[tactic(auto, unfolding(xdr3::specs::Reading::reading, crate::specs::Shapes::verifier))]
     fn get(_alloc: Global, input: &mut Input<'a>) -> Result<Verf<'a>, GetError> {
         listed_or(input, &[0], Reason::Flavor)?;
         let body = input.var(400)?;
@@ -238,7 +235,6 @@ impl<'a> Walk for Verf<'a> {
 
     ghost items = { verifier_items };
 
-    #[tactic(auto, unfolding(crate::specs::Names::head_names))]
     fn walk<V: Visit>(&self, visitor: &mut V) -> Result<(), AllocError> {
         let all = [
             Field::Word("verf_flavor", 0),

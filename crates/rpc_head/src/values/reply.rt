@@ -1,4 +1,5 @@
 //! The head of a reply (RFC 5531, section 9).
+#![tactic(auto, using(xdr3::proofs::Lemmas::Shapes::Walks::steps), unfolding(xdr3::specs::Reading::reading, crate::specs::Shapes::accept, crate::specs::Shapes::deny, crate::specs::Names::head_names))]
 
 use crate::values::credential::Verf;
 use std::alloc::{AllocError, Global};
@@ -21,7 +22,6 @@ impl<'a> Xdr<'a> for Accept {
 
     ghost shape = { accept };
 
-    #[tactic(auto, unfolding(xdr3::specs::Reading::reading, crate::specs::Shapes::accept))]
     fn get(_alloc: Global, input: &mut Input<'a>) -> Result<Accept, GetError> {
         match input.listed(&[0, 1, 2, 3, 4, 5])? {
             0 => Ok(Accept::Success),
@@ -43,7 +43,6 @@ impl Walk for Accept {
 
     ghost items = { accept_items };
 
-    #[tactic(auto, unfolding(crate::specs::Names::head_names))]
     fn walk<V: Visit>(&self, visitor: &mut V) -> Result<(), AllocError> {
         match *self {
             Accept::Success => walk_fields(&[Field::Word("accept_stat", 0)], visitor),
@@ -76,7 +75,6 @@ impl<'a> Xdr<'a> for Deny {
 
     ghost shape = { deny };
 
-    #[tactic(auto, unfolding(xdr3::specs::Reading::reading, crate::specs::Shapes::deny))]
     fn get(_alloc: Global, input: &mut Input<'a>) -> Result<Deny, GetError> {
         let reject_stat = input.listed(&[0, 1])?;
         if reject_stat == 0 {
@@ -95,7 +93,6 @@ impl Walk for Deny {
 
     ghost items = { deny_items };
 
-    #[tactic(auto, unfolding(crate::specs::Names::head_names))]
     fn walk<V: Visit>(&self, visitor: &mut V) -> Result<(), AllocError> {
         match *self {
             Deny::RpcMismatch { low, high } => {
@@ -149,7 +146,6 @@ impl<'a> Walk for ReplyHead<'a> {
 
     ghost items = { reply_head_items };
 
-    #[tactic(auto, using(xdr3::proofs::Lemmas::Shapes::Walks::steps), unfolding(crate::specs::Names::head_names))]
     fn walk<V: Visit>(&self, visitor: &mut V) -> Result<(), AllocError> {
         match self {
             ReplyHead::Accepted(verf, accept) => {

@@ -1,4 +1,4 @@
--- What is read and told to the end of a window.
+-- What is passed to a visitor as it is read, to the end of a window.
 use Rattle.std.specs.Prelude.{◌≡◌, List, length, Ok}
 use Rattle.xdr3.specs.declared.reason.GetError.{GetError}
 use Rattle.xdr3.specs.Gives.{Fails}
@@ -8,7 +8,7 @@ use Rattle.xdr3.specs.Shape.{Shape}
 use Rattle.xdr3.specs.View.{View}
 use Rattle.xdr3.specs.Visit.{Adds}
 
--- All that is left of a window is items of the shape, and a visitor was told them.
+-- All that is left of a window is items of the shape, and a visitor was passed them.
 unfoldable pub ScansInside : {V : Type 0} → (V → List Item → Type 0) → Shape → View → V → V → Type 0
 ScansInside stands shape window before after =
     (items : List Item)

@@ -5,7 +5,7 @@ use Rattle.xdr3.proofs.Lemmas.Reading.Counted.{TimesSoFar, times_start, times_mo
 use Rattle.xdr3.proofs.Lemmas.Shapes.Walks.{adds_both, adds_joined, adds_nothing}
 use Rattle.xdr3.proofs.Lemmas.Scans.ScanLemmas.{moves_both}
 
--- i parts of n were read and told
+-- i parts of n were read and passed to the visitor
 pub record ScansTimes {V : Type 0} (stands : V → List Item → Type 0) (s : Shape) (n i : ℕ)
     (v0 v : View) (s0 st : V) : Type 0 where
   pub parts : List (List Item)

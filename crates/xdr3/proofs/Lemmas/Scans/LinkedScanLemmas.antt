@@ -4,7 +4,7 @@ use Rattle.xdr3.proofs.Lemmas.Reading.Linked.{LinksSoFar, links_start, links_mor
 use Rattle.xdr3.proofs.Lemmas.Shapes.Walks.{adds_both, adds_joined, adds_nothing}
 use Rattle.xdr3.proofs.Lemmas.Scans.ScanLemmas.{moves_both}
 
--- whole links were read and told, and the word of the next one follows
+-- whole links were read and passed to the visitor, and the word of the next one follows
 pub record ScansLinks {V : Type 0} (stands : V → List Item → Type 0) (name : List ℕ) (s : Shape)
     (v0 v : View) (s0 st : V) : Type 0 where
   pub front : List Item

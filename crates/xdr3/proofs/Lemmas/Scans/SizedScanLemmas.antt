@@ -1,4 +1,4 @@
--- Scans of bodies of a told length.
+-- Scans of bodies whose length is given by a word.
 use Rattle.xdr3.proofs.Common.{◌≡◌, ℕ, ◌+◌, ltb, List, [], ◌∷◌, length, take, Ok, Err, refl, sym, ap, subst, GetError, Short, TooLong, Stop, Fails, Item, Word, reading, word_at, from_window, Shape, is_at_most, sized, Scans, ScansWord, Stops, StopsWord, MovesOn, View, view_at}
 use Rattle.xdr3.proofs.Lemmas.Reading.Bytes.{guard_ok, guard_err}
 use Rattle.xdr3.proofs.Lemmas.Shapes.Walks.{adds_joined}

@@ -143,10 +143,10 @@ pub before_never : (all : List PlainField) (body : List ℕ) (start at left i : 
 before_never all body start at left i b h =
     omega (arith, b.left_is, b.few, ap run_size (drop_all i all h))
 
--- ---- items told one by one
+-- ---- items passed one by one
 
--- The first items were told, and the others are those of the rest of the bytes.
-pub record IsTelling {V : Type 0} (stands : V → List Item → Type 0) (all : List PlainField)
+-- The first items were passed, and the others are those of the rest of the bytes.
+pub record IsPassing {V : Type 0} (stands : V → List Item → Type 0) (all : List PlainField)
     (bytes rest : List ℕ) (old now : V) (i : ℕ) : Type 0 where
   pub size : length rest ≡ run_size (drop i all)
   pub adds : (new : V) → Adds stands now new (run_items (drop i all) rest)
@@ -154,18 +154,18 @@ pub record IsTelling {V : Type 0} (stands : V → List Item → Type 0) (all : L
   pub adds_some : (new : V) → AddsSome stands now new (run_items (drop i all) rest)
       → AddsSome stands old new (run_items all bytes)
 
-pub telling_begins : {V : Type 0} (stands : V → List Item → Type 0) (all : List PlainField)
+pub passing_begins : {V : Type 0} (stands : V → List Item → Type 0) (all : List PlainField)
     (bytes : List ℕ) (old : V) → length bytes ≡ run_size all
-    → IsTelling stands all bytes bytes old old 0
-telling_begins stands all bytes old h =
+    → IsPassing stands all bytes bytes old old 0
+passing_begins stands all bytes old h =
     record { size = h; adds = λ new a. a; adds_some = λ new a. a }
 
-pub telling_next : {V : Type 0} (stands : V → List Item → Type 0) (all : List PlainField)
+pub passing_next : {V : Type 0} (stands : V → List Item → Type 0) (all : List PlainField)
     (bytes rest later : List ℕ) (old now next after : V) (i : ℕ) (field d : PlainField)
-    → IsTelling stands all bytes rest old now i → i < length all → get_or all i d ≡ field
+    → IsPassing stands all bytes rest old now i → i < length all → get_or all i d ≡ field
     → Adds stands now next (plain_item field rest ∷ []) → later ≡ drop (width field) rest
-    → after ≡ next → IsTelling stands all bytes later old after (i + 1)
-telling_next stands all bytes rest later old now next after i field d t h is told later-is
+    → after ≡ next → IsPassing stands all bytes later old after (i + 1)
+passing_next stands all bytes rest later old now next after i field d t h is passed later-is
     after-is =
     let more : drop i all ≡ field ∷ drop (i + 1) all =
     drop_more all i d h ∙ ap (λ (x : PlainField). x ∷ drop (i + 1) all) is in
@@ -175,24 +175,24 @@ telling_next stands all bytes rest later old now next after i field d t h is tol
           λ new a.
           t.adds new (rw more (adds_joined stands now next new (plain_item field rest ∷ [])
           (run_items (drop (i + 1) all) (drop (width field) rest))
-          (run_items (field ∷ drop (i + 1) all) rest) told a refl));
+          (run_items (field ∷ drop (i + 1) all) rest) passed a refl));
       adds_some =
           λ new a.
           t.adds_some new (rw more (some_after stands now next new (plain_item field rest ∷ [])
           (run_items (drop (i + 1) all) (drop (width field) rest))
-          (run_items (field ∷ drop (i + 1) all) rest) told a refl));
+          (run_items (field ∷ drop (i + 1) all) rest) passed a refl));
     })
 
-pub telling_stops : {V : Type 0} (stands : V → List Item → Type 0) (all : List PlainField)
-    (bytes rest : List ℕ) (old now new : V) (i : ℕ) → IsTelling stands all bytes rest old now i
+pub passing_stops : {V : Type 0} (stands : V → List Item → Type 0) (all : List PlainField)
+    (bytes rest : List ℕ) (old now new : V) (i : ℕ) → IsPassing stands all bytes rest old now i
     → Keeps stands now new → AddsSome stands old new (run_items all bytes)
-telling_stops stands all bytes rest old now new i t k =
+passing_stops stands all bytes rest old now new i t k =
     t.adds_some new (some_none stands now new (run_items (drop i all) rest) k)
 
-pub telling_ends : {V : Type 0} (stands : V → List Item → Type 0) (all : List PlainField)
-    (bytes rest : List ℕ) (old now : V) (i : ℕ) → IsTelling stands all bytes rest old now i
+pub passing_ends : {V : Type 0} (stands : V → List Item → Type 0) (all : List PlainField)
+    (bytes rest : List ℕ) (old now : V) (i : ℕ) → IsPassing stands all bytes rest old now i
     → length all ≤ i → Adds stands old now (run_items all bytes)
-telling_ends stands all bytes rest old now i t h =
+passing_ends stands all bytes rest old now i t h =
     let none : drop i all ≡ [] = drop_all i all h in
     t.adds now (rw none (adds_nothing stands now))
 

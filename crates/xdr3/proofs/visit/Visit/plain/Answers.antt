@@ -1,6 +1,6 @@
 use Rattle.std.proofs.Common.{◌∙◌, ap}
 use Rattle.std.proofs.lemmas.List.{take_rest}
-use Rattle.xdr3.proofs.Lemmas.Shapes.PlainLemmas.{telling_ends, telling_next, telling_stops}
+use Rattle.xdr3.proofs.Lemmas.Shapes.PlainLemmas.{passing_ends, passing_next, passing_stops}
 use Rattle.xdr3.proofs.Lemmas.Shapes.Walks.{on_err}
 use Rattle.xdr3.proofs.visit.Visit.plain.Goals as goal
 use Rattle.xdr3.proofs.visit.Visit.plain.Goals.{in-Word+in_ok-word-in-Word, in-Hyper+in_ok-hyper-in-Hyper}
@@ -9,14 +9,14 @@ pub loop-field-preserved : goal.loop-field-preserved
 loop-field-preserved g c =
     elim c.match-field.branch [
       | in-Word+in_ok-word-in-Word w ↦
-          telling_next g.Self.Visit.stands c.args.fields.now c.args.bytes.now c.loop-field.rest.now
+          passing_next g.Self.Visit.stands c.args.fields.now c.args.bytes.now c.loop-field.rest.now
           c.match-field.rest.now c.args.self.now c.loop-field.self w.word.new.self
           c.match-field.self c.loop-field.field-index _ _ c.loop-field.invariant
           c.loop-field-test.true w.in-Word.is
           (rw w.read_u32.ensures at w.in_ok-word-in-Word.ensures.ok)
           (ap (λ r. r.now) w.rest-is ∙ take_rest c.loop-field.rest.now 4) w.self-is
       | in-Hyper+in_ok-hyper-in-Hyper w ↦
-          telling_next g.Self.Visit.stands c.args.fields.now c.args.bytes.now c.loop-field.rest.now
+          passing_next g.Self.Visit.stands c.args.fields.now c.args.bytes.now c.loop-field.rest.now
           c.match-field.rest.now c.args.self.now c.loop-field.self w.hyper.new.self
           c.match-field.self c.loop-field.field-index _ _ c.loop-field.invariant
           c.loop-field-test.true w.in-Hyper.is
@@ -28,7 +28,7 @@ pub returns : goal.returns
 returns g c =
     record {
       ok =
-          telling_ends g.Self.Visit.stands c.args.fields.now c.args.bytes.now c.loop-field.rest.now
+          passing_ends g.Self.Visit.stands c.args.fields.now c.args.bytes.now c.loop-field.rest.now
           c.args.self.now c.loop-field.self c.loop-field.field-index c.loop-field.invariant
           c.loop-field-test.false;
       err = tt;
@@ -36,12 +36,12 @@ returns g c =
 
 pub returns-in_err-word-in-Word-clause-err : goal.returns-in_err-word-in-Word-clause-err
 returns-in_err-word-in-Word-clause-err g c =
-    on_err _ (telling_stops g.Self.Visit.stands c.args.fields.now c.args.bytes.now
+    on_err _ (passing_stops g.Self.Visit.stands c.args.fields.now c.args.bytes.now
     c.loop-field.rest.now c.args.self.now c.loop-field.self c.word.new.self
     c.loop-field.field-index c.loop-field.invariant c.in_err-word-in-Word.ensures.err)
 
 pub returns-in_err-hyper-in-Hyper-clause-err : goal.returns-in_err-hyper-in-Hyper-clause-err
 returns-in_err-hyper-in-Hyper-clause-err g c =
-    on_err _ (telling_stops g.Self.Visit.stands c.args.fields.now c.args.bytes.now
+    on_err _ (passing_stops g.Self.Visit.stands c.args.fields.now c.args.bytes.now
     c.loop-field.rest.now c.args.self.now c.loop-field.self c.hyper.new.self
     c.loop-field.field-index c.loop-field.invariant c.in_err-hyper-in-Hyper.ensures.err)

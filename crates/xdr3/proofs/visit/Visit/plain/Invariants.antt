@@ -1,6 +1,6 @@
-use Rattle.xdr3.proofs.Lemmas.Shapes.PlainLemmas.{IsTelling}
+use Rattle.xdr3.proofs.Lemmas.Shapes.PlainLemmas.{IsPassing}
 use Rattle.xdr3.proofs.visit.Visit.plain.Given as goal
 
 abbrev pub invariant-loop-field : goal.invariant-loop-field
 invariant-loop-field g l =
-    IsTelling g.Self.Visit.stands l.fields l.bytes l.rest l.fn.self l.self l.field-index
+    IsPassing g.Self.Visit.stands l.fields l.bytes l.rest l.fn.self l.self l.field-index
