@@ -1,26 +1,14 @@
 -- What the definitions say of small captures.
-use Rattle.capture3.proofs.Common.{◌≡◌, [], ◌∷◌, ◌++◌, refl, Ok, Err, reading_layout, reading, number, call_layout, call_start, reply_layout, reply_start, arguments_of, results_of, Client, Server, judge_call, judge_reply, reached, verdict, BadMagic, CaptureCut, BadMark, AfterEnd, TooManyBytes, RecordCut, RecordTooLong, Short, BadEnum, WrongSide, NoCall, file_fault, fault_in_record}
+use Rattle.capture3.proofs.Common.{◌≡◌, [], ◌∷◌, ◌++◌, refl, Ok, Err, reading_layout, reading, number, call_layout, call_start, reply_layout, reply_start, arguments_of, results_of, Client, Server, judge_call, judge_reply, reached, verdict, CaptureCut, BadMark, AfterEnd, TooManyBytes, RecordTooLong, BadEnum, WrongSide, NoCall, file_fault, fault_in_record}
 use Rattle.record_mark.specs.RecordMark.{is_last, length_of}
 use Rattle.rpc_head.specs.Shapes.{accept, call_head, credential, deny, message_start, reply_head, verifier}
 use Rattle.capture3.specs.Entry.{Begin, Call, Turn, Close, End}
-use Rattle.capture3.specs.Examples.{magic_1, magic_2, word_0, word_1, word_2, word_3, null_call, null_reply, null_call_items, null_capture, null_entries, bad_mtype as bad_mtype_bytes, bad_mtype_cut as bad_mtype_cut_bytes, client_chunk, server_chunk}
+use Rattle.capture3.specs.Examples.{magic_1, magic_2, word_0, word_1, word_3, null_call, null_reply, null_call_items, null_capture, null_entries, bad_mtype as bad_mtype_bytes, bad_mtype_cut as bad_mtype_cut_bytes, client_chunk, server_chunk}
 use Rattle.capture3.specs.Examples.{null_mixed as null_mixed_bytes, null_mixed_swapped as null_mixed_swapped_bytes, bad_mtype_mixed as bad_mtype_mixed_bytes, bad_mtype_mixed_cut as bad_mtype_mixed_cut_bytes, call_answered_by_call as call_answered_by_call_bytes}
 
 pub smallest : verdict (magic_1 ++ word_0) ≡ Ok (End ∷ [])
 unfolding number
 smallest = refl
-
-pub empty_streams : verdict (magic_1 ++ word_1 ++ word_0 ++ word_0 ++ word_0)
-    ≡ Ok (Begin ∷ Turn ∷ Close ∷ End ∷ [])
-unfolding number
-empty_streams = refl
-
-pub bad_magic : verdict (78 ∷ 70 ∷ 83 ∷ 51 ∷ 67 ∷ 65 ∷ 80 ∷ 51 ∷ []) ≡ Err (file_fault 7 BadMagic)
-bad_magic = refl
-
-pub bad_mark : verdict (magic_1 ++ word_2) ≡ Err (file_fault 8 BadMark)
-unfolding number
-bad_mark = refl
 
 pub after_end : verdict (magic_1 ++ word_0 ++ 7 ∷ []) ≡ Err (file_fault 12 AfterEnd)
 unfolding number
@@ -39,19 +27,6 @@ pub too_long : verdict (magic_1 ++ word_1 ++ (0 ∷ 0 ∷ 0 ∷ 4 ∷ []) ++ 129
     ≡ Err (fault_in_record 1 Client 1 0 RecordTooLong)
 unfolding number is_last length_of
 too_long = refl
-
--- a chunk of eight bytes: a fragment header of 4 with four bytes, and the stream's end
-pub record_cut : verdict
-    (magic_1 ++ word_1 ++ (0 ∷ 0 ∷ 0 ∷ 8 ∷ []) ++ (0 ∷ 0 ∷ 0 ∷ 4 ∷ []) ++ word_1 ++ word_0)
-    ≡ Err (fault_in_record 1 Client 1 4 RecordCut)
-unfolding number is_last length_of
-record_cut = refl
-
--- an empty record is refused at its last byte
-pub short_record : verdict (magic_1 ++ word_1 ++ (0 ∷ 0 ∷ 0 ∷ 4 ∷ []) ++ 128 ∷ 0 ∷ 0 ∷ 0 ∷ [])
-    ≡ Err (fault_in_record 1 Client 1 0 Short)
-unfolding number is_last length_of judge_call reading message_start
-short_record = refl
 
 -- a record whose mtype is 2
 pub bad_mtype : verdict bad_mtype_bytes ≡ Err (fault_in_record 1 Client 1 4 BadEnum)
@@ -86,9 +61,6 @@ null_typed = refl
 pub smallest_mixed : verdict (magic_2 ++ word_0) ≡ Ok (End ∷ [])
 unfolding number
 smallest_mixed = refl
-
-pub magic_2_alone : verdict magic_2 ≡ Err (file_fault 8 CaptureCut)
-magic_2_alone = refl
 
 pub empty_mixed : verdict (magic_2 ++ word_1 ++ word_0 ++ word_0)
     ≡ Ok (Begin ∷ Turn ∷ Close ∷ End ∷ [])

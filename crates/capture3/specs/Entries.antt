@@ -53,14 +53,14 @@ IsMetBy errors.Write observed given handed = ⊥
 IsMetBy errors.Memory observed given handed = AreFirstReached given handed
 
 -- the error that is answered for good
-abbrev pub failure_in : Stage → Option Error
-failure_in Reading = None
-failure_in Over = None
-failure_in (Failed error) = Some error
+abbrev pub failure_in : Stage → Error → Option Error
+failure_in Reading error = None
+failure_in Over error = None
+failure_in Failed error = Some error
 
 module _ {R S H : Type 0} {builds : BuildHasher.Ghosts S H} {hashes : Hasher.Ghosts H} where
   abbrev pub failure_of : Entries R S H builds hashes → Option Error
-  failure_of entries = failure_in entries.stage
+  failure_of entries = failure_in entries.stage entries.pairing.error
 
   -- the source, as the reads have left it
   abbrev pub source_of : Entries R S H builds hashes → R

@@ -20,7 +20,7 @@ use Rattle.capture3.specs.Handing.{HandsOutGiven}
 use Rattle.capture3.specs.MessageVisit.{Hears}
 use Rattle.capture3.specs.machinery.EntriesHistory.{entries_left, StandsFor}
 
--- the entry is lent with its number, and the visitor was told it
+-- the entry is lent with its number, and the visitor was passed it
 abbrev pub IsNextLent : {V : Type 0} → (rests stands : V → List Item → Type 0) → (was now : V)
     → (handed : List Entry) → LentEntry → Entry → Type 0
 IsNextLent rests stands was now handed lent entry =

@@ -81,12 +81,9 @@ over None other = other
 over (Some call) other = Some call
 
 -- the calls of a line, and the others
-abbrev pub known_by : (line others : ℕ → Option NumberedCall) (count : ℕ) → Known
-known_by line others count =
-    record { call_of = λ xid. over (line xid) (others xid); count = count }
-
 abbrev pub known_in : Counting → List NumberedCall → List (ℕ × NumberedCall) → ℕ → Known
-known_in counting line others count = known_by (lined counting line) (in_list others) count
+known_in counting line others count =
+    record { call_of = λ xid. over (lined counting line xid) (in_list others xid); count = count }
 
 -- the calls of a list alone
 abbrev pub known_in_list : List (ℕ × NumberedCall) → Known

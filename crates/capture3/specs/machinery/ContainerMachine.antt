@@ -101,21 +101,11 @@ abbrev pub before_stream : (at total connections : ℕ) → Joining → Side →
 before_stream at total connections joining side =
     unpacking_with (at + 4) total connections 0 (Length side []) joining
 
--- version 2: before a connection's first side word, after a word
-abbrev pub before_sides : (at total connections : ℕ) → Joining → Unpacking
-before_sides at total connections joining =
-    unpacking_with (at + 4) total connections 0 (Mixed (gathered []) (SideWord [])) joining
-
--- version 2: before the length word after a side word
-abbrev pub before_side_length : (at total connections records : ℕ) → Streams → Side → Joining
-    → Unpacking
-before_side_length at total connections records streams side joining =
-    unpacking_with at total connections records (Mixed streams (mixing.SideLength side [])) joining
-
 -- a connection's first part, by the version
 abbrev pub begun_at : Version → (at total connections : ℕ) → Joining → Unpacking
 begun_at One at total connections joining = before_stream at total connections joining Client
-begun_at Two at total connections joining = before_sides at total connections joining
+begun_at Two at total connections joining =
+    unpacking_with (at + 4) total connections 0 (Mixed (gathered []) (SideWord [])) joining
 
 -- a connection word has come
 abbrev pub connection_marked : Version → (at total connections records : ℕ) → Joining → ℕ

@@ -1,48 +1,46 @@
 -- The histories for which a reader of entries stands: what its source gave it, and what it handed
 -- out.
-use Rattle.std.specs.Prelude.{◌≡◌, ℕ, ◌+◌, ◌≤◌, Option, Some, None, Result, List, [], ◌∷◌, ◌++◌, length, slice_range, ◌≢◌, ◌<◌, Bool, IsTrue, IsFalse, IfErr, OnErr}
+use Rattle.std.specs.Prelude.{◌≡◌, ℕ, ◌+◌, ◌≤◌, Option, Some, None, Result, Ok, Err, List, [], ◌∷◌, ◌++◌, length, slice_range, ◌≢◌, ◌<◌, Bool, true, false, IsTrue, IsFalse, IsSome, IfErr, IfOk, OnErr}
 use Rattle.capture3.specs.Observed.{Observed, Gave, IsSpent}
-use Rattle.xdr3.specs.Item.{AreBytes, Item}
+use Rattle.xdr3.specs.Item.{AreBytes}
 use Rattle.std.specs.declared.hash.BuildHasher as BuildHasher
 use Rattle.std.specs.declared.hash.Hasher as Hasher
 use Rattle.capture3.specs.declared.reader.entries.Entries.{Entries}
 use Rattle.capture3.specs.declared.reader.entries.Stage.{Stage}
 use Rattle.capture3.specs.declared.reader.entries.Stage.TheVariants.{Reading, Over, Failed}
 use Rattle.capture3.specs.declared.reader.entry.Kind.{Kind}
+use Rattle.capture3.specs.declared.reader.entry.Kind.TheVariants as kinds
 use Rattle.capture3.specs.declared.fault.Error.{Error}
 use Rattle.capture3.specs.declared.fault.Error.TheVariants as errors
+use Rattle.capture3.specs.declared.fault.Noted.{Noted}
 use Rattle.capture3.specs.declared.container.Container.{Container}
 use Rattle.capture3.specs.machinery.Container.{room_in}
 use Rattle.capture3.specs.machinery.CountedCalls.{known_of}
 use Rattle.capture3.specs.Entry.{Entry}
-use Rattle.capture3.specs.MessageVisit.{Hears}
 use Rattle.capture3.specs.machinery.Pairing.{HasCome, HasNumber, IsHeld}
 use Rattle.capture3.specs.OpenXids.{open_xids}
 use Rattle.capture3.specs.machinery.Stepping.{IsOfKind}
 use Rattle.capture3.specs.Laws.{most_entries}
 use Rattle.capture3.specs.Progress.{AreCounted, calls_in, replies_in}
 use Rattle.capture3.specs.Typed.{Typed}
-use Rattle.capture3.specs.Entries.{block_size, CountsReads, failure_of, IsMetBy, KeepsLimits, last_of, loan_of, source_of}
+use Rattle.capture3.specs.Entries.{block_size, CountsReads, failure_of, IsMetBy, IsOver, KeepsErrors, KeepsLimits, last_of, loan_of, source_of, UsesSource}
 
 -- how many entries there can be from here on
 abbrev pub entries_left_in : Stage → Container → ℕ
 entries_left_in Reading container = room_in container + 1
 entries_left_in Over container = 0
-entries_left_in (Failed error) container = 0
+entries_left_in Failed container = 0
 
 module _ {R S H : Type 0} {builds : BuildHasher.Ghosts S H} {hashes : Hasher.Ghosts H} where
   abbrev pub entries_left : Entries R S H builds hashes → ℕ
   entries_left entries = entries_left_in entries.stage entries.pairing.container
 
-  -- the record and the number of this entry stand, if it was the last, after the others
-  abbrev pub HoldsRecordOf : Entries R S H builds hashes → List Entry → Entry → Type 0
-  HoldsRecordOf entries before entry = (kind : Kind) → last_of entries ≡ Some kind
-      → IsHeld kind entries.pairing.container.joiner.taking entry
-      × HasNumber entries.pairing.number (open_xids [] (before ++ entry ∷ [])) entry
-
+  -- the record and the number of the last entry stand
   abbrev pub HoldsLast : Entries R S H builds hashes → List Entry → Type 0
   HoldsLast entries handed = (front : List Entry) (entry : Entry) → handed ≡ front ++ entry ∷ []
-      → HoldsRecordOf entries front entry
+      → (kind : Kind) → last_of entries ≡ Some kind
+      → IsHeld kind entries.pairing.container.joiner.taking entry
+      × HasNumber entries.pairing.number (open_xids [] (front ++ entry ∷ [])) entry
 
   -- the bytes of the block that are not judged yet
   abbrev pub unjudged : Entries R S H builds hashes → List ℕ
@@ -70,7 +68,8 @@ module _ {R S H : Type 0} {builds : BuildHasher.Ghosts S H} {hashes : Hasher.Gho
   StandsIn Over observed entries given handed = Typed given handed × IsSpent observed
       × AreCounted entries.pairing.container.position.connections
       entries.pairing.container.position.records handed × CountedMessages entries handed
-  StandsIn (Failed error) observed entries given handed = IsMetBy error observed given handed
+  StandsIn Failed observed entries given handed =
+      IsMetBy entries.pairing.error observed given handed
 
   -- the source gave these bytes since the reader was new, and the reader handed out these entries
   pub record StandsFor (observed : R → Observed) (entries : Entries R S H builds hashes)
@@ -90,23 +89,20 @@ module _ {R S H : Type 0} {builds : BuildHasher.Ghosts S H} {hashes : Hasher.Gho
     pub consumed : Gave (observed old.source.now) (observed new.source.now) more
     pub stands : StandsFor observed new (given ++ more) handed
 
-  -- this entry is handed out and told; or none is, and it goes on or has failed
-  abbrev pub HandsOutOrGoesOn : {V : Type 0} → (R → Observed)
-      → (rests stands : V → List Item → Type 0)
-      → Entries R S H builds hashes → (was now : V) → List ℕ → List Entry → Option Kind → Type 0
-  HandsOutOrGoesOn observed rests stands new was now given handed (Some kind) =
-      (entry : Entry) × IsOfKind kind entry × Hears rests stands was now entry
+  -- this entry is handed out and passed on; or none is, and it goes on or has failed
+  abbrev pub HandsOutOrGoesOn : (R → Observed) → (Passed : Entry → Type 0)
+      → Entries R S H builds hashes → List ℕ → List Entry → Option Kind → Type 0
+  HandsOutOrGoesOn observed Passed new given handed (Some kind) =
+      (entry : Entry) × IsOfKind kind entry × Passed entry
       × StandsFor observed new given (handed ++ entry ∷ [])
-  HandsOutOrGoesOn observed rests stands new was now given handed None =
-      StandsFor observed new given handed
+  HandsOutOrGoesOn observed Passed new given handed None = StandsFor observed new given handed
 
-  pub record Turns {V : Type 0} (observed : R → Observed) (rests stands : V → List Item → Type 0)
-      (old new : Entries R S H builds hashes) (was now : V) (given : List ℕ)
-      (handed : List Entry) : Type 0 where
-    pub more : List ℕ
-    pub consumed : Gave (observed old.source.now) (observed new.source.now) more
-    pub goes_on :
-        HandsOutOrGoesOn observed rests stands new was now (given ++ more) handed (last_of new)
+  pub record Turns (observed : R → Observed) (Passed : Entry → Type 0)
+      (old new : Entries R S H builds hashes) (given : List ℕ) (handed : List Entry) : Type 0
+    where
+      pub more : List ℕ
+      pub consumed : Gave (observed old.source.now) (observed new.source.now) more
+      pub goes_on : HandsOutOrGoesOn observed Passed new (given ++ more) handed (last_of new)
 
   -- ---- what a call inside the reader leaves
 
@@ -122,10 +118,16 @@ module _ {R S H : Type 0} {builds : BuildHasher.Ghosts S H} {hashes : Hasher.Gho
     pub none : IsFalse more → IsUsedUp new
     pub end : IsFalse more → IsSpent (observed (source_of new))
 
+  -- the same with the error that was noted
+  abbrev pub with_error : {X : Type 0} → Entries R S H builds hashes → Result X Noted
+      → Result X Error
+  with_error new (Ok x) = Ok x
+  with_error new (Err noted) = Err new.pairing.error
+
   -- a failure is noted for good, and no entry is lent
   pub record NotesFailure {X : Type 0} (new : Entries R S H builds hashes)
-      (result : Result X Error) : Type 0 where
-    pub failed : IfErr result (λ error. failure_of new ≡ Some error)
+      (result : Result X Noted) : Type 0 where
+    pub failed : OnErr result (failure_of new ≡ Some new.pairing.error)
     pub unlent : OnErr result (last_of new ≡ None)
 
   -- The source is read once at most. The block and the reference to the source stay.
@@ -142,3 +144,20 @@ module _ {R S H : Type 0} {builds : BuildHasher.Ghosts S H} {hashes : Hasher.Gho
     pub unread : source_of new ≡ source_of old
     pub same_block : block_size new ≡ block_size old
     pub same_reference : loan_of new ≡ loan_of old
+
+  -- the kind that a step leaves, or the error
+  abbrev pub next_kind : Entries R S H builds hashes → Result Bool Noted
+      → Result (Option Kind) Error
+  next_kind new (Ok true) = Ok (last_of new)
+  next_kind new (Ok false) = Ok None
+  next_kind new (Err noted) = Err new.pairing.error
+
+  -- what a step leaves, whatever the reader stood for, of which this came
+  pub record LeavesKind {V : Type 0} (failures : R → ℕ) (old new : Entries R S H builds hashes)
+      (was now : V) (next : Result (Option Kind) Error) : Type 0 where
+    pub end : next ≡ Ok (Some kinds.End) → IsOver new
+    pub over : IsOver old → (next ≡ Ok None) × (new ≡ old)
+    pub fewer : IfOk next (λ kind. IsSome kind → entries_left new < entries_left old)
+    pub unmoved : IfOk next (λ kind. kind ≡ None → now ≡ was)
+    pub errors : KeepsErrors old new next
+    pub device : UsesSource failures old new next

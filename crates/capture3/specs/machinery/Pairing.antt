@@ -30,7 +30,6 @@ use Rattle.capture3.specs.Rank.{number_limit, rank}
 use Rattle.capture3.specs.machinery.Placing.{PlacesNext}
 use Rattle.capture3.specs.machinery.Container.{stream_of, unpacking_of}
 use Rattle.capture3.specs.Entry.{Entry}
-use Rattle.capture3.specs.MessageVisit.{Hears}
 use Rattle.capture3.specs.Entry as whole
 use Rattle.capture3.specs.machinery.Messages.{IsTableOf, xids_in}
 use Rattle.capture3.specs.FileMachine.{Parsing, file_next, parsed, emitted}
@@ -164,18 +163,15 @@ abbrev pub SpellsLast : Option Kind → Taking → Type 0
 SpellsLast None taking = Unit {0}
 SpellsLast (Some kind) taking = SpellsKind kind taking
 
--- The bytes lead to there, and the entry, if there is one, is told a visitor and has this number. A
--- whole record stands until the next call.
-abbrev pub GoesTo : {V : Type 0} → (rests stands : V → List Item → Type 0) → (was now : V) → Option
-    Kind
-    → (number : ℕ) → Container → Known → List ℕ → List Entry → Type 0
-GoesTo rests stands was now None number container table bytes entries =
-    HasCome container table bytes entries
-GoesTo rests stands was now (Some kind) number container table bytes entries =
+-- The bytes lead to there, and the entry, if there is one, is passed to a visitor and has this
+-- number. A whole record stands until the next call.
+abbrev pub GoesTo : (Passed : Entry → Type 0) → Option Kind → (number : ℕ) → Container → Known
+    → List ℕ → List Entry → Type 0
+GoesTo Passed None number container table bytes entries = HasCome container table bytes entries
+GoesTo Passed (Some kind) number container table bytes entries =
     (entry : Entry) × IsHeld kind container.joiner.taking entry
     × HasNumber number (open_xids [] (entries ++ entry ∷ [])) entry
-    × Hears rests stands was now entry
-    × HasCome container table bytes (entries ++ entry ∷ [])
+    × Passed entry × HasCome container table bytes (entries ++ entry ∷ [])
 
 -- one of the bytes shows the fault, and these entries are all that they reach, unless memory ran
 -- out
@@ -215,8 +211,3 @@ pub record FailsFrom (container : Container) (calls : Known) (piece : List ℕ) 
   pub device : IsOfBytes error
   pub fault : (bytes : List ℕ) (entries : List Entry) → HasCome container calls bytes entries
       → FailsAt (bytes ++ piece) entries error
-
--- an entry is whole, and not the end of the capture
-pub record IsInside (came : Option Kind) : Type 0 where
-  pub some : came ≢ None
-  pub not_end : came ≢ Some kinds.End

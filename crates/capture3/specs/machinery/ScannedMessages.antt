@@ -17,7 +17,7 @@ use Rattle.capture3.specs.MessageVisit.{OpensMessage}
 use Rattle.capture3.specs.OpenXids.{xid_of}
 
 -- The body spells a call with this xid and this procedure, it is accepted after calls that agree
--- with it, and a visitor was told its items.
+-- with it, and a visitor was passed its items.
 pub record ScansCall {V : Type 0} (rests stands : V → List Item → Type 0) (body : List ℕ)
     (call : CallHead) (old new : V) : Type 0 where
   pub items : List Item
@@ -31,7 +31,7 @@ pub record ScansCall {V : Type 0} (rests stands : V → List Item → Type 0) (b
   pub adds : OpensMessage rests stands old new items
 
 -- The body spells a reply to this call of the table, it is accepted after the table's calls, and a
--- visitor was told its items.
+-- visitor was passed its items.
 pub record ScansReply {V : Type 0} (rests stands : V → List Item → Type 0) (table : Known)
     (body : List ℕ) (call : NumberedCall) (old new : V) : Type 0 where
   pub items : List Item

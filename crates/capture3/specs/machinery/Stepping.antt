@@ -1,15 +1,20 @@
--- The kinds of entries, and what a step of the reader returns of the next entry: its kind.
-use Rattle.std.specs.Prelude.{◌≡◌, List, Option, Some, None}
+-- The kinds of entries, what a step of the reader returns of the next entry, its kind, and what it
+-- takes of a message.
+use Rattle.std.specs.Prelude.{◌≡◌, ◌≢◌, ℕ, List, Option, Some, None}
 use Rattle.xdr3.specs.Item.{Item}
 use Rattle.rpc_head.specs.Messages.{procedure_in}
 use Rattle.capture3.specs.declared.reader.entry.Kind.{Kind}
 use Rattle.capture3.specs.declared.reader.entry.Kind.TheVariants as kinds
+use Rattle.capture3.specs.declared.container.position.spot.Event.TheVariants.{Record}
+use Rattle.capture3.specs.declared.fault.Side.{Side}
 use Rattle.capture3.specs.declared.reader.entry.LentEntry.{LentEntry}
+use Rattle.capture3.specs.declared.reader.pairing.Pairing.{Pairing}
 use Rattle.capture3.specs.declared.reader.entry_ref.EntryRef.{EntryRef}
 use Rattle.capture3.specs.Entry.{Entry, Begin, Call, Turn, Reply, Close, End}
 use Rattle.capture3.specs.Kept.{kind_of}
-use Rattle.capture3.specs.MessageVisit.{Hears}
 use Rattle.capture3.specs.ReadAs.{kind_of_read}
+use Rattle.capture3.specs.machinery.Calls.{Known}
+use Rattle.capture3.specs.machinery.Pairing.{CountsMessages, FailsAt, GoesTo, IsOfBytes, MeetsEvent}
 
 -- An entry is of this kind, and for this procedure where it is a message.
 abbrev pub IsOfKind : Kind → Entry → Type 0
@@ -29,8 +34,27 @@ abbrev pub kind_read : Option EntryRef → Option Kind
 kind_read None = None
 kind_read (Some entry) = Some (kind_of_read entry)
 
--- the kind is that of the entry, which the visitor was told
-abbrev pub IsNextOfKind : {V : Type 0} → (rests stands : V → List Item → Type 0) → (was now : V)
-    → (handed : List Entry) → Kind → Entry → Type 0
-IsNextOfKind rests stands was now handed kind entry =
-    IsOfKind kind entry × Hears rests stands was now entry
+-- the kind is that of the entry, which the visitor was passed
+abbrev pub IsNextOfKind : (Passed : Entry → Type 0) → (handed : List Entry) → Kind → Entry → Type 0
+IsNextOfKind Passed handed kind entry = IsOfKind kind entry × Passed entry
+
+-- ---- what taking the record that is whole leaves
+
+module _ {C : Type 0} (known : C → Known) where
+  -- it is the next entry, which the visitor was passed, and a call joins those of its connection
+  pub record TakesMessage (Passed : Entry → Type 0) (side : Side) (old new : Pairing C) : Type 0
+    where
+      pub some : new.last ≢ None
+      pub not_end : new.last ≢ Some kinds.End
+      pub counted : CountsMessages new.last old.calls_taken old.replies_taken new.calls_taken
+          new.replies_taken
+      pub machine : (bytes : List ℕ) (entries : List Entry)
+          → MeetsEvent old.container (known old.calls) (Record side) bytes entries
+          → GoesTo Passed new.last new.number new.container (known new.calls) bytes entries
+
+  -- the fault of the record, or memory ran out: no device failed
+  pub record RefusesMessage (side : Side) (old new : Pairing C) : Type 0 where
+    pub device : IsOfBytes new.error
+    pub fault : (bytes : List ℕ) (entries : List Entry)
+        → MeetsEvent old.container (known old.calls) (Record side) bytes entries
+        → FailsAt bytes entries new.error

@@ -4,7 +4,6 @@ ghost use Rattle.std.specs.Prelude.{◌≡◌, ◌≢◌, ◌≤◌, ◌<◌, �
 ghost use Rattle.capture3.specs.Observed.{IsSpent, ReadGives};
 ghost use Rattle.record_mark.specs.Taking.{released};
 ghost use Rattle.capture3.specs.declared.reader.entries.Stage.TheVariants as stages;
-ghost use Rattle.capture3.specs.declared.fault.Error.{Error};
 ghost use Rattle.capture3.specs.declared.fault.Error.TheVariants as errors;
 ghost use Rattle.xdr3.specs.Item.{AreBytes};
 ghost use Rattle.capture3.specs.Device.{Counts};
@@ -43,8 +42,8 @@ enum Stage {
     Reading,
     /// None, after the end.
     Over,
-    /// This error, for good.
-    Failed(Error),
+    /// The error of `pairing`, for good.
+    Failed,
 }
 
 /// Reads the entries of a capture one by one. It keeps one block of the source's bytes, one record,
@@ -69,8 +68,8 @@ pub struct Entries<'r, R, S: BuildHasher + Drop> {
     ghost ready: { stage ≡ stages.Reading
         → ∥ CanGoOn pairing.container.cursor (released pairing.container.joiner.taking)
         pairing.container ∥₁ },
-    ghost never_writes: { stage ≢ stages.Failed errors.Write },
-    ghost unlent: { (error : Error) → stage ≡ stages.Failed error → pairing.last ≡ None },
+    ghost never_writes: { stage ≡ stages.Failed → pairing.error ≢ errors.Write },
+    ghost unlent: { stage ≡ stages.Failed → pairing.last ≡ None },
 }
 
 impl<'r, R: Source, S: BuildHasher + Drop> Entries<'r, R, S> {
@@ -82,9 +81,10 @@ impl<'r, R: Source, S: BuildHasher + Drop> Entries<'r, R, S> {
     ghost use Rattle.capture3.specs.Entries.{block_size, failure_of, IsOver, KeepsErrors, last_of, loan_of, source_of, UsesSource};
     ghost use Rattle.capture3.specs.Handing.{HandsOutGiven};
     ghost use Rattle.capture3.specs.machinery.Stepping.{IsNextOfKind, kind_lent, kind_read};
+    ghost use Rattle.capture3.specs.MessageVisit.{Hears};
     ghost use Rattle.capture3.specs.Numbering.{number_after, number_lent};
     ghost use Rattle.capture3.specs.Progress.{HasPassed};
-    ghost use Rattle.capture3.specs.machinery.EntriesHistory.{entries_left, FillsOrEnds, HasRead, IsUsedUp, NotesFailure, ReadsNothing, ReadsOnce, StandsFor};
+    ghost use Rattle.capture3.specs.machinery.EntriesHistory.{entries_left, FillsOrEnds, HasRead, IsUsedUp, LeavesKind, next_kind, NotesFailure, ReadsNothing, ReadsOnce, StandsFor, with_error};
 
     /// Returns a reader through a block that is not empty. It reads nothing yet. The hasher is for
     /// the calls of a connection by their xids, and affects no result.
@@ -159,12 +159,12 @@ impl<'r, R: Source, S: BuildHasher + Drop> Entries<'r, R, S> {
         ensures write { IfErr result (λ error. error ≢ Error.Write) }
     {
         match self.step(&mut Silent) {
-            Ok(Some(_)) => match self.read_last() {
+            Ok(true) => match self.read_last() {
                 Ok(next) => Ok(next),
                 Err(_) => Err(Error::Memory),
             },
-            Ok(None) => Ok(None),
-            Err(error) => Err(error),
+            Ok(false) => Ok(None),
+            Err(Noted) => Err(self.pairing.error),
         }
     }
 
@@ -195,47 +195,39 @@ impl<'r, R: Source, S: BuildHasher + Drop> Entries<'r, R, S> {
         ensures write { IfErr result (λ error. error ≢ Error.Write) }
     {
         match self.step(visitor) {
-            Ok(Some(_)) => Ok(self.entry()),
-            Ok(None) => Ok(None),
-            Err(error) => Err(error),
+            Ok(true) => Ok(self.entry()),
+            Ok(false) => Ok(None),
+            Err(Noted) => Err(self.pairing.error),
         }
     }
 
-    /// Reads the next entry and notes its kind, which it returns; `None` after the last one.
+    /// Reads up to the next entry and returns whether there is one; `false` after the last one. The
+    /// entry and the error are left in `pairing`, because a larger result costs each message the
+    /// instructions that move it.
     #[inline(always)]
-    fn step<V: MessageVisit>(&mut self, visitor: &mut V) -> Result<Option<Kind>, Error>
-        // What is returned, and which entry is lent.
+    fn step<V: MessageVisit>(&mut self, visitor: &mut V) -> Result<bool, Noted>
         ensures answers { (given : List ℕ) (handed : List spec.Entry)
             → StandsFor R.observed self.old given handed
-            → HandsOutGiven R.observed (IsNextOfKind V.rests V.stands visitor.old visitor.new)
-            self.old
-            self.new given handed result }
-        ensures end { result ≡ Ok (Some Kind.End) → IsOver self.new }
-        ensures over { IsOver self.old → (result ≡ Ok None) × (self.new ≡ self.old) }
-        ensures last { IfOk result (λ next. IsSome next → last_of self.new ≡ next) }
-        ensures fewer { IfOk result (λ next. IsSome next
-            → entries_left self.new < entries_left self.old) }
-
-        // The visitor.
-        ensures unmoved { IfOk result (λ next. next ≡ None → visitor.new ≡ visitor.old) }
-
-        // Errors stay.
-        ensures errors { KeepsErrors self.old self.new result }
-
-        // The device.
-        ensures device { UsesSource R.failures self.old self.new result }
+            → HandsOutGiven R.observed
+            (IsNextOfKind (Hears V.rests V.stands visitor.old visitor.new)) self.old self.new given
+            handed (next_kind self.new result) }
+        ensures leaves { LeavesKind R.failures self.old self.new visitor.old visitor.new
+            (next_kind self.new result) }
     {
         match self.stage {
             Stage::Reading => {}
-            Stage::Over => return Ok(None),
-            Stage::Failed(error) => return Err(error),
+            Stage::Over => return Ok(false),
+            Stage::Failed => return Err(Noted),
         }
         while self.judged <= MOST_JUDGED {
             // Written out, since `?` takes more instructions for each message.
             match self.refill() {
                 Ok(true) => {}
-                Ok(false) => return self.finish(),
-                Err(error) => return Err(error),
+                Ok(false) => match self.finish() {
+                    Ok(()) => return Ok(true),
+                    Err(Noted) => return Err(Noted),
+                },
+                Err(Noted) => return Err(Noted),
             }
             let piece = &self.block[self.start..self.end];
             match self.pairing.next(piece, visitor) {
@@ -245,21 +237,21 @@ impl<'r, R: Source, S: BuildHasher + Drop> Entries<'r, R, S> {
                 }
                 Err(Noted) => {
                     self.pairing.last = None;
-                    self.stage = Stage::Failed(self.pairing.error);
-                    return Err(self.pairing.error);
+                    self.stage = Stage::Failed;
+                    return Err(Noted);
                 }
             }
             if self.pairing.last.is_some() {
-                return Ok(self.pairing.last);
+                return Ok(true);
             }
         }
-        let error = Error::Refused(Fault {
+        self.pairing.error = Error::Refused(Fault {
             place: Place::File { at: self.judged },
             reason: Reason::AfterEnd,
         });
         self.pairing.last = None;
-        self.stage = Stage::Failed(error);
-        Err(error)
+        self.stage = Stage::Failed;
+        Err(Noted)
     }
 
     /// Returns how far the entries have come that were lent. After an error it says nothing.
@@ -274,6 +266,7 @@ impl<'r, R: Source, S: BuildHasher + Drop> Entries<'r, R, S> {
     /// Lends the last entry, with its call as a value.
     fn read_last(&self) -> Result<Option<EntryRef<'_>>, AllocError>
         ensures kind { IfOk result (λ next. kind_read next ≡ last_of self.now) }
+        ensures some { OnErr result (IsSome (last_of self.now)) }
         ensures value { (given : List ℕ) (handed : List spec.Entry) (entry : spec.Entry)
             → StandsFor R.observed self.now given (handed ++ entry ∷ [])
             → IfOk result (λ next. IfSome next (λ read. IsReadAs read entry)) }
@@ -314,7 +307,7 @@ impl<'r, R: Source, S: BuildHasher + Drop> Entries<'r, R, S> {
 
     /// Reads the next block if nothing is left at hand. Returns `false` at the end of the bytes.
     #[inline(always)]
-    fn refill(&mut self) -> Result<bool, Error>
+    fn refill(&mut self) -> Result<bool, Noted>
         requires reading { self.old.stage ≡ Stage.Reading }
         requires bounded { self.old.judged ≤ most_bytes Two + 1 }
 
@@ -332,7 +325,7 @@ impl<'r, R: Source, S: BuildHasher + Drop> Entries<'r, R, S> {
         ensures failure { NotesFailure self.new result }
 
         // The device.
-        ensures device { ReadsOnce R.failures self.old self.new result }
+        ensures device { ReadsOnce R.failures self.old self.new (with_error self.new result) }
     {
         if !self.is_used_up() {
             return Ok(true);
@@ -345,15 +338,16 @@ impl<'r, R: Source, S: BuildHasher + Drop> Entries<'r, R, S> {
                 Ok(count > 0)
             }
             Err(_) => {
+                self.pairing.error = Error::Read;
                 self.pairing.last = None;
-                self.stage = Stage::Failed(Error::Read);
-                Err(Error::Read)
+                self.stage = Stage::Failed;
+                Err(Noted)
             }
         }
     }
 
     /// Ends the capture, of which no byte is left.
-    fn finish(&mut self) -> Result<Option<Kind>, Error>
+    fn finish(&mut self) -> Result<(), Noted>
         requires reading { self.old.stage ≡ Stage.Reading }
         requires used_up { IsUsedUp self.old }
         requires end { IsSpent (R.observed (source_of self.old)) }
@@ -365,7 +359,6 @@ impl<'r, R: Source, S: BuildHasher + Drop> Entries<'r, R, S> {
         ensures err { (given : List ℕ) (handed : List spec.Entry)
             → StandsFor R.observed self.old given handed
             → OnErr result (StandsFor R.observed self.new given handed) }
-        ensures end { IfOk result (λ next. next ≡ Some Kind.End) }
         ensures last { OnOk result (last_of self.new ≡ Some Kind.End) }
         ensures over { OnOk result (self.new.stage ≡ Stage.Over) }
 
@@ -373,18 +366,19 @@ impl<'r, R: Source, S: BuildHasher + Drop> Entries<'r, R, S> {
         ensures failure { NotesFailure self.new result }
 
         // The device is not read.
-        ensures device { ReadsNothing self.old self.new result }
+        ensures device { ReadsNothing self.old self.new (with_error self.new result) }
     {
         match self.pairing.end(self.judged) {
             Ok(()) => {
                 self.pairing.last = Some(Kind::End);
                 self.stage = Stage::Over;
-                Ok(Some(Kind::End))
+                Ok(())
             }
             Err(error) => {
+                self.pairing.error = error;
                 self.pairing.last = None;
-                self.stage = Stage::Failed(error);
-                Err(error)
+                self.stage = Stage::Failed;
+                Err(Noted)
             }
         }
     }

@@ -1,9 +1,9 @@
 //! The entries of a capture.
 
-ghost use Rattle.std.specs.Prelude.{◌≡◌, ◌≤◌, List, length, is_some, IfOk, IfSome, OnOk};
+ghost use Rattle.std.specs.Prelude.{◌≡◌, ◌≤◌, ℕ, List, length, is_some, IfOk, IfSome, OnOk};
 ghost use Rattle.record_mark.specs.RecordMark.{max_body};
 ghost use Rattle.xdr3.specs.Item.{Item};
-ghost use Rattle.capture3.specs.Bodies.{IsCall, IsReply, xid_in};
+ghost use Rattle.capture3.specs.Bodies.{IsCall, IsReply, Starts, xid_in};
 ghost use Rattle.capture3.specs.MessageScan.{PassesCall, PassesReply};
 ghost use Rattle.capture3.specs.machinery.Spelled.{SpellsCall, SpellsReply};
 
@@ -90,6 +90,18 @@ pub enum Entry {
     End,
 }
 
+/// Returns the xid of a body that was read as a message before (RFC 5531, section 9).
+fn xid_of(body: &[u8]) -> u32
+    requires short { length body.now ≤ max_body }
+    requires started { ∥ ((xid : ℕ) × (mtype : ℕ) × Starts body.now xid mtype) ∥₁ }
+    ensures { (xid : ℕ) (mtype : ℕ) → Starts body.now xid mtype → result ≡ xid }
+{
+    let Ok(start) = start(&mut Input::new(body)) else {
+        unreachable!()
+    };
+    start.xid
+}
+
 impl<'a> CallRef<'a> {
     ghost use Rattle.procs3.specs.Names.{name_of_procedure};
     ghost use Rattle.procs3.specs.Variants.{args_name};
@@ -114,11 +126,7 @@ impl<'a> CallRef<'a> {
     pub fn xid(&self) -> u32
         ensures { (items : List Item) → IsCall self.now.body.now items → result ≡ xid_in items }
     {
-        let Ok(start) = start(&mut Input::new(self.body)) else {
-            // The body was read as a message before.
-            unreachable!()
-        };
-        start.xid
+        xid_of(self.body)
     }
 
     /// Returns the call with a body of its own.
@@ -126,9 +134,8 @@ impl<'a> CallRef<'a> {
         ensures id { IfOk result (λ kept. kept.id ≡ self.now.id) }
         ensures body { IfOk result (λ kept. kept.body.items ≡ self.now.body.now) }
     {
-        let id = self.id;
         let body = Vec::from_slice(alloc, self.body)?;
-        Ok(KeptCall { id, body })
+        Ok(KeptCall { id: self.id, body })
     }
 
     /// Passes the items of the call to a visitor, in one pass over its body. It fails only if
@@ -174,11 +181,7 @@ impl<'a> ReplyRef<'a> {
         ensures { (items : List Item) → IsReply self.now.body.now
             (record { id = self.now.id; items = items }) → result ≡ xid_in items }
     {
-        let Ok(start) = start(&mut Input::new(self.body)) else {
-            // The body was read as a message before.
-            unreachable!()
-        };
-        start.xid
+        xid_of(self.body)
     }
 
     /// Returns the reply with a body of its own.
@@ -186,9 +189,8 @@ impl<'a> ReplyRef<'a> {
         ensures id { IfOk result (λ kept. kept.id ≡ self.now.id) }
         ensures body { IfOk result (λ kept. kept.body.items ≡ self.now.body.now) }
     {
-        let id = self.id;
         let body = Vec::from_slice(alloc, self.body)?;
-        Ok(KeptReply { id, body })
+        Ok(KeptReply { id: self.id, body })
     }
 
     /// Passes the items of the reply to a visitor, in one pass over its body. It fails only if

@@ -5,7 +5,7 @@ ghost use Rattle.record_mark.specs.Taking.{IsRunning, IsWhole, body_of, released
 ghost use Rattle.xdr3.specs.Item.{Item};
 ghost use Rattle.capture3.specs.machinery.Container.{CanGoOn, Leaves, room_in, TakesPiece};
 ghost use Rattle.capture3.specs.Entry as spec;
-ghost use Rattle.capture3.specs.machinery.Pairing.{CountsMessages, entry_cost, error_at, FailsAt, FailsFrom, GoesTo, HasCome, IsHeld, IsInside, IsOfBytes, MeetsEvent, SpellsLast};
+ghost use Rattle.capture3.specs.machinery.Pairing.{CountsMessages, entry_cost, error_at, FailsFrom, GoesTo, HasCome, IsHeld, IsOfBytes, SpellsLast};
 ghost use Rattle.capture3.specs.Kept.{IsLent, kind_of};
 ghost use Rattle.capture3.specs.Numbering.{number_lent};
 ghost use Rattle.capture3.specs.machinery.Calls.{KnowsNone};
@@ -41,6 +41,9 @@ pub(crate) struct Pairing<C: Drop> {
 }
 
 impl<C: CallTable + Drop> Pairing<C> {
+    ghost use Rattle.capture3.specs.MessageVisit.{Hears};
+    ghost use Rattle.capture3.specs.machinery.Stepping.{RefusesMessage, TakesMessage};
+
     pub(crate) fn new(alloc: Global, calls: C) -> Pairing<C>
         requires none { KnowsNone (C.known calls) }
         ensures ready { CanGoOn result.container.cursor (released result.container.joiner.taking)
@@ -83,8 +86,9 @@ impl<C: CallTable + Drop> Pairing<C> {
         ensures machine { (bytes : List ℕ) (entries : List spec.Entry)
             → HasCome self.old.container (C.known self.old.calls) bytes entries
             → IfOk result
-            (λ count. GoesTo V.rests V.stands visitor.old visitor.new self.new.last self.new.number
-            self.new.container (C.known self.new.calls) (bytes ++ take count piece.now) entries) }
+            (λ count. GoesTo (Hears V.rests V.stands visitor.old visitor.new) self.new.last
+            self.new.number self.new.container (C.known self.new.calls)
+            (bytes ++ take count piece.now) entries) }
         ensures not_end { OnOk result (self.new.last ≢ Some Kind.End) }
         ensures unmoved { OnOk result (self.new.last ≡ None → visitor.new ≡ visitor.old) }
         ensures counted { OnOk result (CountsMessages self.new.last self.old.calls_taken
@@ -192,19 +196,9 @@ impl<C: CallTable + Drop> Pairing<C> {
     fn call<V: MessageVisit>(&mut self, visitor: &mut V) -> Result<(), Noted>
         requires { IsWhole self.old.container.joiner.taking }
         ensures container { self.new.container ≡ self.old.container }
-        ensures inside { OnOk result (IsInside self.new.last) }
-        ensures counted { OnOk result (CountsMessages self.new.last self.old.calls_taken
-            self.old.replies_taken self.new.calls_taken self.new.replies_taken) }
-        ensures machine { (bytes : List ℕ) (entries : List spec.Entry)
-            → MeetsEvent self.old.container (C.known self.old.calls) (Event.Record Side.Client)
-            bytes entries
-            → OnOk result (GoesTo V.rests V.stands visitor.old visitor.new self.new.last
-            self.new.number self.new.container (C.known self.new.calls) bytes entries) }
-        ensures fault { (bytes : List ℕ) (entries : List spec.Entry)
-            → MeetsEvent self.old.container (C.known self.old.calls) (Event.Record Side.Client)
-            bytes entries
-            → OnErr result (FailsAt bytes entries self.new.error) }
-        ensures device { OnErr result (IsOfBytes self.new.error) }
+        ensures ok { OnOk result (TakesMessage C.known
+            (Hears V.rests V.stands visitor.old visitor.new) Side.Client self.old self.new) }
+        ensures err { OnErr result (RefusesMessage C.known Side.Client self.old self.new) }
     {
         let call = match scan_call(self.container.body(), visitor) {
             Ok(call) => call,
@@ -226,19 +220,9 @@ impl<C: CallTable + Drop> Pairing<C> {
     fn reply<V: MessageVisit>(&mut self, visitor: &mut V) -> Result<(), Noted>
         requires { IsWhole self.old.container.joiner.taking }
         ensures container { self.new.container ≡ self.old.container }
-        ensures inside { OnOk result (IsInside self.new.last) }
-        ensures counted { OnOk result (CountsMessages self.new.last self.old.calls_taken
-            self.old.replies_taken self.new.calls_taken self.new.replies_taken) }
-        ensures machine { (bytes : List ℕ) (entries : List spec.Entry)
-            → MeetsEvent self.old.container (C.known self.old.calls) (Event.Record Side.Server)
-            bytes entries
-            → OnOk result (GoesTo V.rests V.stands visitor.old visitor.new self.new.last
-            self.new.number self.new.container (C.known self.new.calls) bytes entries) }
-        ensures fault { (bytes : List ℕ) (entries : List spec.Entry)
-            → MeetsEvent self.old.container (C.known self.old.calls) (Event.Record Side.Server)
-            bytes entries
-            → OnErr result (FailsAt bytes entries self.new.error) }
-        ensures device { OnErr result (IsOfBytes self.new.error) }
+        ensures ok { OnOk result (TakesMessage C.known
+            (Hears V.rests V.stands visitor.old visitor.new) Side.Server self.old self.new) }
+        ensures err { OnErr result (RefusesMessage C.known Side.Server self.old self.new) }
     {
         match scan_reply(&self.calls, self.container.body(), visitor) {
             Ok(call) => {

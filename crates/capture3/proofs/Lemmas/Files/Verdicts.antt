@@ -126,11 +126,6 @@ pub verdict_from_typed : (file : List ℕ) (entries : List Entry) → Typed file
 verdict_from_typed file entries h =
     ap (verdict_of (length file)) (typed_runs file entries h) ∙ ap (λ es. Ok es) (sym h.ends)
 
--- bytes have one list of entries
-pub typed_once : (file : List ℕ) (a b : List Entry) → Typed file a → Typed file b → a ≡ b
-typed_once file a b p q =
-    let one = verdict_from_typed file a p in let other = verdict_from_typed file b q in cc
-
 -- a first fault
 fault_from_spot : (entries : List Entry) (size : ℕ) (fault : Fault) (spot : Spot)
     → concluded size entries spot ≡ Err fault → fault ≡ file_fault size CaptureCut

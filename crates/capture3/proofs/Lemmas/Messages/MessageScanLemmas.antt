@@ -88,7 +88,7 @@ arguments_stop stands before body s id v1 v2 n1 n2 e b h x = λ stop is.
     let c = call_begun stands body s id v1 v2 n1 n2 b h in
     call_bad_arguments before body s id c.0 v1.at v2.at stop c.1 (rw (← c.2) (x stop is))
 
--- a call was read up to the last view, and a visitor was told its items
+-- a call was read up to the last view, and a visitor was passed its items
 pub record CallRead {V : Type 0} (rests stands : V → List Item → Type 0) (body : List ℕ)
     (s : MessageStart) (id : ProcId) (head end : ℕ) (last : View) (old new : V) : Type 0 where
   pub front : List Item
@@ -186,7 +186,7 @@ results_stop stands calls body s id success v1 v2 n1 n2 e b asked h x = λ stop 
     let c = reply_begun stands calls body s id success v1 v2 n1 n2 b asked h in
     reply_bad_results calls body s id success c.0 v1.at v2.at stop c.1 (rw (← c.2) (x stop is))
 
--- a reply was read up to the last view, and a visitor was told its items
+-- a reply was read up to the last view, and a visitor was passed its items
 pub record ReplyRead {V : Type 0} (rests stands : V → List Item → Type 0) (body : List ℕ)
     (s : MessageStart) (id : ProcId) (success : Bool) (head end : ℕ) (last : View) (old new : V) :
     Type 0 where

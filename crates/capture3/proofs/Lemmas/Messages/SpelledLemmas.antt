@@ -1,7 +1,8 @@
 -- A body that spells a message is read without a stop, and as a message of that procedure.
-use Rattle.capture3.proofs.Common.{◌≡◌, ℕ, Bool, true, false, cond, List, [], ◌∷◌, Some, None, Result, Ok, Err, ap, ◌∙◌, eq-eqb, Stop, reading, reads_whole, ProcId, MessageStart, call_layout, reply_layout, procedure_in, message_start, start_items, arguments_of, results_of, judge_call, judge_reply, read_whole, SpellsCall, SpellsReply, Item, Word, head_names, IsCall, IsReply, Starts, xid_in, procedure_of}
+use Rattle.capture3.proofs.Common.{◌≡◌, ℕ, Bool, true, false, cond, List, [], ◌∷◌, Some, None, Result, Ok, Err, ap, ◌∙◌, eq-eqb, Stop, reading, reads_whole, ProcId, MessageStart, call_layout, reply_layout, procedure_in, message_start, start_items, arguments_of, results_of, judge_call, judge_reply, read_whole, SpellsCall, SpellsReply, Item, Word, head_names, IsCall, IsReply, Starts, ∥∥₁_elim, xid_in, procedure_of}
 use Rattle.capture3.proofs.Lemmas.Messages.BodiesLemmas.{call_accepts, call_starts, reply_accepts, reply_starts, start_of, start_read}
 use Rattle.capture3.proofs.Lemmas.Messages.Layouts.{whole_read}
+use mathlib.Core.HLevel.{⊥_prop}
 
 ok_err : {A E : Type 0} (r : Result A E) (a : A) (e : E) → r ≡ Ok a → r ≡ Err e → ⊥
 ok_err r a e x y = absurd (cc)
@@ -12,33 +13,27 @@ same_ok r a b x y = cc
 -- ---- calls
 
 -- the start of what begins with one is read, with its xid
-xid_read : (body : List ℕ) (xid mtype : ℕ) (start : MessageStart) (to : ℕ) → Starts body xid mtype
-    → reading message_start body 0 ≡ Ok (start_items start, to) → start.xid ≡ xid
+pub xid_read : (body : List ℕ) (xid mtype : ℕ) (start : MessageStart) (to : ℕ)
+    → Starts body xid mtype → reading message_start body 0 ≡ Ok (start_items start, to)
+    → start.xid ≡ xid
 xid_read body xid mtype start to starts read =
     let r = start_read body xid mtype starts in
     ap (λ (x : List Item × ℕ). xid_in x.0) (same_ok (reading message_start body 0)
     (start_items start, to) (start_of xid mtype, r.0) read r.1)
 
-start_is_whole : (body : List ℕ) (xid mtype : ℕ) (stop : Stop) → Starts body xid mtype
+pub start_is_whole : (body : List ℕ) (stop : Stop)
+    → ∥ ((xid : ℕ) × (mtype : ℕ) × Starts body xid mtype) ∥₁
     → reading message_start body 0 ≡ Err stop → ⊥
-start_is_whole body xid mtype stop starts e =
-    let r = start_read body xid mtype starts in
-    ok_err (reading message_start body 0) (start_of xid mtype, r.0) stop r.1 e
+start_is_whole body stop started e =
+    ∥∥₁_elim started ⊥_prop
+    (λ s.
+    let r = start_read body s.0 s.1 s.2 in
+    ok_err (reading message_start body 0) (start_of s.0 s.1, r.0) stop r.1 e)
 
-call_start : (body : List ℕ) (items : List Item) → IsCall body items → Starts body (xid_in items) 0
+pub call_start : (body : List ℕ) (items : List Item) → IsCall body items
+    → Starts body (xid_in items) 0
 call_start body items is =
     call_starts body items [] ((reads_whole (call_layout arguments_of) body items).1 is)
-
-pub call_start_is_whole : (id : ProcId) (body : List ℕ) (stop : Stop) → SpellsCall id body
-    → reading message_start body 0 ≡ Err stop → ⊥
-call_start_is_whole id body stop s e =
-    start_is_whole body (xid_in s.0) 0 stop (call_start body s.0 s.1) e
-
-pub call_has_xid : (body : List ℕ) (items : List Item) (start : MessageStart) (to : ℕ)
-    → IsCall body items → reading message_start body 0 ≡ Ok (start_items start, to)
-    → start.xid ≡ xid_in items
-call_has_xid body items start to is read =
-    xid_read body (xid_in items) 0 start to (call_start body items is) read
 
 call_judged : (body : List ℕ) (items : List Item) → IsCall body items
     → judge_call [] body ≡ Ok items
@@ -59,22 +54,11 @@ call_never_stops id body stop s e =
 
 -- ---- replies
 
-reply_start : (id : ProcId) (body : List ℕ) (items : List Item)
+pub reply_start : (id : ProcId) (body : List ℕ) (items : List Item)
     → IsReply body (record { id = id; items = items }) → Starts body (xid_in items) 1
 reply_start id body items is =
     reply_starts (results_of id) body items []
     ((reads_whole (reply_layout (results_of id)) body items).1 is)
-
-pub reply_start_is_whole : (id : ProcId) (body : List ℕ) (stop : Stop) → SpellsReply id body
-    → reading message_start body 0 ≡ Err stop → ⊥
-reply_start_is_whole id body stop s e =
-    start_is_whole body (xid_in s.0) 1 stop (reply_start id body s.0 s.1) e
-
-pub reply_has_xid : (id : ProcId) (body : List ℕ) (items : List Item) (start : MessageStart)
-    (to : ℕ) → IsReply body (record { id = id; items = items })
-    → reading message_start body 0 ≡ Ok (start_items start, to) → start.xid ≡ xid_in items
-reply_has_xid id body items start to is read =
-    xid_read body (xid_in items) 1 start to (reply_start id body items is) read
 
 -- and one reply of each procedure
 pub one_reply : (id : ProcId) (body : List ℕ) (a b : List Item)

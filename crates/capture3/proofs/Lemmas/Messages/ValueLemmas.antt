@@ -18,7 +18,7 @@ use Rattle.rpc_head.specs.MessageStart.{start_items}
 use Rattle.capture3.specs.BodyProgram.{is_same}
 use Rattle.capture3.specs.machinery.ScannedMessages.{StopsMessage}
 use Rattle.capture3.specs.machinery.Spelled.{SpellsCall}
-use Rattle.capture3.proofs.Lemmas.Messages.SpelledLemmas.{asking, call_never_stops, one_call, one_reply, reply_has_xid, reply_never_stops}
+use Rattle.capture3.proofs.Lemmas.Messages.SpelledLemmas.{asking, call_never_stops, one_call, one_reply, reply_start, xid_read, reply_never_stops}
 use Rattle.capture3.specs.machinery.UnspelledMessages.{SpellsNoCall, SpellsNoReply}
 
 -- ---- calls
@@ -76,7 +76,8 @@ pub asked : (id : ProcId) (body : List ℕ) (items : List Item) (s : MessageStar
     → reading message_start body 0 ≡ Ok (start_items s, to)
     → procedure_of (the_call (xid_in items) id) s.xid ≡ Some id
 asked id body items s to is read =
-    ap (procedure_of (the_call (xid_in items) id)) (reply_has_xid id body items s to is read)
+    ap (procedure_of (the_call (xid_in items) id))
+    (xid_read body (xid_in items) 1 s to (reply_start id body items is) read)
     ∙ asked_by (xid_in items) id
 
 -- where judging the body after such a call stops, it spells no reply

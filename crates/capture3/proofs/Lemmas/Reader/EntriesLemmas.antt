@@ -2,7 +2,6 @@
 use Rattle.std.proofs.Common.{◌≡◌, ◌⊎◌, inl, inr, ℕ, ◌+◌, ◌-◌, ◌≤◌, ◌<◌, Option, Some, None, Result, Ok, Err, IsSome, IfErr, IfOk, OnErr, OnOk, List, [], ◌∷◌, ◌++◌, length, take, drop, slice_range, refl, sym, ap, subst, ◌∙◌, append_assoc, append-nil, length-append, arith, take-append-drop, length-take, length-drop, vec_len}
 use Rattle.capture3.proofs.Common.{CanGoOn, common_steps, Pairing, CountedCalls, known_of, open_xids, ∥∥₁_elim, CaptureCut, AreBytes, Item, Runs, Stops, Stopped, Taking, Led, OutOfMemory, IsRunning, released, Known, Kind, Error, Spot, Container, Cursor, Two, max_connections, Entry, End, FirstFault, IsClean, begins, most_bytes, Parsing, parsed, emitted, AreFirstReached, AreWhole, Reached, parsing_at, Streams, file_fault, IsWellFormed, props, Observed, Gave, IsSpent, AreStored, IsReady, room_in, unpacking_of}
 use Rattle.std.proofs.lemmas.List.{drop-take}
-use Rattle.capture3.specs.MessageVisit.{Hears}
 use Rattle.capture3.specs.Progress.{AreCounted}
 use Rattle.capture3.specs.machinery.Pairing.{CountsMessages}
 use Rattle.capture3.proofs.Lemmas.Reader.PairingLemmas.{counted_here}
@@ -88,11 +87,11 @@ pub can_go_on : (cursor : Option Cursor) (t : Taking) (c : Container) → ∥ Ca
     → CanGoOn cursor t c
 can_go_on cursor t c h = ∥∥₁_elim h (going_on-prop cursor t c) (λ s. s)
 
-failed_stage : (stage : Stage) (error : Error) → failure_in stage ≡ Some error
-    → stage ≡ Failed error
-failed_stage Reading error is = absurd (cc)
-failed_stage Over error is = absurd (cc)
-failed_stage (Failed other) error is = cc
+failed_stage : (stage : Stage) (error other : Error) → failure_in stage error ≡ Some other
+    → stage ≡ Failed
+failed_stage Reading error other is = absurd (cc)
+failed_stage Over error other is = absurd (cc)
+failed_stage Failed error other is = refl
 
 kind_held : (kind : Kind) (t : Taking) (entry : Entry) → IsHeld kind t entry → IsOfKind kind entry
 kind_held kinds.Begin t entry is = is
@@ -317,11 +316,12 @@ module _ {R S H : Type 0} {builds : BuildHasher.Ghosts S H} {hashes : Hasher.Gho
   }
 
   -- it has failed
-  pub stands_failed : (old new : Entries R S H builds hashes) (error : Error) (given : List ℕ)
-      (handed : List Entry) → new.stage ≡ Failed error → last_of new ≡ None
+  pub stands_failed : (old new : Entries R S H builds hashes) (given : List ℕ)
+      (handed : List Entry) → new.stage ≡ Failed → last_of new ≡ None
       → vec_len new.block ≡ vec_len old.block → StandsFor observed old given handed
-      → IsMetBy error (observed new.source.now) given handed → StandsFor observed new given handed
-  stands_failed old new error given handed is none block s met = record {
+      → IsMetBy new.pairing.error (observed new.source.now) given handed
+      → StandsFor observed new given handed
+  stands_failed old new given handed is none block s met = record {
     bytes = s.bytes;
     few =
         omega (
@@ -356,8 +356,9 @@ module _ {R S H : Type 0} {builds : BuildHasher.Ghosts S H} {hashes : Hasher.Gho
           → StandsIn stage (observed e.source.now) e given handed → AreFirstReached given handed
       by_stage Reading is h = first_in e given handed s.bytes h
       by_stage Over is h = ([], subst (Reached given) (sym (append-nil handed)) (inl h.0))
-      by_stage (Failed error) is h =
-          let failed : failure_of e ≡ Some error = ap failure_in is in absurd (cc)
+      by_stage Failed is h =
+          let failed : failure_of e ≡ Some e.pairing.error =
+          ap (λ stage. failure_in stage e.pairing.error) is in absurd (cc)
 
   -- ---- a read
 
@@ -418,20 +419,21 @@ module _ {R S H : Type 0} {builds : BuildHasher.Ghosts S H} {hashes : Hasher.Gho
       }
 
   pub has_failed : (old new : Entries R S H builds hashes) (given : List ℕ) (handed : List Entry)
-      → old.stage ≡ Reading → new.stage ≡ Failed errors.Read → last_of new ≡ None
-      → vec_len new.block ≡ vec_len old.block → old.start ≡ old.end
+      → old.stage ≡ Reading → new.stage ≡ Failed → errors.Read ≡ new.pairing.error
+      → last_of new ≡ None → vec_len new.block ≡ vec_len old.block → old.start ≡ old.end
       → old.pairing.container.cursor ≡ None
       → Gave (observed old.source.now) (observed new.source.now) []
       → StandsFor observed old given handed
       → HasRead observed old new given handed
-  has_failed old new given handed is fails none block empty unopened kept s =
+  has_failed old new given handed is fails error none block empty unopened kept s =
       record {
         more = [];
         consumed = kept;
         stands = subst (λ (b : List ℕ). StandsFor observed new b handed) (sym (append-nil given))
-            (stands_failed old new errors.Read given handed fails none block s (all_before_end given
-            _ _ _ _ handed s.bytes (machine_at old given handed empty unopened
-            (reading_of old given handed is s))));
+            (stands_failed old new given handed fails none block s
+            (subst (λ (e : Error). IsMetBy e (observed new.source.now) given handed) error
+            (all_before_end given _ _ _ _ handed s.bytes
+            (machine_at old given handed empty unopened (reading_of old given handed is s)))));
       }
 
   -- ---- judging the block
@@ -474,7 +476,7 @@ module _ {R S H : Type 0} {builds : BuildHasher.Ghosts S H} {hashes : Hasher.Gho
       }
 
   -- with the entry that is whole, if one is
-  pub judged_on : {V : Type 0} (rests stands : V → List Item → Type 0) (was now : V)
+  pub judged_on : (Passed : Entry → Type 0)
       (old new : Entries R S H builds hashes) (count : ℕ) (given : List ℕ) (handed : List Entry)
       (came : Option Kind) → old.stage ≡ Reading → new.stage ≡ Reading → last_of new ≡ came
       → vec_len new.block ≡ vec_len old.block
@@ -485,13 +487,13 @@ module _ {R S H : Type 0} {builds : BuildHasher.Ghosts S H} {hashes : Hasher.Gho
       → (s : StandsFor observed old given handed)
       → ((judged : List ℕ)
       → HasCome old.pairing.container (known_of old.pairing.calls) judged handed
-      → GoesTo rests stands was now came new.pairing.number new.pairing.container
+      → GoesTo Passed came new.pairing.number new.pairing.container
       (known_of new.pairing.calls)
       (judged ++ take count (unjudged old)) handed)
       → CountsMessages came old.pairing.calls_taken old.pairing.replies_taken
       new.pairing.calls_taken new.pairing.replies_taken
-      → HandsOutOrGoesOn observed rests stands new was now given handed came
-  judged_on rests stands was now old new count given handed None is goes last size judged block fits
+      → HandsOutOrGoesOn observed Passed new given handed came
+  judged_on Passed old new count given handed None is goes last size judged block fits
       within room s leads counts =
       let r = reading_of old given handed is s in
       stands_reading new given handed goes s.bytes
@@ -501,7 +503,7 @@ module _ {R S H : Type 0} {builds : BuildHasher.Ghosts S H} {hashes : Hasher.Gho
       (moves_on old new count
       given handed handed judged block fits within r (leads r.judged r.machine)
       (counts.0 ∙ r.messages.0, counts.1 ∙ r.messages.1))
-  judged_on rests stands was now old new count given handed (Some kind) is goes last size judged
+  judged_on Passed old new count given handed (Some kind) is goes last size judged
       block
       fits within room s leads counts =
       let r = reading_of old given handed is s in
@@ -531,20 +533,22 @@ module _ {R S H : Type 0} {builds : BuildHasher.Ghosts S H} {hashes : Hasher.Gho
   fails_by e errors.Write given handed known are r f = absurd f
   fails_by e errors.Memory given handed known are r f = first_in e given handed are r
 
-  pub judged_failed : (old new : Entries R S H builds hashes) (error : Error) (given : List ℕ)
-      (handed : List Entry) → old.stage ≡ Reading → new.stage ≡ Failed error → last_of new ≡ None
+  judged_failed : (old new : Entries R S H builds hashes) (given : List ℕ)
+      (handed : List Entry) → old.stage ≡ Reading → new.stage ≡ Failed → last_of new ≡ None
       → vec_len new.block ≡ vec_len old.block → (s : StandsFor observed old given handed)
       → ((judged : List ℕ)
       → HasCome old.pairing.container (known_of old.pairing.calls) judged handed
-      → FailsAt (judged ++ unjudged old) handed error) → StandsFor observed new given handed
-  judged_failed old new error given handed is fails none block s shows =
+      → FailsAt (judged ++ unjudged old) handed new.pairing.error)
+      → StandsFor observed new given handed
+  judged_failed old new given handed is fails none block s shows =
       let r = reading_of old given handed is s in
-      stands_failed old new error given handed fails none block s
-      (fails_by old error given handed (observed new.source.now) s.bytes r
-      (subst (λ (b : List ℕ). FailsAt b handed error) (sym r.split) (shows r.judged r.machine)))
+      stands_failed old new given handed fails none block s
+      (fails_by old new.pairing.error given handed (observed new.source.now) s.bytes r
+      (subst (λ (b : List ℕ). FailsAt b handed new.pairing.error) (sym r.split)
+      (shows r.judged r.machine)))
 
   -- the same of a piece of the block
-  pub judged_piece : {V : Type 0} (rests stands : V → List Item → Type 0) (was now : V)
+  pub judged_piece : (Passed : Entry → Type 0)
       (old new : Entries R S H builds hashes) (count : ℕ) (items given : List ℕ)
       (handed : List Entry) (came : Option Kind) → items ≡ old.block.items
       → length items ≡ vec_len old.block → old.stage ≡ Reading → new.stage ≡ Reading
@@ -556,30 +560,30 @@ module _ {R S H : Type 0} {builds : BuildHasher.Ghosts S H} {hashes : Hasher.Gho
       → StandsFor observed old given handed
       → ((judged : List ℕ)
       → HasCome old.pairing.container (known_of old.pairing.calls) judged handed
-      → GoesTo rests stands was now came new.pairing.number new.pairing.container
+      → GoesTo Passed came new.pairing.number new.pairing.container
       (known_of new.pairing.calls)
       (judged ++ take count (slice_range items old.start old.end)) handed)
       → CountsMessages came old.pairing.calls_taken old.pairing.replies_taken
       new.pairing.calls_taken new.pairing.replies_taken
-      → HandsOutOrGoesOn observed rests stands new was now given handed came
-  judged_piece rests stands was now old new count items given handed came same all is goes last
+      → HandsOutOrGoesOn observed Passed new given handed came
+  judged_piece Passed old new count items given handed came same all is goes last
       size judged block fits room s leads counts =
       let within : old.end ≤ length old.block.items =
       omega (arith, old.within, all, ap length same) in
-      judged_on rests stands was now old new count given handed came is goes last size judged block
+      judged_on Passed old new count given handed came is goes last size judged block
       (omega (arith, rw same at fits, length-take {A = ℕ}, length-drop {A = ℕ}, old.ordered)) within
       room s (rw same at leads) counts
 
-  pub piece_failed : (old new : Entries R S H builds hashes) (error : Error)
+  pub piece_failed : (old new : Entries R S H builds hashes)
       (items given : List ℕ) (handed : List Entry) → items ≡ old.block.items
-      → old.stage ≡ Reading → new.stage ≡ Failed error → last_of new ≡ None
+      → old.stage ≡ Reading → new.stage ≡ Failed → last_of new ≡ None
       → vec_len new.block ≡ vec_len old.block → StandsFor observed old given handed
       → ((judged : List ℕ)
       → HasCome old.pairing.container (known_of old.pairing.calls) judged handed
-      → FailsAt (judged ++ slice_range items old.start old.end) handed error)
+      → FailsAt (judged ++ slice_range items old.start old.end) handed new.pairing.error)
       → StandsFor observed new given handed
-  piece_failed old new error items given handed same is fails none block s shows =
-      judged_failed old new error given handed is fails none block s (rw same at shows)
+  piece_failed old new items given handed same is fails none block s shows =
+      judged_failed old new given handed is fails none block s (rw same at shows)
 
   -- ---- the end
 
@@ -627,14 +631,14 @@ module _ {R S H : Type 0} {builds : BuildHasher.Ghosts S H} {hashes : Hasher.Gho
             );
       }
 
-  pub cut_short : (old new : Entries R S H builds hashes) (error : Error) (given : List ℕ)
-      (handed : List Entry) → old.stage ≡ Reading → new.stage ≡ Failed error → last_of new ≡ None
+  pub cut_short : (old new : Entries R S H builds hashes) (given : List ℕ)
+      (handed : List Entry) → old.stage ≡ Reading → new.stage ≡ Failed → last_of new ≡ None
       → vec_len new.block ≡ vec_len old.block → old.start ≡ old.end
       → old.pairing.container.cursor ≡ None → (IsEndSpot old.pairing.container.position.spot → ⊥)
-      → error ≡ errors.Refused (file_fault old.judged CaptureCut)
+      → new.pairing.error ≡ errors.Refused (file_fault old.judged CaptureCut)
       → IsSpent (observed new.source.now)
       → StandsFor observed old given handed → StandsFor observed new given handed
-  cut_short old new error given handed is fails none block empty unopened not cut end s =
+  cut_short old new given handed is fails none block empty unopened not cut end s =
       let r = reading_of old given handed is s in
       let size : old.judged ≡ length given =
       r.counted ∙ ap length (sym (all_judged old given handed empty r)) in
@@ -643,7 +647,7 @@ module _ {R S H : Type 0} {builds : BuildHasher.Ghosts S H} {hashes : Hasher.Gho
       subst (λ (n : ℕ). FirstFault given (file_fault n CaptureCut)) (sym size)
       (cut_at given _ _ _ _ handed s.bytes at not) in
       let reached = (not_ended given _ _ _ _ handed s.bytes at not).1 in
-      stands_failed old new error given handed fails none block s
+      stands_failed old new given handed fails none block s
       (subst (λ (e : Error). IsMetBy e (observed new.source.now) given handed) (sym cut)
       (inr (end, first, reached)))
 
@@ -660,8 +664,9 @@ module _ {R S H : Type 0} {builds : BuildHasher.Ghosts S H} {hashes : Hasher.Gho
           e.pairing.container.position.records handed × CountedMessages e handed
       by_stage Reading is h = (counted_here _ _ _ _ _ _ handed h.machine, h.messages)
       by_stage Over is (typed, end, counted, messages) = (counted, messages)
-      by_stage (Failed error) is h =
-          let failed : failure_of e ≡ Some error = ap failure_in is in absurd (cc)
+      by_stage Failed is h =
+          let failed : failure_of e ≡ Some e.pairing.error =
+          ap (λ stage. failure_in stage e.pairing.error) is in absurd (cc)
 
   -- ---- one after another
 
@@ -674,38 +679,30 @@ module _ {R S H : Type 0} {builds : BuildHasher.Ghosts S H} {hashes : Hasher.Gho
   }
 
   -- none is handed out
-  pub none_on : {V : Type 0} (rests stands : V → List Item → Type 0) (was now : V)
+  pub none_on : (Passed : Entry → Type 0)
       (new : Entries R S H builds hashes) (given : List ℕ) (handed : List Entry)
       → last_of new ≡ None → StandsFor observed new given handed
-      → HandsOutOrGoesOn observed rests stands new was now given handed (last_of new)
-  none_on rests stands was now new given handed none s =
-      subst (HandsOutOrGoesOn observed rests stands new was now given handed) (sym none) s
+      → HandsOutOrGoesOn observed Passed new given handed (last_of new)
+  none_on Passed new given handed none s =
+      subst (HandsOutOrGoesOn observed Passed new given handed) (sym none) s
 
-  -- the end is handed out, of which a visitor is told nothing; or none is
-  pub ended_on : {V X : Type 0} (rests stands : V → List Item → Type 0) (v : V)
-      (new : Entries R S H builds hashes) (given : List ℕ) (handed : List Entry)
-      (result : Result X Error)
-      → OnOk result (StandsFor observed new given (handed ++ End ∷ []))
-      → OnErr result (StandsFor observed new given handed)
-      → OnOk result (last_of new ≡ Some kinds.End) → OnErr result (last_of new ≡ None)
-      → HandsOutOrGoesOn observed rests stands new v v given handed (last_of new)
-  unfolding Hears
-  ended_on rests stands v new given handed (Ok done) ok err last unlent =
-      subst (HandsOutOrGoesOn observed rests stands new v v given handed) (sym last)
-      (End, refl, (λ before r. r), ok)
-  ended_on rests stands v new given handed (Err error) ok err last unlent =
-      none_on rests stands v v new given handed unlent err
+  -- the end is handed out
+  pub end_on : (Passed : Entry → Type 0) (new : Entries R S H builds hashes) (given : List ℕ)
+      (handed : List Entry) → Passed End → last_of new ≡ Some kinds.End
+      → StandsFor observed new given (handed ++ End ∷ [])
+      → HandsOutOrGoesOn observed Passed new given handed (last_of new)
+  end_on Passed new given handed told last s =
+      subst (HandsOutOrGoesOn observed Passed new given handed) (sym last) (End, refl, told, s)
 
   -- after the turns so far, the block is read, and then it is judged
-  pub turned : {V : Type 0} (rests stands : V → List Item → Type 0) (was v now : V)
-      (old so_far mid new : Entries R S H builds hashes) (given : List ℕ) (handed : List Entry)
-      → HasRead observed old so_far given handed → v ≡ was
+  pub turned : (Passed : Entry → Type 0) (old so_far mid new : Entries R S H builds hashes)
+      (given : List ℕ) (handed : List Entry) → HasRead observed old so_far given handed
       → ((given : List ℕ) (handed : List Entry) → StandsFor observed so_far given handed
       → HasRead observed so_far mid given handed)
       → ((given : List ℕ) (handed : List Entry) → StandsFor observed mid given handed
-      → HandsOutOrGoesOn observed rests stands new v now given handed (last_of new))
-      → new.source.now ≡ mid.source.now → Turns observed rests stands old new was now given handed
-  turned rests stands was v now old so_far mid new given handed first unchanged reads goes same =
+      → HandsOutOrGoesOn observed Passed new given handed (last_of new))
+      → new.source.now ≡ mid.source.now → Turns observed Passed old new given handed
+  turned Passed old so_far mid new given handed first reads goes same =
       let next = reads (given ++ first.more) handed first.stands in
       record {
         more = first.more ++ next.more;
@@ -714,36 +711,30 @@ module _ {R S H : Type 0} {builds : BuildHasher.Ghosts S H} {hashes : Hasher.Gho
             (sym same) (gave_both (observed old.source.now) (observed so_far.source.now)
             (observed mid.source.now) first.more next.more first.consumed next.consumed);
         goes_on =
-            subst (λ w.
-            HandsOutOrGoesOn observed rests stands new w now (given ++ (first.more ++ next.more))
-            handed
-            (last_of new)) unchanged
-            (subst
-            (λ (b : List ℕ). HandsOutOrGoesOn observed rests stands new v now b handed (last_of
-            new))
+            subst (λ (b : List ℕ). HandsOutOrGoesOn observed Passed new b handed (last_of new))
             (append_assoc given first.more next.more)
-            (goes ((given ++ first.more) ++ next.more) handed next.stands));
+            (goes ((given ++ first.more) ++ next.more) handed next.stands);
       }
 
   -- no entry is whole yet
-  pub read_on : {V : Type 0} (rests stands : V → List Item → Type 0) (was now : V)
+  pub read_on : (Passed : Entry → Type 0)
       (old new : Entries R S H builds hashes) (given : List ℕ) (handed : List Entry)
-      → last_of new ≡ None → Turns observed rests stands old new was now given handed
+      → last_of new ≡ None → Turns observed Passed old new given handed
       → HasRead observed old new given handed
-  read_on rests stands was now old new given handed none t = record {
+  read_on Passed old new given handed none t = record {
     more = t.more;
     consumed = t.consumed;
     stands =
-        subst (HandsOutOrGoesOn observed rests stands new was now (given ++ t.more) handed) none
+        subst (HandsOutOrGoesOn observed Passed new (given ++ t.more) handed) none
         t.goes_on;
   }
 
   -- no capture is so long
-  pub too_long : {V : Type 0} (rests stands : V → List Item → Type 0) (was now : V)
+  pub too_long : (Passed : Entry → Type 0)
       (old mid new : Entries R S H builds hashes) (given : List ℕ) (handed : List Entry)
       → HasRead observed old mid given handed → mid.stage ≡ Reading
-      → most_bytes Two + 1 < mid.judged → Turns observed rests stands old new was now given handed
-  too_long rests stands was now old mid new given handed read is far =
+      → most_bytes Two + 1 < mid.judged → Turns observed Passed old new given handed
+  too_long Passed old mid new given handed read is far =
       let r = reading_of mid (given ++ read.more) handed is read.stands in
       absurd (omega (
         arith,
@@ -756,63 +747,44 @@ module _ {R S H : Type 0} {builds : BuildHasher.Ghosts S H} {hashes : Hasher.Gho
 
   -- ---- the answers
 
-  pub answers_kind : {V : Type 0} (rests stands : V → List Item → Type 0) (was now : V)
+  pub answers_kind : (Passed : Entry → Type 0)
       (old new : Entries R S H builds hashes) (given : List ℕ) (handed : List Entry)
       → IsSome (last_of new) → failure_of new ≡ None
-      → Turns observed rests stands old new was now given handed
-      → HandsOutGiven observed (IsNextOfKind rests stands was now) old new given handed
+      → Turns observed Passed old new given handed
+      → HandsOutGiven observed (IsNextOfKind Passed) old new given handed
       (Ok (last_of new))
-  answers_kind rests stands was now old new given handed some goes t = record {
+  answers_kind Passed old new given handed some goes t = record {
     more = t.more;
     consumed = t.consumed;
     hands_out = by_last (last_of new) some t.goes_on;
   }
     where
       by_last : (last : Option Kind) → IsSome last
-          → HandsOutOrGoesOn observed rests stands new was now (given ++ t.more) handed last
-          → HandsOut observed (IsNextOfKind rests stands was now) new (given ++ t.more) handed
+          → HandsOutOrGoesOn observed Passed new (given ++ t.more) handed last
+          → HandsOut observed (IsNextOfKind Passed) new (given ++ t.more) handed
           (Ok last)
       by_last None none h = absurd (cc)
       by_last (Some kind) some (entry, is, adds, s) =
           (entry, (is, adds), stands_first new (given ++ t.more) (handed ++ entry ∷ []) goes s, s)
 
   -- an error is noted, and no entry is lent
-  pub answers_error : {V X : Type 0} (rests stands : V → List Item → Type 0) (was now : V)
-      (Is : List Entry → X → Entry → Type 0) (old new : Entries R S H builds hashes)
-      (given : List ℕ) (handed : List Entry) (error : Error) → failure_of new ≡ Some error
-      → last_of new ≡ None → Turns observed rests stands old new was now given handed
-      → HandsOutGiven observed Is old new given handed (Err error)
-  answers_error rests stands was now Is old new given handed error failed none t =
+  pub answers_error : {X : Type 0} (Passed : Entry → Type 0) (Is : List Entry → X → Entry → Type 0)
+      (old new : Entries R S H builds hashes)
+      (given : List ℕ) (handed : List Entry) → failure_of new ≡ Some new.pairing.error
+      → last_of new ≡ None → Turns observed Passed old new given handed
+      → HandsOutGiven observed Is old new given handed (Err new.pairing.error)
+  answers_error Passed Is old new given handed failed none t =
       let s =
-      subst (HandsOutOrGoesOn observed rests stands new was now (given ++ t.more) handed) none
+      subst (HandsOutOrGoesOn observed Passed new (given ++ t.more) handed) none
       t.goes_on in
       record {
         more = t.more;
         consumed = t.consumed;
         hands_out = (
-          here_at new (Failed error) (given ++ t.more) handed (failed_stage new.stage error failed)
-              s,
+          here_at new Failed (given ++ t.more) handed (failed_stage new.stage _ _ failed) s,
           s,
         );
       }
-
-  -- the end is handed out, or an error is noted
-  pub answers_end : {V : Type 0} (rests stands : V → List Item → Type 0) (was now : V)
-      (old new : Entries R S H builds hashes) (given : List ℕ) (handed : List Entry)
-      (result : Result (Option Kind) Error)
-      → IfOk result (λ next. next ≡ Some kinds.End) → OnOk result (last_of new ≡ Some kinds.End)
-      → OnOk result (new.stage ≡ Over) → IfErr result (λ error. failure_of new ≡ Some error)
-      → OnErr result (last_of new ≡ None)
-      → Turns observed rests stands old new was now given handed
-      → HandsOutGiven observed (IsNextOfKind rests stands was now) old new given handed result
-  answers_end rests stands was now old new given handed (Ok next) is last over failed none t =
-      subst
-      (λ n. HandsOutGiven observed (IsNextOfKind rests stands was now) old new given handed (Ok n))
-      (last ∙ sym is)
-      (answers_kind rests stands was now old new given handed (rw last refl) (ap failure_in over) t)
-  answers_end rests stands was now old new given handed (Err error) is last over failed none t =
-      answers_error rests stands was now (IsNextOfKind rests stands was now) old new given handed
-      error failed none t
 
   pub answers_over : {X : Type 0} (Is : List Entry → X → Entry → Type 0)
       (e : Entries R S H builds hashes) (given : List ℕ) (handed : List Entry)
@@ -829,15 +801,15 @@ module _ {R S H : Type 0} {builds : BuildHasher.Ghosts S H} {hashes : Hasher.Gho
       }
 
   pub answers_again : {X : Type 0} (Is : List Entry → X → Entry → Type 0)
-      (e : Entries R S H builds hashes) (error : Error) (given : List ℕ) (handed : List Entry)
-      → e.stage ≡ Failed error → StandsFor observed e given handed
-      → HandsOutGiven observed Is e e given handed (Err error)
-  answers_again Is e error given handed is s = record {
+      (e : Entries R S H builds hashes) (given : List ℕ) (handed : List Entry)
+      → e.stage ≡ Failed → StandsFor observed e given handed
+      → HandsOutGiven observed Is e e given handed (Err e.pairing.error)
+  answers_again Is e given handed is s = record {
     more = [];
     consumed = gave_none (observed e.source.now);
     hands_out =
-        subst (λ (b : List ℕ). HandsOut observed Is e b handed (Err error))
-        (sym (append-nil given)) (here_at e (Failed error) given handed is s, s);
+        subst (λ (b : List ℕ). HandsOut observed Is e b handed (Err e.pairing.error))
+        (sym (append-nil given)) (here_at e Failed given handed is s, s);
   }
 
 -- ---- no device failed

@@ -226,7 +226,7 @@ module _ {V : Type 0} (rests stands : V → List Item → Type 0) where
   pub begin_goes : (v : V) (number : ℕ) (c : Container) (table none : Known) (bytes : List ℕ)
       (all : List Entry) → KnowsNone none → IsRunning c.joiner.taking
       → MeetsEvent c table Begin bytes all
-      → GoesTo rests stands v v (Some kinds.Begin) number c none bytes all
+      → GoesTo (Hears rests stands v v) (Some kinds.Begin) number c none bytes all
   unfolding Hears
   begin_goes v number c table none bytes all empty runs (inl (unopened, m)) = (
     entries.Begin,
@@ -247,7 +247,7 @@ module _ {V : Type 0} (rests stands : V → List Item → Type 0) where
 
   pub turn_goes : (v : V) (number : ℕ) (c : Container) (table : Known) (bytes : List ℕ)
       (all : List Entry) → IsRunning c.joiner.taking → MeetsEvent c table Turn bytes all
-      → GoesTo rests stands v v (Some kinds.Turn) number c table bytes all
+      → GoesTo (Hears rests stands v v) (Some kinds.Turn) number c table bytes all
   unfolding Hears
   turn_goes v number c table bytes all runs (inl (unopened, m)) = (
     entries.Turn,
@@ -270,7 +270,7 @@ module _ {V : Type 0} (rests stands : V → List Item → Type 0) where
 
   pub close_goes : (v : V) (number : ℕ) (c : Container) (table : Known) (bytes : List ℕ)
       (all : List Entry) → IsRunning c.joiner.taking → MeetsEvent c table Close bytes all
-      → GoesTo rests stands v v (Some kinds.Close) number c table bytes all
+      → GoesTo (Hears rests stands v v) (Some kinds.Close) number c table bytes all
   unfolding Hears
   close_goes v number c table bytes all runs (inl (unopened, m)) = (
     entries.Close,
@@ -319,7 +319,7 @@ module _ {V : Type 0} (rests stands : V → List Item → Type 0) where
       → MeetsEvent c table (Record Client) bytes all
       → ScansCall rests stands (body_of c.joiner.taking) call was now → call.xid < 2 ^ 32
       → Some number ≡ number_for table call.xid call.id → Gains table call.xid call.id new
-      → GoesTo rests stands was now (Some (kinds.Call call.id)) number c new bytes all
+      → GoesTo (Hears rests stands was now) (Some (kinds.Call call.id)) number c new bytes all
   unfolding Hears OpensMessage
   call_goes was now c table new bytes all call number whole (inl (none, m)) k fits is gains =
       let joins =
@@ -371,7 +371,8 @@ module _ {V : Type 0} (rests stands : V → List Item → Type 0) where
       (all : List Entry) (call : NumberedCall) → IsWhole c.joiner.taking
       → MeetsEvent c table (Record Server) bytes all
       → ScansReply rests stands table (body_of c.joiner.taking) call was now
-      → GoesTo rests stands was now (Some (kinds.Reply call.id)) call.number c table bytes all
+      → GoesTo (Hears rests stands was now) (Some (kinds.Reply call.id)) call.number c table bytes
+      all
   unfolding Hears OpensMessage
   reply_goes was now c table bytes all call whole (inl (none, m)) k =
       let v : Unpacking = unpacking_at c.position c.streams.kept Between in

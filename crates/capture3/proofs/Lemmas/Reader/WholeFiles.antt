@@ -168,13 +168,11 @@ judged_all c table bytes all model is none h =
 abbrev pub Keeps : Container → Known → List ℕ → List kept.Entry → Type 0
 Keeps c table bytes items = (model : List Entry) × HasCome c table bytes model × AreKept items model
 
-module _ {V : Type 0} (rests stands : V → List Item → Type 0) (was now : V) (number : ℕ) (c :
-    Container)
-    (bytes : List ℕ) (n m : ℕ) (table : Known) (items : List kept.Entry)
-    (model : List Entry) where
+module _ (Passed : Entry → Type 0) (number : ℕ) (c : Container) (bytes : List ℕ) (n m : ℕ)
+    (table : Known) (items : List kept.Entry) (model : List Entry) where
   abbrev Goes : Option Kind → Type 0
   Goes came =
-      GoesTo rests stands was now came number c table
+      GoesTo Passed came number c table
       (take n bytes ++ take m (take (length bytes - n) (drop n bytes))) model
 
   pub keeps_on : (came : Option Kind) → came ≡ None → Goes came → AreKept items model

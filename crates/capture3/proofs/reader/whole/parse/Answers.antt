@@ -17,7 +17,7 @@ loop-taken-preserved-in-Continue-branch-2 c =
           omega (arith, invariant.room, c.in-Ok.ensures.room, cost, c.in_ok-push-in-Ok.ensures.len);
       machine =
           rw c.in_ok-push-in-Ok.ensures.items
-          (keeps_more _ _ _ _ c.next.new.self.number _ c.args.bytes.now c.loop-taken.taken
+          (keeps_more _ c.next.new.self.number _ c.args.bytes.now c.loop-taken.taken
           c.in-Ok.count
           _ c.loop-taken.entries.items invariant.machine.0 _ _ _ c.in-Some.is
           (c.in-Ok.ensures.machine (take c.loop-taken.taken c.args.bytes.now) invariant.machine.0
@@ -36,7 +36,7 @@ loop-taken-preserved c =
       ready = c.in-Ok.ensures.ready;
       room = omega (arith, invariant.room, c.in-Ok.ensures.room, cost);
       machine =
-          keeps_on _ _ _ _ c.next.new.self.number _ c.args.bytes.now c.loop-taken.taken
+          keeps_on _ c.next.new.self.number _ c.args.bytes.now c.loop-taken.taken
           c.in-Ok.count
           _ c.loop-taken.entries.items invariant.machine.0 _ c.in_default.is
           (c.in-Ok.ensures.machine (take c.loop-taken.taken c.args.bytes.now) invariant.machine.0

@@ -9,7 +9,6 @@ returns-in-Ok-clause-ok g c given handed s =
 
 pub returns-in-Err-clause-err : goal.returns-in-Err-clause-err
 returns-in-Err-clause-err g c given handed s =
-    cut_short g.R.Source.observed c.args.self.now _ c.in-Err.error given handed c.requires.reading
-    refl
-    refl refl c.requires.used_up.0 c.requires.used_up.1 c.in-Err.ensures.err.0
+    cut_short g.R.Source.observed c.args.self.now _ given handed c.requires.reading refl refl refl
+    c.requires.used_up.0 c.requires.used_up.1 c.in-Err.ensures.err.0
     c.in-Err.ensures.err.1 c.requires.end s

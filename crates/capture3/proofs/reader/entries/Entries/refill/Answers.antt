@@ -24,4 +24,5 @@ pub returns-in-Err-clause-has_read : goal.returns-in-Err-clause-has_read
 returns-in-Err-clause-has_read g c given handed s =
     let used_up = c.if-not-is_used_up.ensures.used_up refl in
     has_failed g.R.Source.observed c.args.self.now _ given handed c.requires.reading refl refl refl
+    refl
     used_up.0 used_up.1 c.in-Err.ensures.bytes s

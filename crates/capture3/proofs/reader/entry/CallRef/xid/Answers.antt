@@ -1,16 +1,13 @@
-use Rattle.std.proofs.Math.Logic.{∥∥₁_elim}
-use mathlib.Core.HLevel.{⊥_prop}
-use Rattle.capture3.proofs.Lemmas.Messages.SpelledLemmas.{call_has_xid, call_start_is_whole}
+use Rattle.std.proofs.Math.Logic.{∥∥₁_map}
+use Rattle.capture3.specs.Bodies.{xid_in}
+use Rattle.capture3.proofs.Lemmas.Messages.SpelledLemmas.{call_start}
 use Rattle.capture3.proofs.reader.entry.CallRef.xid.Goals as goal
 
-pub unreachable-requires : goal.unreachable-requires
-unreachable-requires c =
-    ∥∥₁_elim c.args.self.now.spells ⊥_prop
-    (λ s.
-    call_start_is_whole c.args.self.now.id c.args.self.now.body.now c.in_default.field-0 s
-    (rw (c.new.ensures.body, c.new.ensures.start) at c.in_default.ensures.read))
+pub xid_of-requires-clause-started : goal.xid_of-requires-clause-started
+xid_of-requires-clause-started c =
+    ∥∥₁_map c.args.self.now.spells
+    (λ s. (xid_in s.0, 0, call_start c.args.self.now.body.now s.0 s.1))
 
 pub returns : goal.returns
 returns c items is =
-    call_has_xid c.args.self.now.body.now items c.in-Ok.start c.start.new.input.at is
-    (rw (c.new.ensures.body, c.new.ensures.start) at c.in-Ok.ensures.read)
+    c.xid_of.ensures (xid_in items) 0 (call_start c.args.self.now.body.now items is)

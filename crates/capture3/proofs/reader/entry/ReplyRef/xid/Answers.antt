@@ -1,17 +1,14 @@
-use Rattle.std.proofs.Math.Logic.{∥∥₁_elim}
-use mathlib.Core.HLevel.{⊥_prop}
-use Rattle.capture3.proofs.Lemmas.Messages.SpelledLemmas.{reply_has_xid, reply_start_is_whole}
+use Rattle.std.proofs.Math.Logic.{∥∥₁_map}
+use Rattle.capture3.specs.Bodies.{xid_in}
+use Rattle.capture3.proofs.Lemmas.Messages.SpelledLemmas.{reply_start}
 use Rattle.capture3.proofs.reader.entry.ReplyRef.xid.Goals as goal
 
-pub unreachable-requires : goal.unreachable-requires
-unreachable-requires c =
-    ∥∥₁_elim c.args.self.now.spells ⊥_prop
-    (λ s.
-    reply_start_is_whole c.args.self.now.id c.args.self.now.body.now c.in_default.field-0 s
-    (rw (c.new.ensures.body, c.new.ensures.start) at c.in_default.ensures.read))
+pub xid_of-requires-clause-started : goal.xid_of-requires-clause-started
+xid_of-requires-clause-started c =
+    ∥∥₁_map c.args.self.now.spells
+    (λ s. (xid_in s.0, 1, reply_start c.args.self.now.id c.args.self.now.body.now s.0 s.1))
 
 pub returns : goal.returns
 returns c items is =
-    reply_has_xid c.args.self.now.id c.args.self.now.body.now items c.in-Ok.start
-    c.start.new.input.at is
-    (rw (c.new.ensures.body, c.new.ensures.start) at c.in-Ok.ensures.read)
+    c.xid_of.ensures (xid_in items) 1
+    (reply_start c.args.self.now.id c.args.self.now.body.now items is)

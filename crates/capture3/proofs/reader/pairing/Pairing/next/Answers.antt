@@ -55,7 +55,7 @@ returns-in-Ok-call-clause-machine g c bytes all s =
     let came = c.in-Some-Record-Client in
     let event = rw came.is at came.field-0-is in
     let side = rw event at (rw came.is at came.field-0-0-is) in
-    c.in-Ok-call.ensures.machine _ all (next_meets c.release.new.self c.next.new.self _ bytes all
+    c.in-Ok-call.ensures.ok.machine _ all (next_meets c.release.new.self c.next.new.self _ bytes all
     c.args.piece.now c.in-Ok.next (rw (r.position, r.joiner, r.streams, r.cursor) s)
     (rw (r.position, r.streams, r.cursor) c.requires.ready.stored) c.in-Ok.ensures.ok
     (Record Client) (came.is ∙ ap Some (event ∙ ap Record side)))
@@ -67,11 +67,12 @@ returns-in-Err-call-clause-fault g c =
     let event = rw came.is at came.field-0-is in
     let side = rw event at (rw came.is at came.field-0-0-is) in
     record {
-      device = c.in-Err-call.ensures.device;
+      device = c.in-Err-call.ensures.err.device;
       fault =
           λ bytes all s.
           fails_longer bytes c.args.piece.now c.in-Ok.next.0 all c.call.new.self.error
-          (c.in-Err-call.ensures.fault _ all (next_meets c.release.new.self c.next.new.self _ bytes
+          (c.in-Err-call.ensures.err.fault _ all
+          (next_meets c.release.new.self c.next.new.self _ bytes
           all c.args.piece.now c.in-Ok.next (rw (r.position, r.joiner, r.streams, r.cursor) s)
           (rw (r.position, r.streams, r.cursor) c.requires.ready.stored) c.in-Ok.ensures.ok
           (Record Client) (came.is ∙ ap Some (event ∙ ap Record side))));
@@ -83,7 +84,8 @@ returns-in-Ok-reply-clause-machine g c bytes all s =
     let came = c.in-Some-Record-Server in
     let event = rw came.is at came.field-0-is in
     let side = rw event at (rw came.is at came.field-0-0-is) in
-    c.in-Ok-reply.ensures.machine _ all (next_meets c.release.new.self c.next.new.self _ bytes all
+    c.in-Ok-reply.ensures.ok.machine _ all
+    (next_meets c.release.new.self c.next.new.self _ bytes all
     c.args.piece.now c.in-Ok.next (rw (r.position, r.joiner, r.streams, r.cursor) s)
     (rw (r.position, r.streams, r.cursor) c.requires.ready.stored) c.in-Ok.ensures.ok
     (Record Server) (came.is ∙ ap Some (event ∙ ap Record side)))
@@ -95,11 +97,11 @@ returns-in-Err-reply-clause-fault g c =
     let event = rw came.is at came.field-0-is in
     let side = rw event at (rw came.is at came.field-0-0-is) in
     record {
-      device = c.in-Err-reply.ensures.device;
+      device = c.in-Err-reply.ensures.err.device;
       fault =
           λ bytes all s.
           fails_longer bytes c.args.piece.now c.in-Ok.next.0 all c.reply.new.self.error
-          (c.in-Err-reply.ensures.fault _ all (next_meets c.release.new.self c.next.new.self _
+          (c.in-Err-reply.ensures.err.fault _ all (next_meets c.release.new.self c.next.new.self _
           bytes all c.args.piece.now c.in-Ok.next
           (rw (r.position, r.joiner, r.streams, r.cursor) s)
           (rw (r.position, r.streams, r.cursor) c.requires.ready.stored) c.in-Ok.ensures.ok
