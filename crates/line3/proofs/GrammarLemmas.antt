@@ -1,178 +1,20 @@
 -- clap takes a line of each of the five forms.
-use Rattle.line3.proofs.Common.{arith, ap, ap₂, sym, refl, subst, inl, inr, ◌≡◌, ◌≤◌, ◌∙◌, ◌==◌, ◌&&◌, ◌||◌, ◌++◌, ℕ, Bool, true, false, List, [], ◌∷◌, Some, None, codes, length, if◌then◌else◌, is_some, option_and_then, fold, suc, le-leb, append-nil, append_assoc, App, Text, is_simple, takes, LineFault, Usage, Odd, SameName, NotText, Memory, AreRefused, NameFiles, is_end, names_in, Form, Check, Show, Canon, Same, Pack, IsFileWord, IsLine, words_of, IsUsage, bytes_eq}
-use Rattle.std.specs.Option.{option_map_or}
+use Rattle.line3.proofs.Common.{arith, ap, ap₂, sym, refl, subst, ◌≡◌, ◌≤◌, ◌∙◌, ◌==◌, ◌&&◌, ◌++◌, ℕ, Bool, true, false, List, [], ◌∷◌, Some, None, codes, length, is_some, fold, le-leb, append-nil, append_assoc, App, Text, is_simple, takes, LineFault, Usage, Odd, SameName, NotText, Memory, AreRefused, NameFiles, names_in, Form, Check, Show, Canon, Same, Pack, IsLine, words_of, IsUsage}
 use Rattle.std.specs.List.{list_all}
-use Rattle.std.proofs.lemmas.Slice.Eq.{bytes_eq-Decides}
-use Rattle.clap.specs.Lexer.{long_of, long_of_rest, short_of, short_of_rest, strip_byte, usize_max}
-use Rattle.clap.specs.Walk.{Held, Rule, Step, Waiting, Walk, after_step, arg_by_index, finished, idle, long_or_other, nothing_held, positional, short_or_plain, to_positional, trailing, value, walked, word_met}
+use Rattle.clap.specs.Lexer.{usize_max}
+use Rattle.clap.specs.Walk.{Held, Walk, arg_by_index, finished, idle, nothing_held, positional, to_positional, walked}
 use Rattle.clap.specs.Simple.{Shape, built, built_leaf, entered, inherited, names_of}
-use Rattle.clap.specs.Takes.{bundle_passes, default_passes, entered_passes, level_passes, flag_word_passes, is_valid, settle_passes, step_passes, turn_passes, walk_passes, word_passes}
+use Rattle.clap.specs.Takes.{default_passes, entered_passes, level_passes, is_valid, settle_passes, turn_passes, walk_passes}
 use Rattle.clap.proofs.OnLiterals.{clap_on_literals}
 use Rattle.clap.specs.declared.parser.matches.ValueSource.TheVariants.{CommandLine}
 use Rattle.clap.specs.declared.builder.value_parser.Reading.TheVariants.{AsWritten}
 use Rattle.line3.specs.Grammar.{app, one_file, packing_form, two_files}
+use Rattle.line3.proofs.Words.{at, end, further_turn, further_walked, name_then, names_in-length, one_name, plain_turn, plain_walked, split_one, split_two, two_names}
+use Rattle.line3.proofs.Reading.{Reads, all_pass, read_all, read_passes, trail_all, trail_passes}
 
 pub simple : is_simple app ≡ true
 unfolding clap_on_literals
 simple = refl
-
--- ---- a word that does not begin with a hyphen
-
--- where a walk stands, no subcommand met and no `--`
-abbrev pub at : Held → Waiting → ℕ → Walk
-at h waiting position =
-    record { held = h; waiting = waiting; position = position; is_trailing = false; stopped = None }
-
-module _ (x : ℕ) (xs : Text) (no_hyphen : (x == 45) ≡ false) where
-  stripped : strip_byte 45 (x ∷ xs) ≡ None
-  stripped = ap (λ b. if b then Some xs else None) no_hyphen
-
-  no_long : long_of (x ∷ xs) ≡ None
-  no_long = ap (λ o. option_and_then long_of_rest (option_and_then (strip_byte 45) o)) stripped
-
-  no_short : short_of (x ∷ xs) ≡ None
-  no_short = ap (λ o. option_and_then short_of_rest o) stripped
-
-  no_end : bytes_eq (x ∷ xs) (45 ∷ 45 ∷ []) ≡ false
-  no_end = ap (λ b. b && bytes_eq xs (45 ∷ [])) no_hyphen
-
-  plain_met : (c : List Rule) (position : ℕ) (h : Held)
-      → word_met c [] false idle position (x ∷ xs) h ≡ (h, value)
-  plain_met c position h =
-      ap
-      (λ b.
-      if b then (h, trailing position)
-      else long_or_other c idle (x ∷ xs) (long_of (x ∷ xs)) h) no_end
-      ∙ ap (λ o. long_or_other c idle (x ∷ xs) o h) no_long
-      ∙ ap (λ o. short_or_plain c idle (x ∷ xs) o h) no_short
-
-  further_met : (c : List Rule) (position : ℕ) (h : Held)
-      → word_met c [] false positional position (x ∷ xs) h ≡ (h, value)
-  further_met c position h =
-      ap
-      (λ b.
-      if b then (h, trailing position)
-      else long_or_other c positional (x ∷ xs) (long_of (x ∷ xs)) h) no_end
-      ∙ ap (λ o. long_or_other c positional (x ∷ xs) o h) no_long
-      ∙ ap (λ o. short_or_plain c positional (x ∷ xs) o h) no_short
-
-  pub plain_walked : (c : List Rule) (h : Held) (n : ℕ)
-      → walked c [] (at h idle n) (x ∷ xs)
-      ≡ to_positional c (arg_by_index c n) (x ∷ xs) (at h idle n) h
-  unfolding walked
-  plain_walked c h n =
-      ap (λ (m : Held × Step). after_step c (x ∷ xs) (at h idle n) m.0 m.1) (plain_met c n h)
-
-  pub further_walked : (c : List Rule) (h : Held) (n : ℕ)
-      → walked c [] (at h positional n) (x ∷ xs)
-      ≡ to_positional c (arg_by_index c n) (x ∷ xs) (at h positional n) h
-  unfolding walked
-  further_walked c h n =
-      ap (λ (m : Held × Step). after_step c (x ∷ xs) (at h positional n) m.0 m.1)
-      (further_met c n h)
-
-  plain_passes : (s : Shape) (h : Held) → word_passes s [] false idle (x ∷ xs) h ≡ true
-  plain_passes s h =
-      ap (λ b. b || flag_word_passes s.rules s.args_override_self (long_of (x ∷ xs)) (x ∷ xs) h)
-      no_end
-      ∙ ap (λ o. flag_word_passes s.rules s.args_override_self o (x ∷ xs) h) no_long
-      ∙ ap (λ o. option_map_or (λ flags. bundle_passes s.rules s.args_override_self flags h) o true)
-      no_short
-
-  further_passes : (s : Shape) (h : Held) → word_passes s [] false positional (x ∷ xs) h ≡ true
-  further_passes s h =
-      ap (λ b. b || flag_word_passes s.rules s.args_override_self (long_of (x ∷ xs)) (x ∷ xs) h)
-      no_end
-      ∙ ap (λ o. flag_word_passes s.rules s.args_override_self o (x ∷ xs) h) no_long
-      ∙ ap (λ o. option_map_or (λ flags. bundle_passes s.rules s.args_override_self flags h) o true)
-      no_short
-
-  pub plain_turn : (s : Shape) (h : Held) (n : ℕ)
-      → turn_passes s [] (at h idle n) (x ∷ xs) ≡ step_passes s n h value
-  plain_turn s h n =
-      ap
-      (λ b.
-      b
-      && step_passes s n (word_met s.rules [] false idle n (x ∷ xs) h).0
-      (word_met s.rules [] false idle n (x ∷ xs) h).1) (plain_passes s h)
-      ∙ ap (λ (m : Held × Step). step_passes s n m.0 m.1) (plain_met s.rules n h)
-
-  pub further_turn : (s : Shape) (h : Held) (n : ℕ)
-      → turn_passes s [] (at h positional n) (x ∷ xs) ≡ step_passes s n h value
-  further_turn s h n =
-      ap
-      (λ b.
-      b
-      && step_passes s n (word_met s.rules [] false positional n (x ∷ xs) h).0
-      (word_met s.rules [] false positional n (x ∷ xs) h).1) (further_passes s h)
-      ∙ ap (λ (m : Held × Step). step_passes s n m.0 m.1) (further_met s.rules n h)
-
--- ---- the names among words
-
-pub end_is : (w : Text) → is_end w ≡ true → w ≡ codes "--"
-end_is w ends = (bytes_eq-Decides w (codes "--")).0 ends
-
-pub names_ended : (w : Text) (words : List Text) → is_end w ≡ true → names_in (w ∷ words) ≡ words
-names_ended w words ends = ap (λ (b : Bool). if b then words else w ∷ names_in words) ends
-
-pub names_plain : (w : Text) (words : List Text) → IsFileWord w
-    → names_in (w ∷ words) ≡ w ∷ names_in words
-names_plain w words is =
-    ap (λ (b : Bool). if b then words else w ∷ names_in words)
-    (ap is_end is.split ∙ no_end is.first is.rest is.no_hyphen)
-
--- what holds of a name, before or after a `--` or without one, holds of words that have it
-pub one_name : (P : List Text → Type 0) (a : Text) → P (codes "--" ∷ a ∷ [])
-    → (IsFileWord a → P (a ∷ codes "--" ∷ [])) → (IsFileWord a → P (a ∷ []))
-    → (words : List Text) → NameFiles words → names_in words ≡ a ∷ [] → P words
-one_name P a first last none [] name e = absurd (cc)
-one_name P a first last none (v ∷ words) (inl ends) e =
-    let rest : words ≡ a ∷ [] = sym (names_ended v words ends) ∙ e in
-    let all : v ∷ words ≡ codes "--" ∷ a ∷ [] = ap₂ (λ h t. h ∷ t) (end_is v ends) rest in
-    subst P (sym all) first
-one_name P a first last none (v ∷ []) (inr (is, name)) e =
-    let all : v ∷ [] ≡ a ∷ [] = sym (names_plain v [] is) ∙ e in
-    let of_a : v ≡ a = cc in
-    subst (λ w. P (w ∷ [])) (sym of_a) (none (subst IsFileWord of_a is))
-one_name P a first last none (v ∷ w ∷ words) (inr (is, inl ends)) e =
-    let all : v ∷ words ≡ a ∷ [] =
-    sym (names_plain v (w ∷ words) is ∙ ap (λ l. v ∷ l) (names_ended w words ends)) ∙ e in
-    let of_a : v ≡ a = cc in
-    let rest : words ≡ [] = cc in
-    let whole : v ∷ w ∷ words ≡ a ∷ codes "--" ∷ [] =
-    ap₂ (λ h t. h ∷ t) of_a (ap₂ (λ h t. h ∷ t) (end_is w ends) rest) in
-    subst P (sym whole) (last (subst IsFileWord of_a is))
-one_name P a first last none (v ∷ w ∷ words) (inr (is, inr (is', name))) e =
-    let all : v ∷ w ∷ names_in words ≡ a ∷ [] =
-    sym (names_plain v (w ∷ words) is ∙ ap (λ l. v ∷ l) (names_plain w words is')) ∙ e in
-    absurd (cc)
-
--- what holds of two names, wherever a `--` stands among them, holds of words that have them
-pub two_names : (P : List Text → Type 0) (a b : Text) → P (codes "--" ∷ a ∷ b ∷ [])
-    → (IsFileWord a → P (a ∷ codes "--" ∷ b ∷ []))
-    → (IsFileWord a → IsFileWord b → P (a ∷ b ∷ codes "--" ∷ []))
-    → (IsFileWord a → IsFileWord b → P (a ∷ b ∷ [])) → (words : List Text) → NameFiles words
-    → names_in words ≡ a ∷ b ∷ [] → P words
-two_names P a b first second last none [] name e = absurd (cc)
-two_names P a b first second last none (v ∷ words) (inl ends) e =
-    let rest : words ≡ a ∷ b ∷ [] = sym (names_ended v words ends) ∙ e in
-    let all : v ∷ words ≡ codes "--" ∷ a ∷ b ∷ [] = ap₂ (λ h t. h ∷ t) (end_is v ends) rest in
-    subst P (sym all) first
-two_names P a b first second last none (v ∷ words) (inr (is, name)) e =
-    let all : v ∷ names_in words ≡ a ∷ b ∷ [] = sym (names_plain v words is) ∙ e in
-    let of_a : v ≡ a = cc in
-    let rest : names_in words ≡ b ∷ [] = cc in
-    let one = one_name (λ l. P (v ∷ l)) b
-    (subst (λ w. P (w ∷ codes "--" ∷ b ∷ [])) (sym of_a) (second (subst IsFileWord of_a is)))
-    (λ is_b. subst (λ w. P (w ∷ b ∷ codes "--" ∷ [])) (sym of_a)
-    (last (subst IsFileWord of_a is) is_b))
-    (λ is_b. subst (λ w. P (w ∷ b ∷ [])) (sym of_a)
-    (none (subst IsFileWord of_a is) is_b)) in
-    one words name rest
-
--- the word that ends the options
-abbrev pub end : Text
-end = 45 ∷ 45 ∷ []
 
 -- ---- a command and one file, or two
 
@@ -390,95 +232,21 @@ read output streams = record {
   stopped = None;
 }
 
--- the same, after a `--`
-abbrev trail : (output : Text) → List Text → Walk
-trail output streams = record (read output streams) { is_trailing = true }
-
-module _ (output : Text) where
-  read_step : (got : List Text) (w : Text) → IsFileWord w
-      → walked pack_leaf.rules [] (read output got) w ≡ read output (got ++ w ∷ [])
-  unfolding clap_on_literals
-  read_step got w is =
+reads : (output : Text) → Reads pack_leaf (read output)
+unfolding clap_on_literals
+reads output = record {
+  name_read = λ got w is.
       ap (λ (v : Text). walked pack_leaf.rules [] (read output got) v) is.split
       ∙ further_walked is.first is.rest is.no_hyphen pack_leaf.rules (read output got).held 2
-      ∙ ap (λ (v : Text). read output (got ++ v ∷ [])) (sym is.split)
-
-  turn_step : (got : List Text) (w : Text) → IsFileWord w
-      → turn_passes pack_leaf [] (read output got) w ≡ true
-  unfolding clap_on_literals
-  turn_step got w is =
+      ∙ ap (λ (v : Text). read output (got ++ v ∷ [])) (sym is.split);
+  name_passes = λ got w is.
       ap (λ (v : Text). turn_passes pack_leaf [] (read output got) v) is.split
-      ∙ further_turn is.first is.rest is.no_hyphen pack_leaf (read output got).held 2
-
-  end_step : (got : List Text) → walked pack_leaf.rules [] (read output got) end ≡ trail output got
-  unfolding clap_on_literals
-  end_step got = refl
-
-  end_passes : (got : List Text) → turn_passes pack_leaf [] (read output got) end ≡ true
-  unfolding clap_on_literals
-  end_passes got = refl
-
-  trail_step : (got : List Text) (w : Text)
-      → walked pack_leaf.rules [] (trail output got) w ≡ trail output (got ++ w ∷ [])
-  unfolding clap_on_literals
-  trail_step got w = refl
-
-  trail_turn : (got : List Text) (w : Text)
-      → turn_passes pack_leaf [] (trail output got) w ≡ true
-  unfolding clap_on_literals
-  trail_turn got w = refl
-
-  -- after a `--` each word is a stream
-  trail_all : (got words : List Text)
-      → fold (walked pack_leaf.rules []) (trail output got) words ≡ trail output (got ++ words)
-  trail_all got [] = ap (trail output) (sym (append-nil got))
-  trail_all got (w ∷ words) =
-      ap (λ (v : Walk). fold (walked pack_leaf.rules []) v words) (trail_step got w)
-      ∙ trail_all (got ++ w ∷ []) words
-      ∙ ap (trail output) (append_assoc got (w ∷ []) words)
-
-  trail_passes : (got words : List Text) → walk_passes pack_leaf [] (trail output got) words ≡ true
-  unfolding walk_passes
-  trail_passes got [] = refl
-  trail_passes got (w ∷ words) =
-      ap₂ (λ (t : Bool) (v : Walk). t && walk_passes pack_leaf [] v words) (trail_turn got w)
-      (trail_step got w)
-      ∙ trail_passes (got ++ w ∷ []) words
-
-  -- the names among the words are the streams
-  read_all : (got words : List Text) → NameFiles words
-      → (fold (walked pack_leaf.rules []) (read output got) words).held
-      ≡ (read output (got ++ names_in words)).held
-  read_all got [] name = ap (λ (l : List Text). (read output l).held) (sym (append-nil got))
-  read_all got (w ∷ words) (inl ends) =
-      ap (λ (v : Text). (fold (walked pack_leaf.rules []) (read output got) (v ∷ words)).held)
-      (end_is w ends)
-      ∙ ap (λ (v : Walk). (fold (walked pack_leaf.rules []) v words).held) (end_step got)
-      ∙ ap (λ (v : Walk). v.held) (trail_all got words)
-      ∙ ap (λ (l : List Text). (read output (got ++ l)).held) (sym (names_ended w words ends))
-  read_all got (w ∷ words) (inr (is, name)) =
-      ap (λ (v : Walk). (fold (walked pack_leaf.rules []) v words).held) (read_step got w is)
-      ∙ read_all (got ++ w ∷ []) words name
-      ∙ ap (λ (l : List Text). (read output l).held) (append_assoc got (w ∷ []) (names_in words))
-      ∙ ap (λ (l : List Text). (read output (got ++ l)).held) (sym (names_plain w words is))
-
-  read_passes : (got words : List Text) → NameFiles words
-      → walk_passes pack_leaf [] (read output got) words ≡ true
-  unfolding walk_passes
-  read_passes got [] name = refl
-  read_passes got (w ∷ words) (inl ends) =
-      ap (λ (v : Text). walk_passes pack_leaf [] (read output got) (v ∷ words)) (end_is w ends)
-      ∙ ap₂ (λ (t : Bool) (v : Walk). t && walk_passes pack_leaf [] v words) (end_passes got)
-      (end_step got)
-      ∙ trail_passes got words
-  read_passes got (w ∷ words) (inr (is, name)) =
-      ap₂ (λ (t : Bool) (v : Walk). t && walk_passes pack_leaf [] v words) (turn_step got w is)
-      (read_step got w is)
-      ∙ read_passes (got ++ w ∷ []) words name
-
-pub all_pass : (words : List Text) → list_all (λ (w : Text). true) words ≡ true
-all_pass [] = refl
-all_pass (w ∷ words) = all_pass words
+      ∙ further_turn is.first is.rest is.no_hyphen pack_leaf (read output got).held 2;
+  end_read = λ got. refl;
+  end_passes = λ got. refl;
+  word_read = λ got w. refl;
+  word_passes = λ got w. refl;
+}
 
 -- the walk has read these streams, and passes if there are not too many
 pack_ends : (output s : Text) (streams : List Text) → length (s ∷ streams) ≤ usize_max
@@ -506,7 +274,8 @@ pack_after : (output s : Text) (streams : List Text) → length (s ∷ streams) 
 unfolding clap_on_literals
 pack_after output s streams few =
     ap₂ (λ (t : Bool) (w : Walk). t && ends pack_leaf w.held)
-    (trail_passes output (s ∷ []) streams) (trail_all output (s ∷ []) streams)
+    (trail_passes pack_leaf (read output) (reads output) (s ∷ []) streams)
+    (trail_all pack_leaf (read output) (reads output) (s ∷ []) streams)
     ∙ pack_ends output s streams few
 
 module _ (x : ℕ) (xs : Text) (no_hyphen : (x == 45) ≡ false) where
@@ -524,7 +293,8 @@ module _ (x : ℕ) (xs : Text) (no_hyphen : (x == 45) ≡ false) where
       (plain_turn x xs no_hyphen pack_leaf nothing_held 1)
       (plain_walked x xs no_hyphen pack_leaf.rules nothing_held 1)
       ∙ ap₂ (λ (t : Bool) (w : Walk). t && ends pack_leaf w.held)
-      (trail_passes (x ∷ xs) (s ∷ []) streams) (trail_all (x ∷ xs) (s ∷ []) streams)
+      (trail_passes pack_leaf (read (x ∷ xs)) (reads (x ∷ xs)) (s ∷ []) streams)
+      (trail_all pack_leaf (read (x ∷ xs)) (reads (x ∷ xs)) (s ∷ []) streams)
       ∙ pack_ends (x ∷ xs) s streams few
 
 module _ (x : ℕ) (xs : Text) (no_hyphen : (x == 45) ≡ false) (y : ℕ) (ys : Text)
@@ -552,8 +322,8 @@ module _ (x : ℕ) (xs : Text) (no_hyphen : (x == 45) ≡ false) (y : ℕ) (ys :
       (plain_turn y ys no_hyphen' pack_leaf pack_first.held 2)
       (plain_walked y ys no_hyphen' pack_leaf.rules pack_first.held 2)
       ∙ ap₂ (λ (t : Bool) (h : Held). t && ends pack_leaf h)
-      (read_passes (x ∷ xs) ((y ∷ ys) ∷ []) words name)
-      (read_all (x ∷ xs) ((y ∷ ys) ∷ []) words name)
+      (read_passes pack_leaf (read (x ∷ xs)) (reads (x ∷ xs)) ((y ∷ ys) ∷ []) words name)
+      (read_all pack_leaf (read (x ∷ xs)) (reads (x ∷ xs)) ((y ∷ ys) ∷ []) words name).held
       ∙ pack_ends (x ∷ xs) (y ∷ ys) (names_in words) few
 
 -- clap takes a line if it takes what follows `pack`
@@ -577,17 +347,6 @@ pack_taken p words passes =
 -- what holds of a line whose file words are given by their first bytes
 abbrev Takes : (p command : Text) → List Text → Type 0
 Takes p command words = takes app (p ∷ command ∷ words) ≡ true
-
-pub split_one : (P : Text → Type 0) → ((x : ℕ) (xs : Text) → (x == 45) ≡ false → P (x ∷ xs))
-    → (a : Text) → IsFileWord a → P a
-split_one P given a is = subst P (sym is.split) (given is.first is.rest is.no_hyphen)
-
-pub split_two : (P : Text → Text → Type 0)
-    → ((x : ℕ) (xs : Text) → (x == 45) ≡ false → (y : ℕ) (ys : Text) → (y == 45) ≡ false
-    → P (x ∷ xs) (y ∷ ys)) → (a b : Text) → IsFileWord a → IsFileWord b → P a b
-split_two P given a b i o =
-    split_one (λ v. P v b)
-    (λ x xs e. split_one (P (x ∷ xs)) (λ y ys e'. given x xs e y ys e') b o) a i
 
 check_words : (p file : Text) (words : List Text) → NameFiles words → names_in words ≡ file ∷ []
     → Takes p (codes "check") words
@@ -625,44 +384,16 @@ same_words p a b =
     (split_two (λ v w. Takes p (codes "same") (v ∷ w ∷ []))
     (λ x xs e y ys e'. same_taken x xs e y ys e' p) a b)
 
-pack_streams : (output s : Text) (more words : List Text) → length (s ∷ more) ≤ usize_max
-    → IsFileWord output → NameFiles words → names_in words ≡ s ∷ more
-    → pack_passes (output ∷ words)
-pack_streams output s more [] few is name e = absurd (cc)
-pack_streams output s more (v ∷ words) few is (inl ends) e =
-    let rest : words ≡ s ∷ more = sym (names_ended v words ends) ∙ e in
-    let all : v ∷ words ≡ end ∷ s ∷ more = ap₂ (λ h t. h ∷ t) (end_is v ends) rest in
-    subst (λ l. pack_passes (output ∷ l)) (sym all)
-    (split_one (λ w. pack_passes (w ∷ end ∷ s ∷ more))
-    (λ x xs h. pack_between x xs h s more few) output is)
-pack_streams output s more (v ∷ words) few is (inr (is', name)) e =
-    let all : v ∷ names_in words ≡ s ∷ more = sym (names_plain v words is') ∙ e in
-    let n : length (v ∷ names_in words) ≡ length (s ∷ more) = ap length all in
-    let fits : suc (length (names_in words)) ≤ usize_max = omega (arith, n, few) in
-    split_two (λ w w'. pack_passes (w ∷ w' ∷ words))
-    (λ x xs h y ys h'. pack_plain x xs h y ys h' words fits name) output v is is'
-
 pack_words : (output s : Text) (more words : List Text) → length (s ∷ more) ≤ usize_max
     → NameFiles words → names_in words ≡ output ∷ s ∷ more → pack_passes words
-pack_words output s more [] few name e = absurd (cc)
-pack_words output s more (v ∷ words) few (inl ends) e =
-    let rest : words ≡ output ∷ s ∷ more = sym (names_ended v words ends) ∙ e in
-    let all : v ∷ words ≡ end ∷ output ∷ s ∷ more = ap₂ (λ h t. h ∷ t) (end_is v ends) rest in
-    subst pack_passes (sym all) (pack_after output s more few)
-pack_words output s more (v ∷ words) few (inr (is, name)) e =
-    let all : v ∷ names_in words ≡ output ∷ s ∷ more = sym (names_plain v words is) ∙ e in
-    let rest : names_in words ≡ s ∷ more = cc in
-    pack_streams v s more words few is name rest
-
-no_longer : (b : Bool) (words names : List Text) → length names ≤ suc (length words)
-    → length (if b then words else names) ≤ suc (length words)
-no_longer true words names low = omega arith
-no_longer false words names low = low
-
-pub names_in-length : (words : List Text) → length (names_in words) ≤ length words
-names_in-length [] = omega arith
-names_in-length (w ∷ words) =
-    no_longer (is_end w) words (w ∷ names_in words) (omega (arith, names_in-length words))
+pack_words output s more words few =
+    name_then pack_passes output (s ∷ more) (pack_after output s more few)
+    (λ rest is. name_then (λ l. pack_passes (output ∷ l)) s more
+    (split_one (λ w. pack_passes (w ∷ end ∷ s ∷ more))
+    (λ x xs h. pack_between x xs h s more few) output is)
+    (λ streams is' name e. split_two (λ w w'. pack_passes (w ∷ w' ∷ streams))
+    (λ x xs h y ys h'. pack_plain x xs h y ys h' streams (rw e few) name) output s is is') rest)
+    words
 
 -- the words of a line of a form
 line_taken : (words said : List Text) → (line : IsLine words said)

@@ -1,9 +1,10 @@
 -- clap takes each line of the form.
 use Rattle.mask_line3.proofs.Common.{arith, ap, ap₂, sym, refl, ◌≡◌, ◌≤◌, ◌∙◌, ◌==◌, ◌&&◌, ◌++◌, ℕ, Bool, true, false, List, [], ◌∷◌, Some, None, codes, length, fold, is_some, map, le-leb, append-nil, append_assoc, usize_max, App, Text, is_simple, takes, IsFileWord, IsMaskLine, IsUsage, Change, change_word, AreMaskWordsRefused, mask_words}
+use Rattle.std.specs.Prelude.{Option}
 use Rattle.std.specs.List.{list_all}
 use Rattle.std.proofs.Common.{inl, inr, subst}
 use Rattle.line3.specs.Asked.{NameFiles, names_in}
-use Rattle.clap.specs.Walk.{Walk, arg_by_index, finished, idle, nothing_held, positional, to_positional, walked}
+use Rattle.clap.specs.Walk.{Held, Walk, arg_by_index, finished, idle, nothing_held, positional, to_positional, walked}
 use Rattle.clap.specs.Simple.{built, entered, names_of}
 use Rattle.clap.specs.Takes.{default_passes, entered_passes, is_valid, settle_passes, turn_passes, walk_passes}
 use Rattle.clap.proofs.OnLiterals.{clap_on_literals}
@@ -11,7 +12,9 @@ use Rattle.clap.specs.declared.parser.matches.ValueSource.TheVariants.{CommandLi
 use Rattle.clap.specs.declared.builder.value_parser.Reading.TheVariants.{AsWritten}
 use Rattle.line3.specs.declared.asked.LineFault.{LineFault}
 use Rattle.line3.specs.declared.asked.LineFault.TheVariants.{Usage, Odd, SameName, NotText, Memory}
-use Rattle.line3.proofs.GrammarLemmas.{all_pass, at, end, end_is, ends, further_turn, further_walked, names_ended, names_in-length, names_plain, plain_turn, plain_walked, split_one, split_two}
+use Rattle.line3.proofs.GrammarLemmas.{ends}
+use Rattle.line3.proofs.Reading.{Reads, all_pass, read_all, read_passes, trail_all, trail_passes}
+use Rattle.line3.proofs.Words.{at, end, end_is, further_turn, further_walked, name_then, names_ended, names_in-length, names_plain, plain_turn, plain_walked, split_one, split_two}
 use Rattle.mask_line3.specs.machinery.Grammar.{mask_app}
 
 simple : is_simple mask_app ≡ true
@@ -49,118 +52,24 @@ reading input output words = record {
   stopped = None;
 }
 
--- the same, after a `--`
-abbrev trailing : (input output : Text) → List Text → Walk
-trailing input output words = record (reading input output words) { is_trailing = true }
-
-module _ (input output : Text) where
-  read_step : (got : List Text) (w : Text) → IsFileWord w
-      → walked top_of.top.rules (names_of top_of) (reading input output got) w
-      ≡ reading input output (got ++ w ∷ [])
-  unfolding clap_on_literals
-  read_step got w is =
+reads : (input output : Text) → Reads top_of.top (reading input output)
+unfolding clap_on_literals
+reads input output = record {
+  name_read = λ got w is.
       ap (λ (v : Text). walked top_of.top.rules [] (reading input output got) v) is.split
       ∙ further_walked is.first is.rest is.no_hyphen top_of.top.rules
       (reading input output got).held 3
-      ∙ ap (λ (v : Text). reading input output (got ++ v ∷ [])) (sym is.split)
-
-  turn_step : (got : List Text) (w : Text) → IsFileWord w
-      → turn_passes top_of.top (names_of top_of) (reading input output got) w ≡ true
-  unfolding clap_on_literals
-  turn_step got w is =
+      ∙ ap (λ (v : Text). reading input output (got ++ v ∷ [])) (sym is.split);
+  name_passes = λ got w is.
       ap (λ (v : Text). turn_passes top_of.top [] (reading input output got) v) is.split
-      ∙ further_turn is.first is.rest is.no_hyphen top_of.top (reading input output got).held 3
+      ∙ further_turn is.first is.rest is.no_hyphen top_of.top (reading input output got).held 3;
+  end_read = λ got. refl;
+  end_passes = λ got. refl;
+  word_read = λ got w. refl;
+  word_passes = λ got w. refl;
+}
 
-  end_step : (got : List Text)
-      → walked top_of.top.rules (names_of top_of) (reading input output got) end
-      ≡ trailing input output got
-  unfolding clap_on_literals
-  end_step got = refl
-
-  end_passes : (got : List Text)
-      → turn_passes top_of.top (names_of top_of) (reading input output got) end ≡ true
-  unfolding clap_on_literals
-  end_passes got = refl
-
-  trail_step : (got : List Text) (w : Text)
-      → walked top_of.top.rules (names_of top_of) (trailing input output got) w
-      ≡ trailing input output (got ++ w ∷ [])
-  unfolding clap_on_literals
-  trail_step got w = refl
-
-  trail_turn : (got : List Text) (w : Text)
-      → turn_passes top_of.top (names_of top_of) (trailing input output got) w ≡ true
-  unfolding clap_on_literals
-  trail_turn got w = refl
-
-  trail_all : (got words : List Text)
-      → fold (walked top_of.top.rules (names_of top_of)) (trailing input output got) words
-      ≡ trailing input output (got ++ words)
-  trail_all got [] = ap (trailing input output) (sym (append-nil got))
-  trail_all got (w ∷ words) =
-      ap (λ (v : Walk). fold (walked top_of.top.rules (names_of top_of)) v words) (trail_step got w)
-      ∙ trail_all (got ++ w ∷ []) words
-      ∙ ap (trailing input output) (append_assoc got (w ∷ []) words)
-
-  trail_passes : (got words : List Text)
-      → walk_passes top_of.top (names_of top_of) (trailing input output got) words ≡ true
-  unfolding walk_passes
-  trail_passes got [] = refl
-  trail_passes got (w ∷ words) =
-      ap₂ (λ (t : Bool) (v : Walk). t && walk_passes top_of.top (names_of top_of) v words)
-      (trail_turn got w) (trail_step got w)
-      ∙ trail_passes (got ++ w ∷ []) words
-
-  -- the walk has read these words, before a `--` or after it
-  record HasRead (words : List Text) (w : Walk) : Type 0 where
-    is_trailing : Bool
-    is : w ≡ record (reading input output words) { is_trailing = is_trailing }
-
-  read_all : (got words : List Text) → NameFiles words
-      → HasRead (got ++ names_in words)
-      (fold (walked top_of.top.rules (names_of top_of)) (reading input output got) words)
-  read_all got [] name =
-      record { is_trailing = false; is = ap (reading input output) (sym (append-nil got)) }
-  read_all got (w ∷ words) (inl ends) = record {
-    is_trailing = true;
-    is = ap
-        (λ (v : Text). fold (walked top_of.top.rules (names_of top_of)) (reading input output got)
-        (v ∷ words)) (end_is w ends)
-        ∙ ap (λ (v : Walk). fold (walked top_of.top.rules (names_of top_of)) v words) (end_step got)
-        ∙ trail_all got words
-        ∙ ap (λ (l : List Text). trailing input output (got ++ l)) (sym (names_ended w words ends));
-  }
-  read_all got (w ∷ words) (inr (is, name)) =
-      let next = read_all (got ++ w ∷ []) words name in
-      record {
-        is_trailing = next.is_trailing;
-        is = ap (λ (v : Walk). fold (walked top_of.top.rules (names_of top_of)) v words)
-            (read_step got w is)
-            ∙ next.is
-            ∙ ap
-            (λ (l : List Text).
-            record (reading input output l) { is_trailing = next.is_trailing })
-            (append_assoc got (w ∷ []) (names_in words)
-            ∙ ap (λ (l : List Text). got ++ l) (sym (names_plain w words is)));
-      }
-
-  read_passes : (got words : List Text) → NameFiles words
-      → walk_passes top_of.top (names_of top_of) (reading input output got) words ≡ true
-  unfolding walk_passes
-  read_passes got [] name = refl
-  read_passes got (w ∷ words) (inl ends) =
-      ap
-      (λ (v : Text).
-      walk_passes top_of.top (names_of top_of) (reading input output got) (v ∷ words))
-      (end_is w ends)
-      ∙ ap₂ (λ (t : Bool) (v : Walk). t && walk_passes top_of.top (names_of top_of) v words)
-      (end_passes got) (end_step got)
-      ∙ trail_passes got words
-  read_passes got (w ∷ words) (inr (is, name)) =
-      ap₂ (λ (t : Bool) (v : Walk). t && walk_passes top_of.top (names_of top_of) v words)
-      (turn_step got w is) (read_step got w is)
-      ∙ read_passes (got ++ w ∷ []) words name
-
+module _ (input output : Text) where
   read_ends : (words : List Text) → length words ≤ usize_max
       → ends top_of.top (reading input output words).held ≡ true
   unfolding clap_on_literals
@@ -181,12 +90,15 @@ module _ (input output : Text) where
       (all_pass words)
 
 -- what a parse asks for of a walk that passed and came here
-abbrev ended : Bool → Walk → Bool
-ended passed w = entered_passes top_of w.stopped
-    && (passed && (settle_passes top_of.top.rules top_of.top.args_override_self w.held
+abbrev ended_by : Bool → Option (Text × List Text) → Held → Bool
+ended_by passed stopped held = entered_passes top_of stopped
+    && (passed && (settle_passes top_of.top.rules top_of.top.args_override_self held
     && (list_all default_passes top_of.top.rules
-    && is_valid top_of.top (finished top_of.top.rules w.held)
-    (is_some (entered top_of w.stopped)))))
+    && is_valid top_of.top (finished top_of.top.rules held)
+    (is_some (entered top_of stopped)))))
+
+abbrev ended : Bool → Walk → Bool
+ended passed w = ended_by passed w.stopped w.held
 
 abbrev rest_passes : Bool → Walk → List Text → Bool
 rest_passes passed w words =
@@ -218,7 +130,9 @@ trailing_read : (input output : Text) (words : List Text) → length words ≤ u
 unfolding clap_on_literals
 trailing_read input output [] few = refl
 trailing_read input output (w ∷ words) few =
-    ap₂ ended (trail_passes input output (w ∷ []) words) (trail_all input output (w ∷ []) words)
+    let r = reads input output in
+    ap₂ ended (trail_passes top_of.top (reading input output) r (w ∷ []) words)
+    (trail_all top_of.top (reading input output) r (w ∷ []) words)
     ∙ read_ends input output (w ∷ words) few
 
 module _ (p : Text) where
@@ -292,50 +206,35 @@ module _ (p : Text) where
         let n : length (names_in (w ∷ words)) ≡ length (w ∷ names_in words) =
         ap (λ (l : List Text). length l) (names_plain w words is) in
         let fits : length (w ∷ names_in words) ≤ usize_max = omega (arith, n, few) in
-        let all = read_all (x ∷ xs) (y ∷ ys) (w ∷ []) words name in
+        let r = reads (x ∷ xs) (y ∷ ys) in
+        let all = read_all top_of.top (reading (x ∷ xs) (y ∷ ys)) r (w ∷ []) words name in
+        let after : Walk =
+        fold (walked top_of.top.rules []) (reading (x ∷ xs) (y ∷ ys) (w ∷ [])) words in
         ap (λ (v : Text). rest_passes true second (v ∷ words)) is.split
         ∙ ap₂ (λ (t : Bool) (v : Walk). rest_passes t v words)
         (plain_turn is.first is.rest is.no_hyphen top_of.top second.held 3)
         (plain_walked is.first is.rest is.no_hyphen top_of.top.rules second.held 3)
         ∙ ap (λ (v : Text). rest_passes true (reading (x ∷ xs) (y ∷ ys) (v ∷ [])) words)
         (sym is.split)
-        ∙ ap₂ ended (read_passes (x ∷ xs) (y ∷ ys) (w ∷ []) words name) all.is
+        ∙ ap (λ (t : Bool). ended_by t after.stopped after.held)
+        (read_passes top_of.top (reading (x ∷ xs) (y ∷ ys)) r (w ∷ []) words name)
+        ∙ ap₂ (ended_by true) all.stopped all.held
         ∙ read_ends (x ∷ xs) (y ∷ ys) (w ∷ names_in words) fits
 
     files_taken : (words : List Text) → length (names_in words) ≤ usize_max → NameFiles words
         → Takes ((x ∷ xs) ∷ (y ∷ ys) ∷ words)
     files_taken words few name = files_read words ∙ words_read words few name
 
-  output_taken : (input output : Text) (more words : List Text) → length more ≤ usize_max
-      → IsFileWord input → NameFiles words → names_in words ≡ output ∷ more
-      → Takes (input ∷ words)
-  output_taken input output more [] few is name e = absurd (cc)
-  output_taken input output more (v ∷ words) few is (inl ends) e =
-      let rest : words ≡ output ∷ more = sym (names_ended v words ends) ∙ e in
-      let all : v ∷ words ≡ end ∷ output ∷ more = ap₂ (λ h t. h ∷ t) (end_is v ends) rest in
-      subst (λ l. Takes (input ∷ l)) (sym all)
-      (split_one (λ w. Takes (w ∷ end ∷ output ∷ more))
-      (λ x xs h. output_after x xs h output more few) input is)
-  output_taken input output more (v ∷ words) few is (inr (is', name)) e =
-      let all : v ∷ names_in words ≡ output ∷ more = sym (names_plain v words is') ∙ e in
-      let n : length (v ∷ names_in words) ≡ length (output ∷ more) =
-      ap (λ (l : List Text). length l) all in
-      let fits : length (names_in words) ≤ usize_max = omega (arith, n, few) in
-      split_two (λ w w'. Takes (w ∷ w' ∷ words))
-      (λ x xs h y ys h'. files_taken x xs h y ys h' words fits name) input v is is'
-
   words_taken : (input output : Text) (more words : List Text) → length more ≤ usize_max
       → NameFiles words → names_in words ≡ input ∷ output ∷ more → Takes words
-  words_taken input output more [] few name e = absurd (cc)
-  words_taken input output more (v ∷ words) few (inl ends) e =
-      let rest : words ≡ input ∷ output ∷ more = sym (names_ended v words ends) ∙ e in
-      let all : v ∷ words ≡ end ∷ input ∷ output ∷ more =
-      ap₂ (λ h t. h ∷ t) (end_is v ends) rest in
-      subst Takes (sym all) (all_after input output more few)
-  words_taken input output more (v ∷ words) few (inr (is, name)) e =
-      let all : v ∷ names_in words ≡ input ∷ output ∷ more = sym (names_plain v words is) ∙ e in
-      let rest : names_in words ≡ output ∷ more = cc in
-      output_taken v output more words few is name rest
+  words_taken input output more words few =
+      name_then Takes input (output ∷ more) (all_after input output more few)
+      (λ rest is. name_then (λ l. Takes (input ∷ l)) output more
+      (split_one (λ w. Takes (w ∷ end ∷ output ∷ more))
+      (λ x xs h. output_after x xs h output more few) input is)
+      (λ changes is' name e. split_two (λ w w'. Takes (w ∷ w' ∷ changes))
+      (λ x xs h y ys h'. files_taken x xs h y ys h' changes (rw e few) name) input output is is')
+      rest) words
 
 -- ---- a line of the form
 
@@ -360,7 +259,5 @@ pub mask_refuses : (words : List Text) (fault : LineFault) → length words ≤ 
 mask_refuses words (Usage text) few is memory =
     λ input output changes line name. let out : Usage text ≡ Memory =
     memory (mask_taken words input output changes few line name) in absurd (cc)
-mask_refuses words Odd few is memory = absurd is
-mask_refuses words SameName few is memory = absurd is
-mask_refuses words NotText few is memory = absurd is
 mask_refuses words Memory few is memory = tt
+mask_refuses words _ few is memory = absurd is

@@ -28,10 +28,8 @@ pub told : (line : List (List ℕ)) (fault : LineFault) → IsUsage fault
     → ((input output : List ℕ) (changes : List Change)
     → IsMaskLine line (mask_words input output changes) → ⊥) → AreMaskWordsRefused line fault
 told line (Usage text) is none = λ input output changes line name. none input output changes line
-told line Odd is none = absurd is
-told line SameName is none = absurd is
-told line NotText is none = absurd is
 told line Memory is none = tt
+told line _ is none = absurd is
 
 -- so few words have not the form
 pub no_form_so_short : (line words : List (List ℕ)) → words ≡ without_end 1 line
