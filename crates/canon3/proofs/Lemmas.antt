@@ -2,6 +2,7 @@
 pub mod Renaming
 pub mod Numbers
 pub mod WellFormed
+pub mod Changes
 pub mod Canonical
 pub mod Order
 pub mod Writing

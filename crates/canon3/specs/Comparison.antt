@@ -48,7 +48,7 @@ pub record GaveFault (old new : Observed) (fault : Fault) : Type 0 where
   pub gave : Gave old new given
   pub shown : IsShownBy new given handed fault
 
--- two sources, what each told before the call, and what it tells now
+-- two sources, as each was observed before the call, and as it is now
 module _ (old new old_other new_other : Observed) where
   -- The fault is shown by what the first gave, or by what the second gave if the first gave a whole
   -- capture. No other error says anything.

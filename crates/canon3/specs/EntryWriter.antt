@@ -22,11 +22,11 @@ use Rattle.capture3.specs.Numbering.{IsLentAfter}
 use Rattle.canon3.specs.SinkWrites.{AppendsFront}
 
 module _ (form : List Entry → List ℕ) where
-  -- What an error says, where the source gave these bytes and tells this, and the sink had the old
-  -- bytes and has the new ones. The fault is the first of all bytes, and the form of the entries
-  -- that these reach was written; or a read failed, and the form of the entries that the bytes
-  -- given reach before a capture's end; or a write failed or memory ran out, and a front was
-  -- written of the form of the entries that the bytes given reach.
+  -- What an error says, where the source gave these bytes and is observed so, and the sink had
+  -- the old bytes and has the new ones. The fault is the first of all bytes, and the form of the
+  -- entries that these reach was written; or a read failed, and the form of the entries that the
+  -- bytes given reach before a capture's end; or a write failed or memory ran out, and a front
+  -- was written of the form of the entries that the bytes given reach.
   abbrev pub IsStoppedBy : Error
       → (observed : Observed) (given : List ℕ) (old new : Option (List ℕ))
       → Type 0
@@ -97,9 +97,8 @@ module _ {T : Type 0} (form : List Entry → List ℕ) (before : List Entry → 
 -- the same, and what it represents while a message is open
 module _ {T : Type 0} (form : List Entry → List ℕ) (before : List Entry → List Item)
     (rests stands : T → List Item → Type 0) (going : T → Type 0) where
-  -- One lent entry more of a well-formed capture is written, or cut, which the writer was told
-  -- after
-  -- the entries before. The sink had some bytes, and has others now.
+  -- One lent entry more of a well-formed capture is written, or cut, whose items the writer was
+  -- passed after the entries before. The sink had some bytes, and has others now.
   abbrev pub WritesOne : (was now : T) → Progress → LentEntry → (between new : Option (List ℕ))
       → {X : Type 0} → Result X Error → Type 0
   WritesOne was now progress lent between new result =

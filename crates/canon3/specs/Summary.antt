@@ -36,8 +36,8 @@ pub record IsSummary (bytes : List ℕ) (summary : Summary) : Type 0 where
 abbrev pub AreCountedHandles : ℕ → List Entry → Type 0
 AreCountedHandles n entries = n ≡ min (length (distinct bytes_eq (handles entries))) number_limit
 
--- What is concluded of the bytes that the source gave, where it tells this: all were a capture's,
--- and this is its summary; or they met the error, after just these entries.
+-- What is concluded of the bytes that the source gave, where it is observed so: all were a
+-- capture's, and this is its summary; or they met the error, after just these entries.
 abbrev pub Concludes : (observed : Observed) (given : List ℕ) → Result Summary Error → Type 0
 Concludes observed given (Ok summary) = IsSpent observed × IsSummary given summary
 Concludes observed given (Err error) = (entries : List Entry) × IsMetBy error observed given entries

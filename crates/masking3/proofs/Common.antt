@@ -7,7 +7,7 @@ pub use Rattle.canon3.proofs.Lemmas.Renaming.OneToOneLemmas.{Agree, agree-graph,
 pub use Rattle.canon3.proofs.Lemmas.Renaming.RenamingLemmas.{all_mapped, all_weaker}
 pub use Rattle.canon3.proofs.Lemmas.WellFormed.Conversations.{AreConversing, Conversation, IsSpelledCall, IsSpelledReply, in_map, items_of_reply, length_of_record, map_in, of_all, reply_items, stream_of, weight}
 pub use Rattle.canon3.proofs.Lemmas.WellFormed.Files.{AreCapture, all_entries, all_of, entries_of, holds, total_of_anew, total_weight, typed_anew}
-pub use Rattle.canon3.proofs.Lemmas.WellFormed.Items.{IsEach, all_in_message, are_bytes_of_number, joined_mapped, length_of_opaque, links_mapped, zero_spelled_one}
+pub use Rattle.canon3.proofs.Lemmas.WellFormed.Items.{IsEach, are_bytes_of_number, length_of_opaque, zero_spelled_one}
 pub use Rattle.canon3.proofs.Lemmas.WellFormed.Messages.{FitsCall, FitsReply, call_next, headed_call_fits, headed_reply_fits, is_headed_call, is_headed_reply, reply_next}
 pub use Rattle.canon3.proofs.Lemmas.Writing.Visiting.{settled}
 pub use Rattle.canon3.specs.Bytes.{bytes_of, chunk_bytes, entry_bytes, magic_before, record_bytes}

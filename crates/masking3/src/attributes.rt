@@ -137,7 +137,7 @@ impl<P: Plan, S: BuildHasher + Copy + Drop> MaskingWriter<P, S> {
         ensures spot { self.new.spot ≡ self.old.spot }
     {
         let n = BigEndian::read_u32(&bytes[at..]);
-        let put = self.classes.replaced_word(class, n)?;
+        let put = self.classes.substitute(class, u64::from(n))?.unwrap_or(n);
         put_bytes(run, at, &pack_chunk(put));
         Ok(())
     }

@@ -64,21 +64,7 @@ impl<S: BuildHasher + Copy + Drop> ClassTables<S> {
         }
     }
 
-    /// Returns a word of the class, or of none, or what replaces it.
-    #[inline(always)]
-    pub(crate) fn replaced_word(&mut self, class: Option<Class>, n: u32) -> Result<u32, AllocError>
-        ensures ways { self.new.ways ≡ self.old.ways }
-        ensures put { (seen : Class → List ℕ)
-            → HoldsValues self.old.ways self.old.numbers.items seen → IfOk result
-            (λ m. m ≡ unwrap_or (substitute self.old.ways (with_one seen class n) class n) n) }
-        ensures holds { (seen : Class → List ℕ)
-            → HoldsValues self.old.ways self.old.numbers.items seen → OnOk result
-            (HoldsValues self.new.ways self.new.numbers.items (with_one seen class n)) }
-    {
-        Ok(self.substitute(class, u64::from(n))?.unwrap_or(n))
-    }
-
-    /// Does the same of a number of eight bytes.
+    /// Returns a number of eight bytes of the class, or of none, or what replaces it.
     #[inline(always)]
     pub(crate) fn replaced_hyper(&mut self, class: Option<Class>, n: u64) -> Result<u64, AllocError>
         ensures ways { self.new.ways ≡ self.old.ways }

@@ -92,7 +92,7 @@ impl<P: Plan, S: BuildHasher + Copy + Drop> MaskingWriter<P, S> {
     {
         let class = class_of_word(self.spot, name);
         self.spot = spot_after(self.spot, class, name, n);
-        let put = self.classes.replaced_word(class, n)?;
+        let put = self.classes.substitute(class, u64::from(n))?.unwrap_or(n);
         self.writer.word(name, put)
     }
 
@@ -119,15 +119,17 @@ impl<P: Plan, S: BuildHasher + Copy + Drop> MaskingWriter<P, S> {
         }
     }
 
-    /// Writes a word, with what replaces it. Says nothing more of the tables after an error.
+    /// Writes a word, with what replaces it.
     #[inline(never)]
     fn write_word(&mut self, name: &'static str, n: u32) -> Result<(), AllocError>
         ensures ok { OnOk result
             (Adds (MaskStands P.ways) self.old self.new (Word name.now n ∷ [])) }
         ensures err { OnErr result (self.new.failed ≡ true) }
     {
-        let written = self.write_masked_word(name, n);
-        self.fail_for_good(written)
+        match self.write_masked_word(name, n) {
+            Ok(()) => Ok(()),
+            Err(error) => self.fail(error),
+        }
     }
 
     /// Writes words and hypers that follow one another. After an error some of them may be written.
@@ -187,21 +189,17 @@ impl<P: Plan, S: BuildHasher + Copy + Drop> MaskingWriter<P, S> {
     {
         match self.classes.ways.way(Class::Raw) {
             Way::Keep => self.writer.rest(name, bytes),
-            Way::Zero => write_zeros(&mut self.writer, bytes.len()),
-            Way::Number => write_zeros(&mut self.writer, bytes.len()),
+            Way::Zero | Way::Number => write_zeros(&mut self.writer, bytes.len()),
         }
     }
 
-    /// Says nothing more of the tables after an error.
-    fn fail_for_good(&mut self, written: Result<(), AllocError>) -> Result<(), AllocError>
-        ensures result { result ≡ written }
-        ensures ok { OnOk written (self.new ≡ self.old) }
-        ensures err { OnErr written (self.new.failed ≡ true) }
+    /// Returns the error, after which nothing more is said of the tables.
+    fn fail(&mut self, error: AllocError) -> Result<(), AllocError>
+        ensures result { result ≡ Err error }
+        ensures failed { self.new.failed ≡ true }
     {
-        if written.is_err() {
-            self.failed = true;
-        }
-        written
+        self.failed = true;
+        Err(error)
     }
 }
 
@@ -247,8 +245,7 @@ fn write_call<W: Sink>(sink: &mut W, machines: Way, body: &[u8]) -> Result<(), E
 {
     match machines {
         Way::Keep => write_message(sink, body, &[]),
-        Way::Zero => write_unnamed(sink, body),
-        Way::Number => write_unnamed(sink, body),
+        Way::Zero | Way::Number => write_unnamed(sink, body),
     }
 }
 
@@ -268,13 +265,17 @@ impl<P: Plan, S: BuildHasher + Copy + Drop> Visit for MaskingWriter<P, S> {
     }
 
     fn hyper(&mut self, name: &'static str, n: u64) -> Result<(), AllocError> {
-        let written = self.write_masked_hyper(name, n);
-        self.fail_for_good(written)
+        match self.write_masked_hyper(name, n) {
+            Ok(()) => Ok(()),
+            Err(error) => self.fail(error),
+        }
     }
 
     fn fixed(&mut self, name: &'static str, bytes: &[u8; 8]) -> Result<(), AllocError> {
-        let written = self.write_masked_fixed(name, bytes);
-        self.fail_for_good(written)
+        match self.write_masked_fixed(name, bytes) {
+            Ok(()) => Ok(()),
+            Err(error) => self.fail(error),
+        }
     }
 
     fn write_verf(&mut self, name: &'static str, bytes: &[u8; 8]) -> Result<(), AllocError> {
@@ -291,20 +292,26 @@ impl<P: Plan, S: BuildHasher + Copy + Drop> Visit for MaskingWriter<P, S> {
     }
 
     fn handle(&mut self, name: &'static str, bytes: &[u8]) -> Result<(), AllocError> {
-        let written = self.write_handle(name, bytes);
-        self.fail_for_good(written)
+        match self.write_handle(name, bytes) {
+            Ok(()) => Ok(()),
+            Err(error) => self.fail(error),
+        }
     }
 
     fn rest(&mut self, name: &'static str, bytes: &[u8]) -> Result<(), AllocError> {
-        let written = self.write_rest(name, bytes);
-        self.fail_for_good(written)
+        match self.write_rest(name, bytes) {
+            Ok(()) => Ok(()),
+            Err(error) => self.fail(error),
+        }
     }
 
     // In line, as a word is.
     #[inline(always)]
     fn plain(&mut self, fields: &[PlainField], bytes: &[u8]) -> Result<(), AllocError> {
-        let written = self.write_run(fields, bytes);
-        self.fail_for_good(written)
+        match self.write_run(fields, bytes) {
+            Ok(()) => Ok(()),
+            Err(error) => self.fail(error),
+        }
     }
 }
 

@@ -38,12 +38,12 @@ pub record PartWith (a b : List Entry) (e f : Entry) (place : Place) : Type 0 wh
   pub differ : bytes_of (canonical (a ++ e ∷ [])) ≢ bytes_of (canonical (b ++ f ∷ []))
   pub place_is : IsPlaceOf a (Some e) (Some f) place
 
--- the writer holds the values of these entries, and was told the one after them, if there is one
+-- the writer holds the values of these entries, and was passed the one after them, if there is one
 abbrev pub HasReceived : {S H : Type 0} → MessageWriter S H → List Entry → Option Entry → Type 0
 HasReceived n entries None = WriterRests n (values_before entries)
 HasReceived n entries (Some one) = HasHeard WriterRests WriterStands n (values_before entries) one
 
--- these were compared, and the numberings stand for their values, and were told the next two
+-- these were compared, and the numberings stand for their values, and were passed the next two
 pub record HaveReceived {S H : Type 0} (comparison : Comparison S H) (a b : List Entry)
     (next other : Option Entry) : Type 0 where
   pub agree : Agree a b
@@ -96,7 +96,7 @@ IsReadAfter start now handed verdict (Ok answer) = (answer ≡ verdict) × (more
 IsReadAfter start now handed verdict (Err error) = (error.which ≡ Second)
     × GaveError start now error.error
 
--- a reader, and what its source told at the start
+-- a reader, and what was observed of its source at the start
 module _ {R S H : Type 0} {builds : BuildHasher.Ghosts S H} {hashes : Hasher.Ghosts H}
     (telling : R → Observed) (start : Observed) (reader : Entries R S H builds hashes) where
   -- it handed out these entries
@@ -110,7 +110,7 @@ module _ {R S H : Type 0} {builds : BuildHasher.Ghosts S H} {hashes : Hasher.Gho
     pub more : List Entry
     pub all : HasGiven (handed ++ more)
 
--- the first source told this at the start and now, and the second this at its start
+-- the first source was observed so at the start and now, and the second so at its start
 module _ {R S H : Type 0} {builds : BuildHasher.Ghosts S H} {hashes : Hasher.Ghosts H}
     (telling : R → Observed) (first now start : Observed) (reader : Entries R S H builds hashes)
     (comparison : Comparison S H) (a b : List Entry) (e : Entry) where
@@ -133,7 +133,7 @@ module _ {R S H : Type 0} {builds : BuildHasher.Ghosts S H} {hashes : Hasher.Gho
   Meets (Err error) =
       StopsGiven first now start (telling (source_of reader)) error.error error.which
 
--- two readers, and what their sources told at the start
+-- two readers, and what was observed of their sources at the start
 module _ {A B S H : Type 0} {builds : BuildHasher.Ghosts S H} {hashes : Hasher.Ghosts H}
     (telling : A → Observed) (telling_other : B → Observed) (start other_start : Observed)
     (first : Entries A S H builds hashes) (second : Entries B S H builds hashes) where

@@ -37,8 +37,8 @@ pub record HasStopped (form : List Entry → List ℕ) (first : Observed) (old :
   pub consumed : Gave first observed given
   pub stopped : IsStoppedBy form error observed given old new
 
--- a reader that hands out entries after these, from when the source told this first, and a writer
--- to a sink, from when it had the old bytes
+-- a reader that hands out entries after these, from when the source was first observed so, and a
+-- writer to a sink, from when it had the old bytes
 module _ {T R S H : Type 0} {builds : BuildHasher.Ghosts S H} {hashes : Hasher.Ghosts H}
     (form : List Entry → List ℕ) (before : List Entry → List Item) (rests : T → List Item → Type 0)
     (going : T → Type 0) (observed : R → Observed) (first : Observed) (front : List Entry)

@@ -5,7 +5,7 @@ use Rattle.canon3.specs.EntryWriter.{HasWrittenOrCut, WritesAll}
 use Rattle.canon3.specs.CanonicalForm.{canonical_bytes, WritesNoMore}
 use Rattle.canon3.specs.machinery.FormSteps.{are_some, Follows, magic_unless, values_before}
 use Rattle.canon3.specs.Bytes.{magic_before}
-use Rattle.canon3.proofs.Lemmas.WellFormed.Files.{canonical_is_file}
+use Rattle.canon3.proofs.Lemmas.Changes.Numbers.{canonical_is_file}
 use Rattle.canon3.proofs.Lemmas.Order.First.{first_in_order}
 use Rattle.canon3.proofs.Lemmas.Canonical.Growing.{form_grows}
 use Rattle.canon3.proofs.Lemmas.Order.Order.{Stage, Between, Over, end, Runs, steps}

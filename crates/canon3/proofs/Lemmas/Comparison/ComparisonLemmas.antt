@@ -37,20 +37,20 @@ module _ {S H : Type 0} (n m : MessageWriter S H) (form other_form : Spelling) (
   pub parts_here : (progress : Progress) (place : Place)
       → spelling_of form n ≢ spelling_of other_form m → HasPassed progress a
       → place ≡ place_from progress (side_in e) (side_in f) → PartWith a b e f place
-  parts_here progress place unlike items_of_writer is =
+  parts_here progress place unlike passed is =
       let differ : bytes_after a (e ∷ []) ≢ bytes_after b (f ∷ []) =
       λ same. unlike (s.spelled ∙ (same ∙ sym t.spelled)) in
       record {
         agree = g;
         differ = differ_here a b e f first second g differ;
         place_is =
-            rw is (place_is progress a items_of_writer e f
+            rw is (place_is progress a passed e f
             (λ same none.
             differ (mark_alike a b e none ∙ ap (λ k. bytes_after b (k ∷ [])) same))
             (place_there a b e f first second g));
       }
 
--- ---- a comparison whose numberings are told items
+-- ---- a comparison whose numberings are passed items
 
 abbrev pub with_first : {S H : Type 0} → Comparison S H → MessageWriter S H → Comparison S H
 with_first comparison n = record comparison { first = n }
@@ -102,7 +102,7 @@ module _ (old new old_other new_other : Observed) where
 
 -- ---- of all bytes, of which those that were given are a prefix
 
--- two sources, what each told before the call and tells now, and all bytes of each
+-- two sources, as each was observed before the call and is now, and all bytes of each
 module _ (old new old_other new_other : Observed) (file other : List ℕ)
     (prefix : (given : List ℕ) → Gave old new given → IsPrefixOf new given file)
     (other_prefix : (given : List ℕ) → Gave old_other new_other given

@@ -14,8 +14,8 @@ module _ {A : Type 0} where
   -- a front of two joined lists ends in the first, or goes on into the second
   abbrev Splits : (x t p more : List A) → Type 0
   Splits x t p more = ((rest : List A) × (x ≡ p ++ rest))
-      ⊎ ((y : A) × (items_of_writer : List A) × (p ≡ x ++ y ∷ items_of_writer)
-      × (t ≡ y ∷ (items_of_writer ++ more)))
+      ⊎ ((y : A) × (back : List A) × (p ≡ x ++ y ∷ back)
+      × (t ≡ y ∷ (back ++ more)))
 
   splits : (x t p more : List A) → x ++ t ≡ p ++ more → Splits x t p more
   splits x t [] more e = inl (x, refl)
@@ -28,7 +28,7 @@ module _ {A : Type 0} where
         | inr s ↦ inr (s.0, s.1, ap₂ (λ (w : A) (l : List A). w ∷ l) (sym first) s.2, s.3)
       ]
 
-  all_front : (P : A → Type 0) (l m : List A) → AllByRecursion P (l ++ m) → AllByRecursion P l
+  pub all_front : (P : A → Type 0) (l m : List A) → AllByRecursion P (l ++ m) → AllByRecursion P l
   all_front P [] m h = tt
   all_front P (x ∷ l) m h = (h.0, all_front P l m h.1)
 

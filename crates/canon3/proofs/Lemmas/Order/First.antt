@@ -1,9 +1,10 @@
 -- What the first entries of a well-formed file are.
-use Rattle.canon3.proofs.Common.{◌≡◌, ◌≢◌, ◌↔◌, ℕ, ◌+◌, List, [], ◌++◌, length, take, drop, refl, sym, ap, ◌∙◌, subst, take-append-drop, append_assoc, Entry, bytes_of, canonical, numbered, handles, verifiers, Same, PartsAt, AreFirst, take_at}
+use Rattle.canon3.proofs.Common.{◌≡◌, ◌≢◌, ◌↔◌, ℕ, ◌+◌, List, ◌++◌, length, map, take, drop, refl, sym, ap, ◌∙◌, subst, take-append-drop, append_assoc, Entry, bytes_of, canonical, handles, verifiers, Same, PartsAt, AreFirst, take_at}
 use Rattle.canon3.proofs.Lemmas.Order.Order.{IsWellFormed}
 use Rattle.canon3.proofs.Lemmas.Renaming.Equality.{same_from_canonical}
 use Rattle.canon3.proofs.Lemmas.Order.Prefixes.{IsWellFormed-take, canonical-take, same_front, parts_from_first_difference}
-use Rattle.canon3.proofs.Lemmas.WellFormed.Files.{all_of, holds, numbered-all, numbered_all_conversations, capture_numbered}
+use Rattle.canon3.proofs.Lemmas.Changes.Numbers.{canonical_of, capture_numbered, numbered_conversation}
+use Rattle.canon3.proofs.Lemmas.WellFormed.Files.{holds}
 use Rattle.canon3.proofs.Lemmas.Order.InOrder.{typed_in_order}
 use Rattle.canon3.proofs.Lemmas.Order.Closing.{IsFront, told_apart}
 
@@ -33,12 +34,11 @@ front_of_canonical a f =
     let hs = handles f.all in
     let vs = verifiers f.all in
     let i = length a in
-    let form : canonical f.all ≡ all_of (numbered_all_conversations hs vs h.cs) =
-    ap (numbered hs vs []) h.is ∙ numbered-all hs vs h.cs [] in
+    let form = canonical_of hs vs f.file f.all f.typed in
     let front : canonical a ≡ take i (canonical f.all) =
     ap canonical (taken a f) ∙ canonical-take i f.all (typed_in_order f.file f.all f.typed) in
     record {
-      cs = numbered_all_conversations hs vs h.cs;
+      cs = map (numbered_conversation hs vs) h.cs;
       more = drop i (canonical f.all);
       split =
           sym form

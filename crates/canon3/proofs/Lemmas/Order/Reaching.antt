@@ -143,12 +143,9 @@ reached_first bytes entries (inr h) =
       | inl none ↦ subst AreFirst
           (sym (is ∙ ap (λ (l : List Entry). whole ++ l) none ∙ append-nil whole))
           (whole_first front whole is_whole)
-      | inr items_of_writer ↦ subst AreFirst (sym (is ∙ items_of_writer.is)) (open_first
-          items_of_writer.connections items_of_writer.before items_of_writer.streams
-          items_of_writer.calls
-          items_of_writer.replies items_of_writer.inside items_of_writer.rest
-          items_of_writer.messages
-          items_of_writer.converses items_of_writer.few items_of_writer.small items_of_writer.split)
+      | inr part ↦ subst AreFirst (sym (is ∙ part.is)) (open_first part.connections part.before
+          part.streams part.calls part.replies part.inside part.rest part.messages part.converses
+          part.few part.small part.split)
     ]
 
 -- the first of what they reach are so too

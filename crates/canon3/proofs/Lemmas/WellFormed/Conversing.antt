@@ -1,11 +1,11 @@
--- Messages of connections: from their streams, in streams of their own, and under numbers.
-use Rattle.canon3.proofs.Common.{◌≡◌, ℕ, ◌<◌, ◌≤◌, ◌^◌, List, [], ◌∷◌, length, map, refl, sym, ap, ◌∙◌, subst, arith, length-append, nat_eq, AllByRecursion, flat_map, Decides-eqb, Item, Word, Spells, zero_spelling, length_of_spelling, xid_of, Member, here, rank, numbered_message, zero_spelled_all, ReplyItems, IsCall, IsReply, xid_in, Streams, size, AreEach, IsIn, HaveOneProcedure, AnswerCalls, Converses}
+-- Messages of connections: from their streams, and in streams of their own.
+use Rattle.canon3.proofs.Common.{ℕ, ◌≤◌, List, [], ◌∷◌, length, map, ap, subst, arith, length-append, AllByRecursion, flat_map, Item, Word, zero_spelling, length_of_spelling, xid_of, Member, here, zero_spelled_all, ReplyItems, IsCall, IsReply, xid_in, Streams, size, AreEach, IsIn, Converses}
 use Rattle.std.proofs.lemmas.List.{map-id}
 use Rattle.std.proofs.lemmas.List.Concat.{flat_map-append}
-use Rattle.canon3.proofs.Lemmas.Numbers.RankLemmas.{member-append_left, member-append_right, same_rank}
+use Rattle.canon3.proofs.Lemmas.Numbers.RankLemmas.{member-append_left, member-append_right}
 use Rattle.canon3.proofs.Lemmas.Renaming.RenamingLemmas.{all_mapped, all_weaker}
-use Rattle.canon3.proofs.Lemmas.WellFormed.Messages.{BeginsWithWord, call_begins, reply_begins, call_numbered, reply_numbered, xid_numbered, procedure_numbered, message_spelled, message_shorter}
-use Rattle.canon3.proofs.Lemmas.WellFormed.Conversations.{all_in, of_all, in_map, map_in, stream_of, IsSmall, marks_of, HasBody, each_has_body, each_size, each_from, Conversation, items_of_reply, reply_items, itself, IsSpelledCall, IsSpelledReply, AreConversing, weight, streams_of}
+use Rattle.canon3.proofs.Lemmas.WellFormed.Messages.{BeginsWithWord, call_begins}
+use Rattle.canon3.proofs.Lemmas.WellFormed.Conversations.{of_all, stream_of, IsSmall, marks_of, HasBody, each_has_body, each_size, each_from, Conversation, items_of_reply, reply_items, itself, IsSpelledCall, IsSpelledReply, AreConversing, weight, streams_of}
 
 -- ---- from streams
 
@@ -104,128 +104,3 @@ pub reply_known : (c : Conversation) → AreConversing c → (reply : ReplyItems
 reply_known c h reply p =
     let a = h.answers reply p in
     subst (λ x. Member x (xids_of c.calls)) a.2 (call_known c h a.0 a.1)
-
--- ---- under numbers
-
-module _ (hs vs : List (List ℕ)) where
-  abbrev pub numbered_reply : List ℕ → ReplyItems → ReplyItems
-  numbered_reply xs reply = record { id = reply.id; items = numbered_message hs vs xs reply.items }
-
-  abbrev pub numbered_conversation : Conversation → Conversation
-  numbered_conversation c =
-      record {
-        calls = map (numbered_message hs vs (xids_of c.calls)) c.calls;
-        replies = map (numbered_reply (xids_of c.calls)) c.replies;
-      }
-
-  module _ (c : Conversation) (h : AreConversing c) (few : length (xids_of c.calls) < 2 ^ 32) where
-    abbrev xs : List ℕ
-    xs = xids_of c.calls
-
-    abbrev under : List Item → List Item
-    under m = numbered_message hs vs xs m
-
-    spelled_under : (m : List Item) → BeginsWithWord m → Member (xid_in m) xs
-        → Spells m (zero_spelling m) → Spells (under m) (zero_spelling (under m))
-    spelled_under m b k p = message_spelled hs vs xs m (zero_spelling m) b k few p
-
-    small_under : (m : List Item) → BeginsWithWord m → Spells m (zero_spelling m) → IsSmall m
-        → IsSmall (under m)
-    small_under m b p s = omega (arith, message_shorter hs vs xs m (zero_spelling m) b p, s)
-
-    call_under : (m : List Item) → IsIn m c.calls → IsSpelledCall (under m)
-    call_under m i =
-        let s = of_all IsSpelledCall c.calls m h.calls_are i in
-        let b = begins_in c h m i in (
-          (call_numbered hs vs xs m s.0.0, spelled_under m b (call_known c h m i) s.0.1),
-          small_under m b s.0.1 s.1,
-        )
-
-    reply_under : (r : ReplyItems) → IsIn r c.replies → IsSpelledReply (numbered_reply xs r)
-    reply_under r i =
-        let s = of_all IsSpelledReply c.replies r h.replies_are i in
-        let b = reply_begins r.id r.items s.0.0 in (
-          (
-            reply_numbered hs vs xs r.id r.items s.0.0,
-            spelled_under r.items b (reply_known c h r i) s.0.1,
-          ),
-          small_under r.items b s.0.1 s.1,
-        )
-
-    one_xid : (a b : List Item) → IsIn a c.calls → IsIn b c.calls
-        → xid_in (under a) ≡ xid_in (under b) → xid_in a ≡ xid_in b
-    one_xid a b i j e =
-        let p = xid_numbered hs vs xs a (begins_in c h a i) in
-        let q = xid_numbered hs vs xs b (begins_in c h b j) in
-        same_rank nat_eq Decides-eqb (call_known c h a i) (call_known c h b j) (sym p ∙ (e ∙ q))
-
-    one_procedure_under : HaveOneProcedure (map under c.calls)
-    one_procedure_under a b i j e =
-        let p = in_map under c.calls a i.0 i.1 i.2 in
-        let q = in_map under c.calls b j.0 j.1 j.2 in
-        rw (
-          p.2,
-          q.2,
-          procedure_numbered hs vs xs p.0 (begins_in c h p.0 p.1),
-          procedure_numbered hs vs xs q.0 (begins_in c h q.0 q.1),
-        )
-        (h.one_procedure p.0 q.0 p.1 q.1 (one_xid p.0 q.0 p.1 q.1 (rw (p.2, q.2) at e)))
-
-    answers_under : AnswerCalls (map under c.calls) (map (numbered_reply xs) c.replies)
-    answers_under reply i =
-        let p = in_map (numbered_reply xs) c.replies reply i.0 i.1 i.2 in
-        let r = p.0 in
-        let a = h.answers r p.1 in
-        let b = begins_in c h a.0 a.1 in
-        let s = of_all IsSpelledReply c.replies r h.replies_are p.1 in
-        rw p.2 (
-          under a.0,
-          map_in under c.calls a.0 a.1,
-          xid_numbered hs vs xs a.0 b ∙ ap (λ x. rank nat_eq x xs) a.2
-              ∙ sym (xid_numbered hs vs xs r.items (reply_begins r.id r.items s.0.0)),
-          procedure_numbered hs vs xs a.0 b ∙ a.3,
-        )
-
-    pub conversing_numbered : AreConversing (numbered_conversation c)
-    conversing_numbered = record {
-      calls_are = all_mapped _ _ under call_under c.calls (all_in _ c.calls (λ m i. i));
-      replies_are =
-          all_mapped _ _ (numbered_reply xs) reply_under c.replies
-          (all_in _ c.replies (λ r i. i));
-      one_procedure = one_procedure_under;
-      answers = answers_under;
-    }
-
-    -- ---- and not longer
-
-    abbrev IsShorter : List Item → Type 0
-    IsShorter m = length (zero_spelling (under m)) ≤ length (zero_spelling m)
-
-    stream_shorter : (l : List (List Item)) → AllByRecursion IsShorter l
-        → length (stream_of (map under l)) ≤ length (stream_of l)
-    stream_shorter [] k = omega arith
-    stream_shorter (m ∷ l) k =
-        simp length-append (omega (arith, k.0, stream_shorter l k.1))
-
-    items_under : (l : List ReplyItems)
-        → reply_items (map (numbered_reply xs) l) ≡ map under (reply_items l)
-    items_under [] = refl
-    items_under (r ∷ l) = ap (λ k. under r.items ∷ k) (items_under l)
-
-    call_shorter : (m : List Item) → IsSpelledCall m → IsShorter m
-    call_shorter m s = message_shorter hs vs xs m (zero_spelling m) (call_begins m s.0.0) s.0.1
-
-    reply_shorter : (r : ReplyItems) → IsSpelledReply r → IsShorter r.items
-    reply_shorter r s =
-        message_shorter hs vs xs r.items (zero_spelling r.items) (reply_begins r.id r.items s.0.0)
-        s.0.1
-
-    pub weight_numbered : weight (numbered_conversation c) ≤ weight c
-    weight_numbered =
-        omega (
-          arith,
-          stream_shorter c.calls (all_weaker _ _ call_shorter c.calls h.calls_are),
-          stream_shorter (reply_items c.replies)
-              (all_mapped _ _ items_of_reply reply_shorter c.replies h.replies_are),
-          ap (λ l. length (stream_of l)) (items_under c.replies),
-        )

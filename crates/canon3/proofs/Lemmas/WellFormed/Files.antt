@@ -1,14 +1,13 @@
 -- Files from the messages of their connections.
-use Rattle.canon3.proofs.Common.{◌≡◌, ℕ, suc, ◌+◌, ◌<◌, ◌≤◌, ◌^◌, List, [], ◌∷◌, ◌++◌, length, map, refl, sym, ap, ◌∙◌, subst, arith, append_assoc, append-nil, AllByRecursion, flat_map, Item, word_bytes, ReplyItems, Streams, max_bytes, Entry, Begin, Call, Turn, Close, End, call_xids, handles, verifiers, entry_bytes, bytes_of, numbered_message, numbered, canonical, Joins, IsWord-big_bytes, reply_entry, connection_entries, HaveEntries, Typed}
+use Rattle.canon3.proofs.Common.{◌≡◌, ℕ, suc, ◌+◌, ◌≤◌, List, [], ◌∷◌, ◌++◌, length, map, refl, sym, ap, ◌∙◌, subst, arith, append_assoc, append-nil, AllByRecursion, flat_map, Item, word_bytes, ReplyItems, Streams, max_bytes, Entry, Begin, Call, Turn, Close, End, entry_bytes, bytes_of, Joins, IsWord-big_bytes, reply_entry, connection_entries, HaveEntries, Typed}
 use Rattle.std.proofs.lemmas.List.{length-map}
 use Rattle.std.proofs.lemmas.List.Concat.{flat_map-append}
 use Rattle.std.proofs.lemmas.List.Folds.{flat_map-map}
 use Rattle.capture3.specs.Capture.{One, magic, max_connections, total_size, IsConnection}
-use Rattle.canon3.specs.Laws.{AreOfTheirBytes}
 use Rattle.canon3.proofs.Lemmas.Renaming.RenamingLemmas.{all_mapped, all_weaker}
 use Rattle.canon3.proofs.Lemmas.WellFormed.Items.{all_append}
 use Rattle.canon3.proofs.Lemmas.WellFormed.Conversations.{chunks_of, is_stream, Conversation, reply_items, IsSpelledCall, IsSpelledReply, AreConversing, weight, streams_of}
-use Rattle.canon3.proofs.Lemmas.WellFormed.Conversing.{conversing, conversing_weight, converses_anew, small_items, xids_of, length_of_xids, numbered_reply, numbered_conversation, conversing_numbered, weight_numbered}
+use Rattle.canon3.proofs.Lemmas.WellFormed.Conversing.{conversing, conversing_weight, converses_anew, small_items}
 
 -- ---- the entries of conversations
 
@@ -160,29 +159,6 @@ pub total_of_anew : (cs : List Conversation) (h : AreCapture cs)
 unfolding typed_anew
 total_of_anew cs h = total_anew cs
 
--- ---- under numbers
-
-call_xids-calls : (calls : List (List Item)) (tail : List Entry)
-    → call_xids (map Call calls ++ tail) ≡ xids_of calls ++ call_xids tail
-call_xids-calls [] tail = refl
-call_xids-calls (m ∷ calls) tail = simp (call_xids-calls calls, append_assoc)
-
-call_xids-replies : (replies : List ReplyItems) (tail : List Entry)
-    → call_xids (map reply_entry replies ++ tail) ≡ call_xids tail
-call_xids-replies [] tail = refl
-call_xids-replies (r ∷ replies) tail = call_xids-replies replies tail
-
--- no call comes before the next Begin
-no_calls : (cs : List Conversation) → call_xids (all_of cs) ≡ []
-no_calls [] = refl
-no_calls (c ∷ cs) = refl
-
-own_xids : (c : Conversation) (cs : List Conversation)
-    → call_xids (map Call c.calls ++ (Turn ∷ (map reply_entry c.replies ++ (Close ∷ all_of cs))))
-    ≡ xids_of c.calls
-own_xids c cs =
-    rw (call_xids-calls c.calls, call_xids-replies c.replies, no_calls cs, append-nil)
-
 pub all_regrouped : (c : Conversation) (cs : List Conversation)
     → all_of (c ∷ cs)
     ≡ Begin ∷ (map Call c.calls ++ (Turn ∷ (map reply_entry c.replies ++ (Close ∷ all_of cs))))
@@ -205,73 +181,3 @@ module _ (P : Entry → Type 0) (call : (m : List Item) → IsSpelledCall m → 
               (close, all_entries cs h.1),
         ),
       )
-
-module _ (hs vs : List (List ℕ)) where
-  numbered-calls : (xs : List ℕ) (calls : List (List Item)) (tail : List Entry)
-      → numbered hs vs xs (map Call calls ++ tail)
-      ≡ map Call (map (numbered_message hs vs xs) calls) ++ numbered hs vs xs tail
-  numbered-calls xs [] tail = refl
-  numbered-calls xs (m ∷ calls) tail = simp (numbered-calls xs calls)
-
-  numbered-replies : (xs : List ℕ) (replies : List ReplyItems) (tail : List Entry)
-      → numbered hs vs xs (map reply_entry replies ++ tail)
-      ≡ map reply_entry (map (numbered_reply hs vs xs) replies) ++ numbered hs vs xs tail
-  numbered-replies xs [] tail = refl
-  numbered-replies xs (r ∷ replies) tail = simp (numbered-replies xs replies)
-
-  abbrev pub numbered_all_conversations : List Conversation → List Conversation
-  numbered_all_conversations cs = map (numbered_conversation hs vs) cs
-
-  pub numbered-all : (cs : List Conversation) (xs : List ℕ)
-      → numbered hs vs xs (all_of cs) ≡ all_of (map (numbered_conversation hs vs) cs)
-  numbered-all [] xs = refl
-  numbered-all (c ∷ cs) xs =
-      let own = xids_of c.calls in
-      ap (numbered hs vs xs) (all_regrouped c cs)
-      ∙ rw (
-        own_xids c cs,
-        numbered-calls own c.calls,
-        numbered-replies own c.replies,
-        numbered-all cs own,
-      ) (sym (all_regrouped (numbered_conversation hs vs c) _))
-
-  all_numbered : (cs : List Conversation) → AllByRecursion AreConversing cs
-      → total_weight cs ≤ max_bytes
-      → AllByRecursion AreConversing (map (numbered_conversation hs vs) cs)
-      × (total_weight (map (numbered_conversation hs vs) cs) ≤ total_weight cs)
-  all_numbered [] h small = (tt, omega arith)
-  all_numbered (c ∷ cs) h small =
-      let more = all_numbered cs h.1 (omega arith) in
-      let few : length (xids_of c.calls) < 2 ^ 32 = omega (arith, length_of_xids c.calls) in (
-        (conversing_numbered hs vs c h.0 few, more.0),
-        omega (arith, more.1, weight_numbered hs vs c h.0 few),
-      )
-
-  pub capture_numbered : (cs : List Conversation) → AreCapture cs
-      → AreCapture (map (numbered_conversation hs vs) cs)
-  capture_numbered cs h =
-      let n = all_numbered cs h.converse h.small in
-      record {
-        converse = n.0;
-        few = rw length-map h.few;
-        small = omega (arith, n.1, h.small);
-      }
-
-  pub weight_of_numbered : (cs : List Conversation) → AreCapture cs
-      → total_weight (map (numbered_conversation hs vs) cs) ≤ total_weight cs
-  weight_of_numbered cs h = (all_numbered cs h.converse h.small).1
-
--- the canonical form has the entries of its own bytes, in no more stream bytes
-pub canonical_is_file : (file : List ℕ) (all : List Entry) (typed : Typed file all)
-    → AreOfTheirBytes (canonical all) (total_size typed.connections)
-canonical_is_file file all typed =
-    let h = holds file all typed in
-    let hs = handles all in
-    let vs = verifiers all in
-    let ds = map (numbered_conversation hs vs) h.cs in
-    let are = capture_numbered hs vs h.cs h.are in
-    let e : canonical all ≡ all_of ds = ap (numbered hs vs []) h.is ∙ numbered-all hs vs h.cs [] in
-    rw e (
-      typed_anew ds are,
-      omega (arith, total_of_anew ds are, weight_of_numbered hs vs h.cs h.are, h.light),
-    )

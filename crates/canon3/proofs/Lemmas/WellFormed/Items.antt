@@ -1,32 +1,17 @@
--- Items under numbers fit the same shapes, and are not longer.
-use Rattle.std.proofs.Common.{◌≡◌, ℕ, zero, suc, ◌+◌, ◌%◌, ◌/◌, ◌^◌, ◌<◌, ◌≤◌, List, [], ◌∷◌, ◌++◌, length, map, replicate, refl, ap, ap₂, subst, arith, length-append, append-nil, ⊎_elim}
-use Rattle.canon3.proofs.Common.{⊤, bytes_eq, AllByRecursion, flat_map, handle_in, verifier_in, handles_in, verifiers_in, Member, here, there, IsHandle, IsVerifier, rank, numbered_item, Item, Word, Hyper, Fixed, WriteVerf, Opaque, Rest, Handle, AreBytes, SpellsItem, Spells, residue, word_bytes, zero_spelling_of, zero_spelling, zero_spelled_all, AreBytes-nil, AreBytes-append}
+-- What is so of the items of a shape, and the bytes and values of items.
+use Rattle.std.proofs.Common.{◌≡◌, ℕ, zero, suc, ◌+◌, ◌%◌, ◌/◌, ◌^◌, ◌<◌, ◌≤◌, List, [], ◌∷◌, ◌++◌, length, replicate, subst, arith, length-append, append-nil, ⊎_elim}
+use Rattle.canon3.proofs.Common.{⊤, AllByRecursion, flat_map, handle_in, verifier_in, handles_in, verifiers_in, Member, here, there, IsHandle, IsVerifier, Item, Word, Hyper, Fixed, WriteVerf, Opaque, Rest, Handle, AreBytes, SpellsItem, Spells, residue, word_bytes, zero_spelling_of, zero_spelling, zero_spelled_all, AreBytes-nil, AreBytes-append}
 use Rattle.std.specs.Int.{bytes_high_first, byte_at}
-use Rattle.std.proofs.lemmas.List.{length-map, length-replicate, map-append}
-use Rattle.xdr3.specs.Shape.{Shape, choose, hyper, fixed, write_verf, opaque, nothing, both, linked, counted, sized, Fits, links, joined}
+use Rattle.std.proofs.lemmas.List.{length-replicate}
+use Rattle.xdr3.specs.Shape.{Shape, choose, hyper, fixed, write_verf, opaque, nothing, both, linked, counted, sized, Fits, links}
 use Rattle.xdr3.specs.Layout.{Layout, exactly, rest, after, FitsLayout}
 use Rattle.xdr3.proofs.Lemmas.Reading.Items.{Spells-one, Spells-single}
-use Rattle.xdr3.proofs.Lemmas.Shapes.ShapeParts.{HasParts, Part, RowHasParts, fixed_part, hyper_part, opaque_part, parts_weaker, rest_part, size_part, word_part, write_verf_part}
-use Rattle.procs3.proofs.ProtocolParts.{HasRoom, IsUnnumbered}
+use Rattle.xdr3.proofs.Lemmas.Shapes.ShapeParts.{HasParts, Part, RowHasParts, fixed_part, hyper_part, opaque_part, rest_part, size_part, word_part, write_verf_part}
+use Rattle.procs3.proofs.ProtocolParts.{HasRoom}
 use Rattle.canon3.proofs.Lemmas.Numbers.RankLemmas.{member-append_cases}
-use Rattle.canon3.proofs.Lemmas.Renaming.RenamingLemmas.{all_mapped, all_weaker}
+use Rattle.canon3.proofs.Lemmas.Renaming.RenamingLemmas.{all_weaker}
 
 -- ---- lists
-
-module _ (g : Item → Item) where
-  pub joined_mapped : (parts : List (List Item)) → map g (joined parts) ≡ joined (map (map g) parts)
-  joined_mapped [] = refl
-  joined_mapped (part ∷ parts) = simp (map-append, joined_mapped parts)
-
-  module _ (name : List ℕ) (word : g (Word name 1) ≡ Word name 1) where
-    pub links_mapped : (parts : List (List Item))
-        → map g (links name parts) ≡ links name (map (map g) parts)
-    links_mapped [] = refl
-    links_mapped (part ∷ parts) = rw (word, map-append g part, links_mapped parts)
-
-  unchanged_all : (items : List Item) → AllByRecursion (λ i. g i ≡ i) items → map g items ≡ items
-  unchanged_all [] h = refl
-  unchanged_all (i ∷ items) h = ap₂ (λ j js. j ∷ js) h.0 (unchanged_all items h.1)
 
 pub all_append : {A : Type 0} (P : A → Type 0) (l m : List A) → AllByRecursion P l
     → AllByRecursion P m → AllByRecursion P (l ++ m)
@@ -63,7 +48,8 @@ module _ (P : Item → Type 0) where
       (bytes : List ℕ) → length bytes ≤ max → P (Opaque kind name bytes)
   IsEach (size_part name s) = (n : ℕ) → P (Word name n)
 
-  all_fitting : (s : Shape) (items : List Item) → HasParts IsEach s → Fits s items → AllAre items
+  pub all_fitting : (s : Shape) (items : List Item) → HasParts IsEach s → Fits s items
+      → AllAre items
   all_fitting (choose name accepted reason next) items h p =
       rw p.4 (h.0 p.0, all_fitting (next p.0) p.1 (h.1 p.0) p.3)
   all_fitting (hyper name) items h p = rw p.1 (h p.0, tt)
@@ -100,68 +86,6 @@ module _ (P : Item → Type 0) where
       rw p.4
       (all_append P p.0 p.1 (all_fitting s p.0 h p.2) (all_in_row (next p.0) p.1 (k p.0) p.3))
 
--- ---- items under numbers
-
-module _ (hs vs : List (List ℕ)) where
-  abbrev under : List Item → List Item
-  under items = map (numbered_item hs vs) items
-
-  abbrev IsUnchanged : Item → Type 0
-  IsUnchanged i = numbered_item hs vs i ≡ i
-
-  unchanged_part : (part : Part) → IsUnnumbered part → IsEach IsUnchanged part
-  unchanged_part (opaque_part Handle name max) h = absurd h
-  unchanged_part (opaque_part _ name max) h = λ bytes le. refl
-  unchanged_part (write_verf_part name) h = absurd h
-  unchanged_part _ h = λ x. refl
-
-  unchanged : (s : Shape) (items : List Item) → HasParts IsUnnumbered s → Fits s items
-      → under items ≡ items
-  unchanged s items h p =
-      unchanged_all (numbered_item hs vs) items (all_fitting IsUnchanged s items
-      (parts_weaker IsUnnumbered (IsEach IsUnchanged) unchanged_part s h) p)
-
-  handle_fits : (name bytes : List ℕ) (max : ℕ) → 4 ≤ max → length bytes ≤ max
-      → Fits (opaque Handle name max) (under (Opaque Handle name bytes ∷ []))
-  handle_fits name [] max room le = ([], omega arith, refl)
-  handle_fits name (b ∷ bs) max room le = (_, omega arith, refl)
-
-  pub fits_numbered : (s : Shape) (items : List Item) → HasParts HasRoom s → Fits s items
-      → Fits s (under items)
-  fits_numbered (choose name accepted reason next) items h p =
-      (p.0, under p.1, p.2, fits_numbered (next p.0) p.1 (h.1 p.0) p.3, ap under p.4)
-  fits_numbered (hyper name) items h p = (p.0, ap under p.1)
-  fits_numbered (fixed name) items h p = (p.0, ap under p.1)
-  fits_numbered (write_verf name) items h p = (_, ap under p.1)
-  fits_numbered (opaque Handle name max) items h p = rw p.2 (handle_fits name p.0 max h.0 p.1)
-  fits_numbered (opaque _ name max) items h p = (p.0, p.1, ap under p.2)
-  fits_numbered nothing items h p = ap under p
-  fits_numbered (both a b) items h p = (
-    under p.0,
-    under p.1,
-    fits_numbered a p.0 h.0 p.2,
-    fits_numbered b p.1 h.1 p.3,
-    rw (p.4, map-append),
-  )
-  fits_numbered (linked name s) items h p = (
-    map under p.0,
-    all_mapped _ _ under (λ part. fits_numbered s part h.1) p.0 p.1,
-    rw (p.2, map-append, links_mapped (numbered_item hs vs) name refl),
-  )
-  fits_numbered (counted name max s) items h p = (
-    map under p.0,
-    all_mapped _ _ under (λ part. fits_numbered s part h.1) p.0 p.1,
-    rw length-map p.2,
-    rw (p.3, length-map, joined_mapped (numbered_item hs vs)),
-  )
-  fits_numbered (sized name s) items h p = rw (unchanged (sized name s) items (tt, h.0) p) p
-
-  pub row_numbered : (layout : Layout) (items : List Item) → RowHasParts HasRoom layout
-      → FitsLayout layout items → FitsLayout layout (under items)
-  row_numbered (exactly s) items h p = fits_numbered s items h p
-  row_numbered (rest name) items h p = (p.0, ap under p.1)
-  row_numbered (after s next) items h p = absurd h
-
 -- ---- handles have at most 64 bytes
 
 abbrev pub IsShort : Item → Type 0
@@ -197,39 +121,6 @@ pub zero_spelled_one : (i : Item) (bytes : List ℕ) → SpellsItem i bytes
 zero_spelled_one i bytes p =
     subst (SpellsItem i) (append-nil (zero_spelling_of i)) (Spells-single i (zero_spelling (i ∷ []))
     (zero_spelled_all (i ∷ []) bytes (Spells-one i bytes p)))
-
-module _ (hs vs : List (List ℕ)) where
-  spelled_one : (i : Item) (bytes : List ℕ) → SpellsItem i bytes
-      → SpellsItem (numbered_item hs vs i) (zero_spelling_of (numbered_item hs vs i))
-  spelled_one (Opaque Handle name (b ∷ bs)) bytes p = (
-    [],
-    omega arith,
-    are_bytes_of_number 4 (rank bytes_eq (b ∷ bs) hs),
-    refl,
-    (λ i. omega arith),
-    refl,
-  )
-  spelled_one (WriteVerf name v) bytes p =
-      (refl, are_bytes_of_number 8 (rank bytes_eq v vs), refl)
-  spelled_one i bytes p = zero_spelled_one i bytes p
-
-  shorter_one : (i : Item) (bytes : List ℕ) → SpellsItem i bytes
-      → length (zero_spelling_of (numbered_item hs vs i)) ≤ length (zero_spelling_of i)
-  shorter_one (Opaque Handle name (b ∷ bs)) bytes p = omega (arith, length_of_opaque (b ∷ bs))
-  shorter_one (WriteVerf name v) bytes p = omega (arith, p.0)
-  shorter_one i bytes p = omega arith
-
-  pub spells_numbered : (items : List Item) (bytes : List ℕ) → Spells items bytes
-      → Spells (map (numbered_item hs vs) items) (zero_spelling (map (numbered_item hs vs) items))
-  spells_numbered [] bytes p = refl
-  spells_numbered (i ∷ items) bytes p =
-      (_, _, spelled_one i p.0 p.2, spells_numbered items p.1 p.3, refl)
-
-  pub shorter_numbered : (items : List Item) (bytes : List ℕ) → Spells items bytes
-      → length (zero_spelling (map (numbered_item hs vs) items)) ≤ length (zero_spelling items)
-  shorter_numbered [] bytes p = omega arith
-  shorter_numbered (i ∷ items) bytes p =
-      simp length-append (omega (arith, shorter_one i p.0 p.2, shorter_numbered items p.1 p.3))
 
 -- ---- bytes of spellings
 

@@ -1,39 +1,14 @@
--- Messages under numbers are messages of the same procedures.
-use Rattle.canon3.proofs.Common.{◌≡◌, ℕ, zero, suc, ◌<◌, ◌≤◌, ◌^◌, List, [], ◌∷◌, ◌++◌, length, map, refl, ap, arith, nat_eq, if◌then◌else◌, AllByRecursion, map-append, Decides-eqb, Item, Word, Opaque, Handle, Spells, zero_spelling, rank, numbered_item, numbered_message, Member, ProcId, call_head, reply_head, arguments_of, results_of}
+-- Messages: how they begin, and what is so of each of their items.
+use Rattle.canon3.proofs.Common.{◌≡◌, ℕ, List, [], ◌∷◌, ◌++◌, refl, if◌then◌else◌, AllByRecursion, Item, Word, ProcId, call_head, reply_head, arguments_of, results_of}
 use Rattle.xdr3.specs.Shape.{Shape, ◌then◌, both, nothing, word, listed, Fits}
-use Rattle.xdr3.specs.Layout.{Layout, exactly, after, FitsLayout, number_of_word, word_in}
+use Rattle.xdr3.specs.Layout.{Layout, exactly, after, FitsLayout}
 use Rattle.xdr3.proofs.Lemmas.Shapes.ShapeParts.{HasParts, Part, RowHasParts, parts_weaker, row_weaker}
 use Rattle.rpc_head.specs.Names.{head_names}
 use Rattle.rpc_head.specs.Messages.{procedure_in, call_start, reply_start, call_layout, reply_layout, has_results}
 use Rattle.procs3.proofs.HeadParts.{call_head_parts, call_start_parts, reply_head_parts, reply_start_parts}
 use Rattle.procs3.proofs.ProcedureParts.{IsProtocolRow, arguments_have_parts, reply_has_parts}
-use Rattle.procs3.proofs.ProtocolParts.{AreProtocolParts, HasRoom, IsProtocolPart}
-use Rattle.canon3.proofs.Lemmas.Numbers.RankLemmas.{rank-le-length}
-use Rattle.canon3.proofs.Lemmas.WellFormed.Items.{spells_numbered, shorter_numbered, fits_numbered, row_numbered, all_in_message, short_part, IsEach, IsShort}
-
--- ---- rooms
-
-shape_room : (s : Shape) → AreProtocolParts s → HasParts HasRoom s
-shape_room s h = parts_weaker IsProtocolPart HasRoom (λ part is. is.room) s h
-
-row_room : (layout : Layout) → IsProtocolRow layout → RowHasParts HasRoom layout
-row_room layout h = row_weaker IsProtocolPart HasRoom (λ part is. is.room) layout h
-
-call_head_room : HasParts HasRoom call_head
-call_head_room = call_head_parts HasRoom (λ part is. is.room) tt
-
--- ---- words under numbers
-
-number_under : (hs vs : List (List ℕ)) (i : Item)
-    → number_of_word (numbered_item hs vs i) ≡ number_of_word i
-number_under hs vs (Opaque Handle name (b ∷ bs)) = refl
-number_under hs vs _ = refl
-
-words_under : (hs vs : List (List ℕ)) (items : List Item) (i : ℕ)
-    → word_in (map (numbered_item hs vs) items) i ≡ word_in items i
-words_under hs vs [] i = refl
-words_under hs vs (item ∷ items) zero = number_under hs vs item
-words_under hs vs (item ∷ items) (suc i) = words_under hs vs items i
+use Rattle.procs3.proofs.ProtocolParts.{AreProtocolParts, IsProtocolPart}
+use Rattle.canon3.proofs.Lemmas.WellFormed.Items.{all_in_message, short_part, IsEach, IsShort}
 
 -- ---- a layout whose first word is any
 
@@ -82,28 +57,6 @@ module _ (name : List ℕ) (s t : Shape) (next : List Item → Layout) where
     h.is,
   )
 
-  pub headed_numbered : (hs vs : List (List ℕ)) (xs : List ℕ) (items : List Item)
-      → HasParts HasRoom s → HasParts HasRoom t → ((l : List Item) → RowHasParts HasRoom (next l))
-      → ((m n : ℕ) (l : List Item)
-      → next (Word name m ∷ map (numbered_item hs vs) l) ≡ next (Word name n ∷ l))
-      → IsHeaded items → IsHeaded (numbered_message hs vs xs items)
-  headed_numbered hs vs xs items s_room t_room rooms blind h =
-      let f = numbered_item hs vs in
-      let number = rank nat_eq h.number xs in
-      record {
-        number = number;
-        start = map f h.start;
-        head = map f h.head;
-        back = map f h.back;
-        start_fits = fits_numbered hs vs s h.start s_room h.start_fits;
-        head_fits = fits_numbered hs vs t h.head t_room h.head_fits;
-        back_fits =
-            rw (← map-append f h.start h.head, blind number h.number (h.start ++ h.head))
-            (row_numbered hs vs _ h.back (rooms (Word name h.number ∷ (h.start ++ h.head)))
-            h.back_fits);
-        is = rw (h.is, map-append, map-append) refl;
-      }
-
 -- ---- calls and replies
 
 abbrev pub call_next : List Item → Layout
@@ -147,37 +100,6 @@ pub headed_reply_fits : (id : ProcId) (items : List Item) → IsHeadedReply id i
 unfolding reply_layout reply_start
 headed_reply_fits id items p =
     headed_fits head_names.xid (listed head_names.mtype (1 ∷ [])) reply_head (reply_next id) items p
-
-procedure_under : (hs vs : List (List ℕ)) (m n : ℕ) (l : List Item)
-    → procedure_in (Word head_names.xid m ∷ map (numbered_item hs vs) l)
-    ≡ procedure_in (Word head_names.xid n ∷ l)
-procedure_under hs vs m n l =
-    rw (words_under hs vs l 2, words_under hs vs l 3, words_under hs vs l 4) refl
-
-results_under : (hs vs : List (List ℕ)) (m n : ℕ) (l : List Item)
-    → has_results (Word head_names.xid m ∷ map (numbered_item hs vs) l)
-    ≡ has_results (Word head_names.xid n ∷ l)
-results_under hs vs m n l = rw (words_under hs vs l 1, words_under hs vs l 4) refl
-
-pub call_numbered : (hs vs : List (List ℕ)) (xs : List ℕ) (items : List Item) → FitsCall items
-    → FitsCall (numbered_message hs vs xs items)
-call_numbered hs vs xs items p =
-    headed_call_fits (numbered_message hs vs xs items)
-    (headed_numbered head_names.xid (listed head_names.mtype (0 ∷ [])) call_head call_next hs vs xs
-    items (tt, λ n. tt) call_head_room
-    (λ l. row_room (call_next l) (arguments_have_parts (procedure_in l)))
-    (λ m n l. ap arguments_of (procedure_under hs vs m n l)) (is_headed_call items p))
-
-pub reply_numbered : (hs vs : List (List ℕ)) (xs : List ℕ) (id : ProcId) (items : List Item)
-    → FitsReply id items → FitsReply id (numbered_message hs vs xs items)
-reply_numbered hs vs xs id items p =
-    headed_reply_fits id (numbered_message hs vs xs items)
-    (headed_numbered head_names.xid (listed head_names.mtype (1 ∷ [])) reply_head (reply_next id) hs
-    vs xs items (tt, λ n. tt) (shape_room reply_head reply_head_parts)
-    (λ l. row_room (reply_next id l) (reply_has_parts id l))
-    (λ m n l.
-    ap (λ b. if b then results_of id else exactly nothing) (results_under hs vs m n l))
-    (is_headed_reply id items p))
 
 -- ---- what is so of each item of a message
 
@@ -229,33 +151,3 @@ call_begins items p = record { name = _; number = _; more = _; is = (is_headed_c
 pub reply_begins : (id : ProcId) (items : List Item) → FitsReply id items → BeginsWithWord items
 reply_begins id items p =
     record { name = _; number = _; more = _; is = (is_headed_reply id items p).is }
-
-pub xid_numbered : (hs vs : List (List ℕ)) (xs : List ℕ) (items : List Item) → BeginsWithWord items
-    → word_in (numbered_message hs vs xs items) 0 ≡ rank nat_eq (word_in items 0) xs
-xid_numbered hs vs xs items b = rw b.is refl
-
-pub procedure_numbered : (hs vs : List (List ℕ)) (xs : List ℕ) (items : List Item)
-    → BeginsWithWord items → procedure_in (numbered_message hs vs xs items) ≡ procedure_in items
-procedure_numbered hs vs xs items b =
-    rw (b.is, words_under hs vs b.more 2, words_under hs vs b.more 3, words_under hs vs b.more 4)
-    refl
-
--- ---- spellings of messages
-
--- the number of the xid is a word
-pub message_spelled : (hs vs : List (List ℕ)) (xs : List ℕ) (items : List Item) (bytes : List ℕ)
-    → BeginsWithWord items → Member (word_in items 0) xs → length xs < 2 ^ 32 → Spells items bytes
-    → Spells (numbered_message hs vs xs items) (zero_spelling (numbered_message hs vs xs items))
-message_spelled hs vs xs items bytes b m few p =
-    let q = rw b.is at p in
-    let n = rw b.is at m in
-    let small : rank nat_eq b.number xs < 2 ^ 32 =
-    omega (arith, rank-le-length nat_eq Decides-eqb n) in
-    rw b.is (_, _, (small, refl), spells_numbered hs vs b.more q.1 q.3, refl)
-
-pub message_shorter : (hs vs : List (List ℕ)) (xs : List ℕ) (items : List Item) (bytes : List ℕ)
-    → BeginsWithWord items → Spells items bytes
-    → length (zero_spelling (numbered_message hs vs xs items)) ≤ length (zero_spelling items)
-message_shorter hs vs xs items bytes b p =
-    let q = rw b.is at p in
-    rw b.is (omega (arith, shorter_numbered hs vs b.more q.1 q.3))

@@ -125,7 +125,7 @@ module _ {R S H T : Type 0} {builds : BuildHasher.Ghosts S H} {hashes : Hasher.G
     (a : HandsOutGiven observed (IsNextLent rests stands was heard) reader later u.given
     (front ++ u.more) (Ok (Some lent)))
     (passed : HasPassed progress (front ++ u.more)) where
-  -- what came of the entry that was handed out, which the writer was told
+  -- what came of the entry that was handed out, whose items the writer was passed
   came_of : {X : Type 0} (now : T) (new : Option (List ℕ)) (result : Result X Error)
       → WritesOne form before rests stands going heard now progress lent between new result
       → HasWrittenOrCut form before rests going now old new

@@ -26,7 +26,7 @@ are_few entries one first =
     )
 
 module _ {S H : Type 0} (n : MessageWriter S H) (entries : List Entry) where
-  -- the items of a message that the writer was told
+  -- the items of a message that the writer was passed
   within : (items : List Item) → IsGoing n → WriterStands n (values_before entries ++ items)
       → IsWithinMessage n (values_of entries) items
   within items going stands =

@@ -29,22 +29,14 @@ seen_alike first second e = λ i. λ d. e d i
 
 -- ---- tables
 
-module _ (ways : Ways) (old new : List (List ℕ)) (seen : Class → List ℕ) (own : Option Class)
-    (n : ℕ) where
-  holds_more : ((c : Class) → way_of ways c ≡ Number → HoldsAt old (position c) (seen c)
-      → HoldsAt new (position c) (seen c ++ value_where c own n))
-      → HoldsValues ways old seen → HoldsValues ways new (with_one seen own n)
-  holds_more step held c numbered = step c numbered (held c numbered)
-
 module _ (ways : Ways) (tables : List (List ℕ)) (seen : Class → List ℕ) (own : Option Class)
     (n : ℕ) where
   holds_still : ((c : Class) → way_of ways c ≡ Number → value_where c own n ≡ [])
       → HoldsValues ways tables seen → HoldsValues ways tables (with_one seen own n)
-  holds_still none =
-      holds_more ways tables tables seen own n (λ c numbered held.
+  holds_still none held c numbered =
       subst (HoldsAt tables (position c))
       (sym (ap (λ (l : List ℕ). seen c ++ l) (none c numbered) ∙ append-nil (seen c)))
-      held)
+      (held c numbered)
 
   -- of no class
   pub holds_without : own ≡ None → HoldsValues ways tables seen
@@ -65,7 +57,9 @@ pub holds_numbered : (ways : Ways) (old new : List (List ℕ)) (seen : Class →
     → HoldsAt new (position d) (seen d ++ value_where d (Some d) n)
     → ((place : ℕ) → place ≢ position d → get_or new place [] ≡ get_or old place [])
     → HoldsValues ways old seen → HoldsValues ways new (with_one seen own n)
-holds_numbered ways old new seen own n d is given others = holds_more ways old new seen own n step
+holds_numbered ways old new seen own n d is given others values c numbered =
+    subst (λ o. HoldsAt new (position c) (seen c ++ value_where c o n)) (sym is)
+    (same_or_other c (values c numbered))
   where
     same_or_other : (c : Class) → HoldsAt old (position c) (seen c)
         → HoldsAt new (position c) (seen c ++ value_where c (Some d) n)
@@ -80,9 +74,3 @@ holds_numbered ways old new seen own n d is given others = holds_more ways old n
         subst (HoldsAt new (position c))
         (sym (ap (λ (l : List ℕ). seen c ++ l) none ∙ append-nil (seen c)))
         (others (position c) apart ∙ held))
-
-    step : (c : Class) → way_of ways c ≡ Number → HoldsAt old (position c) (seen c)
-        → HoldsAt new (position c) (seen c ++ value_where c own n)
-    step c numbered held =
-        subst (λ o. HoldsAt new (position c) (seen c ++ value_where c o n)) (sym is)
-        (same_or_other c held)

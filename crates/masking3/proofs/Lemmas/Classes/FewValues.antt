@@ -1,5 +1,5 @@
 -- A capture has fewer values of a class than bytes.
-use Rattle.masking3.proofs.Common.{◌≡◌, ℕ, ◌≤◌, List, [], ◌∷◌, ◌++◌, length, sym, ap, ◌∙◌, subst, arith, length-append, AllByRecursion, flat_map-append, length-bytes_high_first, Item, Word, Hyper, Fixed, WriteVerf, Opaque, Rest, Spells, SpellsItem, zero_spelling, zero_spelling_of, max_bytes, Entry, Begin, Call, Turn, Reply, Close, End, items_of, AreFirst, all_entries, holds, cond_either, Class, Spot, InCall, InReply, class_of_fixed, class_of_hyper, class_of_word, class_value, position, is_zero_that_stays, value_in, value_where, values, values_in, values_in_entry, next_spot, ◌==◌, ◌&&◌, not, Option, None, Some, Typed}
+use Rattle.masking3.proofs.Common.{◌≡◌, ℕ, ◌≤◌, List, [], ◌∷◌, ◌++◌, length, sym, ap, ◌∙◌, subst, arith, length-append, AllByRecursion, flat_map-append, length-bytes_high_first, Item, Word, Hyper, Fixed, Spells, SpellsItem, zero_spelling, zero_spelling_of, max_bytes, Entry, Call, Reply, items_of, AreFirst, all_entries, holds, cond_either, Class, Spot, InCall, InReply, class_of_fixed, class_of_hyper, class_of_word, class_value, position, is_zero_that_stays, value_in, value_where, values, values_in, values_in_entry, next_spot, ◌==◌, ◌&&◌, not, Option, None, Some, Typed}
 use Rattle.capture3.specs.Laws.{spelled}
 use Rattle.capture3.proofs.Lemmas.Reached.Limits.{typed_within}
 
@@ -18,9 +18,7 @@ module _ (d : Class) where
       omega (arith, one_value (class_of_hyper spot name) n, length-bytes_high_first 8 n)
   few_of_item spot (Fixed name b) bytes p =
       omega (arith, one_value (class_of_fixed name) (class_value (Fixed name b)), p.0)
-  few_of_item spot (WriteVerf name b) bytes p = omega arith
-  few_of_item spot (Opaque kind name b) bytes p = omega arith
-  few_of_item spot (Rest name b) bytes p = omega arith
+  few_of_item spot i bytes p = omega arith
 
   few_of_message : (spot : Spot) (items : List Item) (bytes : List ℕ) → Spells items bytes
       → length (values_in d spot items) ≤ length (zero_spelling items)
@@ -40,24 +38,11 @@ module _ (d : Class) where
   few_of_entries : (entries : List Entry) → AllByRecursion IsFew entries
       → length (values entries d) ≤ spelled entries
   few_of_entries [] h = omega arith
-  few_of_entries (Begin ∷ entries) h = few_of_entries entries h.1
   few_of_entries (Call m ∷ entries) h =
-      omega (
-        arith,
-        h.0,
-        few_of_entries entries h.1,
-        length-append (values_in d InCall m) (values entries d),
-      )
-  few_of_entries (Turn ∷ entries) h = few_of_entries entries h.1
+      simp length-append (omega (arith, h.0, few_of_entries entries h.1))
   few_of_entries (Reply id m ∷ entries) h =
-      omega (
-        arith,
-        h.0,
-        few_of_entries entries h.1,
-        length-append (values_in d InReply m) (values entries d),
-      )
-  few_of_entries (Close ∷ entries) h = few_of_entries entries h.1
-  few_of_entries (End ∷ entries) h = few_of_entries entries h.1
+      simp length-append (omega (arith, h.0, few_of_entries entries h.1))
+  few_of_entries (e ∷ entries) h = few_of_entries entries h.1
 
   pub few_of_file : (file : List ℕ) (all : List Entry) → Typed file all
       → length (values all d) ≤ max_bytes

@@ -1,7 +1,8 @@
 -- The first entries of a well-formed file have xids of no class, and room for the numbers of their
 -- values.
-use Rattle.masking3.proofs.Common.{◌<◌, ◌^◌, List, [], ◌∷◌, ◌++◌, length, map, sym, subst, arith, ap, ◌∙◌, AllByRecursion, Item, Word, Hyper, Fixed, WriteVerf, Opaque, Rest, Entry, Begin, Call, Turn, Reply, Close, End, AreFirst, Same, all_entries, holds, is_headed_call, is_headed_reply, Class, Way, Keep, Zero, Number, Ways, masked, masked_values, values, with_text, ReplyItems, bytes_of, IsSpelledCall, IsSpelledReply, SameBut, named_by, names_by, unnamed_items, MaskedBytesDecide, MaskedFormsDecide, way_of, Machines}
+use Rattle.masking3.proofs.Common.{◌<◌, ◌^◌, List, [], ◌∷◌, length, map, sym, subst, arith, ap, ◌∙◌, AllByRecursion, Item, Word, Entry, Call, Reply, AreFirst, Same, all_entries, holds, is_headed_call, is_headed_reply, Class, Way, Keep, Ways, masked, masked_values, values, with_text, ReplyItems, bytes_of, IsSpelledCall, IsSpelledReply, SameBut, named_by, names_by, unnamed_items, MaskedBytesDecide, MaskedFormsDecide, way_of, Machines}
 use Rattle.canon3.proofs.Lemmas.Renaming.Equality.{same_reflexive, same_symmetric, same_transitive}
+use Rattle.canon3.proofs.Lemmas.Order.Closing.{all_front}
 use Rattle.canon3.proofs.Lemmas.Order.First.{first_in_order, same_from_bytes}
 use Rattle.canon3.proofs.Lemmas.Canonical.OneFormLemmas.{canonical-same}
 use Rattle.masking3.proofs.Lemmas.Classes.FewValues.{few_of_first}
@@ -18,18 +19,13 @@ free_call m s = let h = is_headed_call m s.0.0 in subst StartsFree (sym h.is) xi
 free_reply : (r : ReplyItems) → IsSpelledReply r → StartsFree r.items
 free_reply r s = let h = is_headed_reply r.id r.items s.0.0 in subst StartsFree (sym h.is) xid_free
 
-pub all_in_front : (P : Entry → Type 0) (a b : List Entry) → AllByRecursion P (a ++ b)
-    → AllByRecursion P a
-all_in_front P [] b h = tt
-all_in_front P (e ∷ a) b h = (h.0, all_in_front P a b h.1)
-
 xids_free : (a : List Entry) → AreFirst a → AllByRecursion HasFreeXid a
 xids_free a first =
     let h = holds first.file first.all first.typed in
     let all : AllByRecursion HasFreeXid first.all =
     subst (AllByRecursion HasFreeXid) (sym h.is)
     (all_entries HasFreeXid free_call free_reply tt tt tt tt h.cs h.are.converse) in
-    all_in_front HasFreeXid a first.more (subst (AllByRecursion HasFreeXid) first.split all)
+    all_front HasFreeXid a first.more (subst (AllByRecursion HasFreeXid) first.split all)
 
 pub room_of : (a : List Entry) → AreFirst a → (d : Class) → length (values a d) < 2 ^ 64
 room_of a first d = omega (arith, few_of_first d a first)
@@ -37,41 +33,29 @@ room_of a first d = omega (arith, few_of_first d a first)
 -- ---- with masked names
 
 first_free : (m : List Item) → StartsFree m → StartsFree (unnamed_items m)
-first_free [] f = absurd f
 first_free (Word name n ∷ m) f = f
-first_free (Hyper name n ∷ m) f = absurd f
-first_free (Fixed name b ∷ m) f = absurd f
-first_free (WriteVerf name b ∷ m) f = absurd f
-first_free (Opaque kind name b ∷ m) f = absurd f
-first_free (Rest name b ∷ m) f = absurd f
+first_free (i ∷ m) f = absurd f
+first_free [] f = absurd f
 
 named_xid_free : (way : Way) (m : List Item) → StartsFree m → StartsFree (named_by way m)
 named_xid_free Keep m f = f
-named_xid_free Zero m f = first_free m f
-named_xid_free Number m f = first_free m f
+named_xid_free way m f = first_free m f
 
 module _ (by : Ways) where
   texts_free : (m : List Item) → StartsFree m → StartsFree (map (with_text by) m)
-  texts_free [] f = absurd f
   texts_free (Word name n ∷ m) f = f
-  texts_free (Hyper name n ∷ m) f = absurd f
-  texts_free (Fixed name b ∷ m) f = absurd f
-  texts_free (WriteVerf name b ∷ m) f = absurd f
-  texts_free (Opaque kind name b ∷ m) f = absurd f
-  texts_free (Rest name b ∷ m) f = absurd f
+  texts_free (i ∷ m) f = absurd f
+  texts_free [] f = absurd f
 
   free_names : (a : List Entry) → AllByRecursion HasFreeXid a
       → AllByRecursion HasFreeXid (names_by by a)
   free_names [] h = tt
-  free_names (Begin ∷ a) h = (tt, free_names a h.1)
   free_names (Call m ∷ a) h = (
     named_xid_free (way_of by Machines) (map (with_text by) m) (texts_free m h.0),
     free_names a h.1,
   )
-  free_names (Turn ∷ a) h = (tt, free_names a h.1)
   free_names (Reply id m ∷ a) h = (texts_free m h.0, free_names a h.1)
-  free_names (Close ∷ a) h = (tt, free_names a h.1)
-  free_names (End ∷ a) h = (tt, free_names a h.1)
+  free_names (e ∷ a) h = (tt, free_names a h.1)
 
 module _ (ways : Ways) (a : List Entry) (first : AreFirst a) where
   abbrev without : List Entry

@@ -1,5 +1,5 @@
 -- Fields whose classes are known by their names.
-use Rattle.masking3.proofs.Common.{◌≡◌, ℕ, ◌+◌, true, false, List, [], ◌∷◌, ◌++◌, refl, sym, ap, ap₂, ◌∙◌, subst, by_test, and_parts, bytes_eq, bytes_eq-Decides, drop, map, list_all, AllByRecursion, Option, None, Some, Item, Word, Hyper, Fixed, WriteVerf, Opaque, Rest, Class, Spot, Ways, head_names, names, class_of, class_of_hyper, class_of_word, class_value, big_number, substitute, value_where, values_in, masked_items, with_text, with_value, handle_in, handles_in, next_spot, spot_after, Way, Keep, Number, Zero, way_of, InCall, InReply, InDirectory, InWcc, Owners}
+use Rattle.masking3.proofs.Common.{◌≡◌, ℕ, ◌+◌, true, false, List, [], ◌∷◌, ◌++◌, refl, sym, ap, ap₂, ◌∙◌, subst, by_test, and_parts, bytes_eq, bytes_eq-Decides, drop, map, list_all, AllByRecursion, Option, None, Some, Item, Word, Hyper, Class, Spot, Ways, head_names, names, class_of, class_of_hyper, class_of_word, class_value, big_number, substitute, value_where, values_in, masked_items, with_text, with_value, handle_in, handles_in, next_spot, spot_after, Way, Keep, Number, way_of, InCall, Owners}
 use Rattle.std.proofs.lemmas.List.{drop-drop}
 use Rattle.std.specs.List.{list_any}
 use Rattle.xdr3.specs.declared.plain.PlainField.{PlainField}
@@ -53,41 +53,25 @@ record IsOwnerName (name : List ℕ) : Type 0 where
 
 group_owned : (spot : Spot) → IsOwned (class_of_group spot)
 group_owned InCall d is = cc
-group_owned InReply d is = absurd cc
-group_owned InDirectory d is = absurd cc
-group_owned InWcc d is = absurd cc
+group_owned spot d is = absurd cc
 
-uid_is_owner : IsOwnerName names.uid
-unfolding names head_names
-uid_is_owner =
-    record {
-      owned = λ spot d is. cc;
-      owner_moves_not = λ spot n. still_name spot names.uid n refl refl;
-    }
-
-gid_is_owner : IsOwnerName names.gid
-unfolding names head_names
-gid_is_owner =
-    record {
-      owned = λ spot d is. cc;
-      owner_moves_not = λ spot n. still_name spot names.gid n refl refl;
-    }
-
-group_is_owner : IsOwnerName head_names.group
-unfolding names head_names
-group_is_owner =
-    record {
-      owned = group_owned;
-      owner_moves_not = λ spot n. still_name spot head_names.group n refl refl;
-    }
+is_owner : (own name : List ℕ) → bytes_eq name own ≡ true
+    → ((spot : Spot) → IsOwned (class_of_word spot own)) → bytes_eq own names.before ≡ false
+    → bytes_eq own names.type ≡ false → IsOwnerName name
+is_owner own name t owned f g =
+    subst IsOwnerName (sym ((bytes_eq-Decides name own).0 t)) (record {
+      owned = owned;
+      owner_moves_not = λ spot n. still_name spot own n f g;
+    })
 
 among_owners : (name : List ℕ) → is_one_of owner_names name ≡ true → IsOwnerName name
+unfolding names head_names
 among_owners name t = by_test (bytes_eq name names.uid)
-    (λ u. subst IsOwnerName (sym ((bytes_eq-Decides name names.uid).0 u)) uid_is_owner)
+    (λ u. is_owner names.uid name u (λ spot d is. cc) refl refl)
     (λ u. by_test (bytes_eq name names.gid)
-    (λ g. subst IsOwnerName (sym ((bytes_eq-Decides name names.gid).0 g)) gid_is_owner)
+    (λ g. is_owner names.gid name g (λ spot d is. cc) refl refl)
     (λ g. by_test (bytes_eq name head_names.group)
-    (λ r. subst IsOwnerName (sym ((bytes_eq-Decides name head_names.group).0 r)) group_is_owner)
+    (λ r. is_owner head_names.group name r group_owned refl refl)
     (λ r. let none : is_one_of owner_names name ≡ false = rw (u, g, r) refl in
     absurd (cc (t, none)))))
 
@@ -115,8 +99,7 @@ free_stays ways name free n = record {
 
 is_kept_way : (w : Way) → is_keep w ≡ true → w ≡ Keep
 is_kept_way Keep t = refl
-is_kept_way Zero t = absurd cc
-is_kept_way Number t = absurd cc
+is_kept_way way t = absurd cc
 
 name_stays : (ways : Ways) (name : List ℕ) → is_kept_name (way_of ways Owners) name ≡ true → (n : ℕ)
     → Stays ways (Word name n)
@@ -136,11 +119,7 @@ name_stays ways name kept n = by_test (is_one_of owner_names name)
 
 stays : (ways : Ways) (i : Item) → IsKeptItem (way_of ways Owners) i → Stays ways i
 stays ways (Word name n) kept = name_stays ways name kept n
-stays ways (Hyper name n) kept = absurd kept
-stays ways (Fixed name bytes) kept = absurd kept
-stays ways (WriteVerf name bytes) kept = absurd kept
-stays ways (Opaque kind name bytes) kept = absurd kept
-stays ways (Rest name bytes) kept = absurd kept
+stays ways i kept = absurd kept
 
 pub all_stay : (ways : Ways) (items : List Item)
     → AllByRecursion (IsKeptItem (way_of ways Owners)) items
@@ -169,19 +148,13 @@ module _ (ways : Ways) where
   kept_item seen None i keeps = refl
   kept_item seen (Some e) i keeps = rw (keeps e refl) refl
 
-  pub kept_masked : (seen : Class → List ℕ) (spot : Spot) (items : List Item)
-      → AllStay ways items → masked_items ways seen spot items ≡ items
-  kept_masked seen spot [] all = refl
-  kept_masked seen spot (i ∷ items) (kept, all) =
+  pub kept_put : (seen : Class → List ℕ) (spot : Spot) (items : List Item)
+      → AllStay ways items → map (with_text ways) (masked_items ways seen spot items) ≡ items
+  kept_put seen spot [] all = refl
+  kept_put seen spot (i ∷ items) (kept, all) =
       ap₂ (λ (j : Item) (l : List Item). j ∷ l)
-      (kept_item seen (class_of spot i) i (kept.keeps spot))
-      (kept_masked seen (next_spot spot i) items all)
-
-  pub kept_texts : (items : List Item) → AllStay ways items → map (with_text ways) items ≡ items
-  kept_texts [] all = refl
-  kept_texts (i ∷ items) (kept, all) =
-      ap₂ (λ (j : Item) (l : List Item). j ∷ l) kept.same_text
-      (kept_texts items all)
+      (ap (with_text ways) (kept_item seen (class_of spot i) i (kept.keeps spot)) ∙ kept.same_text)
+      (kept_put seen (next_spot spot i) items all)
 
   pub kept_handles : (items : List Item) → AllStay ways items → handles_in items ≡ []
   kept_handles [] all = refl

@@ -1,24 +1,13 @@
 -- Where the items of a message stand.
-use Rattle.masking3.proofs.Common.{◌≡◌, ℕ, false, true, List, [], ◌∷◌, ◌++◌, refl, sym, ap, ◌∙◌, subst, append_assoc, bytes_eq-Decides, Item, Word, Hyper, Fixed, WriteVerf, Opaque, Rest, head_names, names, Side, Client, Server, by_test, cond_either, Class, Spot, InCall, InReply, InDirectory, InWcc, Ways, class_of, class_of_word, masked_item, masked_items, value_in, values_in, ⊤, ◌==◌, bytes_eq, None, Some, after_word, next_spot, spot_after}
+use Rattle.masking3.proofs.Common.{◌≡◌, ℕ, false, true, List, [], ◌∷◌, ◌++◌, refl, sym, ap, ◌∙◌, subst, append_assoc, bytes_eq-Decides, Item, Word, head_names, names, Side, Client, Server, by_test, cond_either, Class, Spot, InCall, InReply, InDirectory, InWcc, Ways, class_of, class_of_word, masked_item, masked_items, value_in, values_in, ⊤, ◌==◌, bytes_eq, None, Some, after_word, next_spot, spot_after}
 
 -- what is so of the spot, and of those after words, is so of the next one
 by_next : (P : Spot → Type 0) (spot : Spot) (i : Item) → P spot
     → ((name : List ℕ) (n : ℕ) → i ≡ Word name n → P (after_word spot name n))
     → P (next_spot spot i)
-by_next P InCall i p w = p
 by_next P InReply (Word name n) p w = w name n refl
-by_next P InReply (Hyper name n) p w = p
-by_next P InReply (Fixed name b) p w = p
-by_next P InReply (WriteVerf name b) p w = p
-by_next P InReply (Opaque kind name b) p w = p
-by_next P InReply (Rest name b) p w = p
 by_next P InDirectory (Word name n) p w = w name n refl
-by_next P InDirectory (Hyper name n) p w = p
-by_next P InDirectory (Fixed name b) p w = p
-by_next P InDirectory (WriteVerf name b) p w = p
-by_next P InDirectory (Opaque kind name b) p w = p
-by_next P InDirectory (Rest name b) p w = p
-by_next P InWcc i p w = p
+by_next P spot i p w = p
 
 -- ---- what moves nowhere
 
@@ -72,27 +61,21 @@ pub record IsFree (name : List ℕ) : Type 0 where
   pub classless : (spot : Spot) → class_of_word spot name ≡ None
   pub moves_not : (spot : Spot) (n : ℕ) → next_spot spot (Word name n) ≡ spot
 
-xid_classless : (spot : Spot) → class_of_word spot head_names.xid ≡ None
-unfolding names head_names
-xid_classless spot = refl
-
-xid_moves_not : (spot : Spot) (n : ℕ) → next_spot spot (Word head_names.xid n) ≡ spot
-unfolding names head_names
-xid_moves_not spot n = still_name spot head_names.xid n refl refl
-
 pub xid_free : IsFree head_names.xid
-xid_free = record { classless = xid_classless; moves_not = xid_moves_not }
-
-mtype_classless : (spot : Spot) → class_of_word spot head_names.mtype ≡ None
 unfolding names head_names
-mtype_classless spot = refl
-
-mtype_moves_not : (spot : Spot) (n : ℕ) → next_spot spot (Word head_names.mtype n) ≡ spot
-unfolding names head_names
-mtype_moves_not spot n = still_name spot head_names.mtype n refl refl
+xid_free =
+    record {
+      classless = λ spot. refl;
+      moves_not = λ spot n. still_name spot head_names.xid n refl refl;
+    }
 
 pub mtype_free : IsFree head_names.mtype
-mtype_free = record { classless = mtype_classless; moves_not = mtype_moves_not }
+unfolding names head_names
+mtype_free =
+    record {
+      classless = λ spot. refl;
+      moves_not = λ spot n. still_name spot head_names.mtype n refl refl;
+    }
 
 -- ---- the spots of each side
 
@@ -112,15 +95,8 @@ word_on spot name n on =
 
 pub on_next : (side : Side) (spot : Spot) (i : Item) → IsOn side spot → IsOn side (next_spot spot i)
 on_next Client InCall i on = tt
-on_next Client InReply i on = absurd on
-on_next Client InDirectory i on = absurd on
-on_next Client InWcc i on = absurd on
+on_next Client spot i on = absurd on
 on_next Server spot i on = by_next (IsOn Server) spot i on (λ name n e. word_on spot name n on)
-
-pub on_after : (side : Side) (spot : Spot) (items : List Item) → IsOn side spot
-    → IsOn side (spot_after spot items)
-on_after side spot [] on = on
-on_after side spot (i ∷ items) on = on_after side (next_spot spot i) items (on_next side spot i on)
 
 -- ---- items after others
 

@@ -1,59 +1,16 @@
--- Messages with masked values are messages of the same procedures, of the same length.
-use Rattle.masking3.proofs.Common.{◌≡◌, ℕ, suc, ◌<◌, ◌≤◌, ◌^◌, Bool, List, [], ◌∷◌, ◌++◌, length, refl, sym, ap, ◌∙◌, subst, arith, length-append, append-nil, append_assoc, IsTrue, nat_eq, if◌then◌else◌, Option, None, Some, AllByRecursion, big_bytes, length-bytes_high_first, Item, Word, Hyper, Fixed, Opaque, Var, Spells, SpellsItem, zero_spelling, zero_spelling_of, Layout, exactly, rest, after, FitsLayout, ProcId, has_results, procedure_in, head_names, names, arguments_of, results_of, Side, Client, Server, xid_in, max_bytes, Decides-eqb, ⊤, class_of, Class, Spot, InCall, InReply, Way, Keep, Zero, Number, Ways, class_of_fixed, class_of_hyper, class_of_word, class_value, by_way, is_zero_that_stays, masked_item, masked_items, substitute, with_value, next_spot, way_of, Part, parts_weaker, fixed_part, opaque_part, accept, call_head, credential, deny, reply_head, verifier, FitsCall, FitsReply, call_next, headed_call_fits, headed_reply_fits, is_headed_call, is_headed_reply, reply_next, Shape, ◌then◌, both, choose, counted, fixed, hyper, linked, listed, nothing, opaque, sized, word, write_verf, Fits, joined, links, before, IsEach, all_in_message, are_bytes_of_number, zero_spelled_one, by_test, cond_either, equivalence, length-with_keys, spot_after}
-use Rattle.canon3.proofs.Lemmas.WellFormed.Messages.{IsHeaded}
+-- Messages with masked values and texts are messages of the same procedures, and no longer.
+use Rattle.masking3.proofs.Common.{◌≡◌, ℕ, ◌<◌, ◌≤◌, ◌^◌, Bool, List, [], ◌∷◌, length, refl, sym, ap, ◌∙◌, arith, IsTrue, nat_eq, Option, None, Some, big_bytes, length-bytes_high_first, Item, Word, Hyper, Fixed, Text, Spells, SpellsItem, zero_spelling, zero_spelling_of, Layout, exactly, rest, after, ProcId, procedure_in, head_names, names, arguments_of, Side, Client, Server, max_bytes, Decides-eqb, ⊤, none, more, Class, Spot, InCall, InReply, Way, Keep, Zero, Number, Ways, class_of, class_of_word, class_value, by_way, is_zero_that_stays, masked_item, masked_items, substitute, with_value, with_text, text_by, raw_by, next_spot, way_of, Raw, Part, fixed_part, hyper_part, opaque_part, rest_part, size_part, word_part, write_verf_part, parts_weaker, call_head, reply_head, FitsCall, FitsReply, is_headed_call, is_headed_reply, reply_next, Shape, both, choose, counted, fixed, hyper, linked, listed, nothing, opaque, sized, write_verf, before, IsEach, are_bytes_of_number, zero_spelled_one, cond_either, equivalence, length-with_keys}
+use Rattle.canon3.proofs.Lemmas.Changes.Conversations.{IsLike}
+use Rattle.canon3.proofs.Lemmas.Changes.Messages.{ChangesTo, HeadsStay, call_becomes, message_anew, procedure_becomes, reply_becomes}
+use Rattle.canon3.proofs.Lemmas.Changes.Shapes.{Become, IsSpelledAnew, ItemStaysAsLong, RowTakes, Takes, WordStays, size_stays}
 use Rattle.capture3.proofs.Lemmas.Connections.RankLemmas.{length-before}
-use Rattle.masking3.proofs.Lemmas.Classes.SpotLemmas.{IsOn, masked_items-append, on_after, on_next, xid_free}
+use Rattle.masking3.proofs.Lemmas.Classes.SpotLemmas.{IsOn, on_next, xid_free}
 use Rattle.masking3.proofs.Lemmas.Masked.MaskedLemmas.{unmasked}
 use Rattle.masking3.proofs.Lemmas.Masked.MaskedShapes.{KeepsSize, RowTakesOn, TakesOn, TakesWord, arguments_take, call_head_takes, mtype_takes, reply_head_takes, reply_takes}
-
--- ---- the words that choose a layout
-
-pub first_word : (name : List ℕ) (s : Shape) (items : List Item) → Fits (both (word name) s) items
-    → (n : ℕ) × (back : List Item) × Fits s back × (items ≡ Word name n ∷ back)
-first_word name s items p = (
-  p.2.0,
-  p.1,
-  p.3,
-  rw (p.4, p.2.4, p.2.3) refl,
-)
-
-pub mtype_is : (types : List ℕ) (items : List Item) → Fits (listed head_names.mtype types) items
-    → (n : ℕ) × (items ≡ Word head_names.mtype n ∷ [])
-mtype_is types items p = (p.0, rw (p.4, p.3) refl)
-
--- the words of a call before its credential
-abbrev pub four_words : (version prog vers proc : ℕ) → List Item → List Item
-four_words version prog vers proc back =
-    Word head_names.rpcvers version ∷ Word head_names.prog prog ∷ Word head_names.vers vers
-    ∷ Word head_names.proc proc ∷ back
-
-call_words : (head : List Item) → Fits call_head head
-    → (version prog vers proc : ℕ) × (back : List Item)
-    × (head ≡ four_words version prog vers proc back)
-unfolding call_head
-call_words head p =
-    let a =
-    first_word head_names.prog
-    (word head_names.vers then word head_names.proc then credential then verifier) p.1 p.3 in
-    let b =
-    first_word head_names.vers (word head_names.proc then credential then verifier) a.1 a.2 in
-    let c = first_word head_names.proc (credential then verifier) b.1 b.2 in
-    (p.0, a.0, b.0, c.0, c.1, cc (p.4, a.3, b.3, c.3))
-
-accepted_words : (items : List Item) → Fits (verifier then accept) items
-    → (flavor stat : ℕ) × (body : List ℕ) × (last : List Item)
-    × (items
-    ≡ Word head_names.verf_flavor flavor ∷ Opaque Var head_names.verf_body body
-    ∷ Word head_names.accept_stat stat ∷ last)
-unfolding verifier accept
-accepted_words items p =
-    let v = p.2 in
-    let a = p.3 in (v.0, a.0, v.3.0, a.1, rw (p.4, v.4, v.3.2, a.4) refl)
+use Rattle.masking3.proofs.Lemmas.Unnamed.TextSpellings.{item_length, item_spelled, with_texts}
+use Rattle.masking3.proofs.Lemmas.Unnamed.TextsLemmas.{text_shorter}
 
 module _ (ways : Ways) (seen : Class → List ℕ) where
-  abbrev pub under : Spot → List Item → List Item
-  under spot items = masked_items ways seen spot items
-
   -- ---- kinds and names stay
 
   word_with : (name : List ℕ) (n : ℕ) (o : Option ℕ)
@@ -62,12 +19,12 @@ module _ (ways : Ways) (seen : Class → List ℕ) where
   word_with name n (Some m) = (m, refl)
 
   hyper_with : (name : List ℕ) (n : ℕ) (o : Option ℕ)
-      → Fits (hyper name) (with_value (Hyper name n) o ∷ [])
+      → (m : ℕ) × (with_value (Hyper name n) o ≡ Hyper name m)
   hyper_with name n None = (n, refl)
   hyper_with name n (Some m) = (m, refl)
 
   fixed_with : (name bytes : List ℕ) (o : Option ℕ)
-      → Fits (fixed name) (with_value (Fixed name bytes) o ∷ [])
+      → (b : List ℕ) × (with_value (Fixed name bytes) o ≡ Fixed name b)
   fixed_with name bytes None = (bytes, refl)
   fixed_with name bytes (Some m) = (big_bytes 8 m, refl)
 
@@ -82,216 +39,145 @@ module _ (ways : Ways) (seen : Class → List ℕ) where
       let w = word_with name n (substitute ways seen (class_of_word spot name) n) in
       (w.0, w.1, takes.0 w.0, takes.1 w.0 ∙ sym (takes.1 n))
 
-  -- ---- lengths stay
+  -- ---- what an item becomes
 
-  -- eight bytes are eight where they are spelled
-  abbrev HasEight : Item → Type 0
-  HasEight (Fixed name b) = length b ≡ 8
-  HasEight _ = ⊤
+  -- what stands for its value
+  abbrev stands : Spot → Item → Option ℕ
+  stands spot i = substitute ways seen (class_of spot i) (class_value i)
 
-  length_with : (i : Item) (o : Option ℕ) → HasEight i
-      → length (zero_spelling_of (with_value i o)) ≡ length (zero_spelling_of i)
-  length_with i None h = refl
-  length_with (Word name n) (Some m) h =
-      length-bytes_high_first 4 m ∙ sym (length-bytes_high_first 4 n)
-  length_with (Hyper name n) (Some m) h =
-      length-bytes_high_first 8 m ∙ sym (length-bytes_high_first 8 n)
-  length_with (Fixed name b) (Some m) h = length-bytes_high_first 8 m ∙ sym h
-  length_with i (Some m) h = refl
+  -- it is masked at some spot of the side, and then its text
+  abbrev IsMasked : Side → Item → Item → Type 0
+  IsMasked side i j =
+      (spot : Spot) × IsOn side spot × (j ≡ with_text ways (masked_item ways seen spot i))
 
-  all_lengths : (spot : Spot) (items : List Item) → AllByRecursion HasEight items
-      → length (zero_spelling (under spot items)) ≡ length (zero_spelling items)
-  all_lengths spot [] h = refl
-  all_lengths spot (i ∷ items) h =
-      omega (
-        arith,
-        length_with i (substitute ways seen (class_of spot i) (class_value i)) h.0,
-        all_lengths (next_spot spot i) items h.1,
-        length-append (zero_spelling_of i) (zero_spelling items),
-        length-append (zero_spelling_of (masked_item ways seen spot i))
-            (zero_spelling (under (next_spot spot i) items)),
+  abbrev pub masks : Spot → List Item → List Item
+  masks spot items = with_texts ways (masked_items ways seen spot items)
+
+  become_masked : (side : Side) (spot : Spot) → IsOn side spot → (items : List Item)
+      → Become (IsMasked side) items (masks spot items)
+  become_masked side spot on [] = none
+  become_masked side spot on (i ∷ items) =
+      more (spot, on, refl) (become_masked side (next_spot spot i) (on_next side spot i on) items)
+
+  -- ---- shapes
+
+  module _ (side : Side) where
+    abbrev IsFreeOn : List ℕ → Type 0
+    IsFreeOn name = (spot : Spot) → IsOn side spot → class_of_word spot name ≡ None
+
+    word_stays : (name : List ℕ) → IsFreeOn name → WordStays (IsMasked side) name
+    word_stays name free n j r =
+        r.2 ∙ ap (with_text ways) (unmasked ways seen r.0 (Word name n) (free r.0 r.1))
+
+    stays_as_long : (part : Part) → KeepsSize part
+        → IsEach (ItemStaysAsLong (IsMasked side)) part
+    stays_as_long (fixed_part name) h = absurd h
+    stays_as_long (rest_part name) h = absurd h
+    stays_as_long (opaque_part Text name max) h = λ bytes le j r. rw (r.2, h.0, h.1) refl
+    stays_as_long (hyper_part name) h = λ n j r.
+        let w = hyper_with name n (stands r.0 (Hyper name n)) in rw (r.2, w.1) (omega arith)
+    stays_as_long (word_part name reason) h = λ n j r.
+        let w = word_with name n (stands r.0 (Word name n)) in rw (r.2, w.1) (omega arith)
+    stays_as_long (size_part name s) h = λ n j r.
+        let w = word_with name n (stands r.0 (Word name n)) in rw (r.2, w.1) (omega arith)
+    stays_as_long (opaque_part kind name max) h = λ bytes le j r. rw r.2 refl
+    stays_as_long (write_verf_part name) h = λ bytes j r. rw r.2 refl
+
+    module _ (start : Spot) (on : IsOn side start) where
+      takes : (s : Shape) → TakesOn side s → Takes (IsMasked side) s
+      takes (choose name accepted reason next) h = (
+        (λ n j a r.
+            let w =
+            chosen r.0 name accepted next (class_of_word r.0 name) refl (h r.0 r.1).0 n a in
+            (w.0, r.2 ∙ ap (with_text ways) w.1, w.2, w.3)),
+        (λ n. takes (next n) (λ t o. (h t o).1 n)),
+      )
+      takes (hyper name) h = λ n j r.
+          let w = hyper_with name n (stands r.0 (Hyper name n)) in rw (r.2, w.1) (w.0, refl)
+      takes (fixed name) h = λ bytes j r.
+          let w = fixed_with name bytes (stands r.0 (Fixed name bytes)) in
+          rw (r.2, w.1) (w.0, refl)
+      takes (write_verf name) h = λ bytes j r. rw r.2 (bytes, refl)
+      takes (opaque Text name max) h = λ bytes j le r.
+          rw r.2 (text_by ways name bytes, omega (arith, le, text_shorter ways name bytes), refl)
+      takes (opaque kind name max) h = λ bytes j le r. rw r.2 (bytes, le, refl)
+      takes nothing h = tt
+      takes (both a b) h = (takes a (λ t o. (h t o).0), takes b (λ t o. (h t o).1))
+      takes (linked name s) h =
+          (word_stays name (λ t o. (h t o).0), takes s (λ t o. (h t o).1))
+      takes (counted name max s) h =
+          (word_stays name (λ t o. (h t o).0), takes s (λ t o. (h t o).1))
+      takes (sized name s) h = (
+        word_stays name (λ t o. (h t o).0),
+        size_stays (IsMasked side) s (parts_weaker KeepsSize
+            (IsEach (ItemStaysAsLong (IsMasked side))) stays_as_long s (h start on).1),
+        takes s (λ t o. (h t o).2),
       )
 
-  each_eight : (part : Part) → KeepsSize part → IsEach HasEight part
-  each_eight (fixed_part name) h = absurd h
-  each_eight (opaque_part kind name max) h = λ bytes le. tt
-  each_eight part h = λ x. tt
+      row_takes : (layout : Layout) → RowTakesOn side layout → RowTakes (IsMasked side) layout
+      row_takes (exactly s) h = takes s h
+      row_takes (rest name) h = λ bytes j r. (raw_by (way_of ways Raw) bytes, r.2)
+      row_takes (after s next) h = absurd (h start on)
 
-  spelled_eights : (items : List Item) (bytes : List ℕ) → Spells items bytes
-      → AllByRecursion HasEight items
-  spelled_eights [] bytes p = tt
-  spelled_eights (Fixed name b ∷ items) bytes p = (p.2.0, spelled_eights items p.1 p.3)
-  spelled_eights (i ∷ items) bytes p = (tt, spelled_eights items p.1 p.3)
+      starts : (types : List ℕ) → Takes (IsMasked side) (listed head_names.mtype types)
+      starts types = takes (listed head_names.mtype types) (λ t o. mtype_takes t types)
 
-  pub message_length : (spot : Spot) (items : List Item) (bytes : List ℕ) → Spells items bytes
-      → length (zero_spelling (under spot items)) ≡ length (zero_spelling items)
-  message_length spot items bytes p = all_lengths spot items (spelled_eights items bytes p)
+    heads_stay : HeadsStay (IsMasked side)
+    unfolding names head_names
+    heads_stay = record {
+      prog = word_stays head_names.prog (λ t o. refl);
+      vers = word_stays head_names.vers (λ t o. refl);
+      proc = word_stays head_names.proc (λ t o. refl);
+      reply_stat = word_stays head_names.reply_stat (λ t o. refl);
+      accept_stat = word_stays head_names.accept_stat (λ t o. refl);
+    }
 
-  -- ---- parts one after another
+  -- ---- calls and replies
 
-  module _ (side : Side) (P : List Item → Type 0) (fits : (spot : Spot) → IsOn side spot
-      → (part : List Item) → P part → P (under spot part)) where
-    joined_under : (spot : Spot) → IsOn side spot → (parts : List (List Item))
-        → AllByRecursion P parts
-        → (others : List (List Item)) × AllByRecursion P others × (length others ≡ length parts)
-        × (under spot (joined parts) ≡ joined others)
-    joined_under spot on [] h = ([], tt, refl, refl)
-    joined_under spot on (part ∷ parts) h =
-        let later = joined_under (spot_after spot part) (on_after side spot part on) parts h.1 in (
-          under spot part ∷ later.0,
-          (fits spot on part h.0, later.1),
-          ap suc later.2,
-          cc (masked_items-append ways seen spot part (joined parts), later.3),
-        )
+  abbrev change : (side : Side) (spot : Spot) → IsOn side spot → (x : ℕ) (items back : List Item)
+      → items ≡ Word head_names.xid x ∷ back → ChangesTo (IsMasked side) items (masks spot items)
+  change side spot on x items back is = record {
+    first = record { name = head_names.xid; number = x; more = back; is = is };
+    number = x;
+    later = masks spot back;
+    each = become_masked side spot on back;
+    is = rw (
+      is,
+      unmasked ways seen spot (Word head_names.xid x) (xid_free.classless spot),
+      xid_free.moves_not spot x,
+    ) refl;
+  }
 
-    links_under : (name : List ℕ)
-        → ((spot : Spot) → IsOn side spot → class_of_word spot name ≡ None) → (spot : Spot)
-        → IsOn side spot → (parts : List (List Item)) → AllByRecursion P parts
-        → (others : List (List Item)) × AllByRecursion P others
-        × (under spot (links name parts ++ Word name 0 ∷ [])
-        ≡ links name others ++ Word name 0 ∷ [])
-    links_under name free spot on [] h =
-        ([], tt, cc (unmasked ways seen spot (Word name 0) (free spot on)))
-    links_under name free spot on (part ∷ parts) h =
-        let next : Spot = next_spot spot (Word name 1) in
-        let moved = on_next side spot (Word name 1) on in
-        let later =
-        links_under name free (spot_after next part) (on_after side next part moved) parts h.1 in
-        let end : List Item = Word name 0 ∷ [] in (
-          under next part ∷ later.0,
-          (fits next moved part h.0, later.1),
-          cc (
-            unmasked ways seen spot (Word name 1) (free spot on),
-            ap (under next) (append_assoc part (links name parts) end),
-            masked_items-append ways seen next part (links name parts ++ end),
-            later.2,
-            append_assoc (under next part) (links name later.0) end,
-          ),
-        )
+  abbrev call_changes : (items : List Item) → FitsCall items
+      → ChangesTo (IsMasked Client) items (masks InCall items)
+  call_changes items p =
+      let h = is_headed_call items p in change Client InCall tt h.number items _ h.is
 
-  -- ---- shapes stay
+  abbrev reply_changes : (id : ProcId) (items : List Item) → FitsReply id items
+      → ChangesTo (IsMasked Server) items (masks InReply items)
+  reply_changes id items p =
+      let h = is_headed_reply id items p in change Server InReply tt h.number items _ h.is
 
-  pub fits_under : (side : Side) (spot : Spot) → IsOn side spot → (s : Shape) (items : List Item)
-      → TakesOn side s → Fits s items → Fits s (under spot items)
-  fits_under side spot on (choose name accepted reason next) items h p =
-      let c = chosen spot name accepted next (class_of_word spot name) refl (h spot on).0 p.0 p.2 in
-      let later : Spot = next_spot spot (Word name p.0) in (
-        c.0,
-        under later p.1,
-        c.2,
-        subst (λ s. Fits s (under later p.1)) (sym c.3) (fits_under side later
-            (on_next side spot (Word name p.0) on) (next p.0) p.1 (λ t o. (h t o).1 p.0) p.3),
-        rw (p.4, c.1) refl,
-      )
-  fits_under side spot on (hyper name) items h p =
-      rw p.1 (hyper_with name p.0 (substitute ways seen (class_of_hyper spot name) p.0))
-  fits_under side spot on (fixed name) items h p =
-      rw p.1 (fixed_with name p.0 (substitute ways seen (class_of_fixed name) _))
-  fits_under side spot on (write_verf name) items h p = (p.0, ap (under spot) p.1)
-  fits_under side spot on (opaque kind name max) items h p = (p.0, p.1, ap (under spot) p.2)
-  fits_under side spot on nothing items h p = ap (under spot) p
-  fits_under side spot on (both a b) items h p =
-      let later : Spot = spot_after spot p.0 in (
-        under spot p.0,
-        under later p.1,
-        fits_under side spot on a p.0 (λ t o. (h t o).0) p.2,
-        fits_under side later (on_after side spot p.0 on) b p.1 (λ t o. (h t o).1) p.3,
-        ap (under spot) p.4 ∙ masked_items-append ways seen spot p.0 p.1,
-      )
-  fits_under side spot on (linked name s) items h p =
-      let k =
-      links_under side (Fits s) (λ t o part. fits_under side t o s part (λ u k. (h u k).1)) name
-      (λ t o. (h t o).0) spot on p.0 p.1 in
-      (k.0, k.1, ap (under spot) p.2 ∙ k.2)
-  fits_under side spot on (counted name max s) items h p =
-      let count : Item = Word name (length p.0) in
-      let k =
-      joined_under side (Fits s) (λ t o part. fits_under side t o s part (λ u k. (h u k).1))
-      (next_spot spot count) (on_next side spot count on) p.0 p.1 in (
-        k.0,
-        k.1,
-        omega (arith, p.2, k.2),
-        rw p.3 (cc (unmasked ways seen spot count (h spot on).0, k.2, k.3)),
-      )
-  fits_under side spot on (sized name s) items h p =
-      let size : Item = Word name (length (zero_spelling p.0)) in
-      let later : Spot = next_spot spot size in
-      let e =
-      all_lengths later p.0 (all_in_message HasEight s (λ front. exactly nothing) p.0
-      (parts_weaker KeepsSize (IsEach HasEight) each_eight s (h spot on).1) (λ front. tt)
-      (p.0, [], p.1, refl, sym (append-nil p.0))) in (
-        under later p.0,
-        fits_under side later (on_next side spot size on) s p.0 (λ t o. (h t o).2) p.1,
-        omega (arith, p.2, e),
-        rw p.3 (cc (unmasked ways seen spot size (h spot on).0, e)),
-      )
+  pub call_masked : (items : List Item) → FitsCall items → FitsCall (masks InCall items)
+  call_masked items p =
+      call_becomes (IsMasked Client) (heads_stay Client) (starts Client InCall tt)
+      (takes Client InCall tt call_head call_head_takes)
+      (λ id. row_takes Client InCall tt (arguments_of id) (λ t o. arguments_take t id)) items
+      (masks InCall items) p (call_changes items p)
 
-  row_under : (side : Side) (spot : Spot) → IsOn side spot → (layout : Layout) (items : List Item)
-      → RowTakesOn side layout → FitsLayout layout items → FitsLayout layout (under spot items)
-  row_under side spot on (exactly s) items h p = fits_under side spot on s items h p
-  row_under side spot on (rest name) items h p = (p.0, ap (under spot) p.1)
-  row_under side spot on (after s next) items h p = absurd (h spot on)
+  pub procedure_masked : (items : List Item) → FitsCall items
+      → procedure_in (masks InCall items) ≡ procedure_in items
+  procedure_masked items p =
+      procedure_becomes (IsMasked Client) (heads_stay Client) items (masks InCall items) p
+      (call_changes items p)
 
-  -- ---- the words of heads stay
-
-  procedure_stays : (a b : Spot) (x : ℕ) (start head : List Item)
-      → Fits (listed head_names.mtype (0 ∷ [])) start → Fits call_head head
-      → procedure_in (Word head_names.xid x ∷ (under a start ++ under b head))
-      ≡ procedure_in (Word head_names.xid x ∷ (start ++ head))
-  unfolding names head_names
-  procedure_stays a b x start head p q =
-      let m = mtype_is (0 ∷ []) start p in
-      let w = call_words head q in rw (m.1, w.5) refl
-
-  results_stay : (a b : Spot) (x : ℕ) (start head : List Item)
-      → Fits (listed head_names.mtype (1 ∷ [])) start → Fits reply_head head
-      → has_results (Word head_names.xid x ∷ (under a start ++ under b head))
-      ≡ has_results (Word head_names.xid x ∷ (start ++ head))
-  unfolding names head_names reply_head
-  results_stay a b x start head p q =
-      let m = mtype_is (1 ∷ []) start p in
-      by_test (nat_eq q.0 0)
-      (λ t. let k =
-      accepted_words q.1
-      (subst (λ b. Fits (if b then (verifier then accept) else deny) q.1) t q.3) in
-      rw (m.1, q.4, k.4) refl)
-      (λ f. rw (m.1, q.4, f) refl)
-
-  -- ---- a message, its xid and its procedure
-
-  -- with what is under way after its start and after its head
-  message_is : (spot : Spot) (x : ℕ) (items start head back : List Item)
-      → items ≡ Word head_names.xid x ∷ ((start ++ head) ++ back)
-      → under spot items
-      ≡ Word head_names.xid x
-      ∷ ((under spot start ++ under (spot_after spot start) head)
-      ++ under (spot_after spot (start ++ head)) back)
-  message_is spot x items start head back is =
-      rw (
-        is,
-        unmasked ways seen spot (Word head_names.xid x) (xid_free.classless spot),
-        xid_free.moves_not spot x,
-        masked_items-append ways seen spot (start ++ head) back,
-        masked_items-append ways seen spot start head,
-      ) refl
-
-  pub call_xid_under : (spot : Spot) (items : List Item) → FitsCall items
-      → xid_in (under spot items) ≡ xid_in items
-  unfolding names head_names
-  call_xid_under spot items p = let h = is_headed_call items p in rw h.is refl
-
-  pub reply_xid_under : (spot : Spot) (id : ProcId) (items : List Item) → FitsReply id items
-      → xid_in (under spot items) ≡ xid_in items
-  unfolding names head_names
-  reply_xid_under spot id items p = let h = is_headed_reply id items p in rw h.is refl
-
-  pub procedure_under : (spot : Spot) (items : List Item) → FitsCall items
-      → procedure_in (under spot items) ≡ procedure_in items
-  unfolding names head_names
-  procedure_under spot items p =
-      let h = is_headed_call items p in
-      let m = mtype_is (0 ∷ []) h.start h.start_fits in
-      let w = call_words h.head h.head_fits in rw (h.is, m.1, w.5) refl
+  pub reply_masked : (id : ProcId) (items : List Item) → FitsReply id items
+      → FitsReply id (masks InReply items)
+  reply_masked id items p =
+      reply_becomes (IsMasked Server) (heads_stay Server) (starts Server InReply tt)
+      (takes Server InReply tt reply_head (λ t o. reply_head_takes t))
+      (λ k l. row_takes Server InReply tt (reply_next k l) (λ t o. reply_takes t o k l)) id items
+      (masks InReply items) p (reply_changes id items p)
 
   -- ---- spellings
 
@@ -315,73 +201,37 @@ module _ (ways : Ways) (seen : Class → List ℕ) where
 
     with_spelled : (i : Item) (bytes : List ℕ) (o : Option ℕ) → IsSmall o → SpellsItem i bytes
         → SpellsItem (with_value i o) (zero_spelling_of (with_value i o))
-    with_spelled i bytes None low p = zero_spelled_one i bytes p
-    with_spelled (Word name n) bytes (Some m) low p = (low, refl)
-    with_spelled (Hyper name n) bytes (Some m) low p = (omega arith, refl)
+        × (length (zero_spelling_of (with_value i o)) ≡ length (zero_spelling_of i))
+    with_spelled i bytes None low p = (zero_spelled_one i bytes p, refl)
+    with_spelled (Word name n) bytes (Some m) low p = ((low, refl), omega arith)
+    with_spelled (Hyper name n) bytes (Some m) low p = ((omega arith, refl), omega arith)
     with_spelled (Fixed name b) bytes (Some m) low p =
-        (length-bytes_high_first 8 m, are_bytes_of_number 8 m, refl)
-    with_spelled i bytes (Some m) low p = zero_spelled_one i bytes p
+        ((length-bytes_high_first 8 m, are_bytes_of_number 8 m, refl), omega (arith, p.0))
+    with_spelled i bytes (Some m) low p = (zero_spelled_one i bytes p, refl)
 
-    pub message_spelled : (spot : Spot) (items : List Item) (bytes : List ℕ) → Spells items bytes
-        → Spells (under spot items) (zero_spelling (under spot items))
-    message_spelled spot [] bytes p = refl
-    message_spelled spot (i ∷ items) bytes p =
-        let later : List Item = under (next_spot spot i) items in (
-          zero_spelling_of (masked_item ways seen spot i),
-          zero_spelling later,
-          with_spelled i p.0 (substitute ways seen (class_of spot i) (class_value i))
-              (substitute_small (class_of spot i) (class_value i)) p.2,
-          message_spelled (next_spot spot i) items p.1 p.3,
-          refl,
+    is_spelled : (side : Side) → IsSpelledAnew (IsMasked side)
+    is_spelled side i j bytes r p =
+        let small = substitute_small (class_of r.0 i) (class_value i) in
+        let w = with_spelled i bytes (stands r.0 i) small p in
+        let k : Item = masked_item ways seen r.0 i in
+        rw r.2 (
+          item_spelled ways k (zero_spelling_of k) w.0,
+          omega (arith, w.1, item_length ways k),
         )
 
-  -- ---- calls and replies
+    message_masked : (side : Side) (m n : List Item) (c : ChangesTo (IsMasked side) m n)
+        → c.first.number ≡ c.number → Spells m (zero_spelling m) → IsLike (λ x. x) m n
+    message_masked side m n c same p =
+        let q = rw c.first.is at p in
+        let low : c.number < 2 ^ 32 = rw same at q.2.0 in
+        let a = message_anew (IsMasked side) (is_spelled side) m n (zero_spelling m) c low p in
+        record { spelled = a.0; no_longer = a.1; xid = rw (c.is, c.first.is, same) refl }
 
-  module _ (side : Side) (spot : Spot) (on : IsOn side spot) (types : List ℕ) (s : Shape)
-      (next : List Item → Layout) where
-    headed_under : TakesOn side s → ((l : List Item) → RowTakesOn side (next l))
-        → ((b : Spot) (x : ℕ) (start head : List Item) → Fits (listed head_names.mtype types) start
-        → Fits s head
-        → next (Word head_names.xid x ∷ (under spot start ++ under b head))
-        ≡ next (Word head_names.xid x ∷ (start ++ head))) → (items : List Item)
-        → IsHeaded head_names.xid (listed head_names.mtype types) s next items
-        → IsHeaded head_names.xid (listed head_names.mtype types) s next (under spot items)
-    headed_under takes rows stays items h =
-        let head_spot : Spot = spot_after spot h.start in
-        let back_spot : Spot = spot_after spot (h.start ++ h.head) in
-        record {
-          number = h.number;
-          start = under spot h.start;
-          head = under head_spot h.head;
-          back = under back_spot h.back;
-          start_fits =
-              fits_under side spot on (listed head_names.mtype types) h.start
-              (λ t o. mtype_takes t types) h.start_fits;
-          head_fits =
-              fits_under side head_spot (on_after side spot h.start on) s h.head takes
-              h.head_fits;
-          back_fits =
-              rw (stays head_spot h.number h.start h.head h.start_fits h.head_fits)
-              (row_under side back_spot (on_after side spot (h.start ++ h.head) on) _ h.back
-              (rows (Word head_names.xid h.number ∷ (h.start ++ h.head))) h.back_fits);
-          is = message_is spot h.number items h.start h.head h.back h.is;
-        }
+    pub call_is_like : (m : List Item) → FitsCall m → Spells m (zero_spelling m)
+        → IsLike (λ x. x) m (masks InCall m)
+    call_is_like m p s = message_masked Client m (masks InCall m) (call_changes m p) refl s
 
-  pub call_under : (items : List Item) → FitsCall items → FitsCall (under InCall items)
-  call_under items p =
-      headed_call_fits (under InCall items)
-      (headed_under Client InCall tt (0 ∷ []) call_head call_next call_head_takes
-      (λ l t o. arguments_take t (procedure_in l))
-      (λ b x start head q r.
-      ap arguments_of (procedure_stays InCall b x start head q r)) items
-      (is_headed_call items p))
-
-  pub reply_under : (id : ProcId) (items : List Item) → FitsReply id items
-      → FitsReply id (under InReply items)
-  reply_under id items p =
-      headed_reply_fits id (under InReply items)
-      (headed_under Server InReply tt (1 ∷ []) reply_head (reply_next id)
-      (λ t o. reply_head_takes t) (λ l t o. reply_takes t o id l)
-      (λ b x start head q r.
-      ap (λ k. if k then results_of id else exactly nothing)
-      (results_stay InReply b x start head q r)) items (is_headed_reply id items p))
+    pub reply_is_like : (id : ProcId) (m : List Item) → FitsReply id m
+        → Spells m (zero_spelling m) → IsLike (λ x. x) m (masks InReply m)
+    reply_is_like id m p s =
+        message_masked Server m (masks InReply m) (reply_changes id m p) refl s

@@ -117,7 +117,7 @@ module _ (spot : Spot) where
   nfs_arguments_take n =
       let guarded : TakesMasks spot guard =
       optional_takes names.check (time names.ctime_sec names.ctime_nsec) refl (assumption) in
-      search (arg_row, settable_takes, create_how_takes, mknod_what_takes) depth 80 fits 20000
+      search (arg_row, settable_takes, create_how_takes, mknod_what_takes) depth 40 fits 10000
 
   pub arguments_take : (id : ProcId) → RowTakesMasks spot (arguments_of id)
   unfolding arguments_of dirpath
@@ -131,7 +131,7 @@ module _ (spot : Spot) where
       time write_ok
   nfs_results_take n =
       search (result_row, arg_row, attributes_at, post_op_fh_takes, post_op_attr_takes, wcc_takes)
-      depth 80 fits 20000
+      depth 40 fits 10000
 
   -- ---- heads
 

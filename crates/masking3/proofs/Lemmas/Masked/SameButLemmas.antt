@@ -1,12 +1,12 @@
 -- Two masked captures are the same exactly if the captures are the same but for the values that are
 -- masked.
-use Rattle.masking3.proofs.Common.{and_parts, ◌⊎◌, ◌+◌, append-nil, arith, big_bytes, big_number, big_number-reads_back, rank-le-length, zero_stays, ◌≡◌, inl, inr, ⊎_elim, ℕ, ◌<◌, ◌^◌, true, false, List, [], ◌∷◌, length, map, refl, sym, ap, ◌∙◌, subst, ⊤, ◌==◌, ◌&&◌, not, nat_eq, Option, None, Some, AllByRecursion, Decides-eqb, Item, Word, Hyper, Fixed, Entry, Begin, Call, Turn, Reply, Close, End, rank, Class, Spot, InCall, InReply, InDirectory, Way, Keep, Zero, Number, Ways, class_of, class_value, position, by_way, is_zero_that_stays, masked_values, masked_entry, masked_item, masked_items, number_among, substitute, value_in, value_where, values, values_in, with_value, next_spot, way_of, KeepsAll, AreAlike, words, hypers, eights, IsNumbered, ArePartners, ChangesBy, ChangesOf, ChangesItem, ChangesItems, over, along, ChangesEntry, begin, call, turn, reply, close, end, SameButValues, Member, here, there, Pairs, OneToOne, none, more, Same, Agree, agree-graph, graph, member-graph, by_test, member-append_cases, rank_paired, same_rank, IsPlain, RenamesItem, handle, plain, Pairwise, RenamesMessage, message, Renames, ended, begins, calls, turns, replies, closes, ends}
+use Rattle.masking3.proofs.Common.{and_parts, ◌⊎◌, ◌+◌, append-nil, arith, big_bytes, big_number, big_number-reads_back, rank-le-length, zero_stays, ◌≡◌, inl, inr, ⊎_elim, ℕ, ◌<◌, ◌^◌, true, false, List, [], ◌∷◌, length, map, refl, sym, ap, ◌∙◌, subst, ⊤, ◌==◌, ◌&&◌, not, nat_eq, Option, None, Some, AllByRecursion, Decides-eqb, Item, Word, Hyper, Fixed, Entry, Begin, Call, Turn, Reply, Close, End, rank, Class, Spot, InCall, InReply, Way, Keep, Zero, Number, Ways, class_of, class_value, position, by_way, is_zero_that_stays, masked_values, masked_entry, masked_item, masked_items, number_among, substitute, value_in, value_where, values, values_in, with_value, next_spot, way_of, KeepsAll, AreAlike, words, hypers, eights, IsNumbered, ArePartners, ChangesBy, ChangesOf, ChangesItem, ChangesItems, over, along, ChangesEntry, begin, call, turn, reply, close, end, SameButValues, Member, here, there, Pairs, OneToOne, none, more, Same, Agree, agree-graph, graph, member-graph, by_test, member-append_cases, rank_paired, same_rank, IsPlain, RenamesItem, handle, plain, Pairwise, RenamesMessage, message, Renames, ended, begins, calls, turns, replies, closes, ends}
 use Rattle.canon3.specs.Renaming.{verifier}
 use Rattle.canon3.proofs.Lemmas.Canonical.OneFormLemmas.{In}
 use Rattle.canon3.proofs.Lemmas.Numbers.RankLemmas.{pairwise-append}
 use Rattle.canon3.proofs.Lemmas.Renaming.OneToOneLemmas.{agree-from, agree-linked, agree-turned, kept, linked, member-kept, member-linked, member-turned, one_to_one-kept, turned}
 use Rattle.masking3.proofs.Lemmas.Classes.ClassLemmas.{same_class, seen_alike}
-use Rattle.masking3.proofs.Lemmas.Classes.SpotLemmas.{IsFree, still}
+use Rattle.masking3.proofs.Lemmas.Classes.SpotLemmas.{IsFree, still, still_after}
 use Rattle.masking3.proofs.Lemmas.Masked.MaskedLemmas.{AreAmong, IsAmong, ItemsAreAmong, among_own, unmasked, value_given}
 
 -- ---- items that are equal but for their values
@@ -48,8 +48,6 @@ value_put spot _ m d small is = absurd cc
 plain_with : (i : Item) (o : Option ℕ) → IsPlain i → IsPlain (with_value i o)
 plain_with i None f = f
 plain_with (Word name n) (Some m) f = tt
-plain_with (Hyper name n) (Some m) f = tt
-plain_with (Fixed name b) (Some m) f = tt
 plain_with i (Some m) f = f
 
 -- ---- zeros
@@ -68,7 +66,8 @@ module _ (ways : Ways) (pairs : Class → Pairs ℕ) where
   by_way_is Zero d i j h = inr h
   by_way_is Number d i j h = inr h.0
 
-  changed_is : (o : Option Class) (i j : Item) → ChangesOf ways pairs o i j → (i ≡ j) ⊎ AreAlike i j
+  pub changed_is : (o : Option Class) (i j : Item) → ChangesOf ways pairs o i j
+      → (i ≡ j) ⊎ AreAlike i j
   changed_is None i j h = inl h
   changed_is (Some d) i j h = by_way_is (way_of ways d) d i j h
 
@@ -162,11 +161,9 @@ module _ (ways others : Ways) (ps qs : Class → Pairs ℕ) (seen : Class → Li
 module _ {us vs : Pairs (List ℕ)} where
   renamed_spot : (spot : Spot) (i j : Item) → RenamesItem us vs i j
       → next_spot spot i ≡ next_spot spot j
-  renamed_spot InReply i j (handle m) = refl
-  renamed_spot InReply i j (verifier m) = refl
-  renamed_spot InDirectory i j (handle m) = refl
-  renamed_spot InDirectory i j (verifier m) = refl
-  renamed_spot spot i j r = refl
+  renamed_spot spot i j (handle m) = still_after spot i tt ∙ sym (still_after spot j tt)
+  renamed_spot spot i j (verifier m) = still_after spot i tt ∙ sym (still_after spot j tt)
+  renamed_spot spot i j (plain item f) = refl
 
 module _ (ways : Ways) (ps qs : Class → Pairs ℕ) (first : AreAgreeing ps)
     (second : AreAgreeing qs) where
@@ -542,7 +539,7 @@ module _ (ways : Ways) {ps vs : Pairs (List ℕ)} where
     entries_renamed h (ends r) = ends (entries_renamed h.1 r)
 
 -- what is renamed in another pair of captures is so by the same renamings
-same_by_renaming : {a b c d : List Entry} (s : Same a b)
+pub same_by_renaming : {a b c d : List Entry} (s : Same a b)
     → Renames s.handle_pairs s.verifier_pairs [] s.xid_pairs c d → Same c d
 same_by_renaming s r = record {
   handle_pairs = s.handle_pairs;

@@ -15,25 +15,26 @@ module _ (ways : Ways) where
   by_text P same text raw (Rest name b) = raw name b
   by_text P same text raw i = same i
 
-  text_class : (spot : Spot) (i : Item) → class_of spot (with_text ways i) ≡ class_of spot i
-  text_class spot i =
-      by_text (λ i j. class_of spot j ≡ class_of spot i) (λ i. refl) (λ name b. refl)
-      (λ name b. refl) i
-
-  text_value : (i : Item) → class_value (with_text ways i) ≡ class_value i
-  text_value i =
-      by_text (λ i j. class_value j ≡ class_value i) (λ i. refl) (λ name b. refl)
-      (λ name b. refl) i
+  text_apart : (spot : Spot) (i : Item)
+      → (class_of spot (with_text ways i) ≡ class_of spot i)
+      × (class_value (with_text ways i) ≡ class_value i)
+      × (next_spot spot (with_text ways i) ≡ next_spot spot i)
+  text_apart spot (Opaque Text name b) = (
+    refl,
+    refl,
+    still_after spot (Opaque Text name (text_by ways name b)) tt
+        ∙ sym (still_after spot (Opaque Text name b) tt),
+  )
+  text_apart spot (Rest name b) = (
+    refl,
+    refl,
+    still_after spot (Rest name (raw_by (way_of ways Raw) b)) tt
+        ∙ sym (still_after spot (Rest name b) tt),
+  )
+  text_apart spot i = (refl, refl, refl)
 
   pub text_spot : (spot : Spot) (i : Item) → next_spot spot (with_text ways i) ≡ next_spot spot i
-  text_spot spot i =
-      by_text (λ i j. next_spot spot j ≡ next_spot spot i) (λ i. refl)
-      (λ name b.
-      still_after spot (Opaque Text name (text_by ways name b)) tt
-      ∙ sym (still_after spot (Opaque Text name b) tt))
-      (λ name b.
-      still_after spot (Rest name (raw_by (way_of ways Raw) b)) tt
-      ∙ sym (still_after spot (Rest name b) tt)) i
+  text_spot spot i = (text_apart spot i).2
 
   -- ---- values stay
 
@@ -41,7 +42,8 @@ module _ (ways : Ways) where
       → values_in d spot (map (with_text ways) l) ≡ values_in d spot l
   texts_values d spot [] = refl
   texts_values d spot (i ∷ l) =
-      simp (text_class, text_value, text_spot, texts_values d (next_spot spot i) l)
+      let same = text_apart spot i in
+      rw (same.0, same.1, same.2, texts_values d (next_spot spot i) l) refl
 
   -- ---- values may be masked first
 
@@ -57,7 +59,7 @@ module _ (ways : Ways) where
         → masked_item others seen spot (with_text ways i)
         ≡ with_text ways (masked_item others seen spot i)
     item_masked spot i =
-        rw (text_class spot i, text_value i)
+        rw ((text_apart spot i).0, (text_apart spot i).1)
         (text_with i (substitute others seen (class_of spot i) (class_value i)))
 
     pub texts_masked : (spot : Spot) (l : List Item)

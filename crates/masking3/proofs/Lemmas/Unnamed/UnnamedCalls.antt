@@ -1,9 +1,9 @@
--- Calls with masked names are calls of the same procedures, and no longer.
+-- Calls without the names of machines are calls of the same procedures, and no longer.
 use Rattle.std.proofs.lemmas.Bool.Decides.{nat_tests}
 use Rattle.xdr3.proofs.Lemmas.Reading.Decided.{zero_spelled_all}
-use Rattle.masking3.proofs.Common.{◌≡◌, ℕ, zero, suc, ◌+◌, ◌-◌, ◌<◌, ◌≤◌, true, List, [], ◌∷◌, ◌++◌, length, refl, ap, sym, ◌∙◌, subst, arith, length-append, ◌==◌, IsTrue, bytes_eq, if◌then◌else◌, length-replicate, bytes_eq-Decides, procedure_in, head_names, arguments_of, xid_in, zero_spelled_one, FitsCall, headed_call_fits, is_headed_call, by_test, Keep, Ways, Item, Word, Opaque, Var, Text, Spells, SpellsItem, residue, zero_spelling, zero_spelling_of, FitsLayout, word_in, Shape, ◌then◌, is_listed, listed, opaque, word, Fits, AreBytes-nil, after_first, emptied, length_of_opaque, less_by, named_by, named_call, text_size, unnamed_credential, unnamed_items, body_by, unnamed_body, auth_sys, call_head, credential, credential_flavors, gids, parameters, rpc_versions, verifier, way_of, Machines}
-use Rattle.masking3.proofs.Lemmas.Masked.MaskedMessages.{four_words, mtype_is}
-use Rattle.masking3.proofs.Lemmas.Unnamed.TextShapes.{call_with_texts, length_with_texts, procedure_with_texts, spelled_with_texts, with_texts, xid_with_texts}
+use Rattle.masking3.proofs.Common.{◌≡◌, ℕ, zero, suc, ◌+◌, ◌-◌, ◌<◌, ◌≤◌, true, List, [], ◌∷◌, ◌++◌, length, refl, ap, sym, ◌∙◌, subst, arith, length-append, ◌==◌, IsTrue, bytes_eq, if◌then◌else◌, length-replicate, bytes_eq-Decides, procedure_in, head_names, arguments_of, xid_in, FitsCall, headed_call_fits, is_headed_call, Keep, Way, Item, Word, Opaque, Var, Text, Spells, residue, zero_spelling, FitsLayout, word_in, Shape, ◌then◌, is_listed, listed, opaque, word, Fits, after_first, named_by, unnamed_credential, unnamed_items, body_by, unnamed_body, auth_sys, call_head, credential, credential_flavors, gids, parameters, rpc_versions, verifier}
+use Rattle.canon3.proofs.Lemmas.Changes.Messages.{four_words, mtype_is}
+use Rattle.masking3.proofs.Lemmas.Unnamed.UnnamedSpellings.{unnamed_spelled}
 use Rattle.masking3.proofs.Lemmas.Unnamed.UnnamedBodyLemmas.{not_spliced, spliced}
 use Rattle.masking3.proofs.Lemmas.Unnamed.UnnamedLemmas.{any_way}
 
@@ -14,58 +14,6 @@ words_stay : (n : ℕ) (l : List Item) (i : ℕ) → i < n
 words_stay (suc n) (x ∷ l) (suc i) low = words_stay n l i (omega (arith, low))
 words_stay zero l i low = absurd (omega (arith, low))
 words_stay n l i low = refl
-
--- ---- spellings
-
-less_spelled : (size : ℕ) (i : Item) (bytes : List ℕ) → SpellsItem i bytes
-    → SpellsItem (less_by size i) (zero_spelling_of (less_by size i))
-less_spelled size (Word name n) bytes p = by_test (bytes_eq name head_names.cred_length)
-    (λ t. rw t (omega (arith, p.0), refl))
-    (λ f. rw f (p.0, refl))
-less_spelled size i bytes p = zero_spelled_one i bytes p
-
-emptied_spelled : (i : Item) (bytes : List ℕ) → SpellsItem i bytes
-    → SpellsItem (emptied i) (zero_spelling_of (emptied i))
-emptied_spelled (Opaque Text name b) bytes p =
-    ([], omega arith, AreBytes-nil, refl, AreBytes-nil, refl)
-emptied_spelled i bytes p = zero_spelled_one i bytes p
-
-more_spelled : (i : Item) (l : List Item) → SpellsItem i (zero_spelling_of i)
-    → Spells l (zero_spelling l) → Spells (i ∷ l) (zero_spelling (i ∷ l))
-more_spelled i l p q = (_, _, p, q, refl)
-
-after_spelled : (n : ℕ) (l : List Item) (bytes : List ℕ) → Spells l bytes
-    → Spells (after_first n unnamed_credential l)
-    (zero_spelling (after_first n unnamed_credential l))
-after_spelled zero (i ∷ j ∷ k ∷ l) bytes p =
-    let q = p.3 in
-    let r = q.3 in
-    more_spelled (less_by (text_size k) i) (j ∷ emptied k ∷ l)
-    (less_spelled (text_size k) i p.0 p.2) (more_spelled j (emptied k ∷ l)
-    (zero_spelled_one j q.0 q.2) (more_spelled (emptied k) l (emptied_spelled k r.0 r.2)
-    (zero_spelled_all l r.1 r.3)))
-after_spelled (suc n) (i ∷ l) bytes p =
-    (_, _, zero_spelled_one i p.0 p.2, after_spelled n l p.1 p.3, refl)
-after_spelled n l bytes p = zero_spelled_all l bytes p
-
--- ---- lengths
-
-less_length : (size : ℕ) (i : Item)
-    → length (zero_spelling_of (less_by size i)) ≡ length (zero_spelling_of i)
-less_length size (Word name n) = refl
-less_length size i = refl
-
-emptied_length : (i : Item)
-    → length (zero_spelling_of (emptied i)) + text_size i ≡ length (zero_spelling_of i)
-emptied_length (Opaque Text name b) = omega (arith, length_of_opaque b)
-emptied_length i = omega arith
-
-after_length : (n : ℕ) (l : List Item)
-    → length (zero_spelling (after_first n unnamed_credential l)) ≤ length (zero_spelling l)
-after_length zero (i ∷ j ∷ k ∷ l) =
-    simp length-append (omega (arith, less_length (text_size k) i, emptied_length k))
-after_length (suc n) (i ∷ l) = simp length-append (omega (arith, after_length n l))
-after_length n l = omega arith
 
 -- ---- the head of a call
 
@@ -221,46 +169,34 @@ call_bytes m p =
     (zero_spelling ((more ++ last) ++ h.back)) (omega (arith, few)) (omega (arith, short))
     ∙ rw same_name refl) h.head h.head_fits)
 
--- ---- and with masked texts
+-- ---- by either way
 
-module _ (ways : Ways) (m : List Item) where
-  abbrev texts : List Item
-  texts = with_texts ways m
+module _ (way : Way) (m : List Item) where
+  abbrev named : List Item
+  named = named_by way m
 
-  pub call_named : FitsCall m → FitsCall (named_call ways m)
-  call_named p =
-      let q = call_with_texts ways m p in
-      any_way (λ f. FitsCall (f texts)) q (call_unnamed texts q) (way_of ways Machines)
+  pub call_named : FitsCall m → FitsCall named
+  call_named p = any_way (λ f. FitsCall (f m)) p (call_unnamed m p) way
 
-  pub named_xid : xid_in (named_call ways m) ≡ xid_in m
-  named_xid =
-      any_way (λ f. xid_in (f texts) ≡ xid_in texts) refl (words_stay 7 texts 0 (omega arith))
-      (way_of ways Machines) ∙ xid_with_texts ways m
+  pub named_xid : xid_in named ≡ xid_in m
+  named_xid = any_way (λ f. xid_in (f m) ≡ xid_in m) refl (words_stay 7 m 0 (omega arith)) way
 
-  pub named_procedure : procedure_in (named_call ways m) ≡ procedure_in m
+  pub named_procedure : procedure_in named ≡ procedure_in m
   named_procedure =
-      let stays = words_stay 7 texts in
-      any_way (λ f. procedure_in (f texts) ≡ procedure_in texts) refl
-      (rw (stays 3 (omega arith), stays 4 (omega arith), stays 5 (omega arith)) refl)
-      (way_of ways Machines)
-      ∙ procedure_with_texts ways m
+      let stays = words_stay 7 m in
+      any_way (λ f. procedure_in (f m) ≡ procedure_in m) refl
+      (rw (stays 3 (omega arith), stays 4 (omega arith), stays 5 (omega arith)) refl) way
 
   pub named_spelled : (bytes : List ℕ) → Spells m bytes
-      → Spells (named_call ways m) (zero_spelling (named_call ways m))
+      → Spells named (zero_spelling named)
+      × (length (zero_spelling named) ≤ length (zero_spelling m))
   named_spelled bytes p =
-      let q = spelled_with_texts ways m bytes p in
-      any_way (λ f. Spells (f texts) (zero_spelling (f texts))) q
-      (after_spelled 7 texts (zero_spelling texts) q) (way_of ways Machines)
+      any_way (λ f. Spells (f m) (zero_spelling (f m))
+      × (length (zero_spelling (f m)) ≤ length (zero_spelling m)))
+      (zero_spelled_all m bytes p, omega arith)
+      (unnamed_spelled m bytes p) way
 
-  pub named_length : length (zero_spelling (named_call ways m)) ≤ length (zero_spelling m)
-  named_length =
-      let shorter = length_with_texts ways m in
-      any_way (λ f. length (zero_spelling (f texts)) ≤ length (zero_spelling m)) shorter
-      (omega (arith, shorter, after_length 7 texts)) (way_of ways Machines)
-
-  pub named_bytes_of : FitsCall m
-      → body_by (way_of ways Machines) (zero_spelling texts) ≡ zero_spelling (named_call ways m)
+  pub named_bytes_of : FitsCall m → body_by way (zero_spelling m) ≡ zero_spelling named
   named_bytes_of p =
-      elim (way_of ways Machines)
-      as (λ way. body_by way (zero_spelling texts) ≡ zero_spelling (named_by way texts))
-      [ Keep ↦ refl | _ ↦ call_bytes texts (call_with_texts ways m p) ]
+      elim way as (λ way. body_by way (zero_spelling m) ≡ zero_spelling (named_by way m))
+      [ Keep ↦ refl | _ ↦ call_bytes m p ]

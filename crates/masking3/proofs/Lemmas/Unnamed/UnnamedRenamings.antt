@@ -1,5 +1,6 @@
 -- Captures that are renamed, or whose values change, do so with masked names as well.
-use Rattle.masking3.proofs.Common.{◌≡◌, ℕ, zero, suc, List, map, refl, ap, subst, bytes_eq, Option, None, Some, Item, Word, Opaque, Rest, Text, head_names, Entry, Pairs, by_test, Class, Spot, InCall, InReply, Way, Keep, Zero, Number, Ways, class_of, next_spot, with_text, after_first, emptied, less_by, named_by, named_entry, names_by, text_size, unnamed_credential, way_of, AreAlike, words, ChangesBy, ChangesOf, ChangesItem, ChangesItems, over, along, ChangesEntry, call, reply, IsPlain, RenamesItem, plain, Pairwise, none, more, RenamesMessage, message, Renames, ended, begins, calls, turns, replies, closes, ends, Same, Machines}
+use Rattle.masking3.proofs.Common.{◌≡◌, ⊎_elim, ℕ, zero, suc, List, map, refl, ap, subst, bytes_eq, Option, Item, Word, Opaque, Rest, Text, head_names, Entry, Pairs, by_test, Class, Spot, InCall, InReply, Way, Keep, Ways, class_of, next_spot, with_text, after_first, emptied, less_by, named_by, named_entry, names_by, text_size, unnamed_credential, way_of, AreAlike, words, ChangesOf, ChangesItem, ChangesItems, over, along, ChangesEntry, call, reply, IsPlain, RenamesItem, plain, Pairwise, none, more, RenamesMessage, message, Renames, ended, begins, calls, turns, replies, closes, ends, Same, Machines}
+use Rattle.masking3.proofs.Lemmas.Masked.SameButLemmas.{changed_is, same_by_renaming}
 use Rattle.masking3.proofs.Lemmas.Unnamed.TextsLemmas.{by_text, text_spot}
 use Rattle.masking3.proofs.Lemmas.Unnamed.UnnamedLemmas.{IsNoLength, any_way, free_length, less_stays}
 
@@ -69,30 +70,16 @@ module _ {ps vs : Pairs (List ℕ)} where
     entries_renamed (ends r) = ends (entries_renamed r)
 
 pub same_named : (by : Ways) {a b : List Entry} → Same a b → Same (names_by by a) (names_by by b)
-same_named by s = record {
-  handle_pairs = s.handle_pairs;
-  verifier_pairs = s.verifier_pairs;
-  xid_pairs = s.xid_pairs;
-  handles_one_to_one = s.handles_one_to_one;
-  verifiers_one_to_one = s.verifiers_one_to_one;
-  xids_one_to_one = s.xids_one_to_one;
-  renames = entries_renamed by s.renames;
-}
+same_named by s = same_by_renaming s (entries_renamed by s.renames)
 
 -- ---- changes
 
--- what is so of both of two alike items
-module _ (P : Item → Item → Type 0) (same : (i : Item) → P i i)
-    (alike : (i j : Item) → AreAlike i j → P i j) where
-  by_way_is : (w : Way) (d : Class) (pairs : Pairs ℕ) (i j : Item) → ChangesBy w d pairs i j → P i j
-  by_way_is Keep d pairs i j h = subst (P i) h (same i)
-  by_way_is Zero d pairs i j h = alike i j h
-  by_way_is Number d pairs i j h = alike i j h.0
-
-  changed_is : (ways : Ways) (pairs : Class → Pairs ℕ) (o : Option Class) (i j : Item)
-      → ChangesOf ways pairs o i j → P i j
-  changed_is ways pairs None i j h = subst (P i) h (same i)
-  changed_is ways pairs (Some d) i j h = by_way_is (way_of ways d) d (pairs d) i j h
+-- what is so of both of two alike items is so of an item and the changed one
+changed_to : (P : Item → Item → Type 0) → ((i : Item) → P i i)
+    → ((i j : Item) → AreAlike i j → P i j) → (ways : Ways) (pairs : Class → Pairs ℕ)
+    → (o : Option Class) (i j : Item) → ChangesOf ways pairs o i j → P i j
+changed_to P same alike ways pairs o i j h =
+    ⊎_elim (λ e. subst (P i) e (same i)) (alike i j) (changed_is ways pairs o i j h)
 
 size_alike : (i j : Item) → AreAlike i j → text_size i ≡ text_size j
 size_alike i j words = refl
@@ -113,7 +100,7 @@ less_alike n i j a f = refl
 module _ (ways : Ways) (pairs : Class → Pairs ℕ) where
   size_changed : (i j : Item) → ChangesItem ways pairs InCall i j → text_size i ≡ text_size j
   size_changed i j h =
-      changed_is (λ i j. text_size i ≡ text_size j) (λ i. refl) size_alike ways pairs
+      changed_to (λ i j. text_size i ≡ text_size j) (λ i. refl) size_alike ways pairs
       (class_of InCall i) i j h
 
   -- an item that stays, as those that are alike do
@@ -121,7 +108,7 @@ module _ (ways : Ways) (pairs : Class → Pairs ℕ) where
       → ((i j : Item) → AreAlike i j → P i → f j ≡ j) → (spot : Spot) (i j : Item) → P i
       → ChangesItem ways pairs spot i j → ChangesItem ways pairs spot (f i) (f j)
   stays_changed f P stays alike spot i j p h =
-      let e = changed_is (λ i j. P i → f j ≡ j) stays alike ways pairs (class_of spot i) i j h p in
+      let e = changed_to (λ i j. P i → f j ≡ j) stays alike ways pairs (class_of spot i) i j h p in
       rw (stays i p, e) h
 
   emptied_changed : (i j : Item) → ChangesItem ways pairs InCall i j

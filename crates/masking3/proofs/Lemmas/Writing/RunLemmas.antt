@@ -7,16 +7,6 @@ use Rattle.masking3.specs.machinery.KnownFields.{with_run}
 use Rattle.masking3.proofs.Lemmas.Writing.WriterLemmas.{Spells, with_parts}
 use Rattle.std.proofs.lemmas.List.{take_all}
 
--- an item more is put into a run behind these bytes
-pub put_spells : (front old new : List ℕ) (j : Item) → new ≡ old ++ zero_spelling_of j
-    → Adds Spells (front ++ old) (front ++ new) (j ∷ [])
-unfolding Adds
-put_spells front old new j is before was =
-    ap (λ (l : List ℕ). front ++ l) is ∙ sym (append_assoc front old (zero_spelling_of j))
-    ∙ ap (λ (l : List ℕ). l ++ zero_spelling_of j) was
-    ∙ sym (flat_map-append zero_spelling_of before (j ∷ [])
-    ∙ ap (λ (l : List ℕ). zero_spelling before ++ l) (append-nil (zero_spelling_of j)))
-
 pub put_there : (end at width : ℕ) (old new bytes spelled : List ℕ) → end ≡ at + length bytes
     → take end new ≡ take at old ++ bytes → bytes ≡ spelled → length spelled ≡ width
     → take (at + width) new ≡ take at old ++ spelled
@@ -46,6 +36,13 @@ spelled_item old new i is before was =
     is ∙ ap (λ (l : List ℕ). l ++ zero_spelling_of i) was
     ∙ sym (flat_map-append zero_spelling_of before (i ∷ [])
     ∙ ap (λ (l : List ℕ). zero_spelling before ++ l) (append-nil (zero_spelling_of i)))
+
+-- an item more is put into a run behind these bytes
+pub put_spells : (front old new : List ℕ) (j : Item) → new ≡ old ++ zero_spelling_of j
+    → Adds Spells (front ++ old) (front ++ new) (j ∷ [])
+put_spells front old new j is =
+    spelled_item (front ++ old) (front ++ new) j
+    (ap (λ (l : List ℕ). front ++ l) is ∙ sym (append_assoc front old (zero_spelling_of j)))
 
 -- a writer that has failed stands for anything
 pub fails_some : {P S H : Type 0} (ways : Ways) (old new : MaskingWriter P S H) (items : List Item)

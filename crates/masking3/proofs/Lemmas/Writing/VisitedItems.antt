@@ -1,5 +1,5 @@
 -- What stands for the items of the messages before has their values and their handles.
-use Rattle.masking3.proofs.Common.{◌≡◌, ℕ, List, [], ◌∷◌, ◌++◌, refl, sym, ap, ap₂, ◌∙◌, append-nil, Option, None, Some, flat_map, flat_map-append, Item, Word, Hyper, Fixed, WriteVerf, Opaque, Rest, Entry, Begin, Call, Turn, Reply, Close, End, items_of, Class, Spot, InCall, InReply, class_of, class_of_fixed, class_of_hyper, class_of_word, class_value, value_where, values, values_in, values_in_entry, next_spot, first_spot, handle_in, handles, handles_in, visited_entry, visited_item, visited_items, visited_value, values_so_far}
+use Rattle.masking3.proofs.Common.{◌≡◌, ℕ, List, [], ◌∷◌, ◌++◌, refl, sym, ap, ap₂, ◌∙◌, append-nil, Option, None, Some, flat_map, flat_map-append, Item, Word, Hyper, Fixed, Entry, Call, Reply, items_of, Class, Spot, InCall, InReply, class_of, class_of_fixed, class_of_hyper, class_of_word, class_value, value_where, values, values_in, values_in_entry, next_spot, first_spot, handle_in, handles, handles_in, visited_entry, visited_item, visited_items, visited_value, values_so_far}
 use Rattle.masking3.proofs.Lemmas.Classes.ClassLemmas.{seen_alike}
 use Rattle.masking3.proofs.Lemmas.Classes.MessageSpotLemmas.{entry_side}
 
@@ -9,12 +9,8 @@ module _ (d : Class) where
   visited_one : (o : Option Class) (i : Item)
       → visited_value d (visited_item o i) ≡ value_where d o (class_value i)
   visited_one (Some e) i = refl
-  visited_one None (Word name n) = refl
   visited_one None (Hyper name n) = refl
-  visited_one None (Fixed name bytes) = refl
-  visited_one None (WriteVerf name bytes) = refl
-  visited_one None (Opaque kind name bytes) = refl
-  visited_one None (Rest name bytes) = refl
+  visited_one None i = refl
 
   pub visited_values : (spot : Spot) (items : List Item)
       → flat_map (visited_value d) (visited_items spot items) ≡ values_in d spot items
@@ -24,12 +20,9 @@ module _ (d : Class) where
       (visited_values (next_spot spot i) items)
 
   values_of_entry : (e : Entry) → flat_map (visited_value d) (visited_entry e) ≡ values_in_entry d e
-  values_of_entry Begin = refl
   values_of_entry (Call items) = visited_values InCall items
-  values_of_entry Turn = refl
   values_of_entry (Reply id items) = visited_values InReply items
-  values_of_entry Close = refl
-  values_of_entry End = refl
+  values_of_entry e = refl
 
   values_before : (entries : List Entry)
       → flat_map (visited_value d) (flat_map visited_entry entries) ≡ values entries d
@@ -40,12 +33,8 @@ module _ (d : Class) where
 
   values_on_side : (e : Entry)
       → values_in d (first_spot (entry_side e)) (items_of e) ≡ values_in_entry d e
-  values_on_side Begin = refl
   values_on_side (Call items) = refl
-  values_on_side Turn = refl
-  values_on_side (Reply id items) = refl
-  values_on_side Close = refl
-  values_on_side End = refl
+  values_on_side e = refl
 
   with_last : (entries : List Entry) (one : Entry)
       → values_so_far (flat_map visited_entry entries) (entry_side one) (items_of one) d
@@ -65,12 +54,8 @@ values_with_last entries one =
 
 visited_on_side : (e : Entry)
     → visited_entry e ≡ visited_items (first_spot (entry_side e)) (items_of e)
-visited_on_side Begin = refl
 visited_on_side (Call items) = refl
-visited_on_side Turn = refl
-visited_on_side (Reply id items) = refl
-visited_on_side Close = refl
-visited_on_side End = refl
+visited_on_side e = refl
 
 pub before_with_last : (entries : List Entry) (one : Entry)
     → flat_map visited_entry (entries ++ one ∷ [])
@@ -82,29 +67,17 @@ before_with_last entries one =
 
 -- ---- handles
 
-word_without : (o : Option Class) (name : List ℕ) (n : ℕ)
-    → handle_in (visited_item o (Word name n)) ≡ []
-word_without None name n = refl
-word_without (Some d) name n = refl
-
-hyper_without : (o : Option Class) (name : List ℕ) (n : ℕ)
-    → handle_in (visited_item o (Hyper name n)) ≡ []
-hyper_without None name n = refl
-hyper_without (Some d) name n = refl
-
-fixed_without : (o : Option Class) (name bytes : List ℕ)
-    → handle_in (visited_item o (Fixed name bytes)) ≡ []
-fixed_without None name bytes = refl
-fixed_without (Some d) name bytes = refl
+without : (o : Option Class) (i : Item) → handle_in i ≡ [] → handle_in (visited_item None i) ≡ []
+    → handle_in (visited_item o i) ≡ handle_in i
+without None i e f = f ∙ sym e
+without (Some d) i e f = sym e
 
 visited_handle : (spot : Spot) (i : Item)
     → handle_in (visited_item (class_of spot i) i) ≡ handle_in i
-visited_handle spot (Word name n) = word_without (class_of_word spot name) name n
-visited_handle spot (Hyper name n) = hyper_without (class_of_hyper spot name) name n
-visited_handle spot (Fixed name bytes) = fixed_without (class_of_fixed name) name bytes
-visited_handle spot (WriteVerf name bytes) = refl
-visited_handle spot (Opaque kind name bytes) = refl
-visited_handle spot (Rest name bytes) = refl
+visited_handle spot (Word name n) = without (class_of_word spot name) (Word name n) refl refl
+visited_handle spot (Hyper name n) = without (class_of_hyper spot name) (Hyper name n) refl refl
+visited_handle spot (Fixed name b) = without (class_of_fixed name) (Fixed name b) refl refl
+visited_handle spot i = refl
 
 pub visited_handles : (spot : Spot) (items : List Item)
     → handles_in (visited_items spot items) ≡ handles_in items
@@ -114,12 +87,9 @@ visited_handles spot (i ∷ items) =
     (visited_handles (next_spot spot i) items)
 
 handles_of_entry : (e : Entry) → handles_in (visited_entry e) ≡ handles_in (items_of e)
-handles_of_entry Begin = refl
 handles_of_entry (Call items) = visited_handles InCall items
-handles_of_entry Turn = refl
 handles_of_entry (Reply id items) = visited_handles InReply items
-handles_of_entry Close = refl
-handles_of_entry End = refl
+handles_of_entry e = refl
 
 pub handles_before : (entries : List Entry)
     → handles_in (flat_map visited_entry entries) ≡ handles entries

@@ -1,5 +1,5 @@
 -- A message is masked item by item.
-use Rattle.masking3.proofs.Common.{◌≡◌, ℕ, List, [], ◌∷◌, ◌++◌, length, map, refl, sym, ap, ap₂, ◌∙◌, subst, append_assoc, append-nil, arith, Option, None, Some, flat_map, flat_map-append, map-append, Item, Word, Hyper, zero_spelling, Side, Client, Entry, Begin, Call, Turn, Reply, Close, End, items_of, head_names, Spot, Ways, Class, class_of, class_value, masked_item, masked_items, substitute, value_in, value_where, values_in, with_value, with_text, HoldsAt, HoldsValues, position, with_one, handle_in, handles_in, member-append_right, BeginsOn, first_spot, next_spot, side_by, spot_after, Adds, Keeps, Gathers, HoldsHandles, after_messages, HoldsMasked, HasMemory, MaskRests, MaskStands, visited_items, visited_value, values_so_far}
+use Rattle.masking3.proofs.Common.{HasMaskedUnderWay, ◌≡◌, ℕ, List, [], ◌∷◌, ◌++◌, length, map, refl, sym, ap, ap₂, ◌∙◌, subst, append_assoc, append-nil, arith, Option, None, Some, flat_map, flat_map-append, map-append, Item, Word, Hyper, zero_spelling, Side, Client, Entry, Begin, Call, Turn, Reply, Close, End, items_of, head_names, Spot, Ways, Class, class_of, class_value, masked_item, masked_items, substitute, value_in, value_where, values_in, with_value, with_text, HoldsAt, HoldsValues, position, with_one, handle_in, handles_in, member-append_right, BeginsOn, first_spot, next_spot, side_by, spot_after, Adds, Keeps, Gathers, HoldsHandles, after_messages, HoldsMasked, HasMemory, MaskRests, MaskStands, visited_items, visited_value, values_so_far}
 use Rattle.nfs3_types.specs.declared.values.handle.Handle as handles
 use Rattle.canon3.proofs.Lemmas.Numbers.HandleTableLemmas.{gathers_none}
 use Rattle.masking3.specs.declared.class_tables.ClassTables.{ClassTables}
@@ -10,7 +10,7 @@ use Rattle.masking3.proofs.Lemmas.Classes.ClassLemmas.{holds_without, seen_alike
 use Rattle.capture3.specs.MessageVisit.{HasHeard, OpensMessage}
 use Rattle.rpc_head.specs.MessageStart.{start_items}
 use Rattle.rpc_head.specs.declared.values.message_start.MessageStart.{MessageStart}
-use Rattle.masking3.proofs.Lemmas.Classes.KnownFieldLemmas.{AllStay, free_stays, kept_handles, kept_masked, kept_spot, kept_texts, kept_values}
+use Rattle.masking3.proofs.Lemmas.Classes.KnownFieldLemmas.{AllStay, free_stays, kept_handles, kept_put, kept_spot, kept_values}
 use Rattle.masking3.proofs.Lemmas.Classes.MessageSpotLemmas.{IsBegun, begins_more, entry_side, mtype_by, one_side}
 use Rattle.masking3.proofs.Lemmas.Classes.SpotLemmas.{IsNoWord, masked_items-append, mtype_free, still_after, values_in-append, xid_free}
 use Rattle.masking3.proofs.Lemmas.Masked.MaskedLemmas.{ItemsAreAmong, items_among, items_stay}
@@ -56,28 +56,15 @@ module _ (side : Side) where
   abbrev spot_of_next : List Item → Spot
   spot_of_next items = spot_after (first_spot side) items
 
-  so_far_more : (front items : List Item) (i : Item)
-      → with_one (values_so_far front side items) (class_of (spot_of_next items) i) (class_value i)
-      ≡ values_so_far front side (items ++ i ∷ [])
-  so_far_more front items i =
-      seen_alike
-      (with_one (values_so_far front side items) (class_of (spot_of_next items) i)
-      (class_value i)) (values_so_far front side (items ++ i ∷ []))
-      (λ d.
-      append_assoc (flat_map (visited_value d) front) (values_in d (first_spot side) items)
-      (value_in d (spot_of_next items) i)
-      ∙ ap (λ (l : List ℕ). flat_map (visited_value d) front ++ l) (sym (values_in-append d
-      (first_spot side) items (i ∷ [])
-      ∙ ap (λ (l : List ℕ). values_in d (first_spot side) items ++ l)
-      (append-nil (value_in d (spot_of_next items) i)))))
+  -- the values so far with those of more items
+  abbrev grown : (front items more : List Item) → Class → List ℕ
+  grown front items more d =
+      values_so_far front side items d ++ values_in d (spot_of_next items) more
 
   so_far_grown : (front items more : List Item)
-      → (λ d. values_so_far front side items d ++ values_in d (spot_of_next items) more)
-      ≡ values_so_far front side (items ++ more)
+      → grown front items more ≡ values_so_far front side (items ++ more)
   so_far_grown front items more =
-      seen_alike
-      (λ d. values_so_far front side items d ++ values_in d (spot_of_next items) more)
-      (values_so_far front side (items ++ more))
+      seen_alike (grown front items more) (values_so_far front side (items ++ more))
       (λ d.
       append_assoc (flat_map (visited_value d) front) (values_in d (first_spot side) items)
       (values_in d (spot_of_next items) more)
@@ -90,26 +77,26 @@ module _ (side : Side) where
       items_among (values_so_far front side items) (first_spot side) items
       (λ d x m. member-append_right (flat_map (visited_value d) front) m)
 
-  abbrev told : List Item → List Item
-  told items = visited_items (first_spot side) items
+  abbrev passed : List Item → List Item
+  passed items = visited_items (first_spot side) items
 
   -- a message is over, and another one may begin
   so_far_over : (front : List Item) (other : Side) (items : List Item)
-      → values_so_far front side items ≡ values_so_far (front ++ told items) other []
+      → values_so_far front side items ≡ values_so_far (front ++ passed items) other []
   so_far_over front other items =
-      seen_alike (values_so_far front side items) (values_so_far (front ++ told items) other [])
+      seen_alike (values_so_far front side items) (values_so_far (front ++ passed items) other [])
       (λ d.
-      sym (append-nil (flat_map (visited_value d) (front ++ told items))
-      ∙ flat_map-append (visited_value d) front (told items)
+      sym (append-nil (flat_map (visited_value d) (front ++ passed items))
+      ∙ flat_map-append (visited_value d) front (passed items)
       ∙ ap (λ (l : List ℕ). flat_map (visited_value d) front ++ l)
       (visited_values d (first_spot side) items)))
 
   handles_over : (front items : List Item)
-      → handles_in (front ++ items) ≡ handles_in ((front ++ told items) ++ [])
+      → handles_in (front ++ items) ≡ handles_in ((front ++ passed items) ++ [])
   handles_over front items =
       flat_map-append handle_in front items
-      ∙ sym (ap handles_in (append-nil (front ++ told items))
-      ∙ flat_map-append handle_in front (told items)
+      ∙ sym (ap handles_in (append-nil (front ++ passed items))
+      ∙ flat_map-append handle_in front (passed items)
       ∙ ap (λ (l : List (List ℕ)). handles_in front ++ l)
       (visited_handles (first_spot side) items))
 
@@ -153,7 +140,7 @@ module _ {P S H : Type 0} (ways : Ways) (w : MaskingWriter P S H) where
       subst (λ s. HoldsMasked ways w front s items) same
       (held_after front items u.front u.items u.side are u.holds)
 
-  -- what is held after an entry, of which the writer was told
+  -- what is held after an entry, whose items the writer was passed
   pub heard : (front : List Item) (one : Entry) → IsBegun one → HasMemory w
       → HasHeard (MaskRests ways) (MaskStands ways) w (after_messages front []) one
       → HoldsMasked ways w front (entry_side one) (items_of one)
@@ -219,112 +206,134 @@ module _ {P S H : Type 0} (ways : Ways) (w : MaskingWriter P S H) where
         };
       }
 
-  -- ---- one item more
+  -- ---- more items
 
-  -- of this class, and with the spot after it
-  module _ (own : Option Class) (gathered : List handles.Handle) (classes : ClassTables S H)
-      (bytes : List ℕ) (spot : Spot) (i : Item) where
-    abbrev more_values : (Class → List ℕ) → Class → List ℕ
-    more_values seen = with_one seen own (class_value i)
+  module _ (gathered : List handles.Handle) (classes : ClassTables S H) (bytes : List ℕ)
+      (spot : Spot) where
+    abbrev later_writer : MaskingWriter P S H
+    later_writer = with_parts gathered classes bytes spot
 
-    -- what is written for it
-    abbrev put : Ways → (Class → List ℕ) → Item
-    put by seen = with_text by (with_value i (substitute by (more_values seen) own (class_value i)))
+    -- what is written for items after these
+    abbrev put : (front own : List Item) → Side → List Item → List Item
+    put front own side items =
+        map (with_text ways) (masked_items ways (grown side front own items) (spot_of_next side own)
+        items)
 
-    one_more : (front : List Item) (side : Side) (items : List Item)
-        → HoldsMasked ways w front side items → own ≡ class_of (spot_of_next side items) i
-        → classes.ways ≡ ways
-        → HoldsValues ways classes.numbers.items (more_values (values_so_far front side items))
-        → Gathers gathered (front ++ (items ++ i ∷ []))
-        → Adds Spells w.writer bytes (put ways (values_so_far front side items) ∷ [])
-        → HoldsMasked ways (with_parts gathered classes bytes spot) front side (items ++ i ∷ [])
+    held_on : (front own items : List Item) (side : Side) → HoldsMasked ways w front side own
+        → classes.ways ≡ ways → HoldsValues ways classes.numbers.items (grown side front own items)
+        → Gathers gathered (front ++ (own ++ items))
+        → Adds Spells w.writer bytes (put front own side items)
+        → HoldsMasked ways later_writer front side (own ++ items)
     unfolding Adds
-    one_more front side items is found are tables gathers write =
-        let so_far : Class → List ℕ = values_so_far front side items in
-        let first : Spot = first_spot side in
-        let later : Spot = spot_of_next side items in
-        let now : more_values so_far ≡ values_so_far front side (items ++ i ∷ []) =
-        ap (λ o. with_one so_far o (class_value i)) found ∙ so_far_more side front items i in
-        let before : List Item = masked_items ways so_far first items in
-        let stay : masked_items ways (more_values so_far) first items ≡ before =
-        items_stay ways so_far (λ d. value_where d own (class_value i)) first items
-        (among_so_far side front items) in
-        let item : with_value i (substitute ways (more_values so_far) own (class_value i))
-        ≡ masked_item ways (more_values so_far) later i =
-        ap (λ o. with_value i (substitute ways (more_values so_far) o (class_value i))) found in
+    held_on front own items side h are tables gathers write =
         let texts : List Item → List Item = map (with_text ways) in
-        let added : bytes ≡ zero_spelling (texts before ++ put ways so_far ∷ []) =
-        write (texts before) is.written in
-        let masked : before
-        ++ with_value i (substitute ways (more_values so_far) own (class_value i)) ∷ []
-        ≡ masked_items ways (more_values so_far) first (items ++ i ∷ []) =
-        ap₂ (λ (l : List Item) (j : Item). l ++ j ∷ []) (sym stay) item
-        ∙ sym (masked_items-append ways (more_values so_far) first items (i ∷ [])) in
-        let whole : texts before ++ put ways so_far ∷ []
-        ≡ texts (masked_items ways (more_values so_far) first (items ++ i ∷ [])) =
-        sym (map-append (with_text ways) before
-        (with_value i (substitute ways (more_values so_far) own (class_value i)) ∷ []))
-        ∙ ap texts masked in
+        let so_far : Class → List ℕ = values_so_far front side own in
+        let first : Spot = first_spot side in
+        let later : Spot = spot_of_next side own in
+        let seen : Class → List ℕ = grown side front own items in
+        let before : List Item = masked_items ways so_far first own in
+        let all : before ++ masked_items ways seen later items
+        ≡ masked_items ways seen first (own ++ items) =
+        ap (λ (l : List Item). l ++ masked_items ways seen later items)
+        (sym (items_stay ways so_far (λ d. values_in d later items) first own
+        (among_so_far side front own)))
+        ∙ sym (masked_items-append ways seen first own items) in
+        let whole : texts before ++ put front own side items
+        ≡ texts (masked_items ways seen first (own ++ items)) =
+        sym (map-append (with_text ways) before (masked_items ways seen later items))
+        ∙ ap texts all in
+        let now = so_far_grown side front own items in
         record {
           ways_are = are;
           tables = subst (HoldsValues ways classes.numbers.items) now tables;
           handles = gathers;
           written =
               subst
-              (λ (seen : Class → List ℕ).
+              (λ (k : Class → List ℕ).
               bytes
-              ≡ zero_spelling (texts (masked_items ways seen first (items ++ i ∷ []))))
-              now (added ∙ ap zero_spelling whole);
+              ≡ zero_spelling (texts (masked_items ways k first (own ++ items))))
+              now (write (texts before) h.written ∙ ap zero_spelling whole);
         }
 
-    -- the class is that at the writer's spot, and what follows is at the next one
-    abbrev pub IsFound : Type 0
-    IsFound = (own ≡ class_of w.spot i) × (spot ≡ next_spot w.spot i)
+    -- the open message goes on with these items
+    goes_on : (all items : List Item) (u : HasMaskedUnderWay ways w all)
+        → spot ≡ spot_after w.spot items
+        → HoldsMasked ways later_writer u.front u.side (u.items ++ items)
+        → HasMaskedUnderWay ways later_writer (all ++ items)
+    goes_on all items u moved holds = record {
+      front = u.front;
+      side = u.side;
+      items = u.items ++ items;
+      are =
+          ap (λ (l : List Item). l ++ items) u.are
+          ∙ after_messages-append u.front u.items items;
+      begins = begins_more u.side u.items items u.begins;
+      spot_is =
+          moved ∙ ap (λ (s : Spot). spot_after s items) u.spot_is
+          ∙ sym (fold-append next_spot (first_spot u.side) u.items items);
+      holds = holds;
+    }
 
-    abbrev Held : (Class → List ℕ) → Type 0
-    Held seen = HoldsValues w.classes.ways w.classes.numbers.items seen
+    -- ---- one of this class
 
-    adds : classes.ways ≡ w.classes.ways → IsFound
-        → ((seen : Class → List ℕ) → Held seen
-        → HoldsValues classes.ways classes.numbers.items (more_values seen))
-        → ((items : List Item) → Gathers w.handles items → Gathers gathered (items ++ i ∷ []))
-        → ((seen : Class → List ℕ) → Held seen
-        → Adds Spells w.writer bytes (put w.classes.ways seen ∷ []))
-        → Adds (MaskStands ways) w (with_parts gathered classes bytes spot) (i ∷ [])
-    unfolding Adds
-    adds same found tables gathers write all stands going =
-        let u = stands going in
-        let h = u.holds in
-        let so_far : Class → List ℕ = values_so_far u.front u.side u.items in
-        let held : Held so_far =
-        subst (λ k. HoldsValues k w.classes.numbers.items so_far) (sym h.ways_are) h.tables in
-        let class : own ≡ class_of (spot_of_next u.side u.items) i =
-        found.0 ∙ ap (λ (s : Spot). class_of s i) u.spot_is in
-        record {
-          front = u.front;
-          side = u.side;
-          items = u.items ++ i ∷ [];
-          are =
-              ap (λ (l : List Item). l ++ i ∷ []) u.are
-              ∙ after_messages-append u.front u.items (i ∷ []);
-          begins = begins_more u.side u.items (i ∷ []) u.begins;
-          spot_is =
-              found.1 ∙ ap (λ (s : Spot). next_spot s i) u.spot_is
-              ∙ sym (fold-append next_spot (first_spot u.side) u.items (i ∷ []));
-          holds =
-              one_more u.front u.side u.items h class (same ∙ h.ways_are)
-              (subst (λ k. HoldsValues k classes.numbers.items (more_values so_far))
-              (same ∙ h.ways_are) (tables so_far held))
-              (subst (Gathers gathered) (append_assoc u.front u.items (i ∷ []))
-              (gathers (u.front ++ u.items) h.handles))
-              (subst (λ k. Adds Spells w.writer bytes (put k so_far ∷ [])) h.ways_are
-              (write so_far held));
-        }
+    module _ (own : Option Class) (i : Item) where
+      -- the class is that at the writer's spot, and what follows is at the next one
+      abbrev pub IsFound : Type 0
+      IsFound = (own ≡ class_of w.spot i) × (spot ≡ next_spot w.spot i)
+
+      abbrev Held : (Class → List ℕ) → Type 0
+      Held seen = HoldsValues w.classes.ways w.classes.numbers.items seen
+
+      -- what is written for it
+      abbrev put_one : Ways → (Class → List ℕ) → Item
+      put_one by seen =
+          with_text by
+          (with_value i (substitute by (with_one seen own (class_value i)) own (class_value i)))
+
+      adds : classes.ways ≡ w.classes.ways → IsFound
+          → ((seen : Class → List ℕ) → Held seen
+          → HoldsValues classes.ways classes.numbers.items (with_one seen own (class_value i)))
+          → ((items : List Item) → Gathers w.handles items → Gathers gathered (items ++ i ∷ []))
+          → ((seen : Class → List ℕ) → Held seen
+          → Adds Spells w.writer bytes (put_one w.classes.ways seen ∷ []))
+          → Adds (MaskStands ways) w later_writer (i ∷ [])
+      unfolding Adds
+      adds same found tables gathers write all stands going =
+          let u = stands going in
+          let h = u.holds in
+          let so_far : Class → List ℕ = values_so_far u.front u.side u.items in
+          let later : Spot = spot_of_next u.side u.items in
+          let held : Held so_far =
+          subst (λ k. HoldsValues k w.classes.numbers.items so_far) (sym h.ways_are) h.tables in
+          let class : own ≡ class_of later i =
+          found.0 ∙ ap (λ (s : Spot). class_of s i) u.spot_is in
+          let seen : Class → List ℕ = grown u.side u.front u.items (i ∷ []) in
+          let now : with_one so_far own (class_value i) ≡ seen =
+          seen_alike (with_one so_far own (class_value i)) seen
+          (λ d.
+          ap (λ (l : List ℕ). so_far d ++ l)
+          (ap (λ o. value_where d o (class_value i)) class
+          ∙ sym (append-nil (value_in d later i)))) in
+          let item : put_one ways so_far ≡ with_text ways (masked_item ways seen later i) =
+          ap₂
+          (λ (k : Class → List ℕ) (o : Option Class).
+          with_text ways (with_value i (substitute ways k o (class_value i)))) now class in
+          goes_on all (i ∷ []) u found.1
+          (held_on u.front u.items (i ∷ []) u.side h (same ∙ h.ways_are)
+          (subst (HoldsValues ways classes.numbers.items) now
+          (subst
+          (λ k. HoldsValues k classes.numbers.items (with_one so_far own (class_value i)))
+          (same ∙ h.ways_are) (tables so_far held)))
+          (subst (Gathers gathered) (append_assoc u.front u.items (i ∷ []))
+          (gathers (u.front ++ u.items) h.handles))
+          (subst (λ j. Adds Spells w.writer bytes (j ∷ [])) item
+          (subst (λ k. Adds Spells w.writer bytes (put_one k so_far ∷ [])) h.ways_are
+          (write so_far held))))
 
   -- an item that may have a class, and has no handle
   pub adds_of_class : (own : Option Class) (n : ℕ) (classes : ClassTables S H) (bytes : List ℕ)
       (spot : Spot) (i j : Item) → n ≡ class_value i → handles_in (i ∷ []) ≡ []
-      → classes.ways ≡ w.classes.ways → IsFound own w.handles classes bytes spot i
+      → classes.ways ≡ w.classes.ways → IsFound w.handles classes bytes spot own i
       → ((seen : Class → List ℕ) → HoldsValues w.classes.ways w.classes.numbers.items seen
       → HoldsValues classes.ways classes.numbers.items (with_one seen own n))
       → ((seen : Class → List ℕ) → HoldsValues w.classes.ways w.classes.numbers.items seen
@@ -333,7 +342,7 @@ module _ {P S H : Type 0} (ways : Ways) (w : MaskingWriter P S H) where
       → Adds Spells w.writer bytes (j ∷ [])
       → Adds (MaskStands ways) w (with_parts w.handles classes bytes spot) (i ∷ [])
   adds_of_class own n classes bytes spot i j value none same found tables is write =
-      adds own w.handles classes bytes spot i same found
+      adds w.handles classes bytes spot own i same found
       (λ seen h.
       subst (λ m. HoldsValues classes.ways classes.numbers.items (with_one seen own m)) value
       (tables seen h)) (λ items g. gathers_none w.handles items (i ∷ []) none g)
@@ -359,7 +368,7 @@ module _ {P S H : Type 0} (ways : Ways) (w : MaskingWriter P S H) where
       → Adds Spells w.writer bytes (with_text w.classes.ways i ∷ [])
       → Adds (MaskStands ways) w (with_parts gathered w.classes bytes w.spot) (i ∷ [])
   adds_classless gathered bytes i other none gathers write =
-      adds None gathered w.classes bytes w.spot i refl
+      adds gathered w.classes bytes w.spot None i refl
       (sym (none w.spot), stays_found i other)
       (λ seen h.
       holds_without w.classes.ways w.classes.numbers.items seen None (class_value i) refl h)
@@ -384,49 +393,20 @@ module _ {P S H : Type 0} (ways : Ways) (w : MaskingWriter P S H) where
 
   held_more : (front own : List Item) (side : Side) (bytes : List ℕ) (spot : Spot)
       (items : List Item) → AllStay ways items → HoldsMasked ways w front side own
-      → (w.writer
-      ≡ zero_spelling (map (with_text ways) (masked_items ways (values_so_far front side own)
-      (first_spot side) own))
-      → bytes
-      ≡ zero_spelling (map (with_text ways) (masked_items ways (values_so_far front side own)
-      (first_spot side) own) ++ items))
+      → Adds Spells w.writer bytes items
       → HoldsMasked ways (with_parts w.handles w.classes bytes spot) front side (own ++ items)
   held_more front own side bytes spot items kept h write =
-      let texts : List Item → List Item = map (with_text ways) in
-      let so_far : Class → List ℕ = values_so_far front side own in
       let later : Spot = spot_of_next side own in
-      let first : Spot = first_spot side in
-      let before : List Item = masked_items ways so_far first own in
-      let grown : Class → List ℕ = λ d. so_far d ++ values_in d later items in
-      let masked : before ++ items ≡ masked_items ways grown first (own ++ items) =
-      ap₂ (λ (l m : List Item). l ++ m)
-      (sym (items_stay ways so_far (λ d. values_in d later items) first own
-      (among_so_far side front own)))
-      (sym (kept_masked ways grown later items kept))
-      ∙ sym (masked_items-append ways grown first own items) in
-      let whole : texts before ++ items ≡ texts (masked_items ways grown first (own ++ items)) =
-      ap (λ (l : List Item). texts before ++ l) (sym (kept_texts ways items kept))
-      ∙ sym (map-append (with_text ways) before items) ∙ ap texts masked in
-      record {
-        ways_are = h.ways_are;
-        tables =
-            subst (HoldsValues ways w.classes.numbers.items) (so_far_grown side front own items)
-            (λ d numbered.
-            subst (HoldsAt w.classes.numbers.items (position d))
-            (sym (ap (λ (l : List ℕ). so_far d ++ l)
-            (kept_values ways d later items numbered kept) ∙ append-nil (so_far d)))
-            (h.tables d numbered));
-        handles =
-            subst (Gathers w.handles) (append_assoc front own items)
-            (gathers_none w.handles (front ++ own) items (kept_handles ways items kept)
-            h.handles);
-        written =
-            subst
-            (λ (seen : Class → List ℕ).
-            bytes
-            ≡ zero_spelling (texts (masked_items ways seen first (own ++ items))))
-            (so_far_grown side front own items) (write h.written ∙ ap zero_spelling whole);
-      }
+      held_on w.handles w.classes bytes spot front own items side h h.ways_are
+      (λ d numbered.
+      subst (HoldsAt w.classes.numbers.items (position d))
+      (sym (ap (λ (l : List ℕ). values_so_far front side own d ++ l)
+      (kept_values ways d later items numbered kept)
+      ∙ append-nil (values_so_far front side own d))) (h.tables d numbered))
+      (subst (Gathers w.handles) (append_assoc front own items)
+      (gathers_none w.handles (front ++ own) items (kept_handles ways items kept) h.handles))
+      (subst (Adds Spells w.writer bytes)
+      (sym (kept_put ways (grown side front own items) later items kept)) write)
 
   pub adds_kept : (bytes : List ℕ) (items : List Item) → AllStay w.classes.ways items
       → Adds Spells w.writer bytes items
@@ -435,24 +415,9 @@ module _ {P S H : Type 0} (ways : Ways) (w : MaskingWriter P S H) where
   adds_kept bytes items all_kept write all stands going =
       let u = stands going in
       let kept : AllStay ways items = subst (λ k. AllStay k items) u.holds.ways_are all_kept in
-      record {
-        front = u.front;
-        side = u.side;
-        items = u.items ++ items;
-        are =
-            ap (λ (l : List Item). l ++ items) u.are
-            ∙ after_messages-append u.front u.items items;
-        begins = begins_more u.side u.items items u.begins;
-        spot_is =
-            u.spot_is
-            ∙ sym (fold-append next_spot (first_spot u.side) u.items items
-            ∙ kept_spot ways (spot_of_next u.side u.items) items kept);
-        holds =
-            held_more u.front u.items u.side bytes w.spot items kept u.holds
-            (write
-            (map (with_text ways) (masked_items ways (values_so_far u.front u.side u.items)
-            (first_spot u.side) u.items)));
-      }
+      goes_on w.handles w.classes bytes w.spot all items u
+      (sym (kept_spot ways w.spot items kept))
+      (held_more u.front u.items u.side bytes w.spot items kept u.holds write)
 
   -- ---- a message begins
 
@@ -468,7 +433,7 @@ module _ {P S H : Type 0} (ways : Ways) (w : MaskingWriter P S H) where
       → OpensMessage (MaskRests ways) (MaskStands ways) w (with_parts w.handles w.classes bytes
       spot)
       (start_items s)
-  unfolding OpensMessage
+  unfolding OpensMessage Adds
   opens bytes spot s spot_is write all rests going =
       let u = rests going in
       let side = side_by s.is_reply in
@@ -486,8 +451,7 @@ module _ {P S H : Type 0} (ways : Ways) (w : MaskingWriter P S H) where
           ap (λ n. Word head_names.xid s.xid ∷ Word head_names.mtype n ∷ []) (mtype_by s.is_reply),
         );
         spot_is = spot_is ∙ sym (kept_spot ways (first_spot side) (start_items s) (start_stays s));
-        holds =
-            held_more u.front [] side bytes spot (start_items s) (start_stays s) h (write []);
+        holds = held_more u.front [] side bytes spot (start_items s) (start_stays s) h write;
       }
     where
       of_any_side : (front : List Item) (side : Side) → HoldsMasked ways w front Client []

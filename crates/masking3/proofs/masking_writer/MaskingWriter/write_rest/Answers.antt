@@ -1,5 +1,5 @@
-use Rattle.masking3.proofs.Common.{◌≡◌, [], ◌∷◌, refl, sym, ◌∙◌, ◌++◌, subst, on_ok_weaker, Adds, Rest, raw_by, way_of, Raw}
-use Rattle.masking3.proofs.Lemmas.Writing.RunLemmas.{spelled_item}
+use Rattle.masking3.proofs.Common.{◌≡◌, ⊎_elim, ℕ, List, length, ap, [], ◌∷◌, refl, sym, ◌∙◌, ◌++◌, subst, on_ok_weaker, Adds, Rest, raw_by, way_of, Raw}
+use Rattle.masking3.proofs.Lemmas.Writing.RunLemmas.{spelled_item, zeros}
 use Rattle.masking3.proofs.Lemmas.Writing.WriterLemmas.{Spells, adds_plain}
 use Rattle.masking3.proofs.masking_writer.MaskingWriter.write_rest.Goals as goal
 
@@ -19,32 +19,21 @@ returns-in-Keep g c = record {
 }
 
 pub returns-in-Zero : goal.returns-in-Zero
-returns-in-Zero g c = record {
-  ok =
-      on_ok_weaker c.write_zeros.result
-      (λ write.
-      adds_plain g.P.Plan.ways c.args.self.now c.write_zeros.new.writer
-      (Rest c.args.name.now c.args.bytes.now) tt (λ spot. refl) refl
-      (spelled_item c.args.self.now.writer c.write_zeros.new.writer
-      (Rest c.args.name.now (raw_by (way_of c.args.self.now.classes.ways Raw) c.args.bytes.now))
-      (subst
-      (λ way. c.write_zeros.new.writer ≡ c.args.self.now.writer ++ raw_by way c.args.bytes.now)
-      (sym c.in-Zero.is ∙ c.way.ensures) write)))
-      c.write_zeros.ensures;
-}
-
-pub returns-in-Number : goal.returns-in-Number
-returns-in-Number g c = record {
-  ok =
-      on_ok_weaker c.write_zeros-in-Number.result
-      (λ write.
-      adds_plain g.P.Plan.ways c.args.self.now c.write_zeros-in-Number.new.writer
-      (Rest c.args.name.now c.args.bytes.now) tt (λ spot. refl) refl
-      (spelled_item c.args.self.now.writer c.write_zeros-in-Number.new.writer
-      (Rest c.args.name.now (raw_by (way_of c.args.self.now.classes.ways Raw) c.args.bytes.now))
-      (subst
-      (λ way.
-      c.write_zeros-in-Number.new.writer ≡ c.args.self.now.writer ++ raw_by way c.args.bytes.now)
-      (sym c.in-Number.is ∙ c.way.ensures) write)))
-      c.write_zeros-in-Number.ensures;
-}
+returns-in-Zero g c =
+    let b = c.args.bytes.now in
+    let old = c.args.self.now.writer in
+    let new = c.write_zeros.new.writer in
+    let put = raw_by (way_of c.args.self.now.classes.ways Raw) b in
+    let are : put ≡ zeros (length b) =
+    ⊎_elim (λ is. ap (λ w. raw_by w b) (sym c.way.ensures ∙ is))
+    (λ is. ap (λ w. raw_by w b) (sym c.way.ensures ∙ is)) c.in-Zero.is in
+    record {
+      ok =
+          on_ok_weaker c.write_zeros.result
+          (λ write.
+          adds_plain g.P.Plan.ways c.args.self.now new (Rest c.args.name.now b) tt (λ spot. refl)
+          refl
+          (spelled_item old new (Rest c.args.name.now put)
+          (write ∙ ap (λ (l : List ℕ). old ++ l) (sym are))))
+          c.write_zeros.ensures;
+    }
