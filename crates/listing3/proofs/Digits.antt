@@ -1,7 +1,7 @@
 -- The decimal text of a number, in digits with leading zeros.
 use Rattle.listing3.proofs.Common.{◌≡◌, ℕ, zero, suc, ◌+◌, ◌-◌, ◌*◌, ◌/◌, ◌%◌, ◌^◌, ◌<◌, ◌≤◌, Bool, true, ◌&&◌, T, eqb, List, [], ◌∷◌, ◌++◌, length, take, set, get_or, refl, ap, sym, ◌∙◌, inl, inr, arith, eq-zero-or-pos, eqb→eq, append_assoc, length-set, decimal_digit, decimal_step, take_more_set, decimal}
 use lib.Ieee.Fits.{and_l, and_r}
-use Rattle.listing3.specs.declared.room.TheConstants.{PAIRS}
+use Rattle.listing3.specs.declared.line_text.decimal.TheConstants.{PAIRS}
 use Rattle.listing3.specs.machinery.PutsBytes.{PutsBytes}
 use Rattle.listing3.specs.machinery.Digits.{eight_digits, four_digits, two_digits}
 

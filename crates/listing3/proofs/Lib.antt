@@ -3,10 +3,10 @@ pub mod Common
 pub mod ListingLemmas
 pub mod Lines
 pub mod NamedItems
-pub mod Rooms
+pub mod PutsBytesLemmas
 pub mod Plain
 pub mod Digits
 pub mod Texts
 pub mod Telling
-pub mod Halves
+pub mod HalvesLemmas
 pub mod Runs

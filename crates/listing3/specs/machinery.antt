@@ -5,3 +5,4 @@ pub mod Halves
 pub mod Fields
 pub mod ItemsText
 pub mod PutsBytes
+pub mod WritesText

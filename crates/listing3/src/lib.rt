@@ -2,14 +2,9 @@
 #![tactic(auto)]
 
 pub mod examples;
-mod filling;
-mod gathering;
-mod items_text;
 pub mod laws;
 mod line_text;
 mod line_writer;
 mod listing;
-mod room;
-mod run;
 
 pub use listing::{list, show};

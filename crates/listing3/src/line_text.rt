@@ -1,13 +1,22 @@
 //! The text of a line, as it grows.
 
+mod decimal;
+mod hexadecimal;
+mod names;
+mod quotes;
+mod run;
+
 ghost use Rattle.std.specs.Prelude.{◌≡◌, ◌≤◌, ◌+◌, ◌*◌, ◌++◌, ◌∷◌, [], codes, length, take, decimal, OnOk, OnErr};
 ghost use Rattle.hex.specs.Hex.{encode_lower};
 ghost use Rattle.xdr3.specs.Visit.{body_limit};
 ghost use Rattle.listing3.specs.Listing.{opening, prefix, quoted};
 ghost use Rattle.listing3.specs.machinery.PutsBytes.{PutsBytes};
 
-use crate::room::{DIGITS, put_decimal, put_hex, put_name, put_number, put_quoted, put_short};
-use crate::run::put_run;
+use crate::line_text::decimal::{DIGITS, put_decimal, put_number};
+use crate::line_text::hexadecimal::put_hex;
+use crate::line_text::names::{put_name, put_short};
+use crate::line_text::quotes::put_quoted;
+use crate::line_text::run::put_run;
 use std::alloc::{AllocError, Global};
 use std::marker::Model;
 use xdr3::room::{make_room, put_bytes};

@@ -1,5 +1,9 @@
 //! The lines of messages, one after another.
 
+mod gathering;
+mod items_text;
+mod large_data;
+
 ghost use Rattle.std.specs.Prelude.{◌≡◌, ◌≤◌, ◌<◌, ◌+◌, ◌*◌, ◌^◌, ◌++◌, ◌∷◌, ℕ, List, [], codes, decimal, drop, length, take, None, IfErr, OnErr, OnOk};
 ghost use Rattle.std.specs.Io.KnownBytes.{Appends};
 ghost use Rattle.xdr3.specs.Item.{Handle as HandleKind, Item, Opaque, Spells, Word};
@@ -16,12 +20,13 @@ ghost use Rattle.canon3.specs.WriteErrors.{CountsWriting, IsOfWriting};
 ghost use Rattle.canon3.specs.SinkWrites.{AppendsFront};
 ghost use Rattle.listing3.specs.machinery.ItemsText.{filled};
 ghost use Rattle.listing3.specs.machinery.LineWriter.{after_front, items_before, LineRests, LineStands};
+ghost use Rattle.listing3.specs.machinery.WritesText.{WritesText};
 ghost use Rattle.listing3.specs.Listing.{entry_line, line, opening, prefix, procedure_name};
 
-use crate::filling::write_filled;
-use crate::gathering::{Counting, Gathering};
-use crate::items_text::{ItemsText, encoded_size};
 use crate::line_text::LineText;
+use crate::line_writer::gathering::{Counting, Gathering};
+use crate::line_writer::items_text::{ItemsText, encoded_size};
+use crate::line_writer::large_data::write_filled;
 use canon3::{EntryWriter, Sink, write_both};
 use capture3::{Error, Kind, LentEntry, MessageVisit, Progress};
 use procs3::proc_name;
@@ -71,6 +76,19 @@ fn after_xid(body: &[u8]) -> &[u8]
     &body[body.len().min(4)..]
 }
 
+/// Returns the same error, made anew. If it were returned as it came, through memory, the result of each
+/// message would be read from there.
+#[inline(always)]
+fn of_writing(error: Error) -> Error
+    requires { IsOfWriting error }
+    ensures { result ≡ error }
+{
+    match error {
+        Error::Write => Error::Write,
+        Error::Refused(_) | Error::Read | Error::Memory => Error::Memory,
+    }
+}
+
 impl<H: Gathering + Drop> LineWriter<H> {
     /// Returns a writer before a capture.
     pub(crate) fn new(alloc: Global, handles: H) -> LineWriter<H>
@@ -83,14 +101,6 @@ impl<H: Gathering + Drop> LineWriter<H> {
             items: ItemsText::new(alloc),
             head: LineText::new(alloc),
         }
-    }
-
-    /// Lets the message go.
-    fn end_message(&mut self)
-        ensures { (items : List Item) → H.stands self.old.handles items
-            → LineRests H.stands self.new (after_front items []) }
-    {
-        self.items.forget();
     }
 
     /// Appends the text of a handle, and then passes the handle on.
@@ -141,12 +151,9 @@ impl<H: Gathering + Drop> LineWriter<H> {
     #[inline(always)]
     fn hand_over<W: Sink>(&mut self, sink: &mut W, body: &[u8]) -> Result<(), Error>
         ensures handles { self.new.handles ≡ self.old.handles }
-        ensures ok { OnOk result
-            (Appends (W.written sink.old) (W.written sink.new)
-            (self.old.head ++ filled self.old.items.gap self.old.items.text (drop 4 body.now))) }
-        ensures err { OnErr result
-            (AppendsFront (W.written sink.old) (W.written sink.new)
-            (self.old.head ++ filled self.old.items.gap self.old.items.text (drop 4 body.now))) }
+        ensures writes { WritesText (W.written sink.old) (W.written sink.new)
+            (self.old.head ++ filled self.old.items.gap self.old.items.text (drop 4 body.now))
+            result }
         ensures count { CountsWriting (W.failures sink.old) (W.failures sink.new) result }
         ensures error { IfErr result IsOfWriting }
     {
@@ -154,7 +161,10 @@ impl<H: Gathering + Drop> LineWriter<H> {
             None => write_both(sink, self.head.bytes(), self.items.text.bytes()),
             Some(gap) => {
                 let items = self.items.text.bytes();
-                write_filled(sink, &mut self.head, items, gap, after_xid(body))
+                match write_filled(sink, &mut self.head, items, gap, after_xid(body)) {
+                    Ok(()) => Ok(()),
+                    Err(error) => Err(of_writing(error)),
+                }
             }
         }
     }
@@ -170,20 +180,12 @@ impl<H: Gathering + Drop> LineWriter<H> {
         body: &[u8],
     ) -> Result<(), Error>
         ensures handles { self.new.handles ≡ self.old.handles }
-        ensures ok { (front rest : List Item) (n : ℕ) → progress.records + 1 < 2 ^ 32
+        ensures writes { (front rest : List Item) (n : ℕ) → progress.records + 1 < 2 ^ 32
             → Spells (Word head_names.xid n ∷ rest) body.now
             → LineStands H.stands self.old (after_front front (Word head_names.xid n ∷ rest))
-            → OnOk result
-            (Appends (W.written sink.old) (W.written sink.new)
+            → WritesText (W.written sink.old) (W.written sink.new)
             (line progress.connections side.now (progress.records + 1) id
-            (Word head_names.xid n ∷ rest))) }
-        ensures err { (front rest : List Item) (n : ℕ) → progress.records + 1 < 2 ^ 32
-            → Spells (Word head_names.xid n ∷ rest) body.now
-            → LineStands H.stands self.old (after_front front (Word head_names.xid n ∷ rest))
-            → OnErr result
-            (AppendsFront (W.written sink.old) (W.written sink.new)
-            (line progress.connections side.now (progress.records + 1) id
-            (Word head_names.xid n ∷ rest))) }
+            (Word head_names.xid n ∷ rest)) result }
         ensures count { CountsWriting (W.failures sink.old) (W.failures sink.new) result }
         ensures error { IfErr result IsOfWriting }
     {
@@ -202,22 +204,13 @@ impl<H: Gathering + Drop> LineWriter<H> {
         body: &[u8],
     ) -> Result<(), Error>
         ensures handles { self.new.handles ≡ self.old.handles }
-        ensures ok { (entries : List spec.Entry) (one : spec.Entry) → IsOfKind kind one
+        ensures writes { (entries : List spec.Entry) (one : spec.Entry) → IsOfKind kind one
             → Spells (items_of one) body.now → AreFirst (entries ++ one ∷ [])
             → HasPassed progress entries → length (entries ++ one ∷ []) < 2 ^ 32
             → HasHeard (LineRests H.stands) (LineStands H.stands) self.old
             (items_before entries) one
-            → OnOk result
-            (Appends (W.written sink.old) (W.written sink.new)
-            (entry_line progress.connections progress.records one)) }
-        ensures err { (entries : List spec.Entry) (one : spec.Entry) → IsOfKind kind one
-            → Spells (items_of one) body.now → AreFirst (entries ++ one ∷ [])
-            → HasPassed progress entries → length (entries ++ one ∷ []) < 2 ^ 32
-            → HasHeard (LineRests H.stands) (LineStands H.stands) self.old
-            (items_before entries) one
-            → OnErr result
-            (AppendsFront (W.written sink.old) (W.written sink.new)
-            (entry_line progress.connections progress.records one)) }
+            → WritesText (W.written sink.old) (W.written sink.new)
+            (entry_line progress.connections progress.records one) result }
         ensures count { CountsWriting (W.failures sink.old) (W.failures sink.new) result }
         ensures error { IfErr result IsOfWriting }
     {
@@ -281,6 +274,7 @@ impl<H: Gathering + Drop> MessageVisit for LineWriter<H> {
 
     fn begin(&mut self, start: Start) -> Result<(), AllocError> {
         self.xid = start.xid;
+        self.items.forget();
         self.items.word("mtype", start.is_reply as u32)
     }
 }
@@ -305,9 +299,7 @@ impl<H: Counting + Drop> EntryWriter for LineWriter<H> {
         sink: &mut W,
         entry: LentEntry<'_>,
     ) -> Result<(), Error> {
-        let written = self.write_entry(progress, sink, entry.kind(), body_of(entry));
-        self.end_message();
-        written
+        self.write_entry(progress, sink, entry.kind(), body_of(entry))
     }
 
     fn counts(&self, progress: Progress) -> H::Counts {

@@ -1,6 +1,6 @@
 -- Digits that are written part by part, and text around them.
 use Rattle.listing3.proofs.Common.{◌≡◌, ℕ, List, [], ◌∷◌, ◌++◌, length, take, drop, refl, sym, ap, ap₂, ◌∙◌, subst, append_assoc, append-nil, arith, Appends, AppendsFront, encode_lower, encode_with, Option, min, inl, inr, Appends-trans, cases_lt, take_all, drop_all, TookUpTo, front_of_first, front_of_second}
-use Rattle.listing3.proofs.Halves.{hex_parts}
+use Rattle.listing3.proofs.HalvesLemmas.{hex_parts}
 
 -- ---- digits, part by part
 

@@ -1,5 +1,5 @@
 -- One item more in a text of items.
-use Rattle.listing3.proofs.Common.{◌≡◌, ℕ, ◌+◌, ◌%◌, ◌<◌, List, [], ◌∷◌, ◌++◌, length, take, drop, refl, sym, ap, ◌∙◌, subst, append_assoc, append-nil, arith, flat_map-append, encode_lower, encode_with, Item, Word, Hyper, Fixed, WriteVerf, Opaque, Rest, PlainField, run_items, opening, shown_item, shown_items, ◌^◌, Option, None, Some, drop-append-le, length-append, length-drop, take-append-le, take_all, drop_all, drop-append_seam, take-append_seam, Kind, Spells, Var, residue, word_bytes, run_size, Adds, Keeps, Gap, ItemsText, filled, IsTextOfBody, IsWithin, TextStands}
+use Rattle.listing3.proofs.Common.{◌≡◌, ℕ, ◌+◌, ◌%◌, ◌<◌, List, [], ◌∷◌, ◌++◌, length, take, drop, refl, sym, ap, ◌∙◌, subst, append_assoc, append-nil, arith, flat_map-append, encode_lower, encode_with, Item, Word, Hyper, Fixed, WriteVerf, Opaque, Rest, PlainField, run_items, opening, shown_item, shown_items, ◌^◌, Option, None, Some, drop-append-le, length-append, length-drop, take-append-le, take_all, drop_all, drop-append_seam, take-append_seam, Kind, Spells, Var, residue, word_bytes, run_size, Adds, Keeps, Gap, ItemsText, filled, HasData, IsTextOfBody, IsWithin, TextStands}
 use Rattle.xdr3.proofs.Lemmas.Reading.Items.{Spells-single, Spells-split}
 use Rattle.canon3.proofs.Lemmas.Writing.Noting.{bytes_fixed, hyper_fixed, opaque_size, plain_fixed, rest_fixed, word_fixed}
 
@@ -84,36 +84,37 @@ module _ (old : ItemsText) (text : List ℕ) where
 
   -- ---- an item whose digits are left out
 
-  pub adds_gap : (name bytes : List ℕ) (place skipped seen : ℕ) → old.gap ≡ None
-      → text ≡ old.text ++ opening name → place ≡ length text → skipped ≡ (old.seen + 4) % 2 ^ 64
-      → seen ≡ (old.seen + (4 + (length bytes + residue (length bytes)))) % 2 ^ 64
+  pub adds_gap : (i : Item) (name bytes : List ℕ) (before size place skipped seen : ℕ)
+      → HasData i name bytes before size → old.gap ≡ None
+      → text ≡ old.text ++ opening name → place ≡ length text
+      → skipped ≡ (old.seen + before) % 2 ^ 64 → seen ≡ (old.seen + size) % 2 ^ 64
       → Adds TextStands old
       (record {
         text = text;
         seen = seen;
         gap = Some (record { at = place; skipped = skipped; len = length bytes });
-      }) (Opaque Var name bytes ∷ [])
+      }) (i ∷ [])
   unfolding Adds encode_with
-  adds_gap name bytes place skipped seen none grown last begins next items stands body spells few =
-      let i = Opaque Var name bytes in
+  adds_gap i name bytes before size place skipped seen holds none grown last begins next items
+      stands
+      body spells few =
       let (a, b, front, back, split) = Spells-split items (i ∷ []) body spells in
       let all : length (a ++ b) < 2 ^ 64 = subst (λ (k : List ℕ). length k < 2 ^ 64) split few in
       let o = stands a front (omega (arith, all, length-append a b)) in
-      let one = Spells-single i b back in
-      let size = opaque_size Var name bytes b one in
-      let word = word_bytes (length bytes) in
-      let before = a ++ word in
-      let left = bytes ++ one.0 in
-      let whole : body ≡ before ++ left =
-      split ∙ (ap (λ (l : List ℕ). a ++ l) one.5 ∙ sym (append_assoc a word left)) in
+      let (word, residual, cut, start_is, size_is) = holds.spelled b back in
+      let ahead = a ++ word in
+      let left = bytes ++ residual in
+      let whole : body ≡ ahead ++ left =
+      split ∙ (ap (λ (l : List ℕ). a ++ l) cut ∙ sym (append_assoc a word left)) in
       let long : length body ≡ length a + length b = ap length split ∙ length-append a b in
-      let start : skipped ≡ length before =
-      omega (arith, begins, o.seen, size, long, few, length-append a word) in
+      let within : length b ≡ length word + length left = ap length cut ∙ length-append word left in
+      let start : skipped ≡ length ahead =
+      omega (arith, begins, o.seen, start_is, long, within, few, length-append a word) in
       let kept : take (length bytes) (drop skipped body) ≡ bytes =
       ap (λ n. take (length bytes) (drop n body)) start
-      ∙ (ap (λ (l : List ℕ). take (length bytes) (drop (length before) l)) whole
-      ∙ (ap (take (length bytes)) (drop-append_seam before left)
-      ∙ take-append_seam bytes one.0)) in
+      ∙ (ap (λ (l : List ℕ). take (length bytes) (drop (length ahead) l)) whole
+      ∙ (ap (take (length bytes)) (drop-append_seam ahead left)
+      ∙ take-append_seam bytes residual)) in
       let so_far : old.text ≡ shown_items items =
       ap (λ g. filled g old.text a) (sym none) ∙ o.shows in
       record {
@@ -134,7 +135,8 @@ module _ (old : ItemsText) (text : List ℕ) where
             ∙ (ap (λ (l : List ℕ). l ++ encode_lower bytes)
             (grown ∙ ap (λ (l : List ℕ). l ++ opening name) so_far)
             ∙ (append_assoc (shown_items items) (opening name) (encode_lower bytes)
-            ∙ (ap (λ (l : List ℕ). shown_items items ++ l) (sym (append-nil (shown_item i)))
+            ∙ (ap (λ (l : List ℕ). shown_items items ++ l)
+            (sym holds.shown ∙ sym (append-nil (shown_item i)))
             ∙ sym (flat_map-append shown_item items (i ∷ []))))));
         within = (
           omega (arith, last),
@@ -142,11 +144,11 @@ module _ (old : ItemsText) (text : List ℕ) where
             arith,
             start,
             ap length whole,
-            length-append before left,
-            length-append bytes one.0,
+            length-append ahead left,
+            length-append bytes residual,
           ),
         );
-        seen = omega (arith, next, o.seen, size, long, few);
+        seen = omega (arith, next, o.seen, size_is, long, few);
       }
 
 -- ---- no items
@@ -187,6 +189,41 @@ data_size kind name b count is bytes spells =
 pub plain_size : (all : List PlainField) (run : List ℕ) (count : ℕ) → count ≡ run_size all
     → HasSize (run_items all run) count
 plain_size all run count is bytes spells = (plain_fixed all run bytes spells).1 ∙ sym is
+
+-- ---- where their data begin
+
+pub var_data : (name bytes : List ℕ) (size : ℕ)
+    → size ≡ 4 + (length bytes + residue (length bytes))
+    → HasData (Opaque Var name bytes) name bytes 4 size
+var_data name bytes size is = record {
+  shown = refl;
+  spelled = data_of;
+}
+  where
+    data_of : (body : List ℕ) → Spells (Opaque Var name bytes ∷ []) body
+        → (front : List ℕ) × (back : List ℕ) × (body ≡ front ++ (bytes ++ back))
+        × (length front ≡ 4) × (length body ≡ size)
+    data_of body spells =
+        let one = Spells-single (Opaque Var name bytes) body spells in (
+          word_bytes (length bytes),
+          one.0,
+          one.5,
+          refl,
+          opaque_size Var name bytes body one ∙ sym is,
+        )
+
+pub rest_data : (name bytes : List ℕ) → HasData (Rest name bytes) name bytes 0 (length bytes)
+rest_data name bytes = record {
+  shown = refl;
+  spelled = data_of;
+}
+  where
+    data_of : (body : List ℕ) → Spells (Rest name bytes ∷ []) body
+        → (front : List ℕ) × (back : List ℕ) × (body ≡ front ++ (bytes ++ back))
+        × (length front ≡ 0) × (length body ≡ length bytes)
+    data_of body spells =
+        let is = (Spells-single (Rest name bytes) body spells).1 in
+        ([], [], is ∙ sym (append-nil bytes), refl, ap length is)
 
 -- ---- text that was appended, and after an error
 

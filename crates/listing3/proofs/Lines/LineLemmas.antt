@@ -1,6 +1,6 @@
 -- A line, and what is held after it.
 use Rattle.std.proofs.Common.{◌+◌}
-use Rattle.listing3.proofs.Common.{◌≡◌, ◌⊎◌, inl, inr, ℕ, List, [], ◌∷◌, ◌++◌, ◌<◌, length, drop, refl, sym, ap, ap₂, ◌∙◌, subst, append_assoc, append-nil, length-append, arith, Result, Ok, Err, Appends, PlainField, Item, Word, Opaque, Handle, run_items, ProcId, head_names, AppendsFront, ◌^◌, Option, codes, decimal, OnErr, OnOk, Appends-trans, Spells, Adds, Keeps, procedure_in, Entry, Begin, Call, Turn, Reply, Close, End, Gap, ItemsText, is_headed_call, is_headed_reply, front_of_second, filled, IsTextOfBody, TextStands, always, after_front, HasLineUnderWay, HasNoLine, LineRests, items_before, LineStands, SkipsOthers, entry_line, line, opening, prefix, procedure_name, shown, shown_items}
+use Rattle.listing3.proofs.Common.{◌≡◌, ◌⊎◌, inl, inr, ℕ, List, [], ◌∷◌, ◌++◌, ◌<◌, length, drop, refl, sym, ap, ap₂, ◌∙◌, subst, append_assoc, append-nil, length-append, arith, Result, Ok, Err, Appends, PlainField, Item, Word, Opaque, Handle, run_items, ProcId, head_names, ◌^◌, Option, codes, decimal, OnErr, OnOk, Appends-trans, Spells, Adds, Keeps, procedure_in, Entry, Begin, Call, Turn, Reply, Close, End, Gap, ItemsText, is_headed_call, is_headed_reply, front_of_second, filled, IsTextOfBody, TextStands, always, after_front, HasLineUnderWay, LineRests, items_before, LineStands, SkipsOthers, entry_line, line, opening, prefix, procedure_name, shown, shown_items, WritesText}
 use Rattle.capture3.specs.declared.reader.entry.Kind.{Kind}
 use Rattle.capture3.specs.declared.reader.entry.Kind.TheVariants as kinds
 use Rattle.capture3.specs.declared.fault.Error.{Error}
@@ -66,12 +66,12 @@ module _ {H : Type 0} (gathers : H → List Item → Type 0) (writer : LineWrite
       subst (λ (l : List Item). HasLineUnderWay gathers writer l items) (sym same.0)
       (subst (HasLineUnderWay gathers writer other) (sym same.1) is)
 
-  pub no_line_after : (front : List Item) → LineRests gathers writer (after_front front [])
-      → HasNoLine gathers writer front
-  no_line_after front (other, are, is) =
+  pub gathered_between : (front : List Item) → LineRests gathers writer (after_front front [])
+      → gathers writer.handles front
+  gathered_between front (other, are, is) =
       let many : length front ≡ length other = cc in
       let all : front ++ [] ≡ other ++ [] = cc in
-      subst (HasNoLine gathers writer) (sym (same_front front other [] [] many all).0) is
+      subst (gathers writer.handles) (sym (same_front front other [] [] many all).0) is
 
 -- ---- one item more
 
@@ -144,22 +144,22 @@ module _ {H : Type 0} (gathers : H → List Item → Type 0) (skips : SkipsOther
       adds gathers writer writer.handles text (run_items all run)
       (λ front h. skips writer.handles front (run_items all run) (none_in_run all run) h)
 
-  -- a message begins, and its mtype is in the text
-  pub opens : (s : MessageStart)
-      → Adds TextStands writer.items text (Word head_names.mtype (word_of s.is_reply) ∷ [])
+  -- a message begins, and its mtype is in the text, which was empty
+  pub opens : (s : MessageStart) (empty : ItemsText) → TextStands empty []
+      → Adds TextStands empty text (Word head_names.mtype (word_of s.is_reply) ∷ [])
       → OpensMessage (LineRests gathers) (LineStands gathers) writer
       (record { handles = writer.handles; xid = s.xid; items = text; head = writer.head })
       (start_items s)
   unfolding Adds OpensMessage
-  opens s write all (front, are, is) = (
+  opens s empty none write all (front, are, is) = (
     front,
     start_items s,
     ap (λ (l : List Item). l ++ start_items s) are ∙ after_front-append front [] (start_items s),
     record {
-      gathered = skips writer.handles front (start_items s) refl is.gathered;
+      gathered = skips writer.handles front (start_items s) refl is;
       rest = Word head_names.mtype (word_of s.is_reply) ∷ [];
       begins = refl;
-      text = write [] is.text;
+      text = write [] none;
     },
   )
 
@@ -180,6 +180,12 @@ run_kept gathers writer text items same =
 
 -- ---- what a result says
 
+pub writes_same : {X : Type 0} {old new : Option (List ℕ)} {text other : List ℕ}
+    (result : Result X Error) → text ≡ other → WritesText old new text result
+    → WritesText old new other result
+writes_same {X} {old} {new} result same =
+    subst (λ (l : List ℕ). WritesText old new l result) same
+
 module _ {T E : Type 0} (result : Result T E) (P : Type 0) where
   pub told_ok : (x : T) → Ok x ≡ result → OnOk result P → P
   told_ok x is p = subst (λ (r : Result T E). OnOk r P) (sym is) p
@@ -196,7 +202,7 @@ module _ {H : Type 0} (gathers : H → List Item → Type 0) (writer : LineWrite
   in_line items =
       subst (LineStands gathers writer) (after_front-append (all_items entries) [] items)
 
-  -- what is gathered once the entry was told
+  -- what is gathered once the entry was passed
   pub gathered_after : (one : Entry)
       → HasHeard (LineRests gathers) (LineStands gathers) writer (items_before entries) one
       → gathers writer.handles (all_items entries ++ items_of one)
@@ -205,7 +211,7 @@ module _ {H : Type 0} (gathers : H → List Item → Type 0) (writer : LineWrite
   gathered_after (Reply id items) told =
       (is_after gathers writer (all_items entries) items (in_line items told)).gathered
   gathered_after _ told =
-      rw append-nil (no_line_after gathers writer (all_items entries) told).gathered
+      rw append-nil (gathered_between gathers writer (all_items entries) told)
 
 -- the text with its gap filled, and the end of the line
 line_ends : (items : ItemsText) (rest : List Item) (gap : Option Gap) (text body back : List ℕ)
@@ -299,22 +305,19 @@ pub listed_more : {H X : Type 0} (gathers : H → List Item → Type 0) (now : L
     (one : Entry) (r : Result X Error) → HasPassed progress entries
     → Appends old between (shown entries)
     → LineRests gathers now (items_before (entries ++ one ∷ []))
-    → OnOk r (Appends between after (entry_line progress.connections progress.records one))
-    → OnErr r (AppendsFront between after (entry_line progress.connections progress.records one))
+    → WritesText between after (entry_line progress.connections progress.records one) r
     → HasWrittenOrCut shown items_before (LineRests gathers) always now old after
     (entries ++ one ∷ []) r
-listed_more gathers now old between after progress entries one (Ok x) came written stands appended
-    cut = (
-      tt,
-      stands,
-      subst (Appends old after) (sym (shown_push entries one progress.connections progress.records
-          came.place.connections_are came.place.records_are))
-          (Appends-trans old between after (shown entries)
-          (entry_line progress.connections progress.records one) written appended),
-    )
-listed_more gathers now old between after progress entries one (Err e) came written stands appended
-    cut =
+listed_more gathers now old between after progress entries one (Ok x) came written stands more = (
+  tt,
+  stands,
+  subst (Appends old after) (sym (shown_push entries one progress.connections progress.records
+      came.place.connections_are came.place.records_are))
+      (Appends-trans old between after (shown entries)
+      (entry_line progress.connections progress.records one) written more.ok),
+)
+listed_more gathers now old between after progress entries one (Err e) came written stands more =
     front_of_second old between after (shown entries)
     (entry_line progress.connections progress.records one) (shown (entries ++ one ∷ []))
     (shown_push entries one progress.connections progress.records came.place.connections_are
-    came.place.records_are) written cut
+    came.place.records_are) written more.err

@@ -1,16 +1,24 @@
 -- What a text of items says, in which the digits of one may be left out.
-use Rattle.std.specs.Prelude.{◌≡◌, ℕ, ◌+◌, ◌≤◌, ◌<◌, ◌^◌, Option, None, Some, List, ◌++◌, length, take, drop}
+use Rattle.std.specs.Prelude.{◌≡◌, ℕ, ◌+◌, ◌≤◌, ◌<◌, ◌^◌, Option, None, Some, List, [], ◌∷◌, ◌++◌, length, take, drop}
 use Rattle.hex.specs.Hex.{encode_lower}
 use Rattle.xdr3.specs.Item.{Item, Spells}
-use Rattle.listing3.specs.declared.items_text.Gap.{Gap}
-use Rattle.listing3.specs.declared.items_text.ItemsText.{ItemsText}
-use Rattle.listing3.specs.Listing.{shown_items}
+use Rattle.listing3.specs.declared.line_writer.items_text.Gap.{Gap}
+use Rattle.listing3.specs.declared.line_writer.items_text.ItemsText.{ItemsText}
+use Rattle.listing3.specs.Listing.{opening, shown_item, shown_items}
 
 -- the text with the digits that were left out, which spell bytes of this body
 abbrev pub filled : Option Gap → (text body : List ℕ) → List ℕ
 filled None text body = text
 filled (Some gap) text body =
     take gap.at text ++ (encode_lower (take gap.len (drop gap.skipped body)) ++ drop gap.at text)
+
+-- The item's value is the digits of these bytes. Whatever spells it has `size` bytes, of which
+-- `before` are in front of the data.
+pub record HasData (item : Item) (name bytes : List ℕ) (before size : ℕ) : Type 0 where
+  pub shown : shown_item item ≡ opening name ++ encode_lower bytes
+  pub spelled : (body : List ℕ) → Spells (item ∷ []) body
+      → (front : List ℕ) × (back : List ℕ) × (body ≡ front ++ (bytes ++ back))
+      × (length front ≡ before) × (length body ≡ size)
 
 -- the gap is in the text, and its bytes are in the body
 abbrev pub IsWithin : Option Gap → (text body : List ℕ) → Type 0

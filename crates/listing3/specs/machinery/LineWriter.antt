@@ -31,13 +31,10 @@ module _ {H : Type 0} (stands : H → List Item → Type 0) where
   LineStands writer all = (front : List Item) × (items : List Item)
       × (all ≡ after_front front items) × HasLineUnderWay writer front items
 
-  -- no message is open, after these items
-  pub record HasNoLine (writer : LineWriter H) (front : List Item) : Type 0 where
-    pub gathered : stands writer.handles front
-    pub text : TextStands writer.items []
-
+  -- no message is open, after these items, and what is in the text means nothing
   abbrev pub LineRests : LineWriter H → List Item → Type 0
-  LineRests writer all = (front : List Item) × (all ≡ after_front front []) × HasNoLine writer front
+  LineRests writer all = (front : List Item) × (all ≡ after_front front [])
+      × stands writer.handles front
 
 -- what stands for entries whose lines were written
 abbrev pub items_before : List Entry → List Item

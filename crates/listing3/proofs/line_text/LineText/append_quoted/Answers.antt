@@ -1,5 +1,5 @@
 use Rattle.listing3.proofs.Common.{◌∙◌, arith, common_steps, on_err}
-use Rattle.listing3.proofs.Rooms.{kept_below, kept_by}
+use Rattle.listing3.proofs.PutsBytesLemmas.{kept_below, kept_by}
 use Rattle.listing3.proofs.line_text.LineText.append_quoted.Goals as goal
 
 pub returns-in_err-self-inside-clause-err : goal.returns-in_err-self-inside-clause-err

@@ -2,4 +2,4 @@ use Rattle.std.proofs.Common.{[], refl}
 use Rattle.listing3.proofs.line_writer.LineWriter.new.Goals as goal
 
 pub returns : goal.returns
-returns g c = ([], refl, record { gathered = c.requires; text = c.new.ensures })
+returns g c = ([], refl, c.requires)

@@ -1,8 +1,8 @@
 use Rattle.listing3.proofs.Common.{all_items}
-use Rattle.listing3.proofs.Lines.LineLemmas.{no_line_after}
+use Rattle.listing3.proofs.Lines.LineLemmas.{gathered_between}
 use Rattle.listing3.proofs.line_writer.LineWriterEntryWriter.counts.Goals as goal
 
 pub returns : goal.returns
 returns g c bytes entries typed passed goes rests =
     c.counts.ensures bytes entries typed passed
-    (no_line_after g.H.Visit.stands c.args.self.now (all_items entries) rests).gathered
+    (gathered_between g.H.Visit.stands c.args.self.now (all_items entries) rests)

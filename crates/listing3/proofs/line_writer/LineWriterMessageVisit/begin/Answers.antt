@@ -7,5 +7,6 @@ pub returns : goal.returns
 unfolding head_names
 returns g c =
     on_ok_weaker c.word.result
-    (opens g.H.Visit.stands g.met.H.Gathering.skips c.args.self.now c.word.new.self c.args.start)
+    (opens g.H.Visit.stands g.met.H.Gathering.skips c.args.self.now c.word.new.self c.args.start
+    c.forget.new.self c.forget.ensures)
     c.word.ensures.ok
