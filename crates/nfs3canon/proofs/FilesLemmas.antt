@@ -12,8 +12,8 @@ use Rattle.canon3.specs.declared.comparison.verdict.Which.TheVariants.{First, Se
 use Rattle.canon3.specs.declared.summary.Summary.{Summary}
 use Rattle.canon3.proofs.Lemmas.Comparison.ComparisonLemmas.{decides_all}
 use Rattle.program3.specs.Opening.{IsOfName, ReportsUnopened}
-use Rattle.program3.specs.declared.opening.OpenError.{OpenError}
-use Rattle.program3.specs.declared.opening.OpenError.TheVariants as causes
+use Rattle.program3.specs.declared.input.opening.OpenError.{OpenError}
+use Rattle.program3.specs.declared.input.opening.OpenError.TheVariants as causes
 use Rattle.program3.specs.declared.outcome.Outcome.TheVariants as outcomes
 
 -- ---- a file that was not opened is told by its name, or memory ran out
@@ -22,12 +22,7 @@ module _ (holds : List ℕ → Option (List ℕ)) (name : List ℕ) (readings : 
     (none : readings ≡ []) where
   counts_none : (outcome : Outcome) → IsOfName name outcome → CountsFile holds readings name outcome
   counts_none (outcomes.Unopened text) named = (named, none)
-  counts_none (outcomes.Counted came) named = absurd named
-  counts_none (outcomes.Masked summary told) named = absurd named
-  counts_none (outcomes.Listed came) named = absurd named
-  counts_none (outcomes.Compared came) named = absurd named
-  counts_none (outcomes.Packed came) named = absurd named
-  counts_none (outcomes.Line fault) named = absurd named
+  counts_none outcome named = absurd named
 
   pub uncounted_reports : (error : OpenError) (outcome : Outcome)
       → ReportsUnopened name error (outcomes.Counted (Err errors.Memory)) outcome
@@ -42,12 +37,7 @@ module _ (holds : List ℕ → Option (List ℕ)) (name : List ℕ) (readings : 
     lists_none : (outcome : Outcome) → IsOfName name outcome
         → ListsFile holds readings contents name output outcome (Some output)
     lists_none (outcomes.Unopened text) named = (named, none, refl)
-    lists_none (outcomes.Counted came) named = absurd named
-    lists_none (outcomes.Masked summary told) named = absurd named
-    lists_none (outcomes.Listed came) named = absurd named
-    lists_none (outcomes.Compared came) named = absurd named
-    lists_none (outcomes.Packed came) named = absurd named
-    lists_none (outcomes.Line fault) named = absurd named
+    lists_none outcome named = absurd named
 
     no_lines : (outcome : Outcome) → outcome ≡ outcomes.Listed (Err errors.Memory)
         → ListsFile holds readings contents name output outcome (Some output)
@@ -67,18 +57,8 @@ module _ (holds : List ℕ → Option (List ℕ)) (first second : List ℕ) (rea
   compares_none : (outcome : Outcome) → IsOfName first outcome ⊎ IsOfName second outcome
       → ComparesFiles holds readings first second outcome
   compares_none (outcomes.Unopened text) named = (named, none)
-  compares_none (outcomes.Counted came) (inl named) = absurd named
-  compares_none (outcomes.Counted came) (inr named) = absurd named
-  compares_none (outcomes.Masked summary told) (inl named) = absurd named
-  compares_none (outcomes.Masked summary told) (inr named) = absurd named
-  compares_none (outcomes.Listed came) (inl named) = absurd named
-  compares_none (outcomes.Listed came) (inr named) = absurd named
-  compares_none (outcomes.Compared came) (inl named) = absurd named
-  compares_none (outcomes.Compared came) (inr named) = absurd named
-  compares_none (outcomes.Packed came) (inl named) = absurd named
-  compares_none (outcomes.Packed came) (inr named) = absurd named
-  compares_none (outcomes.Line fault) (inl named) = absurd named
-  compares_none (outcomes.Line fault) (inr named) = absurd named
+  compares_none outcome (inl named) = absurd named
+  compares_none outcome (inr named) = absurd named
 
   no_memory : (outcome : Outcome)
       → outcome ≡ outcomes.Compared (Err (record { which = which; error = errors.Memory }))

@@ -1,5 +1,5 @@
 -- Chunks of a stream, one after another.
-use Rattle.packing3.proofs.Common.{arith, ap, sym, refl, subst, append-nil, ◌≡◌, ◌∙◌, ◌≤◌, ◌<◌, ◌+◌, ℕ, List, [], ◌∷◌, ◌++◌, length, length-append, Option, gave_both, Appends, word_bytes, Error, max_bytes, chunk_bytes, AppendsFront, Extent, AreCut, IsPackedStream, full_size, concat, flat_map, Gave, IsSpent, Observed, Appends-nil, Appends-trans, ChunkPassesLimit, Explains, AreFull, Grows, HasChunk, HasFull, HasStream, IsStopped, StopsInChunk, StopsInStream, last_chunk}
+use Rattle.packing3.proofs.Common.{arith, ap, sym, refl, subst, append-nil, ◌≡◌, ◌∙◌, ◌≤◌, ◌<◌, ◌+◌, ℕ, List, [], ◌∷◌, ◌++◌, length, length-append, Option, gave_both, Appends, word_bytes, Error, max_bytes, chunk_bytes, AppendsFront, Extent, AreCut, IsPackedStream, full_size, concat, flat_map, Gave, IsSpent, Observed, Appends-nil, Appends-trans, ChunkPassesLimit, Explains, AreFull, Grows, HasChunk, HasFull, HasStream, IsStopped, StopsInChunk, StopsInStream, last_chunk, so_far}
 use Rattle.std.proofs.lemmas.Grind.{flat_map-append}
 use Rattle.record_mark.proofs.Words.{concat-snoc}
 use Rattle.capture3.specs.declared.fault.Error.TheVariants as errors
@@ -74,7 +74,7 @@ one_word n a b at streamed = record {
 }
 
 pub none_full : (l0 : Observed) (w0 : Option (List ℕ)) (e0 : Extent) → Gave l0 l0 []
-    → HasFull l0 l0 w0 w0 e0 e0
+    → HasFull l0 l0 (so_far w0 e0) (so_far w0 e0)
 none_full l0 w0 e0 consumed = record {
   full = [];
   each = tt;
@@ -84,8 +84,9 @@ none_full l0 w0 e0 consumed = record {
 }
 
 pub more_full : (l0 l1 l2 : Observed) (w0 w1 w2 : Option (List ℕ)) (e0 e1 e2 : Extent) (n : ℕ)
-    → HasFull l0 l1 w0 w1 e0 e1 → HasChunk l1 l2 w1 w2 e1 e2 n → full_size ≤ n
-    → HasFull l0 l2 w0 w2 e0 e2
+    → HasFull l0 l1 (so_far w0 e0) (so_far w1 e1) → HasChunk l1 l2 (so_far w1 e1) (so_far w2 e2) n
+    → full_size ≤ n
+    → HasFull l0 l2 (so_far w0 e0) (so_far w2 e2)
 more_full l0 l1 l2 w0 w1 w2 e0 e1 e2 n before it whole =
     let size : length it.chunk ≡ full_size = omega (arith, it.many, it.within, whole) in
     let joined : concat (before.full ++ it.chunk ∷ []) ≡ concat before.full ++ it.chunk =
@@ -112,8 +113,10 @@ more_full l0 l1 l2 w0 w1 w2 e0 e1 e2 n before it whole =
 
 pub whole_stream : (l0 l1 l2 : Observed) (w0 w1 w2 w3 : Option (List ℕ)) (e0 e1 e2 e3 : Extent)
     (n : ℕ)
-    → HasFull l0 l1 w0 w1 e0 e1 → HasChunk l1 l2 w1 w2 e1 e2 n → n < full_size
-    → Appends w2 w3 (word_bytes 0) → Grows e2 e3 (word_bytes 0) 0 → HasStream l0 l2 w0 w3 e0 e3
+    → HasFull l0 l1 (so_far w0 e0) (so_far w1 e1) → HasChunk l1 l2 (so_far w1 e1) (so_far w2 e2) n
+    → n < full_size
+    → Appends w2 w3 (word_bytes 0) → Grows e2 e3 (word_bytes 0) 0
+    → HasStream l0 l2 (so_far w0 e0) (so_far w3 e3)
 whole_stream l0 l1 l2 w0 w1 w2 w3 e0 e1 e2 e3 n full it less word grown =
     let front = flat_map chunk_bytes full.full ++ flat_map chunk_bytes (last_chunk it.chunk) in
     let long : (length (concat full.full) + n) + 0 ≡ length (concat full.full ++ it.chunk) =
@@ -136,8 +139,8 @@ whole_stream l0 l1 l2 w0 w1 w2 w3 e0 e1 e2 e3 n full it less word grown =
 
 pub stops_in_chunk : (l0 l1 l2 : Observed) (w0 w1 w2 : Option (List ℕ)) (e0 e1 : Extent)
     (error : Error)
-    → HasFull l0 l1 w0 w1 e0 e1 → StopsInChunk l1 l2 w1 w2 e1 error
-    → StopsInStream l0 l2 w0 w2 e0 error
+    → HasFull l0 l1 (so_far w0 e0) (so_far w1 e1) → StopsInChunk l1 l2 (so_far w1 e1) w2 error
+    → StopsInStream l0 l2 (so_far w0 e0) w2 error
 stops_in_chunk l0 l1 l2 w0 w1 w2 e0 e1 error full it =
     let done = flat_map chunk_bytes full.full in
     let bytes = flat_map chunk_bytes (last_chunk it.chunk) in
@@ -157,8 +160,10 @@ stops_in_chunk l0 l1 l2 w0 w1 w2 e0 e1 error full it =
     }
 
 pub stops_at_end : (l0 l1 l2 : Observed) (w0 w1 w2 w3 : Option (List ℕ)) (e0 e1 e2 : Extent) (n : ℕ)
-    (error : Error) → HasFull l0 l1 w0 w1 e0 e1 → HasChunk l1 l2 w1 w2 e1 e2 n
-    → error ≡ errors.Write → AppendsFront w2 w3 (word_bytes 0) → StopsInStream l0 l2 w0 w3 e0 error
+    (error : Error) → HasFull l0 l1 (so_far w0 e0) (so_far w1 e1)
+    → HasChunk l1 l2 (so_far w1 e1) (so_far w2 e2) n
+    → error ≡ errors.Write → AppendsFront w2 w3 (word_bytes 0)
+    → StopsInStream l0 l2 (so_far w0 e0) w3 error
 stops_at_end l0 l1 l2 w0 w1 w2 w3 e0 e1 e2 n error full it is front =
     let done = flat_map chunk_bytes full.full ++ flat_map chunk_bytes (last_chunk it.chunk) in
     let grown =
@@ -189,7 +194,7 @@ pub chunk_some : (l0 l1 : Observed) (w0 w1 w2 : Option (List ℕ)) (e0 e1 : Exte
     (n : ℕ) → Gave l0 l1 chunk → length chunk ≡ n → 0 < n → n ≤ full_size
     → (n < full_size → IsSpent l1)
     → Appends w0 w1 (word_bytes n) → Appends w1 w2 chunk → e1.at ≡ e0.at + (4 + n)
-    → e1.streamed ≡ e0.streamed + n → HasChunk l0 l1 w0 w2 e0 e1 n
+    → e1.streamed ≡ e0.streamed + n → HasChunk l0 l1 (so_far w0 e0) (so_far w2 e1) n
 chunk_some l0 l1 w0 w1 w2 e0 e1 chunk n consumed many some within ended word bytes at streamed =
     let are : flat_map chunk_bytes (last_chunk chunk) ≡ word_bytes n ++ chunk =
     chunk_of chunk n many some in
@@ -215,7 +220,7 @@ pub chunk_refused : (l0 l1 : Observed) (w0 : Option (List ℕ)) (e0 : Extent) (e
     (chunk : List ℕ) (n : ℕ) → Gave l0 l1 chunk → length chunk ≡ n → n ≤ full_size
     → e0.streamed ≤ max_bytes → max_bytes < e0.streamed + n
     → error ≡ errors.Refused (record { place = places.File e0.at; reason = reasons.TooManyBytes })
-    → StopsInChunk l0 l1 w0 w0 e0 error
+    → StopsInChunk l0 l1 (so_far w0 e0) w0 error
 chunk_refused l0 l1 w0 e0 error chunk n consumed many within room over is =
     let are : flat_map chunk_bytes (last_chunk chunk) ≡ chunk_bytes chunk ++ [] =
     ap (flat_map chunk_bytes) (last_of chunk (omega (arith, many, room, over))) in
@@ -253,7 +258,7 @@ chunk_refused l0 l1 w0 e0 error chunk n consumed many within room over is =
 pub chunk_cut : (l0 l1 : Observed) (w0 w1 : Option (List ℕ)) (e0 : Extent) (error : Error)
     (chunk : List ℕ) (n : ℕ) → Gave l0 l1 chunk → length chunk ≡ n → 0 < n → n ≤ full_size
     → error ≡ errors.Write
-    → AppendsFront w0 w1 (word_bytes n ++ chunk) → StopsInChunk l0 l1 w0 w1 e0 error
+    → AppendsFront w0 w1 (word_bytes n ++ chunk) → StopsInChunk l0 l1 (so_far w0 e0) w1 error
 chunk_cut l0 l1 w0 w1 e0 error chunk n consumed many some within is front = record {
   chunk = chunk;
   consumed = consumed;

@@ -1,4 +1,4 @@
--- The names that most proofs of the crate cite, passed on from one place. Declares nothing.
+-- The names that most proofs of the crate cite, passed on from one place. And two records.
 pub use Rattle.canon3.proofs.Lemmas.Writing.SinkWritesLemmas.{front_of_first, front_of_second}
 pub use Rattle.canon3.specs.Bytes.{chunk_bytes}
 pub use Rattle.canon3.specs.SinkWrites.{AppendsFront}
@@ -18,5 +18,20 @@ pub use Rattle.std.specs.Prelude.{Option}
 pub use Rattle.xdr3.specs.Item.{word_bytes}
 pub use Rattle.packing3.specs.Packed.{AreCut, ArePacked, IsPackedConnection, IsPackedStream, full_size}
 pub use Rattle.packing3.specs.Stopped.{BreaksOff, ChunkPassesLimit, HasNoRoom, Explains}
-pub use Rattle.packing3.specs.declared.stream.Extent.{Extent}
-pub use Rattle.packing3.specs.machinery.Streaming.{AreFull, Grows, GrowsLittle, HasChunk, HasConnection, HasFull, HasStream, IsStopped, StopsInChunk, StopsInConnection, StopsInStream, last_chunk}
+pub use Rattle.packing3.specs.declared.extent.Extent.{Extent}
+pub use Rattle.packing3.specs.machinery.Streaming.{AreFull, Grows, GrowsLittle, HasChunk, HasConnection, HasFull, HasStream, IsStopped, StopsInChunk, StopsInConnection, StopsInStream, WritesConnection, WritesStream, last_chunk}
+pub use Rattle.packing3.specs.Devices.{Sources}
+pub use Rattle.packing3.specs.machinery.Streaming.{CaptureSoFar}
+
+-- a capture as far as it is written
+abbrev pub so_far : Option (List ℕ) → Extent → CaptureSoFar
+so_far bytes extent = record { bytes = bytes; extent = extent }
+
+-- what is observed of two sources, before and after
+abbrev pub both_of : (client client_after server server_after : Observed) → Sources
+both_of client client_after server server_after = record {
+  client_before = client;
+  client_after = client_after;
+  server_before = server;
+  server_after = server_after;
+}

@@ -1,13 +1,17 @@
 -- The streams of a connection, after its word 1.
-use Rattle.packing3.proofs.Common.{arith, refl, subst, ◌≡◌, ◌+◌, ℕ, List, [], ◌++◌, length, Option, Observed, gave_none, Appends, Appends-trans, word_bytes, Error, AppendsFront, front_of_first, Extent, Grows, HasConnection, HasStream, IsStopped, StopsInConnection, StopsInStream}
+use Rattle.packing3.proofs.Common.{arith, refl, subst, ◌≡◌, ◌+◌, ℕ, List, [], ◌++◌, length, Option, Observed, gave_none, Appends, Appends-trans, word_bytes, Error, AppendsFront, front_of_first, Extent, Grows, HasConnection, HasStream, IsStopped, StopsInConnection, StopsInStream, so_far, both_of, inr, Result, Ok, Err, CaptureSoFar, Sources, WritesConnection, WritesStream}
+use Rattle.packing3.specs.declared.packing.Packing.{Packing}
+use Rattle.packing3.specs.machinery.StoppedAdds.{WritesPair}
 use Rattle.capture3.specs.declared.fault.Error.TheVariants as errors
 use Rattle.packing3.proofs.Chunks.{grows_more, packed_none}
 use Rattle.packing3.proofs.Stops.{stopped_after, stopped_before, stopped_writing}
 
-pub whole_connection : (c0 c1 s0 s1 : Observed) (w0 w1 w2 w3 : Option (List ℕ))
+whole_connection : (c0 c1 s0 s1 : Observed) (w0 w1 w2 w3 : Option (List ℕ))
     (e0 e1 e2 e3 : Extent)
-    → Appends w0 w1 (word_bytes 1) → Grows e0 e1 (word_bytes 1) 0 → HasStream c0 c1 w1 w2 e1 e2
-    → HasStream s0 s1 w2 w3 e2 e3 → HasConnection c0 c1 s0 s1 w0 w3 e0 e3
+    → Appends w0 w1 (word_bytes 1) → Grows e0 e1 (word_bytes 1) 0
+    → HasStream c0 c1 (so_far w1 e1) (so_far w2 e2)
+    → HasStream s0 s1 (so_far w2 e2) (so_far w3 e3)
+    → HasConnection (both_of c0 c1 s0 s1) (so_far w0 e0) (so_far w3 e3)
 whole_connection c0 c1 s0 s1 w0 w1 w2 w3 e0 e1 e2 e3 word begun client server =
     let both = client.bytes ++ server.bytes in
     let many = length client.stream + length server.stream in
@@ -38,7 +42,7 @@ whole_connection c0 c1 s0 s1 w0 w1 w2 w3 e0 e1 e2 e3 word begun client server =
 
 pub stops_at_mark : (c0 s0 : Observed) (w0 w1 : Option (List ℕ)) (e0 : Extent) (error : Error)
     → error ≡ errors.Write → AppendsFront w0 w1 (word_bytes 1)
-    → StopsInConnection c0 c0 s0 s0 w0 w1 e0 error
+    → StopsInConnection (both_of c0 c0 s0 s0) (so_far w0 e0) w1 error
 stops_at_mark c0 s0 w0 w1 e0 error is front =
     let more = word_bytes 0 ++ word_bytes 0 in
     record {
@@ -61,7 +65,8 @@ stops_at_mark c0 s0 w0 w1 e0 error is front =
 
 pub stops_in_client : (c0 c1 s0 : Observed) (w0 w1 w2 : Option (List ℕ)) (e0 e1 : Extent)
     (error : Error) → Appends w0 w1 (word_bytes 1) → Grows e0 e1 (word_bytes 1) 0
-    → StopsInStream c0 c1 w1 w2 e1 error → StopsInConnection c0 c1 s0 s0 w0 w2 e0 error
+    → StopsInStream c0 c1 (so_far w1 e1) w2 error
+    → StopsInConnection (both_of c0 c1 s0 s0) (so_far w0 e0) w2 error
 stops_in_client c0 c1 s0 w0 w1 w2 e0 e1 error word begun it =
     let more = word_bytes 0 in
     let all = e1.streamed + length it.stream in
@@ -86,10 +91,10 @@ stops_in_client c0 c1 s0 w0 w1 w2 e0 e1 error word begun it =
           begun.at (stopped_before w1 w2 it.bytes more e1.at all error it.stopped));
     }
 
-pub stops_in_server : (c0 c1 s0 s1 : Observed) (w0 w1 w2 w3 : Option (List ℕ)) (e0 e1 e2 : Extent)
+stops_in_server : (c0 c1 s0 s1 : Observed) (w0 w1 w2 w3 : Option (List ℕ)) (e0 e1 e2 : Extent)
     (error : Error) → Appends w0 w1 (word_bytes 1) → Grows e0 e1 (word_bytes 1) 0
-    → HasStream c0 c1 w1 w2 e1 e2 → StopsInStream s0 s1 w2 w3 e2 error
-    → StopsInConnection c0 c1 s0 s1 w0 w3 e0 error
+    → HasStream c0 c1 (so_far w1 e1) (so_far w2 e2) → StopsInStream s0 s1 (so_far w2 e2) w3 error
+    → StopsInConnection (both_of c0 c1 s0 s1) (so_far w0 e0) w3 error
 stops_in_server c0 c1 s0 s1 w0 w1 w2 w3 e0 e1 e2 error word begun client it =
     let both = client.bytes ++ it.bytes in
     let all = e2.streamed + length it.stream in
@@ -113,3 +118,22 @@ stops_in_server c0 c1 s0 s1 w0 w1 w2 w3 e0 e1 e2 error word begun client it =
           (stopped_after w1 w2 w3 client.bytes it.bytes e1.at e2.at all error client.appended
           client.grows.at it.stopped));
     }
+
+pub writes_connection : (c0 c1 s0 s1 : Observed) (w0 w1 w2 w3 : Option (List ℕ))
+    (e0 e1 e2 e3 : Extent) (result : Result (Unit {0}) Error) → Appends w0 w1 (word_bytes 1)
+    → Grows e0 e1 (word_bytes 1) 0 → HasStream c0 c1 (so_far w1 e1) (so_far w2 e2)
+    → WritesStream s0 s1 (so_far w2 e2) (so_far w3 e3) result
+    → WritesConnection (both_of c0 c1 s0 s1) (so_far w0 e0) (so_far w3 e3) result
+writes_connection c0 c1 s0 s1 w0 w1 w2 w3 e0 e1 e2 e3 (Ok done) word begun client it =
+    whole_connection c0 c1 s0 s1 w0 w1 w2 w3 e0 e1 e2 e3 word begun client it
+writes_connection c0 c1 s0 s1 w0 w1 w2 w3 e0 e1 e2 e3 (Err error) word begun client it =
+    stops_in_server c0 c1 s0 s1 w0 w1 w2 w3 e0 e1 e2 error word begun client it
+
+-- ---- a pair, which is a connection if there is room for it
+
+module _ {W : Type 0} where
+  pub writes_pair : (packing : Packing W) (sources : Sources) (old new : CaptureSoFar)
+      (result : Result (Unit {0}) Error) → WritesConnection sources old new result
+      → WritesPair packing sources old new result
+  writes_pair packing sources old new (Ok done) it = it
+  writes_pair packing sources old new (Err error) it = inr it

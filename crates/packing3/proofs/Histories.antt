@@ -1,12 +1,13 @@
 -- What each call makes of the pairs for which a packing stood.
-use Rattle.packing3.proofs.Common.{arith, refl, sym, ap, subst, inl, inr, ◌≡◌, ◌∙◌, ◌≤◌, ◌+◌, ℕ, List, [], ◌∷◌, ◌++◌, length, length-append, append_assoc, Option, None, Result, Ok, Err, OnOk, OnErr, IfErr, Gave, GavePrefix, Observed, gave_none, prefix_of_kept, Appends, Appends-trans, word_bytes, Error, max_bytes, AppendsFront, front_of_second, ArePacked, IsPackedConnection, HasConnection, IsStopped, StopsInConnection, One, magic, max_connections, total_size, Streams, size, HasNoRoom, BreaksOff, Explains}
+use Rattle.packing3.proofs.Common.{arith, refl, sym, ap, subst, inl, inr, ◌≡◌, ◌∙◌, ◌≤◌, ◌+◌, ℕ, List, [], ◌∷◌, ◌++◌, length, length-append, append_assoc, Option, None, Result, Ok, Err, OnOk, OnErr, IfErr, Gave, GavePrefix, gave_none, prefix_of_kept, Appends, Appends-trans, word_bytes, Error, max_bytes, AppendsFront, front_of_second, ArePacked, IsPackedConnection, HasConnection, IsStopped, StopsInConnection, One, magic, max_connections, total_size, Streams, size, HasNoRoom, BreaksOff, Explains, so_far}
 use Rattle.record_mark.proofs.Words.{Joins-snoc}
 use Rattle.xdr3.specs.declared.reason.Reason.TheVariants as reasons
 use Rattle.capture3.specs.declared.fault.Error.TheVariants as errors
 use Rattle.capture3.specs.declared.fault.Place.TheVariants as places
 use Rattle.packing3.specs.declared.packing.Packing.{Packing}
-use Rattle.packing3.specs.Packing.{AddsPair, Finishes, HasAdded, ending_of}
-use Rattle.packing3.specs.machinery.StoppedAdds.{FailsToAdd, IsFull}
+use Rattle.packing3.specs.Devices.{Sources}
+use Rattle.packing3.specs.Packing.{AddsTo, Finishes, HasAdded, ending_of}
+use Rattle.packing3.specs.machinery.StoppedAdds.{IsFull, WritesPair}
 use Rattle.packing3.proofs.Captures.{is_capture}
 use Rattle.packing3.proofs.Stops.{stopped_after, stopped_before}
 
@@ -28,13 +29,14 @@ total_more [] streams = omega arith
 total_more (p ∷ pairs) streams = omega (arith, total_more pairs streams)
 
 module _ {W : Type 0} (written : W → Option (List ℕ)) where
-  pub added : (old new : Packing W) (first : Option (List ℕ)) (c0 c1 s0 s1 : Observed)
+  pub added : (old new : Packing W) (sources : Sources) (first : Option (List ℕ))
       (pairs : List Streams)
-      → HasConnection c0 c1 s0 s1 (written old.sink) (written new.sink) old.extent new.extent
+      → HasConnection sources (so_far (written old.sink) old.extent)
+      (so_far (written new.sink) new.extent)
       → new.connections ≡ old.connections + 1 → ending_of new ≡ None
       → HasAdded written old first pairs
-      → AddsPair written new first c0 c1 s0 s1 pairs (Ok (tt {0}))
-  added old new first c0 c1 s0 s1 pairs it count going h = record {
+      → AddsTo written new sources first pairs (Ok (tt {0}))
+  added old new sources first pairs it count going h = record {
     streams = it.streams;
     from_client = it.from_client;
     from_server = it.from_server;
@@ -56,16 +58,19 @@ module _ {W : Type 0} (written : W → Option (List ℕ)) where
   }
 
   -- of all bytes of both streams, of which the sources gave prefixes
-  pub added_all : (new : Packing W) (first : Option (List ℕ)) (c0 c1 s0 s1 : Observed)
-      (pairs : List Streams) (streams : Streams) → GavePrefix c0 c1 streams.client
-      → GavePrefix s0 s1 streams.server
-      → AddsPair written new first c0 c1 s0 s1 pairs (Ok (tt {0}))
+  pub added_all : (new : Packing W) (sources : Sources) (first : Option (List ℕ))
+      (pairs : List Streams) (streams : Streams)
+      → GavePrefix sources.client_before sources.client_after streams.client
+      → GavePrefix sources.server_before sources.server_after streams.server
+      → AddsTo written new sources first pairs (Ok (tt {0}))
       → HasAdded written new first (pairs ++ streams ∷ [])
-  added_all new first c0 c1 s0 s1 pairs streams from_client from_server it =
+  added_all new sources first pairs streams from_client from_server it =
       let (client_ended, server_ended, has) = it.adds in
-      let client : it.streams.client ≡ streams.client = (prefix_of_kept c0 c1 it.streams.client
+      let client : it.streams.client ≡ streams.client = (prefix_of_kept sources.client_before
+      sources.client_after it.streams.client
       streams.client from_client it.from_client).all client_ended in
-      let server : it.streams.server ≡ streams.server = (prefix_of_kept s0 s1 it.streams.server
+      let server : it.streams.server ≡ streams.server = (prefix_of_kept sources.server_before
+      sources.server_after it.streams.server
       streams.server from_server it.from_server).all server_ended in
       subst
       (λ (l : List ℕ).
@@ -76,11 +81,11 @@ module _ {W : Type 0} (written : W → Option (List ℕ)) where
       HasAdded written new first
       (pairs ++ record { client = l; server = it.streams.server } ∷ [])) client has)
 
-  broken_off : (old : Packing W) (first : Option (List ℕ)) (c0 c1 s0 s1 : Observed)
-      (w1 : Option (List ℕ)) (pairs : List Streams) (error : Error)
-      (it : StopsInConnection c0 c1 s0 s1 (written old.sink) w1 old.extent error)
+  broken_off : (old : Packing W) (sources : Sources) (first w1 : Option (List ℕ))
+      (pairs : List Streams) (error : Error)
+      (it : StopsInConnection sources (so_far (written old.sink) old.extent) w1 error)
       → HasAdded written old first pairs → BreaksOff first w1 (pairs ++ it.streams ∷ []) error
-  broken_off old first c0 c1 s0 s1 w1 pairs error it h =
+  broken_off old sources first w1 pairs error it h =
       let before = old.extent.streamed + size it.streams in
       let all : IsStopped first w1 ((h.front ++ it.bytes) ++ word_bytes 0) 0 before error =
       stopped_before first w1 (h.front ++ it.bytes) (word_bytes 0) 0 before error
@@ -106,12 +111,11 @@ module _ {W : Type 0} (written : W → Option (List ℕ)) where
             (subst (λ n. Explains error n all.next before) at all.observed);
       }
 
-  no_room : (old : Packing W) (first : Option (List ℕ)) (c0 c1 s0 s1 : Observed)
-      (w1 : Option (List ℕ))
+  no_room : (old : Packing W) (sources : Sources) (first w1 : Option (List ℕ))
       (pairs : List Streams) (error : Error)
-      → IsFull old c0 c1 s0 s1 (written old.sink) w1 error
+      → IsFull old sources (written old.sink) w1 error
       → HasAdded written old first pairs → HasNoRoom first w1 pairs error
-  no_room old first c0 c1 s0 s1 w1 pairs error full h = record {
+  no_room old sources first w1 pairs error full h = record {
     front = h.front;
     packed = h.packed;
     appended = subst (λ w. Appends first w h.front) (sym full.same_sink) h.appended;
@@ -125,21 +129,26 @@ module _ {W : Type 0} (written : W → Option (List ℕ)) where
         h.at;
   }
 
-  pub not_added : (old new : Packing W) (first : Option (List ℕ)) (c0 c1 s0 s1 : Observed)
+  pub not_added : (old new : Packing W) (sources : Sources) (first : Option (List ℕ))
       (pairs : List Streams) (error : Error)
-      → FailsToAdd old c0 c1 s0 s1 (written old.sink) (written new.sink) error
-      → HasAdded written old first pairs → AddsPair written new first c0 c1 s0 s1 pairs (Err error)
-  not_added old new first c0 c1 s0 s1 pairs error (inl full) h = record {
+      → WritesPair old sources (so_far (written old.sink) old.extent)
+      (so_far (written new.sink) new.extent) (Err error)
+      → HasAdded written old first pairs → AddsTo written new sources first pairs (Err error)
+  not_added old new sources first pairs error (inl full) h = record {
     streams = record { client = []; server = [] };
-    from_client = subst (λ l. Gave c0 l []) (sym full.same_client) (gave_none c0);
-    from_server = subst (λ l. Gave s0 l []) (sym full.same_server) (gave_none s0);
-    adds = inl (refl, no_room old first c0 c1 s0 s1 (written new.sink) pairs error full h);
+    from_client =
+        subst (λ l. Gave sources.client_before l []) (sym full.same_client)
+        (gave_none sources.client_before);
+    from_server =
+        subst (λ l. Gave sources.server_before l []) (sym full.same_server)
+        (gave_none sources.server_before);
+    adds = inl (refl, no_room old sources first (written new.sink) pairs error full h);
   }
-  not_added old new first c0 c1 s0 s1 pairs error (inr it) h = record {
+  not_added old new sources first pairs error (inr it) h = record {
     streams = it.streams;
     from_client = it.from_client;
     from_server = it.from_server;
-    adds = inr (broken_off old first c0 c1 s0 s1 (written new.sink) pairs error it h);
+    adds = inr (broken_off old sources first (written new.sink) pairs error it h);
   }
 
   pub finishes : (old : Packing W) (first w1 : Option (List ℕ)) (pairs : List Streams)

@@ -1,7 +1,15 @@
--- What adding two streams does to the counts of their sources.
+-- The two sources of a pair, before a call that adds it and after the call.
 use Rattle.std.specs.Prelude.{◌≡◌, ◌⊎◌, ℕ, Result}
 use Rattle.capture3.specs.declared.fault.Error.{Error}
 use Rattle.capture3.specs.Entries.{CountsReading}
+use Rattle.capture3.specs.Observed.{Observed}
+
+-- what is observed of them
+pub record Sources : Type 0 where
+  pub client_before : Observed
+  pub client_after : Observed
+  pub server_before : Observed
+  pub server_after : Observed
 
 -- A read that failed is the last, and counts once for its source; without one, nothing counts.
 abbrev pub CountsReadings : {X : Type 0} (old_client client old_server server : ℕ) → Result X Error

@@ -1,7 +1,7 @@
 -- A packing, and the histories for which it stands: what its sink held before, and the pairs of
 -- streams that were added.
 use Rattle.std.specs.Prelude.{◌≡◌, ◌⊎◌, ℕ, List, [], ◌∷◌, ◌++◌, length, Option, None, Result, Ok, Err}
-use Rattle.capture3.specs.Observed.{Gave, IsSpent, Observed}
+use Rattle.capture3.specs.Observed.{Gave, IsSpent}
 use Rattle.std.specs.Io.KnownBytes.{Appends}
 use Rattle.capture3.specs.declared.fault.Error.{Error}
 use Rattle.capture3.specs.declared.fault.Error.TheVariants as errors
@@ -10,6 +10,7 @@ use Rattle.capture3.specs.SidedChunks.{Streams}
 use Rattle.canon3.specs.WriteErrors.{CountsWriting}
 use Rattle.canon3.specs.SinkWrites.{AppendsFront}
 use Rattle.packing3.specs.declared.packing.Packing.{Packing}
+use Rattle.packing3.specs.Devices.{Sources}
 use Rattle.packing3.specs.Packed.{ArePacked, IsPacked}
 use Rattle.packing3.specs.Stopped.{HasNoRoom, BreaksOff}
 
@@ -60,24 +61,30 @@ module _ {W : Type 0} where
 
   -- One pair more is added, whose sources are read to their ends. Or no pair has room, and nothing
   -- was read or written. Or an error came while the pair was read and written.
-  abbrev pub AddsStreams : (W → Option (List ℕ)) → Packing W
-      → (old : Option (List ℕ)) (client server : Observed) → List Streams → Streams
-      → Result (Unit {0}) Error → Type 0
-  AddsStreams written new old client server pairs streams (Ok done) = IsSpent client
-      × IsSpent server × HasAdded written new old (pairs ++ streams ∷ [])
-  AddsStreams written new old client server pairs streams (Err error) =
+  abbrev pub AddsStreams : (W → Option (List ℕ)) → Packing W → Sources → (old : Option (List ℕ))
+      → List Streams → Streams → Result (Unit {0}) Error → Type 0
+  AddsStreams written new sources old pairs streams (Ok done) = IsSpent sources.client_after
+      × IsSpent sources.server_after × HasAdded written new old (pairs ++ streams ∷ [])
+  AddsStreams written new sources old pairs streams (Err error) =
       ((streams ≡ record { client = []; server = [] })
       × HasNoRoom old (written (sink_of new)) pairs error)
       ⊎ BreaksOff old (written (sink_of new)) (pairs ++ streams ∷ []) error
 
   -- the same, with the streams that the sources gave in the call
-  pub record AddsPair (written : W → Option (List ℕ)) (new : Packing W) (old : Option (List ℕ))
-      (old_client client old_server server : Observed) (pairs : List Streams)
+  pub record AddsTo (written : W → Option (List ℕ)) (new : Packing W) (sources : Sources)
+      (old : Option (List ℕ)) (pairs : List Streams)
       (result : Result (Unit {0}) Error) : Type 0 where
     pub streams : Streams
-    pub from_client : Gave old_client client streams.client
-    pub from_server : Gave old_server server streams.server
-    pub adds : AddsStreams written new old client server pairs streams result
+    pub from_client : Gave sources.client_before sources.client_after streams.client
+    pub from_server : Gave sources.server_before sources.server_after streams.server
+    pub adds : AddsStreams written new sources old pairs streams result
+
+  -- so for whatever the packing represents before
+  abbrev pub AddsPair : (W → Option (List ℕ)) → (before new : Packing W) → Sources
+      → Result (Unit {0}) Error → Type 0
+  AddsPair written before new sources result =
+      (old : Option (List ℕ)) (pairs : List Streams) → HasAdded written before old pairs
+      → AddsTo written new sources old pairs result
 
   -- ---- the start
 

@@ -2,6 +2,7 @@
 #![tactic(auto)]
 
 mod block;
+mod extent;
 mod packing;
 mod stream;
 

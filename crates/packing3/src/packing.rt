@@ -6,14 +6,13 @@ ghost use Rattle.xdr3.specs.Item.{word_bytes};
 ghost use Rattle.capture3.specs.Capture.{max_connections};
 ghost use Rattle.capture3.specs.SidedChunks.{Streams};
 ghost use Rattle.capture3.specs.Observed.{GavePrefix};
-ghost use Rattle.capture3.specs.Chunks.{max_bytes};
 ghost use Rattle.canon3.specs.SinkWrites.{AppendsFront, IsFlushed};
 ghost use Rattle.packing3.specs.Packed.{full_size};
 ghost use Rattle.packing3.specs.Devices.{CountsReadings};
-ghost use Rattle.packing3.specs.machinery.Streaming.{HasConnection};
 
 use crate::block::zeros;
-use crate::stream::{Extent, FULL_CHUNK, write_connection};
+use crate::extent::Extent;
+use crate::stream::{FULL_CHUNK, write_connection};
 use canon3::{Sink, write_all};
 use capture3::{Error, MAX_CONNECTIONS, Source, pack_chunk, pack_header};
 use std::alloc::Global;
@@ -35,13 +34,12 @@ pub struct Packing<W> {
     ended: Option<Result<(), Error>>,
     ghost fits: { vec_len block ≡ full_size },
     ghost few: { connections ≤ max_connections },
-    ghost room: { extent.streamed ≤ max_bytes },
     ghost small: { extent.at ≤ 8 + 12 * connections + 5 * extent.streamed },
 }
 
 impl<W: Sink> Packing<W> {
     ghost use Rattle.packing3.specs.Packing.{AddsPair, CountsStart, CountsWrites, ending_of, FailsToStart, Finishes, HasAdded, sink_of};
-    ghost use Rattle.packing3.specs.machinery.StoppedAdds.{FailsToAdd};
+    ghost use Rattle.packing3.specs.machinery.StoppedAdds.{WritesPair};
 
     /// Allocates one chunk, and writes the magic.
     ///
@@ -101,12 +99,14 @@ impl<W: Sink> Packing<W> {
     /// the same is returned again, and after `finish` what that returned; nothing is read or
     /// written then.
     pub fn add<C: Source, S: Source>(&mut self, client: &mut C, server: &mut S) -> Result<(), Error>
-        ensures adds { (old : Option (List ℕ)) (pairs : List Streams)
-            → HasAdded W.written self.old old pairs
-            → AddsPair W.written self.new old
-            (C.observed client.old) (C.observed client.new) (S.observed server.old)
-            (S.observed server.new)
-            pairs result }
+        ensures adds { AddsPair W.written self.old self.new
+            (record {
+              client_before = C.observed client.old;
+              client_after = C.observed client.new;
+              server_before = S.observed server.old;
+              server_after = S.observed server.new;
+            })
+            result }
         ensures whole { (old : Option (List ℕ)) (pairs : List Streams) (streams : Streams)
             → HasAdded W.written self.old old pairs
             → GavePrefix (C.observed client.old) (C.observed client.new) streams.client
@@ -116,10 +116,9 @@ impl<W: Sink> Packing<W> {
             → MatchResult result
             (λ _. ending_of self.new ≡ None)
             (λ error. ending_of self.new ≡ Some (Err error)) }
-        ensures again { IsSome (ending_of self.old) → ending_of self.old ≡ Some result }
-        ensures unchanged { IsSome (ending_of self.old) → self.new ≡ self.old }
-        ensures unread { IsSome (ending_of self.old)
-            → (client.new ≡ client.old) × (server.new ≡ server.old) }
+        ensures again { IsSome (ending_of self.old)
+            → (ending_of self.old ≡ Some result) × (self.new ≡ self.old)
+            × (client.new ≡ client.old) × (server.new ≡ server.old) }
         ensures read { ending_of self.old ≡ None
             → CountsReadings
             (C.failures client.old) (C.failures client.new)
@@ -153,8 +152,8 @@ impl<W: Sink> Packing<W> {
             → OnOk result
             (IsFlushed (W.written (sink_of self.new)) (W.flushed (sink_of self.new))) }
         ensures ended { ending_of self.old ≡ None → ending_of self.new ≡ Some result }
-        ensures again { IsSome (ending_of self.old) → ending_of self.old ≡ Some result }
-        ensures unchanged { IsSome (ending_of self.old) → self.new ≡ self.old }
+        ensures again { IsSome (ending_of self.old)
+            → (ending_of self.old ≡ Some result) × (self.new ≡ self.old) }
         ensures write { ending_of self.old ≡ None
             → CountsWrites W.failures self.old self.new result }
     {
@@ -172,16 +171,17 @@ impl<W: Sink> Packing<W> {
         client: &mut C,
         server: &mut S,
     ) -> Result<(), Error>
-        ensures ok { OnOk result (HasConnection
-            (C.observed client.old) (C.observed client.new) (S.observed server.old)
-            (S.observed server.new)
-            (W.written (sink_of self.old)) (W.written (sink_of self.new))
-            self.old.extent self.new.extent) }
+        ensures writes { WritesPair self.old
+            (record {
+              client_before = C.observed client.old;
+              client_after = C.observed client.new;
+              server_before = S.observed server.old;
+              server_after = S.observed server.new;
+            })
+            (record { bytes = W.written (sink_of self.old); extent = self.old.extent })
+            (record { bytes = W.written (sink_of self.new); extent = self.new.extent })
+            result }
         ensures one_more { OnOk result (self.new.connections ≡ self.old.connections + 1) }
-        ensures err { IfErr result (FailsToAdd self.old
-            (C.observed client.old) (C.observed client.new) (S.observed server.old)
-            (S.observed server.new)
-            (W.written (sink_of self.old)) (W.written (sink_of self.new))) }
         ensures same_ending { ending_of self.new ≡ ending_of self.old }
         ensures read { CountsReadings
             (C.failures client.old) (C.failures client.new)

@@ -1,44 +1,20 @@
 //! A stream in chunks.
 
-ghost use Rattle.std.specs.Prelude.{◌≡◌, ◌<◌, ◌≤◌, ◌+◌, ◌^◌, length, IfErr, IfOk, OnErr, OnOk};
-ghost use Rattle.std.specs.Io.KnownBytes.{Appends};
-ghost use Rattle.capture3.specs.Chunks.{max_bytes};
+ghost use Rattle.std.specs.Prelude.{◌≡◌, ◌<◌, ◌≤◌, ◌+◌, ◌^◌, length};
 ghost use Rattle.capture3.specs.Entries.{CountsReading};
 ghost use Rattle.canon3.specs.WriteErrors.{CountsWriting};
-ghost use Rattle.canon3.specs.SinkWrites.{AppendsFront};
 ghost use Rattle.packing3.specs.Packed.{full_size};
 ghost use Rattle.packing3.specs.Devices.{CountsReadings};
-ghost use Rattle.packing3.specs.machinery.Streaming.{HasChunk, HasConnection, HasStream, GrowsLittle, StopsInChunk, StopsInConnection, StopsInStream};
+ghost use Rattle.packing3.specs.machinery.Streaming.{GrowsLittle, WritesChunk, WritesConnection, WritesStream};
 
 use crate::block::fill;
+use crate::extent::Extent;
 use canon3::{Sink, write_all};
-use capture3::{Error, Fault, MAX_BYTES, Place, Source, pack_chunk};
+use capture3::{Error, MAX_BYTES, Source, pack_chunk};
 use xdr3::Reason;
 
 /// How many bytes a full chunk has.
 pub(crate) const FULL_CHUNK: usize = 65_536;
-
-/// How much of a capture is written.
-#[derive(Clone, Copy)]
-pub(crate) struct Extent {
-    /// The bytes that chunks carry.
-    pub(crate) streamed: u32,
-    /// All bytes.
-    pub(crate) at: u64,
-}
-
-impl Extent {
-    /// Returns the refusal of the word that comes next.
-    pub(crate) fn refusal(&self, reason: Reason) -> Error
-        ensures { result ≡ Error.Refused
-            (record { place = Place.File self.now.at; reason = reason }) }
-    {
-        Error::Refused(Fault {
-            place: Place::File { at: self.at },
-            reason,
-        })
-    }
-}
 
 /// Writes a connection: the word 1, and both sources' bytes to their ends.
 ///
@@ -53,18 +29,18 @@ pub(crate) fn write_connection<C: Source, S: Source, W: Sink>(
     server: &mut S,
 ) -> Result<(), Error>
     requires block { length block.old ≡ full_size }
-    requires room { extent.old.streamed ≤ max_bytes }
     requires small { extent.old.at ≤ 2 ^ 50 }
-    ensures room { extent.new.streamed ≤ max_bytes }
     ensures small { GrowsLittle 12 extent.old extent.new }
-    ensures ok { OnOk result (HasConnection
-        (C.observed client.old) (C.observed client.new) (S.observed server.old)
-        (S.observed server.new)
-        (W.written sink.old) (W.written sink.new) extent.old extent.new) }
-    ensures err { IfErr result (StopsInConnection
-        (C.observed client.old) (C.observed client.new) (S.observed server.old)
-        (S.observed server.new)
-        (W.written sink.old) (W.written sink.new) extent.old) }
+    ensures writes { WritesConnection
+        (record {
+          client_before = C.observed client.old;
+          client_after = C.observed client.new;
+          server_before = S.observed server.old;
+          server_after = S.observed server.new;
+        })
+        (record { bytes = W.written sink.old; extent = extent.old })
+        (record { bytes = W.written sink.new; extent = extent.new })
+        result }
     ensures read { CountsReadings
         (C.failures client.old) (C.failures client.new)
         (S.failures server.old) (S.failures server.new) result }
@@ -91,16 +67,12 @@ fn write_stream<R: Source, W: Sink>(
     source: &mut R,
 ) -> Result<(), Error>
     requires block { length block.old ≡ full_size }
-    requires room { extent.old.streamed ≤ max_bytes }
     requires small { extent.old.at ≤ 2 ^ 60 }
-    ensures room { extent.new.streamed ≤ max_bytes }
     ensures small { GrowsLittle 4 extent.old extent.new }
-    ensures ok { OnOk result (HasStream
-        (R.observed source.old) (R.observed source.new) (W.written sink.old) (W.written sink.new)
-        extent.old extent.new) }
-    ensures err { IfErr result (StopsInStream
-        (R.observed source.old) (R.observed source.new) (W.written sink.old) (W.written sink.new)
-        extent.old) }
+    ensures writes { WritesStream (R.observed source.old) (R.observed source.new)
+        (record { bytes = W.written sink.old; extent = extent.old })
+        (record { bytes = W.written sink.new; extent = extent.new })
+        result }
     ensures read { CountsReading (R.failures source.old) (R.failures source.new) result }
     ensures write { CountsWriting (W.failures sink.old) (W.failures sink.new) result }
 {
@@ -124,16 +96,12 @@ fn write_chunk<R: Source, W: Sink>(
     source: &mut R,
 ) -> Result<usize, Error>
     requires block { length block.old ≡ full_size }
-    requires room { extent.old.streamed ≤ max_bytes }
     requires small { extent.old.at < 2 ^ 62 }
-    ensures room { extent.new.streamed ≤ max_bytes }
     ensures small { GrowsLittle 0 extent.old extent.new }
-    ensures ok { IfOk result (HasChunk
-        (R.observed source.old) (R.observed source.new) (W.written sink.old) (W.written sink.new)
-        extent.old extent.new) }
-    ensures err { IfErr result (StopsInChunk
-        (R.observed source.old) (R.observed source.new) (W.written sink.old) (W.written sink.new)
-        extent.old) }
+    ensures writes { WritesChunk (R.observed source.old) (R.observed source.new)
+        (record { bytes = W.written sink.old; extent = extent.old })
+        (record { bytes = W.written sink.new; extent = extent.new })
+        result }
     ensures read { CountsReading (R.failures source.old) (R.failures source.new) result }
     ensures write { CountsWriting (W.failures sink.old) (W.failures sink.new) result }
 {

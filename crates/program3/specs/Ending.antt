@@ -2,7 +2,7 @@
 use Rattle.std.specs.Prelude.{◌≡◌, ◌⊎◌, ℕ, Bool, true, false, Option, List, [], ◌++◌, codes}
 use Rattle.std.specs.Io.KnownBytes.{Appends}
 use Rattle.program3.specs.Printed.{newline, Prints, PrintsOutcome}
-use Rattle.program3.specs.declared.ending.Exit.{Exit}
+use Rattle.program3.specs.declared.reports.ending.Exit.{Exit}
 use Rattle.program3.specs.declared.outcome.Ended.{Ended}
 use Rattle.program3.specs.declared.outcome.Outcome.{Outcome}
 use Rattle.program3.specs.declared.outcome.Report.{Report}
@@ -18,13 +18,23 @@ IsReport true outcome report = (plain : Report) × PrintsOutcome outcome plain
 abbrev pub ReportsOnError : (is_reported : Bool) → (old new : Option (List ℕ)) → List ℕ → Type 0
 ReportsOnError is_reported old new text = is_reported ≡ true → Appends old new text
 
+-- What standard output and standard error hold, before something is printed and after it.
+pub record Printing : Type 0 where
+  pub out_before : Option (List ℕ)
+  pub out_after : Option (List ℕ)
+  pub err_before : Option (List ℕ)
+  pub err_after : Option (List ℕ)
+
 -- The report was printed, and its status is returned; or standard output failed, which is told; or
 -- memory ran out for the report, and nothing was printed.
-abbrev pub ReportsEnded : Ended → (out out_now err err_now : Option (List ℕ)) → Exit → Type 0
-ReportsEnded ended out out_now err err_now told =
+abbrev pub ReportsEnded : Ended → Printing → Exit → Type 0
+ReportsEnded ended printing told =
     ((report : Report) × IsReport ended.is_aside ended.outcome report
-    × (told.status ≡ report.status) × Appends out out_now report.out.items
-    × ReportsOnError told.is_reported err err_now report.err.items)
+    × (told.status ≡ report.status)
+    × Appends printing.out_before printing.out_after report.out.items
+    × ReportsOnError told.is_reported printing.err_before printing.err_after report.err.items)
     ⊎ ((told.status ≡ 3)
-    × ReportsOnError told.is_reported err err_now (codes "write failed" ++ newline))
-    ⊎ ((told.status ≡ 3) × (out_now ≡ out) × (err_now ≡ err))
+    × ReportsOnError told.is_reported printing.err_before printing.err_after
+    (codes "write failed" ++ newline))
+    ⊎ ((told.status ≡ 3) × (printing.out_after ≡ printing.out_before)
+    × (printing.err_after ≡ printing.err_before))

@@ -2,8 +2,8 @@
 use Rattle.std.specs.Prelude.{◌≡◌, ◌⊎◌, ℕ, ℤ, List, Option, None, string_bytes}
 use Rattle.std.specs.declared.io.ErrorKind.{ErrorKind}
 use Rattle.std.specs.declared.io.ErrorKind.TheVariants.{OutOfMemory}
-use Rattle.program3.specs.declared.opening.OpenError.{OpenError}
-use Rattle.program3.specs.declared.opening.OpenError.TheVariants as causes
+use Rattle.program3.specs.declared.input.opening.OpenError.{OpenError}
+use Rattle.program3.specs.declared.input.opening.OpenError.TheVariants as causes
 use Rattle.program3.specs.declared.outcome.Outcome.{Outcome}
 use Rattle.program3.specs.declared.outcome.Outcome.TheVariants.{Unopened}
 

@@ -1,8 +1,8 @@
 -- The permissions of a file that replaces another. A mode has three bits for each class: the
 -- owner's are the highest, then those of the group, and then those of the others.
 use Rattle.std.specs.Prelude.{ℕ, ◌*◌, ◌/◌, ◌^◌, bit_and, bit_or}
-use Rattle.program3.specs.declared.rights.Kept.{Kept}
-use Rattle.program3.specs.declared.rights.Kept.TheVariants.{OwnerAndGroup, Owner, Nothing}
+use Rattle.program3.specs.declared.output.rights.Kept.{Kept}
+use Rattle.program3.specs.declared.output.rights.Kept.TheVariants.{OwnerAndGroup, Owner, Nothing}
 
 -- what both the group and the others may
 abbrev pub by_group_and_others : ℕ → ℕ

@@ -1,8 +1,8 @@
 -- The file to which a program prints.
 use Rattle.std.specs.Prelude.{◌==◌, ◌&&◌, ℕ, Bool, true, false, Option, None, Some}
-use Rattle.program3.specs.declared.identity.FileId.{FileId}
-use Rattle.program3.specs.declared.standard.StandardOutput.{StandardOutput}
-use Rattle.program3.specs.declared.standard.StandardOutput.TheVariants.{Closed, Open, Unknown}
+use Rattle.program3.specs.declared.output.identity.FileId.{FileId}
+use Rattle.program3.specs.declared.output.standard.StandardOutput.{StandardOutput}
+use Rattle.program3.specs.declared.output.standard.StandardOutput.TheVariants.{Closed, Open, Unknown}
 
 -- the number of the error that no file is open under a number, as Linux has it (EBADF)
 abbrev pub bad_number : ℕ

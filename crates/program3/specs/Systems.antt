@@ -2,7 +2,7 @@
 use Rattle.std.specs.Prelude.{List, Some, map, reverse, string_bytes}
 use Rattle.program3.specs.Files.{WrittenFile}
 use Rattle.program3.specs.declared.files.Made.{Made}
-use Rattle.program3.specs.declared.place.Place.{Place}
+use Rattle.program3.specs.declared.output.place.Place.{Place}
 use Rattle.program3.specs.declared.system.SafeFile.{SafeFile}
 use Rattle.program3.specs.declared.system.System.{System}
 

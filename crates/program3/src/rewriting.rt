@@ -11,8 +11,8 @@ ghost use Rattle.program3.specs.Readings.{IsByFailedRead, IsUnread, MayContain, 
 
 use crate::files::{Files, Made};
 use crate::outcome::{Ended, Outcome};
+use crate::output::writing::{WRITTEN_AT_ONCE, written_out};
 use crate::reading::Readings;
-use crate::writing::{WRITTEN_AT_ONCE, written_out};
 use canon3::{Sink, Summary, ToWrite};
 use capture3::{Error, FromRead, Source};
 use std::alloc::{AllocError, Global};

@@ -8,15 +8,15 @@ ghost use Rattle.program3.specs.declared.outcome.Outcome.TheVariants.{Packed};
 ghost use Rattle.program3.specs.Places.{IsMade};
 ghost use Rattle.program3.specs.Systems.{finished_of};
 
-use crate::destination::Destination;
 use crate::files::{Files, Made};
-use crate::identity::{FileId, if_there};
-use crate::opening::{OpenError, opened, uncounted, unopened};
+use crate::input::opening::{OpenError, opened, uncounted, unopened};
+use crate::input::retried::Retried;
 use crate::outcome::Outcome;
-use crate::place::Place;
+use crate::output::destination::Destination;
+use crate::output::identity::{FileId, if_there};
+use crate::output::place::Place;
+use crate::output::standard::StandardOutput;
 use crate::reading::Opened;
-use crate::retried::Retried;
-use crate::standard::StandardOutput;
 use canon3::Traced;
 use capture3::Error;
 use line3::LineFault;
@@ -50,7 +50,7 @@ impl<'a> System<'a> {
 
     /// Makes the output, unless it is the input, of which the system says `read`. The name may lead to another
     /// file once it is open, so it is compared again.
-    fn made_apart(
+    fn make_output(
         &self,
         output: &str,
         own: io::Result<StandardOutput>,
@@ -64,7 +64,7 @@ impl<'a> System<'a> {
             return Ok(None);
         }
         let mut spared = printed_to(self.rt.alloc(), own)?;
-        added(&mut spared, FileId::of(read))?;
+        add_id(&mut spared, FileId::of(read))?;
         let made = Place::make(self.rt, output, &destination, spared)?;
         if made.place.is_regular(read) {
             made.place.remove(self.rt);
@@ -121,7 +121,7 @@ impl Files for System<'_> {
             Ok(opened) => opened,
             Err(error) => return Err(uncounted(alloc, input, error)),
         };
-        match self.made_apart(output, own, &read) {
+        match self.make_output(output, own, &read) {
             Ok(Some(made)) => Ok((Opened::new(input, Retried { reader }), made)),
             Ok(None) => Err(Outcome::Line(LineFault::SameName)),
             Err(error) => Err(uncounted(alloc, output, error)),
@@ -194,12 +194,12 @@ impl Files for System<'_> {
 fn printed_to(alloc: Global, own: StandardOutput) -> Result<Vec<FileId>, AllocError> {
     let mut ids = Vec::new(alloc);
     if let Some(id) = own.id() {
-        added(&mut ids, id)?;
+        add_id(&mut ids, id)?;
     }
     Ok(ids)
 }
 
-fn added(ids: &mut Vec<FileId>, id: FileId) -> Result<(), AllocError> {
+fn add_id(ids: &mut Vec<FileId>, id: FileId) -> Result<(), AllocError> {
     ids.push(id).map_err(|_| AllocError)
 }
 
@@ -234,7 +234,7 @@ fn stands_apart(
         Ok(Some(data)) if destination.is_regular(&data) => {
             Err(Outcome::Line(LineFault::SameName))
         }
-        Ok(Some(data)) => match added(ids, FileId::of(&data)) {
+        Ok(Some(data)) => match add_id(ids, FileId::of(&data)) {
             Ok(()) => Ok(()),
             Err(_) => Err(Outcome::Packed(Err(Error::Memory))),
         },

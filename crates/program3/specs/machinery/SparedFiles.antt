@@ -1,7 +1,7 @@
 -- Files that are not to be replaced.
 use Rattle.std.specs.Prelude.{Bool, List}
 use Rattle.std.specs.List.{list_any}
-use Rattle.program3.specs.declared.identity.FileId.{FileId}
+use Rattle.program3.specs.declared.output.identity.FileId.{FileId}
 use Rattle.program3.specs.Standard.{is_one_file}
 
 -- one of these files is this one

@@ -2,18 +2,19 @@ use Rattle.packing3.proofs.Common.{arith, take, ◌≤◌, refl, subst, ◌++◌
 use Rattle.packing3.proofs.Chunks.{chunk_cut, chunk_refused, chunk_some}
 use Rattle.packing3.proofs.stream.write_chunk.Goals as goal
 
-pub returns-then-count-extent-clause-err : goal.returns-then-count-extent-clause-err
-returns-then-count-extent-clause-err g c =
+pub returns-then-count-extent-clause-writes : goal.returns-then-count-extent-clause-writes
+returns-then-count-extent-clause-writes g c =
     let within : c.in-Ok.count ≤ full_size =
     omega (arith, c.in-Ok.ensures.within, c.fill.ensures.size, c.requires.block) in
     chunk_refused (g.R.Source.observed c.args.source.now) (g.R.Source.observed c.fill.new.source)
     (g.W.Sink.written c.args.sink.now) c.args.extent.now c.refusal.result
     (take c.in-Ok.count c.fill.new.block) c.in-Ok.count c.in-Ok.ensures.bytes
     (length-take-le c.in-Ok.count c.fill.new.block c.in-Ok.ensures.within) within
-    c.requires.room (omega (arith, c.if-count-extent.true, c.requires.room)) c.refusal.ensures
+    c.args.extent.now.within (omega (arith, c.if-count-extent.true, c.args.extent.now.within))
+    c.refusal.ensures
 
-pub returns-in_err-write_all-clause-err : goal.returns-in_err-write_all-clause-err
-returns-in_err-write_all-clause-err g c =
+pub returns-in_err-write_all-clause-writes : goal.returns-in_err-write_all-clause-writes
+returns-in_err-write_all-clause-writes g c =
     let chunk = take c.in-Ok.count c.fill.new.block in
     let front =
     subst (AppendsFront (g.W.Sink.written c.args.sink.now) (g.W.Sink.written c.write_all.new.sink))
@@ -28,8 +29,8 @@ returns-in_err-write_all-clause-err g c =
     (front_of_first (g.W.Sink.written c.args.sink.now) (g.W.Sink.written c.write_all.new.sink)
     (word_bytes c.in-Ok.count) chunk (word_bytes c.in-Ok.count ++ chunk) refl front))
 
-pub returns-in_err-write_all-2-clause-err : goal.returns-in_err-write_all-2-clause-err
-returns-in_err-write_all-2-clause-err g c =
+pub returns-in_err-write_all-2-clause-writes : goal.returns-in_err-write_all-2-clause-writes
+returns-in_err-write_all-2-clause-writes g c =
     let chunk = take c.in-Ok.count c.fill.new.block in
     let word =
     subst (Appends (g.W.Sink.written c.args.sink.now) (g.W.Sink.written c.write_all.new.sink))
@@ -45,8 +46,8 @@ returns-in_err-write_all-2-clause-err g c =
     (g.W.Sink.written c.write_all-2.new.sink) (word_bytes c.in-Ok.count) chunk
     (word_bytes c.in-Ok.count ++ chunk) refl word c.in_err-write_all-2.ensures.err))
 
-pub returns-clause-ok : goal.returns-clause-ok
-returns-clause-ok g c =
+pub returns-clause-writes : goal.returns-clause-writes
+returns-clause-writes g c =
     let chunk = take c.in-Ok.count c.fill.new.block in
     let word =
     subst (Appends (g.W.Sink.written c.args.sink.now) (g.W.Sink.written c.write_all.new.sink))

@@ -1,13 +1,12 @@
-use Rattle.packing3.proofs.Common.{◌≡◌, ◌≤◌, ◌-◌, length, max_bytes, full_size, HasFull, GrowsLittle}
+use Rattle.packing3.proofs.Common.{◌≡◌, ◌-◌, length, max_bytes, full_size, HasFull, GrowsLittle, so_far}
 use Rattle.packing3.proofs.stream.write_stream.Given as goal
 
 abbrev pub invariant-loop-count : goal.invariant-loop-count
 invariant-loop-count g l = record {
   block : length l.block ≡ full_size;
-  room : l.extent.streamed ≤ max_bytes;
   small : GrowsLittle 0 l.fn.extent l.extent;
   full : HasFull (g.R.Source.observed l.fn.source) (g.R.Source.observed l.source)
-      (g.W.Sink.written l.fn.sink) (g.W.Sink.written l.sink) l.fn.extent l.extent;
+      (so_far (g.W.Sink.written l.fn.sink) l.fn.extent) (so_far (g.W.Sink.written l.sink) l.extent);
   read : g.R.Source.failures l.source ≡ g.R.Source.failures l.fn.source;
   write : g.W.Sink.failures l.sink ≡ g.W.Sink.failures l.fn.sink;
 }

@@ -3,7 +3,7 @@
 ghost use Rattle.std.specs.Prelude.{◌≡◌, Err};
 ghost use Rattle.std.specs.IoError.{error_kind, raw_os_error};
 ghost use Rattle.program3.specs.Opening.{ReportsUnopened, open_error_of};
-ghost use Rattle.program3.specs.declared.opening.OpenError.TheVariants.{Memory};
+ghost use Rattle.program3.specs.declared.input.opening.OpenError.TheVariants.{Memory};
 ghost use Rattle.program3.specs.declared.outcome.Outcome.TheVariants.{Counted};
 
 use crate::outcome::Outcome;

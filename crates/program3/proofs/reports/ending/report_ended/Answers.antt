@@ -1,6 +1,6 @@
 use Rattle.program3.proofs.Common.{◌∙◌, inl, refl, subst, sym, Appends}
 use Rattle.program3.proofs.EndingLemmas.{unless_failed}
-use Rattle.program3.proofs.ending.report_ended.Goals as goal
+use Rattle.program3.proofs.reports.ending.report_ended.Goals as goal
 
 pub returns : goal.returns
 returns g c =

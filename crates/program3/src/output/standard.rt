@@ -4,7 +4,7 @@ ghost use Rattle.std.specs.Prelude.{◌≡◌, ◌≢◌, IfErr, IfOk, None, Ok,
 ghost use Rattle.std.specs.IoError.{raw_os_error};
 ghost use Rattle.program3.specs.Standard.{bad_number, is_known_as, known_id, may_be};
 
-use crate::identity::{FileId, if_there};
+use crate::output::identity::{FileId, if_there};
 use std::io::ErrorKind;
 use std::os::fd::AsFd;
 use std::{fs, io};

@@ -1,8 +1,8 @@
 //! What the name of an output leads to, before anything is made.
 
-use crate::identity::{FileId, if_there};
-use crate::standard::StandardOutput;
-use crate::standing::MOST_LOOKS;
+use crate::output::identity::{FileId, if_there};
+use crate::output::standard::StandardOutput;
+use crate::output::standing::MOST_LOOKS;
 use std::fs::Metadata;
 use std::io::ErrorKind;
 use std::{fs, io};

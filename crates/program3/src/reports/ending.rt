@@ -5,7 +5,7 @@ ghost use Rattle.std.specs.Io.KnownBytes.{Appends};
 ghost use Rattle.program3.specs.Ending.{IsReport, ReportsEnded, ReportsOnError};
 
 use crate::outcome::{Ended, Report};
-use crate::printed::{OUTSIDE, on_standard_error, report};
+use crate::reports::printed::{OUTSIDE, on_standard_error, report};
 use canon3::Traced;
 use std::alloc::{AllocError, Global};
 use std::io;
@@ -36,8 +36,14 @@ pub fn report_ended<O: Write, E: Write>(
     out: &mut O,
     err: &mut E,
 ) -> Exit
-    ensures { ReportsEnded ended.now (O.contents out.old) (O.contents out.new)
-        (E.contents err.old) (E.contents err.new) result }
+    ensures { ReportsEnded ended.now
+        (record {
+          out_before = O.contents out.old;
+          out_after = O.contents out.new;
+          err_before = E.contents err.old;
+          err_after = E.contents err.new;
+        })
+        result }
 {
     let Ok(report) = reported(alloc, ended) else {
         return Exit {

@@ -47,7 +47,7 @@ pub fn permissions(kept: Kept, old: u32, new: u32) -> u32
 /// # Errors
 ///
 /// That of the system if it does not say whose the file is.
-pub fn owner_given(file: &File, data: &Metadata) -> io::Result<Kept> {
+pub fn give_owner(file: &File, data: &Metadata) -> io::Result<Kept> {
     let own = file.metadata()?;
     if own.uid() == data.uid() && own.gid() == data.gid() {
         return Ok(Kept::OwnerAndGroup);

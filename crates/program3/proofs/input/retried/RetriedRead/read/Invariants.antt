@@ -1,5 +1,5 @@
 use Rattle.program3.proofs.Common.{◌≡◌, length, Keeps}
-use Rattle.program3.proofs.retried.RetriedRead.read.Given as goal
+use Rattle.program3.proofs.input.retried.RetriedRead.read.Given as goal
 
 abbrev pub invariant-loop : goal.invariant-loop
 invariant-loop g l = (length l.buf ≡ length l.initial.buf)

@@ -5,8 +5,8 @@ ghost use Rattle.std.specs.Fs.{file_type, metadata_mode, IsFile};
 ghost use Rattle.capture3.specs.Capture.{magic_front};
 ghost use Rattle.program3.specs.machinery.SparedFiles.{is_among_files};
 
-use crate::identity::FileId;
-use crate::opening::OpenError;
+use crate::input::opening::OpenError;
+use crate::output::identity::FileId;
 use std::alloc::{AllocError, Global};
 use std::fs::{File, Metadata, OpenOptions};
 use std::io::{ErrorKind, Read};

@@ -1,5 +1,5 @@
 use Rattle.program3.proofs.EndingLemmas.{aside}
-use Rattle.program3.proofs.ending.reported.Goals as goal
+use Rattle.program3.proofs.reports.ending.reported.Goals as goal
 
 pub returns-then-ended : goal.returns-then-ended
 returns-then-ended c =

@@ -3,11 +3,11 @@
 ghost use Rattle.std.specs.Prelude.{◌≡◌, IfOk, string_bytes};
 ghost use Rattle.program3.specs.Places.{IsMade};
 
-use crate::destination::Destination;
 use crate::files::Made;
-use crate::identity::FileId;
-use crate::opening::OpenError;
-use crate::part::Part;
+use crate::input::opening::OpenError;
+use crate::output::destination::Destination;
+use crate::output::identity::FileId;
+use crate::output::part::Part;
 use canon3::Traced;
 use std::fs::{File, Metadata, OpenOptions};
 use std::io;

@@ -3,10 +3,10 @@
 ghost use Rattle.std.specs.Prelude.{◌≡◌, ◌++◌, IfOk, codes, string_bytes};
 ghost use Rattle.hex.specs.Hex.{encode_lower};
 
-use crate::identity::{FileId, if_there};
-use crate::opening::OpenError;
-use crate::rights::{OWNER_ALONE, PERMISSIONS, give_permissions, owner_given, permissions};
-use crate::standing::{MOST_LOOKS, Standing, in_folder_of};
+use crate::input::opening::OpenError;
+use crate::output::identity::{FileId, if_there};
+use crate::output::rights::{OWNER_ALONE, PERMISSIONS, give_owner, give_permissions, permissions};
+use crate::output::standing::{MOST_LOOKS, Standing, in_folder_of};
 use std::alloc::{AllocError, Global};
 use std::fs::{File, OpenOptions};
 use std::io::ErrorKind;
@@ -52,7 +52,7 @@ impl Part {
         replaced: Option<Standing>,
     ) -> Result<(Part, File), OpenError> {
         let mode_of_new = mode_of_new(rt, whole.as_str())?;
-        let (name, file) = made_beside(rt, whole.as_str(), OWNER_ALONE)?;
+        let (name, file) = make_beside(rt, whole.as_str(), OWNER_ALONE)?;
         let part = Part {
             name,
             whole,
@@ -115,7 +115,7 @@ impl Part {
             return give_permissions(file, self.mode_of_new);
         };
         let data = replaced.file().metadata()?;
-        let kept = owner_given(file, &data)?;
+        let kept = give_owner(file, &data)?;
         give_permissions(file, permissions(kept, data.mode(), self.mode_of_new))
     }
 
@@ -172,13 +172,13 @@ fn part_name(alloc: Global, random: [u8; 8]) -> Result<String, AllocError>
 }
 
 /// Makes a file of a random name in the folder of a path, and returns it with its path.
-fn made_beside(rt: &HostRuntime, path: &str, mode: u32) -> Result<(String, File), OpenError> {
+fn make_beside(rt: &HostRuntime, path: &str, mode: u32) -> Result<(String, File), OpenError> {
     for _ in 0..MOST_TRIES {
         let mut random = [0; 8];
         rt.fill_bytes(&mut random)?;
         let part = part_name(rt.alloc(), random)?;
         let name = in_folder_of(rt.alloc(), path, part.as_str())?;
-        match created(rt, name.as_str(), mode) {
+        match create_file(rt, name.as_str(), mode) {
             Ok(file) => return Ok((name, file)),
             Err(error) if error.kind() == ErrorKind::AlreadyExists => {}
             Err(error) => return Err(OpenError::from(error)),
@@ -187,7 +187,7 @@ fn made_beside(rt: &HostRuntime, path: &str, mode: u32) -> Result<(String, File)
     Err(OpenError::Unopened)
 }
 
-fn created(rt: &HostRuntime, name: &str, mode: u32) -> io::Result<File> {
+fn create_file(rt: &HostRuntime, name: &str, mode: u32) -> io::Result<File> {
     OpenOptions::new()
         .write(true)
         .create_new(true)
@@ -198,7 +198,7 @@ fn created(rt: &HostRuntime, name: &str, mode: u32) -> io::Result<File> {
 /// The mode that a new file gets in the folder of a path. Only a file tells it, since a folder may have
 /// rules of its own beside the program's umask.
 fn mode_of_new(rt: &HostRuntime, path: &str) -> Result<u32, OpenError> {
-    let (name, file) = made_beside(rt, path, EVERYBODY)?;
+    let (name, file) = make_beside(rt, path, EVERYBODY)?;
     let data = file.metadata();
     fs::remove_file(rt, name.as_str())?;
     Ok(data?.mode() & PERMISSIONS)

@@ -1,0 +1,5 @@
+//! What a program is given: the words of its line, and files that it reads.
+
+pub(crate) mod arguments;
+pub(crate) mod opening;
+pub(crate) mod retried;
