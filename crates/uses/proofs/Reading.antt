@@ -18,7 +18,7 @@ pub none_is : {X : Type 0} (o : Option X) → ((x : X) → o ≡ Some x → ⊥)
 none_is None not = refl
 none_is (Some x) not = absurd (not x refl)
 
--- a visitor that rests for what it represents adds the items of the entry that it was told
+-- a visitor that rests for what it represents adds the items of the entry that it was passed
 pub told_plainly : {V : Type 0} (stands : V → List Item → Type 0) (was now : V) (entry : Entry)
     → Hears stands stands was now entry → Adds stands was now (items_of entry)
 unfolding Adds Hears
