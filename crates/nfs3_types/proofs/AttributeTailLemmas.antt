@@ -10,7 +10,8 @@ use Rattle.nfs3_types.specs.Shapes.{attributes, file_kind, time_how}
 use Rattle.nfs3_types.specs.Names.{names}
 
 pub attributes_scanned : {V : Type 0} (stands : V → List Item → Type 0) (v0 v1 : View) (s0 s1 : V)
-    → Scans stands (file_kind then after_type) v0 v1 s0 s1 → Scans stands attributes v0 v1 s0 s1
+    → Scans stands (file_kind then after_type) (v0, s0) (v1, s1)
+    → Scans stands attributes (v0, s0) (v1, s1)
 unfolding after_type attributes
 attributes_scanned stands v0 v1 s0 s1 h = h
 
@@ -22,10 +23,9 @@ attributes_stop v0 error h = h
 pub ruleset whole_attributes = (attributes_scanned, attributes_stop)
 
 pub settable_times_scanned : {V : Type 0} (stands : V → List Item → Type 0) (v0 v1 : View)
-    (s0 s1 : V) → Scans stands settable_times v0 v1 s0 s1
-    → Scans stands
-    (time_how names.set_atime names.atime_sec names.atime_nsec
-    then time_how names.set_mtime names.mtime_sec names.mtime_nsec) v0 v1 s0 s1
+    (s0 s1 : V) → Scans stands settable_times (v0, s0) (v1, s1)
+    → Scans stands (time_how names.set_atime names.atime_sec names.atime_nsec
+    then time_how names.set_mtime names.mtime_sec names.mtime_nsec) (v0, s0) (v1, s1)
 unfolding settable_times
 settable_times_scanned stands v0 v1 s0 s1 h = h
 

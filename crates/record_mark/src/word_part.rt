@@ -45,11 +45,11 @@ impl WordPart {
         if self.count == 0 && rest.len() >= 4 {
             return (4, Word::Whole(BigEndian::read_u32(&rest[..4])));
         }
-        self.continued(rest)
+        self.take_more(rest)
     }
 
     /// Does the same for a word that may be cut.
-    fn continued(self, rest: &[u8]) -> (usize, Word)
+    fn take_more(self, rest: &[u8]) -> (usize, Word)
         requires { 0 < length rest.now }
         ensures some { 0 < result.0 }
         ensures within { result.0 ≤ length rest.now }

@@ -270,8 +270,9 @@ opening_scans stands run v0 v1 s0 s1 e moves is few a =
 
 pub head_scanned : {V : Type 0} (stands : V → List Item → Type 0) (opening : Opening)
     (v0 v1 v2 v3 : View) (s0 s1 s2 s3 : V) → ScansOpening stands opening v0 v1 s0 s1
-    → Scans stands (credential_of opening.flavor) v1 v2 s1 s2 → Scans stands verifier v2 v3 s2 s3
-    → ScansCallHead stands opening.id v0 v3 s0 s3
+    → Scans stands (credential_of opening.flavor) (v1, s1) (v2, s2)
+    → Scans stands verifier (v2, s2) (v3, s3)
+    → ScansCallHead stands opening.id (v0, s0) (v3, s3)
 unfolding ScansCallHead Scans reading call_head credential
 head_scanned stands opening v0 v1 v2 v3 s0 s1 s2 s3 o c v =
     let body1 = o.moves.same_body in
@@ -313,7 +314,7 @@ credential_stops stands opening v0 v1 s0 s1 e o h = λ stop is.
 
 pub verifier_stops : {V : Type 0} (stands : V → List Item → Type 0) (opening : Opening)
     (v0 v1 v2 : View) (s0 s1 s2 : V) (e : GetError) → ScansOpening stands opening v0 v1 s0 s1
-    → Scans stands (credential_of opening.flavor) v1 v2 s1 s2 → Stops verifier v2 e
+    → Scans stands (credential_of opening.flavor) (v1, s1) (v2, s2) → Stops verifier v2 e
     → Stops call_head v0 e
 unfolding Stops Scans reading call_head credential
 verifier_stops stands opening v0 v1 v2 s0 s1 s2 e o c h = λ stop is.

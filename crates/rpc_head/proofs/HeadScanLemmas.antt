@@ -18,18 +18,19 @@ use Rattle.rpc_head.proofs.HeadRunLemmas.{flavor_is, flavor_is_not, run_accepts,
 -- ---- replies
 
 pub accept_alone : {V : Type 0} (stands : V → List Item → Type 0) (n : ℕ) (v0 v1 : View) (s0 s1 : V)
-    → ScansWord stands head_names.accept_stat (is_listed accept_stats) BadEnum n v0 v1 s0 s1
-    → (n ≡ 2 → ⊥) → ScansAccept stands n v0 v1 s0 s1
+    → ScansWord stands (head_names.accept_stat, is_listed accept_stats, BadEnum) n (v0, s0) (v1, s1)
+    → (n ≡ 2 → ⊥) → ScansAccept stands n (v0, s0) (v1, s1)
 unfolding ScansAccept ScansWord reading accept
 accept_alone stands n v0 v1 s0 s1 w other =
     (Word head_names.accept_stat n ∷ [], rw (w.0, ne_eqb n 2 other) refl, refl, w.1, w.2)
 
 pub accept_versions : {V : Type 0} (stands : V → List Item → Type 0) (n low high : ℕ)
     (v0 v1 v2 v3 : View) (s0 s1 s2 s3 : V)
-    → ScansWord stands head_names.accept_stat (is_listed accept_stats) BadEnum n v0 v1 s0 s1 → n ≡ 2
-    → ScansWord stands head_names.low is_any BadEnum low v1 v2 s1 s2
-    → ScansWord stands head_names.high is_any BadEnum high v2 v3 s2 s3
-    → ScansAccept stands n v0 v3 s0 s3
+    → ScansWord stands (head_names.accept_stat, is_listed accept_stats, BadEnum) n (v0, s0) (v1, s1)
+    → n ≡ 2
+    → ScansWord stands (head_names.low, is_any, BadEnum) low (v1, s1) (v2, s2)
+    → ScansWord stands (head_names.high, is_any, BadEnum) high (v2, s2) (v3, s3)
+    → ScansAccept stands n (v0, s0) (v3, s3)
 unfolding ScansAccept ScansWord reading accept
 accept_versions stands n low high v0 v1 v2 v3 s0 s1 s2 s3 w is a b =
     let second : word_at is_any BadEnum v0.body v1.at ≡ Ok (low, v2.at) =
@@ -63,10 +64,10 @@ one_opaque name max body items at to e =
     (r.0.0, p.0)
 
 pub reply_accepted : {V : Type 0} (stands : V → List Item → Type 0) (stat : ℕ) (v0 v2 v3 v4 : View)
-    (s0 s2 s3 s4 : V) → ScansBeginning stands Accepted v0 v2 s0 s2
-    → Scans stands (opaque Var head_names.verf_body 400) v2 v3 s2 s3
-    → ScansAccept stands stat v3 v4 s3 s4
-    → ScansReplyHead stands (stat == 0) v0 v4 s0 s4
+    (s0 s2 s3 s4 : V) → ScansBeginning stands Accepted (v0, s0) (v2, s2)
+    → Scans stands (opaque Var head_names.verf_body 400) (v2, s2) (v3, s3)
+    → ScansAccept stands stat (v3, s3) (v4, s4)
+    → ScansReplyHead stands (stat == 0) (v0, s0) (v4, s4)
 unfolding ScansReplyHead ScansAccept Scans reading reply_head verifier
 reply_accepted stands stat v0 v2 v3 v4 s0 s2 s3 s4 a b c =
     let body2 = a.moves.same_body in
@@ -97,8 +98,8 @@ reply_accepted stands stat v0 v2 v3 v4 s0 s2 s3 s4 a b c =
     )
 
 pub reply_denied : {V : Type 0} (stands : V → List Item → Type 0) (n : ℕ) (v0 v1 v2 : View)
-    (s0 s1 s2 : V) → ScansBeginning stands (Denied n) v0 v1 s0 s1
-    → Scans stands (denied_for n) v1 v2 s1 s2 → ScansReplyHead stands false v0 v2 s0 s2
+    (s0 s1 s2 : V) → ScansBeginning stands (Denied n) (v0, s0) (v1, s1)
+    → Scans stands (denied_for n) (v1, s1) (v2, s2) → ScansReplyHead stands false (v0, s0) (v2, s2)
 unfolding ScansReplyHead Scans reading reply_head deny
 reply_denied stands n v0 v1 v2 s0 s1 s2 a d =
     let denied : reading (denied_for n) v0.body v1.at ≡ Ok (d.0, v2.at) =
@@ -114,7 +115,7 @@ reply_denied stands n v0 v1 v2 s0 s1 s2 a d =
     )
 
 pub denied_stops : {V : Type 0} (stands : V → List Item → Type 0) (n : ℕ) (v0 v1 : View) (s0 s1 : V)
-    (e : GetError) → ScansBeginning stands (Denied n) v0 v1 s0 s1 → Stops (denied_for n) v1 e
+    (e : GetError) → ScansBeginning stands (Denied n) (v0, s0) (v1, s1) → Stops (denied_for n) v1 e
     → Stops reply_head v0 e
 unfolding Stops reading reply_head deny
 denied_stops stands n v0 v1 s0 s1 e a h = λ stop is.
@@ -124,7 +125,7 @@ denied_stops stands n v0 v1 s0 s1 e a h = λ stop is.
     rw (a.reply_stat, a.next, cut) refl
 
 pub verf_body_stops : {V : Type 0} (stands : V → List Item → Type 0) (v0 v2 : View) (s0 s2 : V)
-    (e : GetError) → ScansBeginning stands Accepted v0 v2 s0 s2
+    (e : GetError) → ScansBeginning stands Accepted (v0, s0) (v2, s2)
     → Stops (opaque Var head_names.verf_body 400) v2 e → Stops reply_head v0 e
 unfolding Stops reading reply_head verifier
 verf_body_stops stands v0 v2 s0 s2 e a h = λ stop is.
@@ -134,8 +135,8 @@ verf_body_stops stands v0 v2 s0 s2 e a h = λ stop is.
     rw (a.reply_stat, a.next, cut) refl
 
 pub accept_stops : {V : Type 0} (stands : V → List Item → Type 0) (v0 v2 v3 : View) (s0 s2 s3 : V)
-    (e : GetError) → ScansBeginning stands Accepted v0 v2 s0 s2
-    → Scans stands (opaque Var head_names.verf_body 400) v2 v3 s2 s3 → Stops accept v3 e
+    (e : GetError) → ScansBeginning stands Accepted (v0, s0) (v2, s2)
+    → Scans stands (opaque Var head_names.verf_body 400) (v2, s2) (v3, s3) → Stops accept v3 e
     → Stops reply_head v0 e
 unfolding Stops Scans reading reply_head verifier
 accept_stops stands v0 v2 v3 s0 s2 s3 e a b h = λ stop is.
@@ -180,7 +181,7 @@ pub accepted_begins : {V : Type 0} (stands : V → List Item → Type 0) (run : 
     → big_number 4 (drop 0 run) ≡ 0 → big_number 4 (drop 4 run) ≡ 0
     → Adds stands s0 s1 (Word head_names.reply_stat (big_number 4 run)
     ∷ Word head_names.verf_flavor (big_number 4 (drop 4 run)) ∷ [])
-    → ScansBeginning stands Accepted v v1 s0 s1
+    → ScansBeginning stands Accepted (v, s0) (v1, s1)
 accepted_begins stands run v v1 s0 s1 e moves is then_is a =
     let w = are_two v v1 run e in
     record {
@@ -199,7 +200,7 @@ pub denied_begins : {V : Type 0} (stands : V → List Item → Type 0) (run : Li
     → big_number 4 (drop 0 run) ≡ 1 → big_number 4 (drop 4 run) ≤ 1
     → Adds stands s0 s1 (Word head_names.reply_stat (big_number 4 run)
     ∷ Word head_names.reject_stat (big_number 4 (drop 4 run)) ∷ [])
-    → ScansBeginning stands (Denied (big_number 4 (drop 4 run))) v v1 s0 s1
+    → ScansBeginning stands (Denied (big_number 4 (drop 4 run))) (v, s0) (v1, s1)
 denied_begins stands run v v1 s0 s1 e moves is few a =
     let w = are_two v v1 run e in
     record {

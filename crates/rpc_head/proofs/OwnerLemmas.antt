@@ -125,8 +125,8 @@ pub owner_scans : {V : Type 0} (stands : V → List Item → Type 0) (run : List
     → Adds stands s0 s1 (Word head_names.uid (big_number 4 run)
     ∷ Word head_names.gid (big_number 4 (drop 4 run))
     ∷ Word head_names.gids (big_number 4 (drop 4 (drop 4 run))) ∷ [])
-    → Scans stands (group_words (big_number 4 (drop 8 run))) v1 v2 s1 s2
-    → Scans stands owner v0 v2 s0 s2
+    → Scans stands (group_words (big_number 4 (drop 8 run))) (v1, s1) (v2, s2)
+    → Scans stands owner (v0, s0) (v2, s2)
 unfolding Scans reading owner gids
 owner_scans stands run v0 v1 v2 s0 s1 s2 e moves few a y =
     let w = owned v0 v1 run e in
@@ -190,8 +190,8 @@ pub owner_scanned : {V X : Type 0} (stands : V → List Item → Type 0) (run : 
     → Adds stands s0 s1 (Word head_names.uid (big_number 4 run)
     ∷ Word head_names.gid (big_number 4 (drop 4 run))
     ∷ Word head_names.gids (big_number 4 (drop 4 (drop 4 run))) ∷ [])
-    → OnOk r (Scans stands (group_words (big_number 4 (drop 8 run))) v1 v2 s1 s2)
-    → OnOk r (Scans stands owner v0 v2 s0 s2)
+    → OnOk r (Scans stands (group_words (big_number 4 (drop 8 run))) (v1, s1) (v2, s2))
+    → OnOk r (Scans stands owner (v0, s0) (v2, s2))
 owner_scanned stands run v0 v1 v2 s0 s1 s2 (Ok x) e moves few a h =
     owner_scans stands run v0 v1 v2 s0 s1 s2 e moves few a h
 owner_scanned stands run v0 v1 v2 s0 s1 s2 (Err error) e moves few a h = h
@@ -206,8 +206,9 @@ owner_stopped run v0 v1 (Err error) e moves few h = groups_stop run v0 v1 error 
 -- ---- an owner by its parts
 
 pub whole_scans : {V X : Type 0} (stands : V → List Item → Type 0) (v0 v1 : View) (s0 s1 : V)
-    (r : Result X GetError) → OnOk r (Scans stands owner v0 v1 s0 s1)
-    → OnOk r (Scans stands (word head_names.uid then word head_names.gid then gids) v0 v1 s0 s1)
+    (r : Result X GetError) → OnOk r (Scans stands owner (v0, s0) (v1, s1))
+    → OnOk r
+    (Scans stands (word head_names.uid then word head_names.gid then gids) (v0, s0) (v1, s1))
 unfolding owner
 whole_scans stands v0 v1 s0 s1 r h = h
 

@@ -21,18 +21,18 @@ success_in_head items = (word_in items 0 == 0) && (word_in items 3 == 0)
 
 -- A call's head of this procedure is between two positions of one body, and a visitor was passed
 -- its items.
-unfoldable pub ScansCallHead : {V : Type 0} → (V → List Item → Type 0) → ProcId → View → View → V
-    → V → Type 0
-ScansCallHead stands id old new before after =
+unfoldable pub ScansCallHead : {V : Type 0} → (V → List Item → Type 0) → ProcId
+    → (old new : View × V) → Type 0
+ScansCallHead stands id (old, before) (new, after) =
     (items : List Item) × (reading call_head old.body old.at ≡ Ok (items, new.at))
     × (procedure_in_head items ≡ id) × MovesOn old new
     × Adds stands before after items
 
 -- A reply's head, of a success or not, is between two positions of one body, and a visitor was
 -- passed its items.
-unfoldable pub ScansReplyHead : {V : Type 0} → (V → List Item → Type 0) → Bool → View → View → V → V
-    → Type 0
-ScansReplyHead stands success old new before after =
+unfoldable pub ScansReplyHead : {V : Type 0} → (V → List Item → Type 0) → Bool
+    → (old new : View × V) → Type 0
+ScansReplyHead stands success (old, before) (new, after) =
     (items : List Item) × (reading reply_head old.body old.at ≡ Ok (items, new.at))
     × (success_in_head items ≡ success) × MovesOn old new
     × Adds stands before after items

@@ -10,17 +10,19 @@ use Rattle.xdr3.specs.Shape.{Shape}
 use Rattle.xdr3.specs.View.{MovesOn, View}
 use Rattle.xdr3.specs.Visit.{Adds}
 
--- Items of the shape are between two positions of one body, and a visitor was passed them.
-unfoldable pub Scans : {V : Type 0} → (V → List Item → Type 0) → Shape → View → View → V → V
+-- Items of the shape are between two positions of one body, and a visitor was passed them. Before
+-- and after it there are the input and the visitor.
+unfoldable pub Scans : {V : Type 0} → (V → List Item → Type 0) → Shape → (old new : View × V)
     → Type 0
-Scans stands shape old new before after =
+Scans stands shape (old, before) (new, after) =
     (items : List Item) × (reading shape old.body old.at ≡ Ok (items, new.at)) × MovesOn old new
     × Adds stands before after items
 
--- A word that is accepted is there, and a visitor was passed it.
-unfoldable pub ScansWord : {V : Type 0} → (V → List Item → Type 0) → List ℕ → (ℕ → Bool) → Reason
-    → ℕ → View → View → V → V → Type 0
-ScansWord stands name accepted other n old new before after =
+-- A word is there, and a visitor was passed it. Of a word there are the name, the values that are
+-- accepted, and the reason for any other.
+unfoldable pub ScansWord : {V : Type 0} → (V → List Item → Type 0)
+    → List ℕ × (ℕ → Bool) × Reason → ℕ → (old new : View × V) → Type 0
+ScansWord stands (name, accepted, other) n (old, before) (new, after) =
     (word_at accepted other old.body old.at ≡ Ok (n, new.at)) × MovesOn old new
     × Adds stands before after (Word name n ∷ [])
 
@@ -32,9 +34,9 @@ unfoldable pub StopsWord : (ℕ → Bool) → Reason → View → GetError → T
 StopsWord accepted other old error = Fails error (word_at accepted other old.body old.at)
 
 -- Items of the layout are between two positions of one body, and a visitor was passed them.
-unfoldable pub ScansLayout : {V : Type 0} → (V → List Item → Type 0) → Layout → View → View → V → V
-    → Type 0
-ScansLayout stands layout old new before after =
+unfoldable pub ScansLayout : {V : Type 0} → (V → List Item → Type 0) → Layout
+    → (old new : View × V) → Type 0
+ScansLayout stands layout (old, before) (new, after) =
     (items : List Item) × (reading_layout layout old.body old.at ≡ Ok (items, new.at))
     × MovesOn old new × Adds stands before after items
 

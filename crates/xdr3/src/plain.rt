@@ -45,7 +45,7 @@ pub fn scan_plain<V: Visit>(
 ) -> Result<(), GetError>
     requires { size ≡ run_size fields.now }
     ensures ok { OnOk result
-        (Scans V.stands (run_shape fields.now) input.old input.new visitor.old visitor.new) }
+        (Scans V.stands (run_shape fields.now) (input.old, visitor.old) (input.new, visitor.new)) }
     ensures err { IfErr result (λ error. Stops (run_shape fields.now) input.old error) }
 {
     let Some(bytes) = input.run(size) else {

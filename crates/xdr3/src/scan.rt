@@ -28,7 +28,7 @@ pub trait Scan {
     /// - `Memory` if the visitor fails.
     fn scan<V: Visit>(input: &mut Input, visitor: &mut V) -> Result<(), GetError>
         ensures ok { OnOk result
-            (Scans V.stands shape input.old input.new visitor.old visitor.new) }
+            (Scans V.stands shape (input.old, visitor.old) (input.new, visitor.new)) }
         ensures err { IfErr result (λ error. Stops shape input.old error) };
 }
 
@@ -39,8 +39,9 @@ pub fn scan_word<V: Visit>(
     input: &mut Input,
     visitor: &mut V,
 ) -> Result<u32, GetError>
-    ensures ok { IfOk result (λ n. ScansWord V.stands name.now is_any Reason.BadEnum n
-        input.old input.new visitor.old visitor.new) }
+    ensures ok { IfOk result
+        (λ n. ScansWord V.stands (name.now, is_any, Reason.BadEnum) n
+        (input.old, visitor.old) (input.new, visitor.new)) }
     ensures err { IfErr result (λ error. StopsWord is_any Reason.BadEnum input.old error) }
 {
     let n = input.word()?;
@@ -57,8 +58,8 @@ pub fn scan_listed<V: Visit>(
     visitor: &mut V,
 ) -> Result<u32, GetError>
     ensures ok { IfOk result
-        (λ n. ScansWord V.stands name.now
-        (is_listed words.now) Reason.BadEnum n input.old input.new visitor.old visitor.new) }
+        (λ n. ScansWord V.stands (name.now, is_listed words.now, Reason.BadEnum) n
+        (input.old, visitor.old) (input.new, visitor.new)) }
     ensures err { IfErr result
         (λ error. StopsWord (is_listed words.now) Reason.BadEnum input.old error) }
 {
@@ -75,8 +76,8 @@ pub fn scan_boolean<V: Visit>(
     visitor: &mut V,
 ) -> Result<bool, GetError>
     ensures ok { IfOk result
-        (λ is. ScansWord V.stands name.now is_bool Reason.BadBool
-        (from_bool is) input.old input.new visitor.old visitor.new) }
+        (λ is. ScansWord V.stands (name.now, is_bool, Reason.BadBool) (from_bool is)
+        (input.old, visitor.old) (input.new, visitor.new)) }
     ensures err { IfErr result (λ error. StopsWord is_bool Reason.BadBool input.old error) }
     ensures further { OnOk result (input.old.at < input.new.at) }
 {
@@ -93,8 +94,9 @@ fn scan_at_most<V: Visit>(
     input: &mut Input,
     visitor: &mut V,
 ) -> Result<u32, GetError>
-    ensures ok { IfOk result (λ n. ScansWord V.stands name.now (is_at_most max) Reason.TooLong n
-        input.old input.new visitor.old visitor.new) }
+    ensures ok { IfOk result
+        (λ n. ScansWord V.stands (name.now, is_at_most max, Reason.TooLong) n
+        (input.old, visitor.old) (input.new, visitor.new)) }
     ensures err { IfErr result
         (λ error. StopsWord (is_at_most max) Reason.TooLong input.old error) }
 {
@@ -111,7 +113,7 @@ pub fn scan_hyper<V: Visit>(
     visitor: &mut V,
 ) -> Result<(), GetError>
     ensures ok { OnOk result
-        (Scans V.stands (hyper name.now) input.old input.new visitor.old visitor.new) }
+        (Scans V.stands (hyper name.now) (input.old, visitor.old) (input.new, visitor.new)) }
     ensures err { IfErr result (λ error. Stops (hyper name.now) input.old error) }
 {
     let n = input.hyper()?;
@@ -127,7 +129,7 @@ pub fn scan_fixed<V: Visit>(
     visitor: &mut V,
 ) -> Result<(), GetError>
     ensures ok { OnOk result
-        (Scans V.stands (fixed name.now) input.old input.new visitor.old visitor.new) }
+        (Scans V.stands (fixed name.now) (input.old, visitor.old) (input.new, visitor.new)) }
     ensures err { IfErr result (λ error. Stops (fixed name.now) input.old error) }
 {
     let bytes = input.fixed8()?;
@@ -143,7 +145,7 @@ pub fn scan_write_verf<V: Visit>(
     visitor: &mut V,
 ) -> Result<(), GetError>
     ensures ok { OnOk result
-        (Scans V.stands (write_verf name.now) input.old input.new visitor.old visitor.new) }
+        (Scans V.stands (write_verf name.now) (input.old, visitor.old) (input.new, visitor.new)) }
     ensures err { IfErr result (λ error. Stops (write_verf name.now) input.old error) }
 {
     let bytes = input.fixed8()?;
@@ -159,8 +161,9 @@ pub fn scan_var<V: Visit>(
     input: &mut Input,
     visitor: &mut V,
 ) -> Result<(), GetError>
-    ensures ok { OnOk result (Scans V.stands (opaque Var name.now max) input.old input.new
-        visitor.old visitor.new) }
+    ensures ok { OnOk result
+        (Scans V.stands (opaque Var name.now max)
+        (input.old, visitor.old) (input.new, visitor.new)) }
     ensures err { IfErr result (λ error. Stops (opaque Var name.now max) input.old error) }
 {
     let bytes = pass!(input.var(max));
@@ -176,8 +179,9 @@ pub fn scan_text<V: Visit>(
     input: &mut Input,
     visitor: &mut V,
 ) -> Result<(), GetError>
-    ensures ok { OnOk result (Scans V.stands (opaque Text name.now max) input.old input.new
-        visitor.old visitor.new) }
+    ensures ok { OnOk result
+        (Scans V.stands (opaque Text name.now max)
+        (input.old, visitor.old) (input.new, visitor.new)) }
     ensures err { IfErr result (λ error. Stops (opaque Text name.now max) input.old error) }
 {
     let bytes = pass!(input.var(max));
@@ -192,8 +196,9 @@ pub fn scan_handle<V: Visit>(
     input: &mut Input,
     visitor: &mut V,
 ) -> Result<(), GetError>
-    ensures ok { OnOk result (Scans V.stands (opaque Handle name.now 64) input.old input.new
-        visitor.old visitor.new) }
+    ensures ok { OnOk result
+        (Scans V.stands (opaque Handle name.now 64)
+        (input.old, visitor.old) (input.new, visitor.new)) }
     ensures err { IfErr result (λ error. Stops (opaque Handle name.now 64) input.old error) }
 {
     let bytes = pass!(input.var(64));
@@ -209,8 +214,8 @@ pub fn scan_rest<V: Visit>(
     input: &mut Input,
     visitor: &mut V,
 ) -> Result<(), GetError>
-    ensures ok { OnOk result (ScansLayout V.stands (rest name.now) input.old input.new
-        visitor.old visitor.new) }
+    ensures ok { OnOk result
+        (ScansLayout V.stands (rest name.now) (input.old, visitor.old) (input.new, visitor.new)) }
     ensures memory { IfErr result (λ error. error ≡ GetError.Memory) }
 {
     let bytes = input.rest();
@@ -226,8 +231,9 @@ pub fn scan_optional<T: Scan, V: Visit>(
     input: &mut Input,
     visitor: &mut V,
 ) -> Result<(), GetError>
-    ensures ok { OnOk result (Scans V.stands (optional name.now T.shape) input.old input.new
-        visitor.old visitor.new) }
+    ensures ok { OnOk result
+        (Scans V.stands (optional name.now T.shape)
+        (input.old, visitor.old) (input.new, visitor.new)) }
     ensures err { IfErr result (λ error. Stops (optional name.now T.shape) input.old error) }
 {
     if scan_boolean(name, input, visitor)? {
@@ -245,8 +251,9 @@ pub fn scan_linked<T: Scan, V: Visit>(
     input: &mut Input,
     visitor: &mut V,
 ) -> Result<(), GetError>
-    ensures ok { OnOk result (Scans V.stands (linked name.now T.shape) input.old input.new
-        visitor.old visitor.new) }
+    ensures ok { OnOk result
+        (Scans V.stands (linked name.now T.shape)
+        (input.old, visitor.old) (input.new, visitor.new)) }
     ensures err { IfErr result (λ error. Stops (linked name.now T.shape) input.old error) }
 {
     // The prover concludes from this that the position is within the body.
@@ -266,8 +273,9 @@ pub fn scan_counted<T: Scan, V: Visit>(
     input: &mut Input,
     visitor: &mut V,
 ) -> Result<(), GetError>
-    ensures ok { OnOk result (Scans V.stands (counted name.now max T.shape) input.old input.new
-        visitor.old visitor.new) }
+    ensures ok { OnOk result
+        (Scans V.stands (counted name.now max T.shape)
+        (input.old, visitor.old) (input.new, visitor.new)) }
     ensures err { IfErr result (λ error. Stops (counted name.now max T.shape) input.old error) }
 {
     let count = scan_at_most(name, max, input, visitor)?;
@@ -287,8 +295,9 @@ pub fn scan_sized<T: Scan, V: Visit>(
     input: &mut Input,
     visitor: &mut V,
 ) -> Result<(), GetError>
-    ensures ok { OnOk result (Scans V.stands (sized name.now T.shape) input.old input.new
-        visitor.old visitor.new) }
+    ensures ok { OnOk result
+        (Scans V.stands (sized name.now T.shape)
+        (input.old, visitor.old) (input.new, visitor.new)) }
     ensures err { IfErr result (λ error. Stops (sized name.now T.shape) input.old error) }
 {
     let len = scan_at_most(name, 400, input, visitor)?;

@@ -43,7 +43,7 @@ impl Scan for Fattr {
 #[tactic(auto, using(xdr3::proofs::Lemmas::Shapes::FlatLemmas::flats), unfolding(crate::specs::machinery::AttributeTails::after_type, crate::specs::Shapes::times, crate::specs::Shapes::time, crate::specs::Names::names))]
 fn scan_after_type<V: Visit>(input: &mut Input, visitor: &mut V) -> Result<(), GetError>
     ensures ok { OnOk result
-        (Scans V.stands after_type input.old input.new visitor.old visitor.new) }
+        (Scans V.stands after_type (input.old, visitor.old) (input.new, visitor.new)) }
     ensures err { IfErr result (λ error. Stops after_type input.old error) }
 {
     scan_plain(&ATTRIBUTES, 80, input, visitor)?;

@@ -16,7 +16,7 @@ impl<'a> Scan for DirOp<'a> {
 
     fn scan<V: Visit>(input: &mut Input, visitor: &mut V) -> Result<(), GetError>
         ensures ok { OnOk result
-            (Scans V.stands dir_op input.old input.new visitor.old visitor.new) }
+            (Scans V.stands dir_op (input.old, visitor.old) (input.new, visitor.new)) }
         ensures err { IfErr result (λ error. Stops dir_op input.old error) }
     {
         Handle::scan(input, visitor)?;

@@ -17,8 +17,9 @@ pub fn scan_path<V: Visit>(
     input: &mut Input,
     visitor: &mut V,
 ) -> Result<(), GetError>
-    ensures ok { OnOk result (Scans V.stands (opaque Text name.now 1024) input.old input.new
-        visitor.old visitor.new) }
+    ensures ok { OnOk result
+        (Scans V.stands (opaque Text name.now 1024)
+        (input.old, visitor.old) (input.new, visitor.new)) }
     ensures err { IfErr result (λ error. Stops (opaque Text name.now 1024) input.old error) }
 {
     scan_text(name, 1024, input, visitor)
@@ -54,7 +55,7 @@ impl<'a> Scan for Mounted<'a> {
 
     fn scan<V: Visit>(input: &mut Input, visitor: &mut V) -> Result<(), GetError>
         ensures ok { OnOk result
-            (Scans V.stands mounted input.old input.new visitor.old visitor.new) }
+            (Scans V.stands mounted (input.old, visitor.old) (input.new, visitor.new)) }
         ensures err { IfErr result (λ error. Stops mounted input.old error) }
     {
         scan_text("hostname", 255, input, visitor)?;
@@ -69,7 +70,7 @@ impl<'a> Scan for MountList<'a> {
 
     fn scan<V: Visit>(input: &mut Input, visitor: &mut V) -> Result<(), GetError>
         ensures ok { OnOk result
-            (Scans V.stands mount_list input.old input.new visitor.old visitor.new) }
+            (Scans V.stands mount_list (input.old, visitor.old) (input.new, visitor.new)) }
         ensures err { IfErr result (λ error. Stops mount_list input.old error) }
     {
         scan_linked::<Mounted, V>("entry", input, visitor)
@@ -83,7 +84,7 @@ impl<'a> Scan for Group<'a> {
 
     fn scan<V: Visit>(input: &mut Input, visitor: &mut V) -> Result<(), GetError>
         ensures ok { OnOk result
-            (Scans V.stands group input.old input.new visitor.old visitor.new) }
+            (Scans V.stands group (input.old, visitor.old) (input.new, visitor.new)) }
         ensures err { IfErr result (λ error. Stops group input.old error) }
     {
         scan_text("name", 255, input, visitor)
@@ -97,7 +98,7 @@ impl<'a> Scan for Export<'a> {
 
     fn scan<V: Visit>(input: &mut Input, visitor: &mut V) -> Result<(), GetError>
         ensures ok { OnOk result
-            (Scans V.stands export input.old input.new visitor.old visitor.new) }
+            (Scans V.stands export (input.old, visitor.old) (input.new, visitor.new)) }
         ensures err { IfErr result (λ error. Stops export input.old error) }
     {
         scan_path("directory", input, visitor)?;
@@ -112,7 +113,7 @@ impl<'a> Scan for Exports<'a> {
 
     fn scan<V: Visit>(input: &mut Input, visitor: &mut V) -> Result<(), GetError>
         ensures ok { OnOk result
-            (Scans V.stands exports input.old input.new visitor.old visitor.new) }
+            (Scans V.stands exports (input.old, visitor.old) (input.new, visitor.new)) }
         ensures err { IfErr result (λ error. Stops exports input.old error) }
     {
         scan_linked::<Export, V>("entry", input, visitor)

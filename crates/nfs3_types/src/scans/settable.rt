@@ -19,8 +19,9 @@ fn scan_set_word<V: Visit>(
     input: &mut Input,
     visitor: &mut V,
 ) -> Result<(), GetError>
-    ensures ok { OnOk result (Scans V.stands (shapes.set_word set.now name.now) input.old input.new
-        visitor.old visitor.new) }
+    ensures ok { OnOk result
+        (Scans V.stands (shapes.set_word set.now name.now)
+        (input.old, visitor.old) (input.new, visitor.new)) }
     ensures err { IfErr result (λ error. Stops (shapes.set_word set.now name.now) input.old error) }
 {
     if scan_boolean(set, input, visitor)? {
@@ -37,8 +38,9 @@ fn scan_set_hyper<V: Visit>(
     input: &mut Input,
     visitor: &mut V,
 ) -> Result<(), GetError>
-    ensures ok { OnOk result (Scans V.stands (shapes.set_hyper set.now name.now) input.old input.new
-        visitor.old visitor.new) }
+    ensures ok { OnOk result
+        (Scans V.stands (shapes.set_hyper set.now name.now)
+        (input.old, visitor.old) (input.new, visitor.new)) }
     ensures err { IfErr result
         (λ error. Stops (shapes.set_hyper set.now name.now) input.old error) }
 {
@@ -67,7 +69,7 @@ impl Scan for Sattr {
 #[inline]
 fn scan_settable_times<V: Visit>(input: &mut Input, visitor: &mut V) -> Result<(), GetError>
     ensures ok { OnOk result
-        (Scans V.stands settable_times input.old input.new visitor.old visitor.new) }
+        (Scans V.stands settable_times (input.old, visitor.old) (input.new, visitor.new)) }
     ensures err { IfErr result (λ error. Stops settable_times input.old error) }
 {
     scan_time_how("set_atime", "atime_sec", "atime_nsec", input, visitor)?;

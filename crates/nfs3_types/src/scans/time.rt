@@ -16,8 +16,9 @@ pub(crate) fn scan_time<V: Visit>(
     input: &mut Input,
     visitor: &mut V,
 ) -> Result<(), GetError>
-    ensures ok { OnOk result (Scans V.stands (shapes.time sec.now nsec.now) input.old input.new
-        visitor.old visitor.new) }
+    ensures ok { OnOk result
+        (Scans V.stands (shapes.time sec.now nsec.now)
+        (input.old, visitor.old) (input.new, visitor.new)) }
     ensures err { IfErr result (λ error. Stops (shapes.time sec.now nsec.now) input.old error) }
 {
     scan_word(sec, input, visitor)?;
@@ -35,8 +36,8 @@ pub(crate) fn scan_time_how<V: Visit>(
     visitor: &mut V,
 ) -> Result<(), GetError>
     ensures ok { OnOk result
-        (Scans V.stands (shapes.time_how how.now sec.now nsec.now) input.old input.new visitor.old
-        visitor.new) }
+        (Scans V.stands (shapes.time_how how.now sec.now nsec.now)
+        (input.old, visitor.old) (input.new, visitor.new)) }
     ensures err { IfErr result
         (λ error. Stops (shapes.time_how how.now sec.now nsec.now) input.old error) }
 {

@@ -1,4 +1,5 @@
-//! Directories (RFC 1813, sections 3.3.3 and 3.3.14 to 3.3.17).
+//! What `values::directories` has, passed to a visitor as it is read: directories (RFC 1813,
+//! sections 3.3.3 and 3.3.14 to 3.3.17).
 #![tactic(auto, using(xdr3::proofs::Lemmas::Scans::ScanLemmas::scans), unfolding(nfs3_types::specs::Names::names))]
 
 ghost use Rattle.nfs3_types.specs.Names.{names};
@@ -33,9 +34,9 @@ pub(crate) type ReadDirArgs = Both<Handle, Both<Cookie, Both<CookieVerf, Count>>
 type Entry = Both<FileId, Both<FileName, Cookie>>;
 
 /// The entries of a dirlist3 or a dirlistplus3 (RFC 1813, sections 3.3.16 and 3.3.17).
-pub(crate) struct Entries<E>(PhantomData<E>);
+pub(crate) struct EntryList<E>(PhantomData<E>);
 
-impl<E: Scan> Scan for Entries<E> {
+impl<E: Scan> Scan for EntryList<E> {
     ghost shape = { linked names.entry E.shape };
 
     #[inline(always)]
@@ -45,7 +46,7 @@ impl<E: Scan> Scan for Entries<E> {
 }
 
 /// READDIR3resok (RFC 1813, section 3.3.16).
-pub(crate) type ReadDirOk = Both<PostOpAttr, Both<CookieVerf, Both<Entries<Entry>, Eof>>>;
+pub(crate) type ReadDirOk = Both<PostOpAttr, Both<CookieVerf, Both<EntryList<Entry>, Eof>>>;
 
 /// READDIRPLUS3args (RFC 1813, section 3.3.17).
 pub(crate) type ReadDirPlusArgs = Both<Handle, Both<Cookie, Both<CookieVerf, DirCounts>>>;
@@ -68,4 +69,4 @@ impl Scan for DirCounts {
 type EntryPlus = Both<FileId, Both<FileName, Both<Cookie, Both<PostOpAttr, PostOpFh>>>>;
 
 /// READDIRPLUS3resok (RFC 1813, section 3.3.17).
-pub(crate) type ReadDirPlusOk = Both<PostOpAttr, Both<CookieVerf, Both<Entries<EntryPlus>, Eof>>>;
+pub(crate) type ReadDirPlusOk = Both<PostOpAttr, Both<CookieVerf, Both<EntryList<EntryPlus>, Eof>>>;

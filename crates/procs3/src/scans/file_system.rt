@@ -1,4 +1,5 @@
-//! File systems (RFC 1813, sections 3.3.18 to 3.3.20).
+//! What `values::file_system` has, passed to a visitor as it is read: file systems (RFC 1813,
+//! sections 3.3.18 to 3.3.20).
 #![tactic(auto, using(xdr3::proofs::Lemmas::Shapes::FlatLemmas::flats), unfolding(nfs3_types::specs::Shapes::time, nfs3_types::specs::Names::names))]
 
 ghost use Rattle.nfs3_types.specs.Names.{names};

@@ -1,4 +1,5 @@
-//! Files (RFC 1813, sections 3.3.2 to 3.3.7 and 3.3.21).
+//! What `values::files` has, passed to a visitor as it is read: files (RFC 1813,
+//! sections 3.3.2 to 3.3.7 and 3.3.21).
 
 ghost use Rattle.nfs3_types.specs.Names.{names};
 ghost use Rattle.xdr3.specs.Scan.{Scans};

@@ -35,7 +35,7 @@ pub fn scan_arguments<V: Visit>(
     visitor: &mut V,
 ) -> Result<(), GetError>
     ensures ok { OnOk result
-        (ScansLayout V.stands (arguments_of id) input.old input.new visitor.old visitor.new) }
+        (ScansLayout V.stands (arguments_of id) (input.old, visitor.old) (input.new, visitor.new)) }
     ensures err { IfErr result (λ error. StopsLayout (arguments_of id) input.old error) }
 {
     match (id.prog, id.vers) {
@@ -51,8 +51,9 @@ fn scan_nfs_arguments<V: Visit>(
     input: &mut Input,
     visitor: &mut V,
 ) -> Result<(), GetError>
-    ensures ok { OnOk result (ScansLayout V.stands (nfs_arguments proc_no) input.old input.new
-        visitor.old visitor.new) }
+    ensures ok { OnOk result
+        (ScansLayout V.stands (nfs_arguments proc_no)
+        (input.old, visitor.old) (input.new, visitor.new)) }
     ensures err { IfErr result (λ error. StopsLayout (nfs_arguments proc_no) input.old error) }
 {
     match proc_no {
@@ -75,8 +76,9 @@ fn scan_nfs_arguments_from_create<V: Visit>(
     visitor: &mut V,
 ) -> Result<(), GetError>
     requires { 8 ≤ proc_no }
-    ensures ok { OnOk result (ScansLayout V.stands (nfs_arguments proc_no) input.old input.new
-        visitor.old visitor.new) }
+    ensures ok { OnOk result
+        (ScansLayout V.stands (nfs_arguments proc_no)
+        (input.old, visitor.old) (input.new, visitor.new)) }
     ensures err { IfErr result (λ error. StopsLayout (nfs_arguments proc_no) input.old error) }
 {
     match proc_no {
@@ -98,8 +100,9 @@ fn scan_nfs_arguments_from_link<V: Visit>(
     visitor: &mut V,
 ) -> Result<(), GetError>
     requires { 15 ≤ proc_no }
-    ensures ok { OnOk result (ScansLayout V.stands (nfs_arguments proc_no) input.old input.new
-        visitor.old visitor.new) }
+    ensures ok { OnOk result
+        (ScansLayout V.stands (nfs_arguments proc_no)
+        (input.old, visitor.old) (input.new, visitor.new)) }
     ensures err { IfErr result (λ error. StopsLayout (nfs_arguments proc_no) input.old error) }
 {
     match proc_no {
@@ -120,8 +123,9 @@ fn scan_mount_arguments<V: Visit>(
     input: &mut Input,
     visitor: &mut V,
 ) -> Result<(), GetError>
-    ensures ok { OnOk result (ScansLayout V.stands (mount_arguments proc_no) input.old input.new
-        visitor.old visitor.new) }
+    ensures ok { OnOk result
+        (ScansLayout V.stands (mount_arguments proc_no)
+        (input.old, visitor.old) (input.new, visitor.new)) }
     ensures err { IfErr result (λ error. StopsLayout (mount_arguments proc_no) input.old error) }
 {
     match proc_no {
@@ -149,7 +153,7 @@ pub fn scan_results<V: Visit>(
     visitor: &mut V,
 ) -> Result<(), GetError>
     ensures ok { OnOk result
-        (ScansLayout V.stands (results_of id) input.old input.new visitor.old visitor.new) }
+        (ScansLayout V.stands (results_of id) (input.old, visitor.old) (input.new, visitor.new)) }
     ensures err { IfErr result (λ error. StopsLayout (results_of id) input.old error) }
 {
     match (id.prog, id.vers) {
@@ -165,8 +169,9 @@ fn scan_nfs_results<V: Visit>(
     input: &mut Input,
     visitor: &mut V,
 ) -> Result<(), GetError>
-    ensures ok { OnOk result (ScansLayout V.stands (nfs_results proc_no) input.old input.new
-        visitor.old visitor.new) }
+    ensures ok { OnOk result
+        (ScansLayout V.stands (nfs_results proc_no)
+        (input.old, visitor.old) (input.new, visitor.new)) }
     ensures err { IfErr result (λ error. StopsLayout (nfs_results proc_no) input.old error) }
 {
     match proc_no {
@@ -189,8 +194,9 @@ fn scan_nfs_results_from_create<V: Visit>(
     visitor: &mut V,
 ) -> Result<(), GetError>
     requires { 8 ≤ proc_no }
-    ensures ok { OnOk result (ScansLayout V.stands (nfs_results proc_no) input.old input.new
-        visitor.old visitor.new) }
+    ensures ok { OnOk result
+        (ScansLayout V.stands (nfs_results proc_no)
+        (input.old, visitor.old) (input.new, visitor.new)) }
     ensures err { IfErr result (λ error. StopsLayout (nfs_results proc_no) input.old error) }
 {
     match proc_no {
@@ -212,8 +218,9 @@ fn scan_nfs_results_from_link<V: Visit>(
     visitor: &mut V,
 ) -> Result<(), GetError>
     requires { 15 ≤ proc_no }
-    ensures ok { OnOk result (ScansLayout V.stands (nfs_results proc_no) input.old input.new
-        visitor.old visitor.new) }
+    ensures ok { OnOk result
+        (ScansLayout V.stands (nfs_results proc_no)
+        (input.old, visitor.old) (input.new, visitor.new)) }
     ensures err { IfErr result (λ error. StopsLayout (nfs_results proc_no) input.old error) }
 {
     match proc_no {
@@ -234,8 +241,9 @@ fn scan_mount_results<V: Visit>(
     input: &mut Input,
     visitor: &mut V,
 ) -> Result<(), GetError>
-    ensures ok { OnOk result (ScansLayout V.stands (mount_results_of proc_no) input.old input.new
-        visitor.old visitor.new) }
+    ensures ok { OnOk result
+        (ScansLayout V.stands (mount_results_of proc_no)
+        (input.old, visitor.old) (input.new, visitor.new)) }
     ensures err { IfErr result (λ error. StopsLayout (mount_results_of proc_no) input.old error) }
 {
     match proc_no {

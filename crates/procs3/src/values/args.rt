@@ -91,7 +91,7 @@ impl<'a> Args<'a> {
         ensures read { Gives args_items result input.new.at
             (reading_layout (arguments_of id) input.old.body input.old.at) }
         ensures variant { IfOk result (λ args. args_name args ≡ name_of_procedure id) }
-        ensures relations { IsRead (ReadsLayout (arguments_of id)) (RefusesLayout (arguments_of id))
+        ensures relations { IsRead (ReadsLayout (arguments_of id), RefusesLayout (arguments_of id))
             args_items input.old result input.new }
         ensures limit { IfOk result (λ args. AreWithinLimit (args_items args)) }
         ensures moves { MovesOn input.old input.new }

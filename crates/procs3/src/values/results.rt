@@ -93,7 +93,7 @@ impl<'a> Results<'a> {
         ensures read { Gives results_items result input.new.at
             (reading_layout (results_of id) input.old.body input.old.at) }
         ensures variant { IfOk result (λ results. results_name results ≡ name_of_procedure id) }
-        ensures relations { IsRead (ReadsLayout (results_of id)) (RefusesLayout (results_of id))
+        ensures relations { IsRead (ReadsLayout (results_of id), RefusesLayout (results_of id))
             results_items input.old result input.new }
         ensures limit { IfOk result (λ results. AreWithinLimit (results_items results)) }
         ensures moves { MovesOn input.old input.new }

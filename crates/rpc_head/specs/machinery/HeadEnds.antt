@@ -29,9 +29,9 @@ group_words zero = nothing
 group_words (suc n) = word head_names.group then group_words n
 
 -- the items of an accepted reply's head from the accept_stat on, which is this
-unfoldable pub ScansAccept : {V : Type 0} → (V → List Item → Type 0) → ℕ → View → View → V → V
+unfoldable pub ScansAccept : {V : Type 0} → (V → List Item → Type 0) → ℕ → (old new : View × V)
     → Type 0
-ScansAccept stands stat old new before after =
+ScansAccept stands stat (old, before) (new, after) =
     (items : List Item) × (reading accept old.body old.at ≡ Ok (items, new.at))
     × (word_in items 0 ≡ stat) × MovesOn old new
     × Adds stands before after items

@@ -58,11 +58,11 @@ pub record BeginsReply {V : Type 0} (stands : V → List Item → Type 0) (stat 
   pub adds : Adds stands before after (Word head_names.reply_stat stat ∷ Word name second ∷ [])
 
 -- They are those of an accepted reply, or of a denied one with this reject_stat.
-abbrev pub ScansBeginning : {V : Type 0} → (V → List Item → Type 0) → Beginning → View → View → V
-    → V → Type 0
-ScansBeginning stands Accepted old new before after =
+abbrev pub ScansBeginning : {V : Type 0} → (V → List Item → Type 0) → Beginning
+    → (old new : View × V) → Type 0
+ScansBeginning stands Accepted (old, before) (new, after) =
     BeginsReply stands 0 (is_listed verifier_flavors) Flavor head_names.verf_flavor 0 old new before
     after
-ScansBeginning stands (Denied stat) old new before after =
+ScansBeginning stands (Denied stat) (old, before) (new, after) =
     BeginsReply stands 1 (is_listed reject_stats) BadEnum head_names.reject_stat stat old new before
     after

@@ -41,7 +41,7 @@ pub(crate) struct Opening {
 #[tactic(auto, using(crate::proofs::HeadRunLemmas::heads))]
 pub fn scan_call_head<V: Visit>(input: &mut Input, visitor: &mut V) -> Result<ProcId, GetError>
     ensures ok { IfOk result
-        (λ id. ScansCallHead V.stands id input.old input.new visitor.old visitor.new) }
+        (λ id. ScansCallHead V.stands id (input.old, visitor.old) (input.new, visitor.new)) }
     ensures err { IfErr result (λ error. Stops shapes.call_head input.old error) }
 {
     let opening = scan_opening(input, visitor)?;

@@ -22,9 +22,9 @@ use xdr3::{
 #[inline(always)]
 fn scan_cred_flavor<V: Visit>(input: &mut Input, visitor: &mut V) -> Result<u32, GetError>
     ensures ok { IfOk result
-        (λ n. ScansWord V.stands head_names.cred_flavor
-        (is_listed shapes.credential_flavors) Reason.Flavor n input.old input.new visitor.old
-        visitor.new) }
+        (λ n. ScansWord V.stands
+        (head_names.cred_flavor, is_listed shapes.credential_flavors, Reason.Flavor) n
+        (input.old, visitor.old) (input.new, visitor.new)) }
     ensures err { IfErr result
         (λ error. StopsWord (is_listed shapes.credential_flavors) Reason.Flavor input.old error) }
 {
@@ -34,8 +34,8 @@ fn scan_cred_flavor<V: Visit>(input: &mut Input, visitor: &mut V) -> Result<u32,
 #[inline(always)]
 fn scan_cred_body<V: Visit>(input: &mut Input, visitor: &mut V) -> Result<(), GetError>
     ensures ok { OnOk result
-        (Scans V.stands (opaque Var head_names.cred_body 400) input.old input.new
-        visitor.old visitor.new) }
+        (Scans V.stands (opaque Var head_names.cred_body 400)
+        (input.old, visitor.old) (input.new, visitor.new)) }
     ensures err { IfErr result
         (λ error. Stops (opaque Var head_names.cred_body 400) input.old error) }
 {
@@ -45,8 +45,8 @@ fn scan_cred_body<V: Visit>(input: &mut Input, visitor: &mut V) -> Result<(), Ge
 #[inline(always)]
 fn scan_machinename<V: Visit>(input: &mut Input, visitor: &mut V) -> Result<(), GetError>
     ensures ok { OnOk result
-        (Scans V.stands (opaque Text head_names.machinename 255) input.old input.new
-        visitor.old visitor.new) }
+        (Scans V.stands (opaque Text head_names.machinename 255)
+        (input.old, visitor.old) (input.new, visitor.new)) }
     ensures err { IfErr result
         (λ error. Stops (opaque Text head_names.machinename 255) input.old error) }
 {
@@ -56,9 +56,9 @@ fn scan_machinename<V: Visit>(input: &mut Input, visitor: &mut V) -> Result<(), 
 #[inline(always)]
 fn scan_verf_flavor<V: Visit>(input: &mut Input, visitor: &mut V) -> Result<u32, GetError>
     ensures ok { IfOk result
-        (λ n. ScansWord V.stands head_names.verf_flavor
-        (is_listed shapes.verifier_flavors) Reason.Flavor n input.old input.new visitor.old
-        visitor.new) }
+        (λ n. ScansWord V.stands
+        (head_names.verf_flavor, is_listed shapes.verifier_flavors, Reason.Flavor) n
+        (input.old, visitor.old) (input.new, visitor.new)) }
     ensures err { IfErr result
         (λ error. StopsWord (is_listed shapes.verifier_flavors) Reason.Flavor input.old error) }
 {
@@ -68,8 +68,8 @@ fn scan_verf_flavor<V: Visit>(input: &mut Input, visitor: &mut V) -> Result<u32,
 #[inline(always)]
 pub(crate) fn scan_verf_body<V: Visit>(input: &mut Input, visitor: &mut V) -> Result<(), GetError>
     ensures ok { OnOk result
-        (Scans V.stands (opaque Var head_names.verf_body 400) input.old input.new
-        visitor.old visitor.new) }
+        (Scans V.stands (opaque Var head_names.verf_body 400)
+        (input.old, visitor.old) (input.new, visitor.new)) }
     ensures err { IfErr result
         (λ error. Stops (opaque Var head_names.verf_body 400) input.old error) }
 {
@@ -92,7 +92,7 @@ const GROUPS: [PlainField; 16] = [PlainField::Word("group"); 16];
 #[tactic(auto, unfolding(xdr3::specs::Scan::Stops))]
 fn scan_owner<V: Visit>(input: &mut Input, visitor: &mut V) -> Result<(), GetError>
     ensures ok { OnOk result
-        (Scans V.stands owner input.old input.new visitor.old visitor.new) }
+        (Scans V.stands owner (input.old, visitor.old) (input.new, visitor.new)) }
     ensures err { IfErr result (λ error. Stops owner input.old error) }
 {
     let at = input.at();
@@ -112,7 +112,7 @@ fn scan_owner<V: Visit>(input: &mut Input, visitor: &mut V) -> Result<(), GetErr
 fn scan_groups<V: Visit>(count: u32, input: &mut Input, visitor: &mut V) -> Result<(), GetError>
     requires { count ≤ 16 }
     ensures ok { OnOk result
-        (Scans V.stands (group_words count) input.old input.new visitor.old visitor.new) }
+        (Scans V.stands (group_words count) (input.old, visitor.old) (input.new, visitor.new)) }
     ensures err { IfErr result (λ error. Stops (group_words count) input.old error) }
 {
     scan_plain(&GROUPS[..count as usize], 4 * count, input, visitor)
@@ -127,7 +127,7 @@ impl<'a> Scan for Parameters<'a> {
     #[tactic(auto, using(xdr3::proofs::Lemmas::Scans::ScanLemmas::scans, crate::proofs::OwnerLemmas::whole_owners), unfolding(crate::specs::Shapes::parameters, crate::specs::Names::head_names))]
     fn scan<V: Visit>(input: &mut Input, visitor: &mut V) -> Result<(), GetError>
         ensures ok { OnOk result
-            (Scans V.stands parameters input.old input.new visitor.old visitor.new) }
+            (Scans V.stands parameters (input.old, visitor.old) (input.new, visitor.new)) }
         ensures err { IfErr result (λ error. Stops parameters input.old error) }
     {
         scan_word("stamp", input, visitor)?;
@@ -144,7 +144,7 @@ impl<'a> Scan for AuthSys<'a> {
     #[inline(always)]
     fn scan<V: Visit>(input: &mut Input, visitor: &mut V) -> Result<(), GetError>
         ensures ok { OnOk result
-            (Scans V.stands auth_sys input.old input.new visitor.old visitor.new) }
+            (Scans V.stands auth_sys (input.old, visitor.old) (input.new, visitor.new)) }
         ensures err { IfErr result (λ error. Stops auth_sys input.old error) }
     {
         scan_sized::<Parameters, V>("cred_length", input, visitor)
@@ -159,7 +159,7 @@ impl<'a> Scan for Cred<'a> {
     #[inline(always)]
     fn scan<V: Visit>(input: &mut Input, visitor: &mut V) -> Result<(), GetError>
         ensures ok { OnOk result
-            (Scans V.stands credential input.old input.new visitor.old visitor.new) }
+            (Scans V.stands credential (input.old, visitor.old) (input.new, visitor.new)) }
         ensures err { IfErr result (λ error. Stops credential input.old error) }
     {
         let flavor = scan_cred_flavor(input, visitor)?;
@@ -175,7 +175,7 @@ pub(crate) fn scan_credential<V: Visit>(
     visitor: &mut V,
 ) -> Result<(), GetError>
     ensures ok { OnOk result
-        (Scans V.stands (credential_of flavor) input.old input.new visitor.old visitor.new) }
+        (Scans V.stands (credential_of flavor) (input.old, visitor.old) (input.new, visitor.new)) }
     ensures err { IfErr result (λ error. Stops (credential_of flavor) input.old error) }
 {
     if flavor == 0 {
@@ -193,7 +193,7 @@ impl<'a> Scan for Verf<'a> {
     #[inline(always)]
     fn scan<V: Visit>(input: &mut Input, visitor: &mut V) -> Result<(), GetError>
         ensures ok { OnOk result
-            (Scans V.stands verifier input.old input.new visitor.old visitor.new) }
+            (Scans V.stands verifier (input.old, visitor.old) (input.new, visitor.new)) }
         ensures err { IfErr result (λ error. Stops verifier input.old error) }
     {
         scan_verf_flavor(input, visitor)?;

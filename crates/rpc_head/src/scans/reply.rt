@@ -41,9 +41,9 @@ pub(crate) enum Beginning {
 #[inline]
 fn scan_accept_stat<V: Visit>(input: &mut Input, visitor: &mut V) -> Result<u32, GetError>
     ensures ok { IfOk result
-        (λ n. ScansWord V.stands head_names.accept_stat
-        (is_listed shapes.accept_stats) Reason.BadEnum n input.old input.new visitor.old
-        visitor.new) }
+        (λ n. ScansWord V.stands
+        (head_names.accept_stat, is_listed shapes.accept_stats, Reason.BadEnum) n
+        (input.old, visitor.old) (input.new, visitor.new)) }
     ensures err { IfErr result
         (λ error. StopsWord (is_listed shapes.accept_stats) Reason.BadEnum input.old error) }
 {
@@ -53,9 +53,9 @@ fn scan_accept_stat<V: Visit>(input: &mut Input, visitor: &mut V) -> Result<u32,
 #[inline]
 fn scan_reject_stat<V: Visit>(input: &mut Input, visitor: &mut V) -> Result<u32, GetError>
     ensures ok { IfOk result
-        (λ n. ScansWord V.stands head_names.reject_stat
-        (is_listed shapes.reject_stats) Reason.BadEnum n input.old input.new visitor.old
-        visitor.new) }
+        (λ n. ScansWord V.stands
+        (head_names.reject_stat, is_listed shapes.reject_stats, Reason.BadEnum) n
+        (input.old, visitor.old) (input.new, visitor.new)) }
     ensures err { IfErr result
         (λ error. StopsWord (is_listed shapes.reject_stats) Reason.BadEnum input.old error) }
 {
@@ -64,9 +64,10 @@ fn scan_reject_stat<V: Visit>(input: &mut Input, visitor: &mut V) -> Result<u32,
 
 #[inline]
 fn scan_auth_stat<V: Visit>(input: &mut Input, visitor: &mut V) -> Result<u32, GetError>
-    ensures ok { IfOk result (λ n. ScansWord V.stands head_names.auth_stat
-        (is_listed shapes.auth_stats) Reason.BadEnum n input.old input.new visitor.old
-        visitor.new) }
+    ensures ok { IfOk result
+        (λ n. ScansWord V.stands
+        (head_names.auth_stat, is_listed shapes.auth_stats, Reason.BadEnum) n
+        (input.old, visitor.old) (input.new, visitor.new)) }
     ensures err { IfErr result
         (λ error. StopsWord (is_listed shapes.auth_stats) Reason.BadEnum input.old error) }
 {
@@ -92,7 +93,8 @@ fn scan_denied<V: Visit>(
     visitor: &mut V,
 ) -> Result<(), GetError>
     ensures ok { OnOk result
-        (Scans V.stands (denied_for reject_stat) input.old input.new visitor.old visitor.new) }
+        (Scans V.stands (denied_for reject_stat)
+        (input.old, visitor.old) (input.new, visitor.new)) }
     ensures err { IfErr result (λ error. Stops (denied_for reject_stat) input.old error) }
 {
     if reject_stat == 0 {
@@ -114,8 +116,9 @@ fn scan_denied<V: Visit>(
 /// - `Memory` if the visitor fails.
 #[tactic(auto, using(crate::proofs::HeadScanLemmas::replies))]
 pub fn scan_reply_head<V: Visit>(input: &mut Input, visitor: &mut V) -> Result<bool, GetError>
-    ensures ok { IfOk result (λ success. ScansReplyHead V.stands success input.old input.new
-        visitor.old visitor.new) }
+    ensures ok { IfOk result
+        (λ success. ScansReplyHead V.stands success
+        (input.old, visitor.old) (input.new, visitor.new)) }
     ensures err { IfErr result (λ error. Stops shapes.reply_head input.old error) }
 {
     match scan_beginning(input, visitor)? {
@@ -135,8 +138,9 @@ pub fn scan_reply_head<V: Visit>(input: &mut Input, visitor: &mut V) -> Result<b
 #[inline(always)]
 #[tactic(auto, using(crate::proofs::HeadRunLemmas::run_size_is), unfolding(xdr3::specs::Scan::Stops))]
 fn scan_beginning<V: Visit>(input: &mut Input, visitor: &mut V) -> Result<Beginning, GetError>
-    ensures ok { IfOk result (λ beginning. ScansBeginning V.stands beginning input.old input.new
-        visitor.old visitor.new) }
+    ensures ok { IfOk result
+        (λ beginning. ScansBeginning V.stands beginning
+        (input.old, visitor.old) (input.new, visitor.new)) }
     ensures err { IfErr result (λ error. Stops shapes.reply_head input.old error) }
 {
     let at = input.at();
@@ -179,7 +183,7 @@ fn short_beginning(input: &mut Input) -> Stop
 #[inline(always)]
 fn scan_accept<V: Visit>(input: &mut Input, visitor: &mut V) -> Result<u32, GetError>
     ensures ok { IfOk result
-        (λ stat. ScansAccept V.stands stat input.old input.new visitor.old visitor.new) }
+        (λ stat. ScansAccept V.stands stat (input.old, visitor.old) (input.new, visitor.new)) }
     ensures err { IfErr result (λ error. Stops shapes.accept input.old error) }
 {
     let stat = scan_accept_stat(input, visitor)?;

@@ -22,8 +22,9 @@ pub(crate) fn scan_listed_or<V: Visit>(
     input: &mut Input,
     visitor: &mut V,
 ) -> Result<u32, GetError>
-    ensures ok { IfOk result (λ n. ScansWord V.stands name.now (is_listed words.now) reason n
-        input.old input.new visitor.old visitor.new) }
+    ensures ok { IfOk result
+        (λ n. ScansWord V.stands (name.now, is_listed words.now, reason) n
+        (input.old, visitor.old) (input.new, visitor.new)) }
     ensures err { IfErr result (λ error. StopsWord (is_listed words.now) reason input.old error) }
 {
     let n = listed_or(input, words, reason)?;

@@ -1,5 +1,6 @@
 //! How a message starts (RFC 5531, section 9).
 
+ghost use Rattle.std.specs.Prelude.{◌≡◌, drop};
 ghost use Rattle.rpc_head.specs.Shapes.{message_start};
 ghost use Rattle.rpc_head.specs.MessageStart.{IsStart, start_items};
 ghost use Rattle.xdr3.specs.Reading.{reading};
@@ -13,6 +14,13 @@ use xdr3::{Input, Stop};
 pub struct MessageStart {
     pub xid: u32,
     pub is_reply: bool,
+}
+
+/// Returns what follows the xid in a message's body.
+pub fn after_xid(body: &[u8]) -> &[u8]
+    ensures { result.now ≡ drop 4 body.now }
+{
+    &body[body.len().min(4)..]
 }
 
 /// Reads the xid and the mtype. A word that is not whole is `Short`, another mtype `BadEnum`, each

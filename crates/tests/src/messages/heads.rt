@@ -4,7 +4,8 @@ use crate::asserts::{assert_holds, assert_same, ok};
 use crate::messages::parts::value_in;
 use crate::samples::{nfs, push_words, spelled};
 use rpc_head::{
-    Accept, CallHead, Cred, Deny, ReplyHead, Start, Verf, scan_call_head, scan_reply_head, start,
+    Accept, CallHead, Cred, Deny, ReplyHead, Start, Verf, after_xid, scan_call_head,
+    scan_reply_head, start,
 };
 use std::alloc::{AllocError, Global};
 use xdr3::{Input, Walk, Writer};
@@ -34,7 +35,9 @@ fn starts(rt: HostRuntime) {
             })
         );
         assert_same!(rt; input.left(), 0);
+        assert_same!(rt; after_xid(&body), [0, 0, 0, u8::from(is_reply)].as_slice());
     }
+    assert_holds!(rt; after_xid(&[1, 2, 3]).is_empty());
 }
 
 #[test]

@@ -8,8 +8,8 @@ use crate::asserts::{assert_holds, assert_same, ok};
 use std::alloc::{AllocError, Global};
 use xdr3::{
     Field, GetError, Input, PlainField, Reason, Stop, Visit, Walk, Writer, Xdr, get_counted,
-    get_linked, get_optional, get_sized, read, scan_plain, walk_counted, walk_fields, walk_linked,
-    walk_optional,
+    get_linked, get_optional, get_sized, read, residue, scan_plain, spelled_hyper, spelled_word,
+    walk_counted, walk_fields, walk_linked, walk_optional,
 };
 
 #[derive(Clone, Copy, Debug, PartialEq, Eq)]
@@ -153,6 +153,13 @@ fn numbers_and_names_of_reasons(rt: HostRuntime) {
     assert_same!(rt; Reason::BadMagic.name(), "BadMagic");
     assert_same!(rt; Reason::RecordTooLong.name(), "RecordTooLong");
     assert_same!(rt; Reason::XidConflict.name(), "XidConflict");
+}
+
+#[test]
+fn words_hypers_and_residual_bytes(rt: HostRuntime) {
+    assert_same!(rt; spelled_word(0x0102_0304), [1, 2, 3, 4]);
+    assert_same!(rt; spelled_hyper(0x0102_0304_0506_0708), [1, 2, 3, 4, 5, 6, 7, 8]);
+    assert_same!(rt; [residue(0), residue(1), residue(2), residue(3), residue(4)], [0, 3, 2, 1, 0]);
 }
 
 #[test]

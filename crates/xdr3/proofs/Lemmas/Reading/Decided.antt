@@ -165,7 +165,7 @@ zero_spelled_all (x ∷ xs) bytes p = (
 pub is_read : {X : Type 0} (read : List ℕ → ℕ → Outcome (List Item)) (R : Read) (S : Refusal)
     (items : X → List Item) (old new : View) (r : Result X GetError)
     → Decides read R S old.body old.at → Gives items r new.at (read old.body old.at)
-    → IsRead R S items old r new
+    → IsRead (R, S) items old r new
 is_read read R S items old new (Ok x) d g = (d.reads (items x) new.at).0 g
 is_read read R S items old new (Err (errors.Stop stop)) d g = (d.refuses stop).0 (g stop refl)
 is_read read R S items old new (Err errors.Memory) d g = tt
@@ -174,7 +174,7 @@ is_read read R S items old new (Err errors.Memory) d g = tt
 pub shape_is_read : {X : Type 0} (shape : Shape) (items : X → List Item) (old new : View)
     (r : Result X GetError) → AreBytes old.body → old.at ≤ length old.body
     → Gives items r new.at (reading shape old.body old.at)
-    → IsRead (Reads shape) (Refuses shape) items old r new
+    → IsRead (Reads shape, Refuses shape) items old r new
 shape_is_read shape items old new r fits h g =
     is_read (reading shape) (Reads shape) (Refuses shape) items old new r
     (both_ways shape old.body old.at fits h) g

@@ -32,7 +32,7 @@ joined_more parts part =
 
 pub times_next : {V : Type 0} (stands : V → List Item → Type 0) (s : Shape) (n i : ℕ)
     (v0 v1 v2 : View) (s0 s1 s2 : V)
-    → i < n → ScansTimes stands s n i v0 v1 s0 s1 → Scans stands s v1 v2 s1 s2
+    → i < n → ScansTimes stands s n i v0 v1 s0 s1 → Scans stands s (v1, s1) (v2, s2)
     → ScansTimes stands s n (i + 1) v0 v2 s0 s2
 unfolding Scans
 times_next stands s n i v0 v1 v2 s0 s1 s2 h l y = record {
@@ -49,9 +49,9 @@ times_next stands s n i v0 v1 v2 s0 s1 s2 h l y = record {
 
 pub times_finish : {V : Type 0} (stands : V → List Item → Type 0) (name : List ℕ) (s : Shape)
     (max n i : ℕ) (before v0 v : View) (sb s0 st : V)
-    → ScansWord stands name (is_at_most max) TooLong n before v0 sb s0
+    → ScansWord stands (name, is_at_most max, TooLong) n (before, sb) (v0, s0)
     → ScansTimes stands s n i v0 v s0 st → i ≤ n → n ≤ i
-    → Scans stands (counted name max s) before v sb st
+    → Scans stands (counted name max s) (before, sb) (v, st)
 unfolding Scans ScansWord
 times_finish stands name s max n i before v0 v sb s0 st w l h g =
     let so_far =
@@ -69,7 +69,7 @@ times_finish stands name s max n i before v0 v sb s0 st w l h g =
 
 pub times_part_stops : {V : Type 0} (stands : V → List Item → Type 0) (name : List ℕ) (s : Shape)
     (max n i : ℕ) (before v0 v : View) (sb s0 st : V) (e : GetError)
-    → ScansWord stands name (is_at_most max) TooLong n before v0 sb s0 → i < n
+    → ScansWord stands (name, is_at_most max, TooLong) n (before, sb) (v0, s0) → i < n
     → ScansTimes stands s n i v0 v s0 st → Stops s v e → Stops (counted name max s) before e
 unfolding Stops ScansWord
 times_part_stops stands name s max n i before v0 v sb s0 st e w h l cut = λ stop is.
@@ -86,6 +86,7 @@ times_count_stops name s max before e h = λ stop is. let cut = h stop is in rw 
 
 pub word_within : {V : Type 0} (stands : V → List Item → Type 0) (name : List ℕ) (max n : ℕ)
     (before v0 : View) (sb s0 : V)
-    → ScansWord stands name (is_at_most max) TooLong n before v0 sb s0 → v0.at ≤ length v0.body
+    → ScansWord stands (name, is_at_most max, TooLong) n (before, sb) (v0, s0)
+    → v0.at ≤ length v0.body
 unfolding ScansWord
 word_within stands name max n before v0 sb s0 w = w.1.within

@@ -23,8 +23,9 @@ links_begin stands name s v0 s0 h = record {
 
 pub links_next : {V : Type 0} (stands : V → List Item → Type 0) (name : List ℕ) (s : Shape)
     (v0 v1 v2 v3 : View) (s0 s1 s2 s3 : V)
-    → ScansLinks stands name s v0 v1 s0 s1 → ScansWord stands name is_bool BadBool 1 v1 v2 s1 s2
-    → v1.at < v2.at → Scans stands s v2 v3 s2 s3 → ScansLinks stands name s v0 v3 s0 s3
+    → ScansLinks stands name s v0 v1 s0 s1
+    → ScansWord stands (name, is_bool, BadBool) 1 (v1, s1) (v2, s2)
+    → v1.at < v2.at → Scans stands s (v2, s2) (v3, s3) → ScansLinks stands name s v0 v3 s0 s3
 unfolding Scans ScansWord reading optional
 links_next stands name s v0 v1 v2 v3 s0 s1 s2 s3 l w f y =
     let word : word_at is_bool BadBool v0.body v1.at ≡ Ok (1, v2.at) =
@@ -49,8 +50,9 @@ links_next stands name s v0 v1 v2 v3 s0 s1 s2 s3 l w f y =
 
 pub links_finish : {V : Type 0} (stands : V → List Item → Type 0) (name : List ℕ) (s : Shape)
     (v0 v1 v2 : View) (s0 s1 s2 : V)
-    → ScansLinks stands name s v0 v1 s0 s1 → ScansWord stands name is_bool BadBool 0 v1 v2 s1 s2
-    → Scans stands (linked name s) v0 v2 s0 s2
+    → ScansLinks stands name s v0 v1 s0 s1
+    → ScansWord stands (name, is_bool, BadBool) 0 (v1, s1) (v2, s2)
+    → Scans stands (linked name s) (v0, s0) (v2, s2)
 unfolding Scans ScansWord reading optional
 links_finish stands name s v0 v1 v2 s0 s1 s2 l w =
     let word : word_at is_bool BadBool v0.body v1.at ≡ Ok (0, v2.at) =
@@ -80,7 +82,8 @@ links_word_stops stands name s v0 v1 s0 s1 e l h = λ stop is.
 
 pub links_part_stops : {V : Type 0} (stands : V → List Item → Type 0) (name : List ℕ) (s : Shape)
     (v0 v1 v2 : View) (s0 s1 s2 : V) (e : GetError)
-    → ScansLinks stands name s v0 v1 s0 s1 → ScansWord stands name is_bool BadBool 1 v1 v2 s1 s2
+    → ScansLinks stands name s v0 v1 s0 s1
+    → ScansWord stands (name, is_bool, BadBool) 1 (v1, s1) (v2, s2)
     → Stops s v2 e → Stops (linked name s) v0 e
 unfolding Stops ScansWord reading optional
 links_part_stops stands name s v0 v1 v2 s0 s1 s2 e l w h = λ stop is.
@@ -95,13 +98,13 @@ links_part_stops stands name s v0 v1 v2 s0 s1 s2 e l w h = λ stop is.
     (omega (arith, l.moves.within, ap length l.moves.same_body)) l.so_far one
 
 pub scans_move : {V : Type 0} (stands : V → List Item → Type 0) (s : Shape) (v0 v1 : View)
-    (s0 s1 : V) → Scans stands s v0 v1 s0 s1 → MovesOn v0 v1
+    (s0 s1 : V) → Scans stands s (v0, s0) (v1, s1) → MovesOn v0 v1
 unfolding Scans
 scans_move stands s v0 v1 s0 s1 x = x.2
 
 pub word_moves : {V : Type 0} (stands : V → List Item → Type 0) (name : List ℕ)
     (accepted : ℕ → Bool) (other : Reason) (n : ℕ) (v0 v1 : View) (s0 s1 : V)
-    → ScansWord stands name accepted other n v0 v1 s0 s1 → MovesOn v0 v1
+    → ScansWord stands (name, accepted, other) n (v0, s0) (v1, s1) → MovesOn v0 v1
 unfolding ScansWord
 word_moves stands name accepted other n v0 v1 s0 s1 x = x.1
 

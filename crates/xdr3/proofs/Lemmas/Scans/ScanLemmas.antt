@@ -14,8 +14,8 @@ moves_both v0 v1 v2 a b = record {
 }
 
 pub then_scans : {V : Type 0} (stands : V → List Item → Type 0) (a b : Shape) (v0 v1 v2 : View)
-    (s0 s1 s2 : V) → Scans stands a v0 v1 s0 s1 → Scans stands b v1 v2 s1 s2
-    → Scans stands (both a b) v0 v2 s0 s2
+    (s0 s1 s2 : V) → Scans stands a (v0, s0) (v1, s1) → Scans stands b (v1, s1) (v2, s2)
+    → Scans stands (both a b) (v0, s0) (v2, s2)
 unfolding Scans reading
 then_scans stands a b v0 v1 v2 s0 s1 s2 x y =
     let first : reading a v0.body v0.at ≡ Ok (x.0, v1.at) = x.1 in
@@ -32,7 +32,7 @@ unfolding Stops reading
 first_stops a b v0 e h = λ stop is. let cut = h stop is in rw cut refl
 
 pub next_stops : {V : Type 0} (stands : V → List Item → Type 0) (a b : Shape) (v0 v1 : View)
-    (s0 s1 : V) (e : GetError) → Scans stands a v0 v1 s0 s1 → Stops b v1 e
+    (s0 s1 : V) (e : GetError) → Scans stands a (v0, s0) (v1, s1) → Stops b v1 e
     → Stops (both a b) v0 e
 unfolding Scans Stops reading
 next_stops stands a b v0 v1 s0 s1 e x h = λ stop is.
@@ -44,8 +44,9 @@ next_stops stands a b v0 v1 s0 s1 e x h = λ stop is.
 pub chosen_scans : {V : Type 0} (stands : V → List Item → Type 0) (name : List ℕ)
     (accepted : ℕ → Bool) (other : Reason) (next : ℕ → Shape) (n : ℕ) (v0 v1 v2 : View)
     (s0 s1 s2 : V)
-    → ScansWord stands name accepted other n v0 v1 s0 s1 → Scans stands (next n) v1 v2 s1 s2
-    → Scans stands (choose name accepted other next) v0 v2 s0 s2
+    → ScansWord stands (name, accepted, other) n (v0, s0) (v1, s1)
+    → Scans stands (next n) (v1, s1) (v2, s2)
+    → Scans stands (choose name accepted other next) (v0, s0) (v2, s2)
 unfolding Scans ScansWord reading
 chosen_scans stands name accepted other next n v0 v1 v2 s0 s1 s2 w y =
     let first : word_at accepted other v0.body v0.at ≡ Ok (n, v1.at) = w.0 in
@@ -59,8 +60,8 @@ chosen_scans stands name accepted other next n v0 v1 v2 s0 s1 s2 w y =
 
 pub word_scans : {V : Type 0} (stands : V → List Item → Type 0) (name : List ℕ)
     (accepted : ℕ → Bool) (other : Reason) (n : ℕ) (v0 v1 : View) (s0 s1 : V)
-    → ScansWord stands name accepted other n v0 v1 s0 s1
-    → Scans stands (choose name accepted other (λ n. nothing)) v0 v1 s0 s1
+    → ScansWord stands (name, accepted, other) n (v0, s0) (v1, s1)
+    → Scans stands (choose name accepted other (λ n. nothing)) (v0, s0) (v1, s1)
 unfolding Scans ScansWord reading
 word_scans stands name accepted other n v0 v1 s0 s1 w =
     let first : word_at accepted other v0.body v0.at ≡ Ok (n, v1.at) = w.0 in
@@ -75,7 +76,7 @@ word_stops name accepted other next v0 e h = λ stop is. let cut = h stop is in 
 pub chosen_stops : {V : Type 0} (stands : V → List Item → Type 0) (name : List ℕ)
     (accepted : ℕ → Bool) (other : Reason) (next : ℕ → Shape) (n : ℕ) (v0 v1 : View) (s0 s1 : V)
     (e : GetError)
-    → ScansWord stands name accepted other n v0 v1 s0 s1 → Stops (next n) v1 e
+    → ScansWord stands (name, accepted, other) n (v0, s0) (v1, s1) → Stops (next n) v1 e
     → Stops (choose name accepted other next) v0 e
 unfolding ScansWord Stops reading
 chosen_stops stands name accepted other next n v0 v1 s0 s1 e w h = λ stop is.
@@ -85,7 +86,7 @@ chosen_stops stands name accepted other next n v0 v1 s0 s1 e w h = λ stop is.
     rw (first, cut) refl
 
 pub nothing_scans : {V : Type 0} (stands : V → List Item → Type 0) (v0 : View) (s0 : V)
-    → v0.at ≤ length v0.body → Scans stands nothing v0 v0 s0 s0
+    → v0.at ≤ length v0.body → Scans stands nothing (v0, s0) (v0, s0)
 unfolding Scans reading
 nothing_scans stands v0 s0 h = (
   [],
@@ -96,8 +97,8 @@ nothing_scans stands v0 s0 h = (
 
 pub chosen_ends : {V : Type 0} (stands : V → List Item → Type 0) (name : List ℕ)
     (accepted : ℕ → Bool) (other : Reason) (next : ℕ → Shape) (n : ℕ) (v0 v1 : View) (s0 s1 : V)
-    → ScansWord stands name accepted other n v0 v1 s0 s1 → next n ≡ nothing
-    → Scans stands (choose name accepted other next) v0 v1 s0 s1
+    → ScansWord stands (name, accepted, other) n (v0, s0) (v1, s1) → next n ≡ nothing
+    → Scans stands (choose name accepted other next) (v0, s0) (v1, s1)
 unfolding Scans ScansWord reading
 chosen_ends stands name accepted other next n v0 v1 s0 s1 w e =
     let first : word_at accepted other v0.body v0.at ≡ Ok (n, v1.at) = w.0 in
@@ -134,14 +135,14 @@ pub ruleset scans = (
 -- the same for the last part's own answer
 
 pub last_scans : {V X : Type 0} (stands : V → List Item → Type 0) (a b : Shape) (v0 v1 v2 : View)
-    (s0 s1 s2 : V) (r : Result X GetError) → Scans stands a v0 v1 s0 s1
-    → OnOk r (Scans stands b v1 v2 s1 s2) → OnOk r (Scans stands (both a b) v0 v2 s0 s2)
+    (s0 s1 s2 : V) (r : Result X GetError) → Scans stands a (v0, s0) (v1, s1)
+    → OnOk r (Scans stands b (v1, s1) (v2, s2)) → OnOk r (Scans stands (both a b) (v0, s0) (v2, s2))
 last_scans stands a b v0 v1 v2 s0 s1 s2 (Ok x) first h =
     then_scans stands a b v0 v1 v2 s0 s1 s2 first h
 last_scans stands a b v0 v1 v2 s0 s1 s2 (Err e) first h = h
 
 pub last_stops : {V X : Type 0} (stands : V → List Item → Type 0) (a b : Shape) (v0 v1 : View)
-    (s0 s1 : V) (r : Result X GetError) → Scans stands a v0 v1 s0 s1
+    (s0 s1 : V) (r : Result X GetError) → Scans stands a (v0, s0) (v1, s1)
     → IfErr r (λ e. Stops b v1 e) → IfErr r (λ e. Stops (both a b) v0 e)
 last_stops stands a b v0 v1 s0 s1 (Ok x) first h = h
 last_stops stands a b v0 v1 s0 s1 (Err e) first h = next_stops stands a b v0 v1 s0 s1 e first h
@@ -149,7 +150,8 @@ last_stops stands a b v0 v1 s0 s1 (Err e) first h = next_stops stands a b v0 v1 
 -- ---- layouts
 
 pub exactly_scans : {V : Type 0} (stands : V → List Item → Type 0) (s : Shape) (v0 v1 : View)
-    (s0 s1 : V) → Scans stands s v0 v1 s0 s1 → ScansLayout stands (exactly s) v0 v1 s0 s1
+    (s0 s1 : V) → Scans stands s (v0, s0) (v1, s1)
+    → ScansLayout stands (exactly s) (v0, s0) (v1, s1)
 unfolding Scans ScansLayout reading_layout
 exactly_scans stands s v0 v1 s0 s1 h = h
 

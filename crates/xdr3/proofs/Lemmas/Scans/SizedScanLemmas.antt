@@ -7,10 +7,10 @@ use Rattle.xdr3.proofs.Lemmas.Scans.ScanLemmas.{moves_both}
 
 pub sized_scans : {V : Type 0} (stands : V → List Item → Type 0) (name : List ℕ) (s : Shape)
     (len : ℕ) (v0 v1 v2 window : View) (s0 s1 s2 : V)
-    → ScansWord stands name (is_at_most 400) TooLong len v0 v1 s0 s1
+    → ScansWord stands (name, is_at_most 400, TooLong) len (v0, s0) (v1, s1)
     → view_at len v1.body v1.at ≡ Ok (window, v2.at) → MovesOn v1 v2
     → (length window.body ≡ v1.at + len) × (window.at ≡ v1.at)
-    → ScansInside stands s window s1 s2 → Scans stands (sized name s) v0 v2 s0 s2
+    → ScansInside stands s window s1 s2 → Scans stands (sized name s) (v0, s0) (v2, s2)
 unfolding Scans ScansWord ScansInside reading
 sized_scans stands name s len v0 v1 v2 window s0 s1 s2 w v m shown y =
     let view =
@@ -40,7 +40,7 @@ sized_scans stands name s len v0 v1 v2 window s0 s1 s2 w v m shown y =
 
 pub sized_cut : {V : Type 0} (stands : V → List Item → Type 0) (name : List ℕ) (s : Shape) (len : ℕ)
     (v0 v1 : View) (s0 s1 : V) (e : GetError)
-    → ScansWord stands name (is_at_most 400) TooLong len v0 v1 s0 s1
+    → ScansWord stands (name, is_at_most 400, TooLong) len (v0, s0) (v1, s1)
     → Fails e (view_at len v1.body v1.at) → Stops (sized name s) v0 e
 unfolding Stops ScansWord reading
 sized_cut stands name s len v0 v1 s0 s1 e w h = λ stop is.
@@ -60,7 +60,7 @@ sized_word_stops name s v0 e h = λ stop is. let cut = h stop is in rw cut refl
 
 pub sized_stops : {V : Type 0} (stands : V → List Item → Type 0) (name : List ℕ) (s : Shape)
     (len : ℕ) (v0 v1 v2 window : View) (s0 s1 : V) (e : GetError)
-    → ScansWord stands name (is_at_most 400) TooLong len v0 v1 s0 s1
+    → ScansWord stands (name, is_at_most 400, TooLong) len (v0, s0) (v1, s1)
     → view_at len v1.body v1.at ≡ Ok (window, v2.at)
     → (length window.body ≡ v1.at + len) × (window.at ≡ v1.at)
     → StopsInside s window e → Stops (sized name s) v0 e

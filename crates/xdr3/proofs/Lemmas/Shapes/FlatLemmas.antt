@@ -84,8 +84,8 @@ flat_reads shape body at =
 -- ---- scans of a shape by that of its parts in a row
 
 pub flat_scans : {V : Type 0} (stands : V → List Item → Type 0) (shape row : Shape) (v0 v1 : View)
-    (s0 s1 : V) → Scans stands row v0 v1 s0 s1 → flat shape ≡ row
-    → Scans stands shape v0 v1 s0 s1
+    (s0 s1 : V) → Scans stands row (v0, s0) (v1, s1) → flat shape ≡ row
+    → Scans stands shape (v0, s0) (v1, s1)
 unfolding Scans
 flat_scans stands shape row v0 v1 s0 s1 h same = (
   h.0,

@@ -271,7 +271,7 @@ layout_is_decided layout bytes fits =
 pub layout_is_read : {X : Type 0} (layout : Layout) (items : X → List Item) (old new : View)
     (r : Result X GetError) → AreBytes old.body → old.at ≤ length old.body
     → Gives items r new.at (reading_layout layout old.body old.at)
-    → IsRead (ReadsLayout layout) (RefusesLayout layout) items old r new
+    → IsRead (ReadsLayout layout, RefusesLayout layout) items old r new
 layout_is_read layout items old new r fits h g =
     is_read (reading_layout layout) (ReadsLayout layout) (RefusesLayout layout) items old new r
     (layout_decides layout old.body old.at fits h) g

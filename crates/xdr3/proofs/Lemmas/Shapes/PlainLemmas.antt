@@ -217,7 +217,7 @@ run_stops all v stop h =
 pub run_scans : {V : Type 0} (stands : V → List Item → Type 0) (all : List PlainField)
     (v0 v1 : View) (s0 s1 : V) (size : ℕ) (run : List ℕ) → size ≡ run_size all
     → run_at size v0.body v0.at ≡ Ok (run, v1.at) → MovesOn v0 v1
-    → Adds stands s0 s1 (run_items all run) → Scans stands (run_shape all) v0 v1 s0 s1
+    → Adds stands s0 s1 (run_items all run) → Scans stands (run_shape all) (v0, s0) (v1, s1)
 unfolding Scans
 run_scans stands all v0 v1 s0 s1 size run is e moves a =
     let g =

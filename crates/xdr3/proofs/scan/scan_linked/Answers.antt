@@ -36,8 +36,8 @@ returns-in_err-scan-clause-err g c =
     let word =
     subst
     (λ (b : Bool).
-    ScansWord g.V.Visit.stands c.args.name.now is_bool BadBool (from_bool b) c.links.input
-    c.scan_boolean.new.input c.links.visitor c.scan_boolean.new.visitor)
+    ScansWord g.V.Visit.stands (c.args.name.now, is_bool, BadBool) (from_bool b)
+    (c.links.input, c.links.visitor) (c.scan_boolean.new.input, c.scan_boolean.new.visitor))
     c.if-branch.true c.in_ok-scan_boolean.ensures.ok in
     rw (p.1, p.2) (links_part_stops g.V.Visit.stands c.args.name.now g.T.Scan.shape c.args.input.now
     c.links.input c.scan_boolean.new.input c.args.visitor.now c.links.visitor
@@ -49,8 +49,8 @@ returns-clause-ok g c =
     let word =
     subst
     (λ (b : Bool).
-    ScansWord g.V.Visit.stands c.args.name.now is_bool BadBool (from_bool b) c.links.input
-    c.scan_boolean.new.input c.links.visitor c.scan_boolean.new.visitor)
+    ScansWord g.V.Visit.stands (c.args.name.now, is_bool, BadBool) (from_bool b)
+    (c.links.input, c.links.visitor) (c.scan_boolean.new.input, c.scan_boolean.new.visitor))
     c.if-branch.false c.in_ok-scan_boolean.ensures.ok in
     links_finish g.V.Visit.stands c.args.name.now g.T.Scan.shape c.args.input.now c.links.input
     c.scan_boolean.new.input c.args.visitor.now c.links.visitor c.scan_boolean.new.visitor

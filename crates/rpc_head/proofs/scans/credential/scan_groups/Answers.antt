@@ -10,8 +10,8 @@ unfolding head_names
 returns-clause-ok g c =
     subst
     (λ (s : Shape).
-    OnOk c.scan_plain.result (Scans g.V.Visit.stands s c.args.input.now
-    c.scan_plain.new.input c.args.visitor.now c.scan_plain.new.visitor))
+    OnOk c.scan_plain.result (Scans g.V.Visit.stands s (c.args.input.now, c.args.visitor.now)
+    (c.scan_plain.new.input, c.scan_plain.new.visitor)))
     (groups_shape c.args.count _ c.requires refl) c.scan_plain.ensures.ok
 
 pub returns-clause-err : goal.returns-clause-err

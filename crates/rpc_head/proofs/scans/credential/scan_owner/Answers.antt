@@ -23,8 +23,9 @@ returns-clause-ok g c =
     c.in_ok-plain.ensures.ok
     (subst
     (λ (n : ℕ).
-    OnOk c.scan_groups.result (Scans g.V.Visit.stands (group_words n) c.run.new.self
-    c.scan_groups.new.input c.plain.new.self c.scan_groups.new.visitor))
+    OnOk c.scan_groups.result (Scans g.V.Visit.stands (group_words n)
+    (c.run.new.self, c.plain.new.self)
+    (c.scan_groups.new.input, c.scan_groups.new.visitor)))
     c.word_in-count.ensures c.scan_groups.ensures.ok)
 
 pub returns-clause-err : goal.returns-clause-err

@@ -1,7 +1,7 @@
 use Rattle.std.proofs.Common.{rules, ◌≡◌, ◌+◌, ◌++◌, take, sym, ap, ◌∙◌, arith, length-append, length-take}
 use Rattle.record_mark.proofs.Common.{common_steps, to_be_bytes, w32, number}
 use Rattle.std.proofs.lemmas.Nat.{be_bytes_4}
-use Rattle.record_mark.proofs.word_part.WordPart.continued.Goals as goal
+use Rattle.record_mark.proofs.word_part.WordPart.take_more.Goals as goal
 
 pub returns-clause-word : goal.returns-clause-word
 unfolding number
