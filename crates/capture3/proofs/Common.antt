@@ -58,7 +58,7 @@ pub use Rattle.capture3.specs.Laws.{AreWithinLimits, begins, most_bytes, HasItsP
 pub use Rattle.capture3.specs.Reached.{AreFirstReached, AreWhole, BetweenConnections, InConnection, InMagic, IsLongestClean, Opens, Reached, ReachesInside}
 pub use Rattle.capture3.specs.Records.{AreMessages, FirstRecordFault, Holds, HoldsSoFar, Judgement, NextIsCut, NextIsTooLong, RecordFault, RefusesNext, StreamShows, fault_at, IsCut, RefusesRecord}
 pub use Rattle.capture3.specs.SideMachine.{SideCloses, SideEnd, SideRefuses, Siding, side_next, siding_from, siding_in, awaiting, closing, counted}
-pub use Rattle.capture3.specs.SidedChunks.{AreMixed, BeginsMixed, IsSidedChunk, SidedChunk, Streams, carried_by, gathered, of_side, side_word, size, with_more, WithinSided}
+pub use Rattle.capture3.specs.SidedChunks.{AreMixed, BeginsMixed, IsSidedChunk, SidedChunk, Streams, carried_by, gathered, of_side, side_word, size, with_more, AfterSideWord, WithinSided}
 pub use Rattle.capture3.specs.SidedChunksMachine.{MixedCloses, MixedEnd, MixedRefuses, Mixing, SideChunk, SideLength, SideWord, awaiting_side, measured, mixed_next, mixed_step, mixing_from, mixing_in, sided}
 pub use Rattle.capture3.specs.Sides.{Position, SideShows, file_fault, place_at, place_in, CutsRecord, ShowsRecord}
 pub use Rattle.capture3.specs.StreamMachine.{Faulty, Held, Judge, Reading, StreamEnd, end_of, judged, left_in, reading_with, recorded, rest_end, stream_end, stream_next, unread}
@@ -76,13 +76,13 @@ pub use Rattle.capture3.specs.declared.fault.Fault.{Fault}
 pub use Rattle.capture3.specs.declared.fault.Side.{Side}
 pub use Rattle.capture3.specs.declared.fault.Side.TheVariants.{Client, Server}
 pub use Rattle.capture3.specs.declared.message.calls.NumberedCall.{NumberedCall}
-pub use Rattle.capture3.specs.declared.message.counting.Counting.{Counting}
-pub use Rattle.capture3.specs.declared.message.scan.CallHead.{CallHead}
+pub use Rattle.capture3.specs.declared.message.counting.XidCounting.{XidCounting}
+pub use Rattle.capture3.specs.declared.message.scan.ScannedCall.{ScannedCall}
 pub use Rattle.capture3.specs.declared.reader.entry.Kind.{Kind}
 pub use Rattle.capture3.specs.machinery.Calls.{AreSame, Gains, Known, KnowsNone, Puts, at_home, known_in_list, lined, in_list, next_number, number_for, number_in, over, procedure_in_call, number_or}
 pub use Rattle.capture3.specs.machinery.Container.{AreStored, Arrives, CanGoOn, FirstKept, InFirstKept, InNextKept, IsReady, Leaves, NextKept, Reaches, ShowsError, room_in, unpacking_in, unpacking_of}
-pub use Rattle.capture3.specs.machinery.ContainerMachine.{Mark, Mixed, Unpacking, chunk_counted, connection_marked, fault_in_record, in_side_chunk, mixed_at, mixed_ended, sides_counted, sides_marked, unpack_next, unpacking_with, Has, Unpacked, at_byte, before_mark, begun_at, in_chunk, left_of_magic, record_joined}
-unfoldable pub use Rattle.capture3.specs.machinery.Counting.{home_of}
+pub use Rattle.capture3.specs.machinery.ContainerMachine.{Mark, Mixed, Unpacking, chunk_counted, connection_marked, fault_in_record, mixed_at, mixed_ended, mixed_on, unpack_next, unpacking_with, Has, Unpacked, at_byte, before_mark, begun_at, in_chunk, left_of_magic, record_joined}
+unfoldable pub use Rattle.capture3.specs.machinery.Calls.{home_of}
 pub use Rattle.capture3.specs.machinery.CountedCalls.{known_of}
 pub use Rattle.capture3.specs.OpenXids.{open_xids, xid_of}
 pub use Rattle.capture3.specs.Rank.{number_limit, rank, before, distinct, with_key, with_keys}

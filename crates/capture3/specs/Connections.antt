@@ -4,14 +4,13 @@ use Rattle.record_mark.specs.Word.{IsWord, Joins}
 use Rattle.xdr3.specs.declared.reason.Reason.TheVariants.{BadMark, TooManyBytes}
 use Rattle.xdr3.specs.Item.{Item}
 use Rattle.capture3.specs.declared.fault.Fault.{Fault}
-use Rattle.capture3.specs.declared.fault.Side.{Side}
 use Rattle.capture3.specs.declared.fault.Side.TheVariants.{Client, Server}
 use Rattle.capture3.specs.Bodies.{ReplyItems, AcceptsCall, RefusesCall, AcceptsReply, RefusesReply}
 use Rattle.capture3.specs.Capture.{Version, One, Two}
 use Rattle.capture3.specs.Chunks.{max_bytes, IsStream}
 use Rattle.capture3.specs.Entry.{Entry, Call, Turn}
 use Rattle.capture3.specs.Records.{Judgement, Holds, RecordFault, FirstRecordFault}
-use Rattle.capture3.specs.SidedChunks.{Streams, size, SidedChunk, IsSidedChunk, side_word, gathered, AreMixed}
+use Rattle.capture3.specs.SidedChunks.{Streams, size, SidedChunk, IsSidedChunk, AfterSideWord, gathered, AreMixed}
 use Rattle.capture3.specs.Sides.{Position, SideShows, file_fault, place_at}
 use Rattle.capture3.specs.Typed.{reply_entry}
 
@@ -86,16 +85,9 @@ pub record SideIsBad (context : Context) (bytes : List ℕ) (fault : Fault) : Ty
 
 -- whole chunks of both sides, a side word, and a length word
 pub record AfterLength (bytes : List ℕ) : Type 0 where
-  pub chunks : List SidedChunk
-  pub side : Side
-  pub front : List ℕ
-  pub word : List ℕ
-  pub header : List ℕ
+  pub here : AfterSideWord bytes
   pub count : ℕ
-  pub split : bytes ≡ front ++ word ++ header
-  pub joined : Joins IsSidedChunk front chunks
-  pub sided : IsWord word (side_word side)
-  pub counts : IsWord header count
+  pub counts : IsWord here.rest count
 
 -- the last byte of a connection's bytes shows this fault of its chunks
 pub data MixedShows (context : Context) (bytes : List ℕ) (fault : Fault) : Type 0 where
@@ -103,12 +95,12 @@ pub data MixedShows (context : Context) (bytes : List ℕ) (fault : Fault) : Typ
   BadSide : SideIsBad context bytes fault → MixedShows context bytes fault
   -- a length word 0
   NoLength : (b : AfterLength bytes) → b.count ≡ 0
-      → fault ≡ file_fault (context.start + length b.front + 4) BadMark
+      → fault ≡ file_fault (context.start + length b.here.front + 4) BadMark
       → MixedShows context bytes fault
   -- a length word with which the capture's stream bytes would pass the limit
   TooMuch : (b : AfterLength bytes) → 0 < b.count
-      → max_bytes < context.before + size (gathered b.chunks) + b.count
-      → fault ≡ file_fault (context.start + length b.front + 4) TooManyBytes
+      → max_bytes < context.before + size (gathered b.here.chunks) + b.count
+      → fault ≡ file_fault (context.start + length b.here.front + 4) TooManyBytes
       → MixedShows context bytes fault
 
 -- a fault in the client stream: the calls before it are reached

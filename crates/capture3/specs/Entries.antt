@@ -6,8 +6,8 @@ use Rattle.capture3.specs.Observed.{Observed, IsSpent}
 use Rattle.std.specs.declared.hash.BuildHasher as BuildHasher
 use Rattle.std.specs.declared.hash.Hasher as Hasher
 use Rattle.capture3.specs.declared.reader.entries.Entries.{Entries}
-use Rattle.capture3.specs.declared.reader.entries.Stage.{Stage}
-use Rattle.capture3.specs.declared.reader.entries.Stage.TheVariants.{Reading, Over, Failed}
+use Rattle.capture3.specs.declared.reader.entries.ReaderStage.{ReaderStage}
+use Rattle.capture3.specs.declared.reader.entries.ReaderStage.TheVariants.{Over, Failed}
 use Rattle.capture3.specs.declared.reader.entry.Kind.{Kind}
 use Rattle.capture3.specs.declared.fault.Error.{Error}
 use Rattle.capture3.specs.declared.fault.Error.TheVariants as errors
@@ -53,10 +53,9 @@ IsMetBy errors.Write observed given handed = ⊥
 IsMetBy errors.Memory observed given handed = AreFirstReached given handed
 
 -- the error that is answered for good
-abbrev pub failure_in : Stage → Error → Option Error
-failure_in Reading error = None
-failure_in Over error = None
+abbrev pub failure_in : ReaderStage → Error → Option Error
 failure_in Failed error = Some error
+failure_in _ error = None
 
 module _ {R S H : Type 0} {builds : BuildHasher.Ghosts S H} {hashes : Hasher.Ghosts H} where
   abbrev pub failure_of : Entries R S H builds hashes → Option Error

@@ -94,22 +94,16 @@ parsed bytes = after file_next (Runs file_start) bytes
 
 -- the entries that are whole, without the capture's end
 abbrev pub spot_entries : Spot → List Entry
-spot_entries (Magic due more) = []
-spot_entries Digit = []
-spot_entries (Mark part) = []
 spot_entries (Inside o) = opening_entries o
-spot_entries Ended = []
+spot_entries _ = []
 
 abbrev pub emitted : Parsing → List Entry
 emitted s = s.entries ++ spot_entries s.spot
 
 -- what the machine says of a whole file
 abbrev pub concluded : ℕ → List Entry → Spot → Result (List Entry) Fault
-concluded size entries (Magic due more) = Err (file_fault size CaptureCut)
-concluded size entries Digit = Err (file_fault size CaptureCut)
-concluded size entries (Mark part) = Err (file_fault size CaptureCut)
-concluded size entries (Inside o) = Err (file_fault size CaptureCut)
 concluded size entries Ended = Ok (entries ++ End ∷ [])
+concluded size entries _ = Err (file_fault size CaptureCut)
 
 abbrev pub verdict_of : ℕ → Run Parsing ShownFault → Result (List Entry) Fault
 verdict_of size (Runs s) = concluded size s.entries s.spot

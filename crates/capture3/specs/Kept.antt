@@ -66,8 +66,4 @@ IsCopy _ _ = ⊥
 abbrev pub begun : List kept.Entry → ℕ
 begun [] = 0
 begun (variants.Begin ∷ more) = 1 + begun more
-begun (variants.Call call ∷ more) = begun more
-begun (variants.Turn ∷ more) = begun more
-begun (variants.Reply reply ∷ more) = begun more
-begun (variants.Close ∷ more) = begun more
-begun (variants.End ∷ more) = begun more
+begun (_ ∷ more) = begun more

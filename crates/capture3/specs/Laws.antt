@@ -13,7 +13,7 @@ use Rattle.capture3.specs.Capture.{Version, One, Two, magic, max_connections}
 use Rattle.capture3.specs.SidedChunks.{Streams}
 use Rattle.capture3.specs.Chunks.{max_bytes}
 use Rattle.capture3.specs.Connections.{calls_in_turn, replies_to}
-use Rattle.capture3.specs.Entry.{Entry, Begin, Call, Turn, Reply, Close, End}
+use Rattle.capture3.specs.Entry.{Entry, Begin, Call, Reply}
 use Rattle.capture3.specs.FirstFault.{FirstFault}
 use Rattle.capture3.specs.Records.{Judgement, Holds}
 use Rattle.capture3.specs.Sides.{file_fault}
@@ -66,21 +66,14 @@ IsJudgedInTurn streams calls replies = Converses streams calls replies
 abbrev pub begins : List Entry → ℕ
 begins [] = 0
 begins (Begin ∷ entries) = 1 + begins entries
-begins (Call items ∷ entries) = begins entries
-begins (Turn ∷ entries) = begins entries
-begins (Reply id items ∷ entries) = begins entries
-begins (Close ∷ entries) = begins entries
-begins (End ∷ entries) = begins entries
+begins (_ ∷ entries) = begins entries
 
 -- how many bytes the zero spellings of their messages have together
 abbrev pub spelled : List Entry → ℕ
 spelled [] = 0
-spelled (Begin ∷ entries) = spelled entries
 spelled (Call items ∷ entries) = length (zero_spelling items) + spelled entries
-spelled (Turn ∷ entries) = spelled entries
 spelled (Reply id items ∷ entries) = length (zero_spelling items) + spelled entries
-spelled (Close ∷ entries) = spelled entries
-spelled (End ∷ entries) = spelled entries
+spelled (_ ∷ entries) = spelled entries
 
 -- entries of a capture within the limits
 pub record AreWithinLimits (entries : List Entry) : Type 0 where

@@ -1,9 +1,9 @@
 -- Whole messages as values: their items, and where they have results (RFC 5531, section 9).
 use Rattle.std.specs.Prelude.{Bool, true, false, List, [], Option, Some, None}
 use Rattle.xdr3.specs.Item.{Item, followed_by}
-use Rattle.rpc_head.specs.declared.values.reply.Accept.TheVariants.{Success, ProgUnavail, ProgMismatch, ProcUnavail, GarbageArgs, SystemErr}
+use Rattle.rpc_head.specs.declared.values.reply.Accept.TheVariants.{Success}
 use Rattle.rpc_head.specs.declared.values.reply.ReplyHead.{ReplyHead}
-use Rattle.rpc_head.specs.declared.values.reply.ReplyHead.TheVariants.{Accepted, Denied}
+use Rattle.rpc_head.specs.declared.values.reply.ReplyHead.TheVariants.{Accepted}
 use Rattle.rpc_head.specs.Calls.{call_head_items}
 use Rattle.rpc_head.specs.Replies.{reply_head_items}
 use Rattle.rpc_head.specs.MessageStart.{start_items}
@@ -42,9 +42,4 @@ answered_items m = record { id = m.id; items = reply_items m }
 -- the call was accepted, and it succeeded (RFC 5531, section 9: SUCCESS)
 abbrev pub is_success : ReplyHead → Bool
 is_success (Accepted verf Success) = true
-is_success (Accepted verf ProgUnavail) = false
-is_success (Accepted verf (ProgMismatch low high)) = false
-is_success (Accepted verf ProcUnavail) = false
-is_success (Accepted verf GarbageArgs) = false
-is_success (Accepted verf SystemErr) = false
-is_success (Denied deny) = false
+is_success _ = false

@@ -1,6 +1,6 @@
 -- How far the entries of a capture have come.
 use Rattle.std.specs.Prelude.{◌≡◌, ℕ, ◌+◌, List, [], ◌∷◌}
-use Rattle.capture3.specs.Entry.{Entry, Begin, Call, Turn, Reply, Close, End}
+use Rattle.capture3.specs.Entry.{Entry, Begin, Call, Turn, Reply}
 use Rattle.capture3.specs.Laws.{begins}
 use Rattle.capture3.specs.declared.reader.progress.Progress.{Progress}
 
@@ -11,8 +11,7 @@ records_after n (Begin ∷ es) = records_after 0 es
 records_after n (Call items ∷ es) = records_after (n + 1) es
 records_after n (Turn ∷ es) = records_after 0 es
 records_after n (Reply id items ∷ es) = records_after (n + 1) es
-records_after n (Close ∷ es) = records_after n es
-records_after n (End ∷ es) = records_after n es
+records_after n (_ ∷ es) = records_after n es
 
 -- how many calls and replies there are
 abbrev pub calls_in : List Entry → ℕ

@@ -1,14 +1,10 @@
 -- What a call of the reader that lends the next entry, with its call as a value, leaves, once the
 -- entry is no longer used.
 use Rattle.std.specs.Prelude.{◌≡◌, ◌⊎◌, ℕ, ◌<◌, Option, Some, None, Result, Ok, Err, List, [], ◌∷◌, ◌++◌, IfOk, IsSome}
-use Rattle.std.specs.Borrow.{Fml, RattleType, MutBor}
-use Rattle.std.specs.Io.BufRead.{Rests}
-use mir.Syntax.{named}
 use Rattle.capture3.specs.Observed.{Gave, Observed}
 use Rattle.std.specs.declared.hash.BuildHasher as BuildHasher
 use Rattle.std.specs.declared.hash.Hasher as Hasher
 use Rattle.capture3.specs.declared.reader.entries.Entries.{Entries}
-use Rattle.capture3.specs.contracts.reader.entries.Entries.{the_row}
 use Rattle.capture3.specs.declared.fault.Error.{Error}
 use Rattle.capture3.specs.declared.fault.Error.TheVariants.{Memory}
 use Rattle.capture3.specs.declared.reader.entry_ref.EntryRef.{EntryRef}
@@ -48,13 +44,3 @@ module _ {R S H : Type 0} {builds : BuildHasher.Ghosts S H} {hashes : Hasher.Gho
     pub fewer : IfOk result (λ next. IsSome next → entries_left new < entries_left old)
     pub errors : KeepsOrPasses old new result
     pub device : UsesSource failures old new result
-
--- the reader ends as this, once what it lent is no longer used
-module _ (R S H : RattleType) (builds : BuildHasher.Ghosts S.Denot H.Denot)
-    (hashes : Hasher.Ghosts H.Denot) where
-  abbrev pub EndsRead : (observed : R.Denot → Observed)
-      (failures : R.Denot → ℕ) → MutBor (Entries R.Denot S.Denot H.Denot builds hashes)
-      → Result (Option EntryRef) Error → Fml
-  EndsRead observed failures reader result =
-      Rests (the_row (record { mir = named 0; lft = [] }) R S H builds hashes) reader
-      (λ new. ReadsNext observed failures reader.now result new)

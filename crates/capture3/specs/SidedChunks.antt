@@ -36,8 +36,7 @@ pub record IsSidedChunk (bytes : List ℕ) (chunk : SidedChunk) : Type 0 where
 abbrev pub of_side : Side → Side → List ℕ → List ℕ
 of_side Client Client bytes = bytes
 of_side Server Server bytes = bytes
-of_side Client Server bytes = []
-of_side Server Client bytes = []
+of_side _ _ bytes = []
 
 -- the streams with a chunk's bytes at the end of its side's
 abbrev pub with_more : Streams → Side → List ℕ → Streams
@@ -79,34 +78,33 @@ pub record BetweenSides (before : ℕ) (bytes : List ℕ) : Type 0 where
   pub short : length part < 4
   pub fits : before + size (gathered chunks) ≤ max_bytes
 
--- whole chunks within the limit, a side word, and a part of a length word that is not whole
-pub record AfterSide (before : ℕ) (bytes : List ℕ) : Type 0 where
+-- whole chunks, a side word, and what comes after it
+pub record AfterSideWord (bytes : List ℕ) : Type 0 where
   pub chunks : List SidedChunk
   pub side : Side
   pub front : List ℕ
   pub word : List ℕ
-  pub part : List ℕ
-  pub split : bytes ≡ front ++ word ++ part
+  pub rest : List ℕ
+  pub split : bytes ≡ front ++ word ++ rest
   pub joined : Joins IsSidedChunk front chunks
   pub sided : IsWord word (side_word side)
-  pub short : length part < 4
-  pub fits : before + size (gathered chunks) ≤ max_bytes
+
+-- whole chunks within the limit, a side word, and a part of a length word that is not whole
+pub record AfterSide (before : ℕ) (bytes : List ℕ) : Type 0 where
+  pub here : AfterSideWord bytes
+  pub short : length here.rest < 4
+  pub fits : before + size (gathered here.chunks) ≤ max_bytes
 
 -- whole chunks, a side word, and a length word within the limit with fewer bytes after it than it
 -- says
 pub record WithinSided (before : ℕ) (bytes : List ℕ) : Type 0 where
-  pub chunks : List SidedChunk
-  pub side : Side
-  pub front : List ℕ
-  pub word : List ℕ
+  pub here : AfterSideWord bytes
   pub header : List ℕ
   pub got : List ℕ
   pub left : ℕ
-  pub split : bytes ≡ front ++ word ++ header ++ got
-  pub joined : Joins IsSidedChunk front chunks
-  pub sided : IsWord word (side_word side)
+  pub split : here.rest ≡ header ++ got
   pub counts : IsWord header (length got + suc left)
-  pub fits : before + size (gathered chunks) + (length got + suc left) ≤ max_bytes
+  pub fits : before + size (gathered here.chunks) + (length got + suc left) ≤ max_bytes
 
 -- a connection that is not whole, after its word 1
 abbrev pub BeginsMixed : ℕ → List ℕ → Type 0

@@ -2,10 +2,8 @@
 pub mod Calls
 pub mod CountedCalls
 pub mod Container
-pub mod Counting
 pub mod EntriesHistory
 pub mod Pairing
-pub mod Placing
 pub mod ScannedMessages
 pub mod Messages
 pub mod PositionState
@@ -17,4 +15,3 @@ pub mod FileStanding
 pub mod Spelled
 pub mod Stepping
 pub mod ContainerMachine
-pub mod UnspelledMessages

@@ -1,6 +1,6 @@
 //! Laws over the definitions of captures alone. They do nothing: each is what a function without a result ensures.
 
-ghost use Rattle.std.specs.Prelude.{◌≡◌, ◌↔◌, ◌≤◌, ℕ, List, ◌++◌, length, Ok, Err};
+ghost use Rattle.std.specs.Prelude.{◌≡◌, ◌↔◌, ◌≤◌, ℕ, List, [], ◌∷◌, ◌++◌, length, Ok, Err};
 ghost use Rattle.xdr3.specs.Item.{AreBytes, Item};
 ghost use Rattle.record_mark.specs.Machine.{after};
 ghost use Rattle.capture3.specs.declared.fault.Fault.{Fault};
@@ -10,17 +10,15 @@ ghost use Rattle.capture3.specs.SidedChunks.{Streams};
 ghost use Rattle.capture3.specs.Connections.{calls_in_turn, replies_to};
 ghost use Rattle.capture3.specs.Entries.{AreAllBeforeEnd, KeepsLimits};
 ghost use Rattle.capture3.specs.machinery.EntriesHistory.{StandsFor};
-ghost use Rattle.capture3.specs.Entry.{Entry};
+ghost use Rattle.capture3.specs.Entry.{Begin, Call, Close, End, Entry, Turn};
 ghost use Rattle.capture3.specs.FirstFault.{FirstFault, IsClean};
 ghost use Rattle.capture3.specs.Laws.{AreWithinLimits, HasItsPlace, HasOneVerdict, HaveSameEntries, IsCutShort, IsJudgedInTurn, IsJudgedOnce, IsWithinVersion, most_bytes};
 ghost use Rattle.capture3.specs.FileMachine.{file_next, parsed, reached, verdict};
 ghost use Rattle.capture3.specs.Reached.{AreFirstReached, Reached};
 ghost use Rattle.capture3.specs.Typed.{Typed};
-ghost use Rattle.std.specs.Prelude.{[], ◌∷◌};
 ghost use Rattle.xdr3.specs.declared.reason.Reason.TheVariants.{AfterEnd, BadEnum, BadMark, CaptureCut, TooManyBytes, WrongSide};
 ghost use Rattle.capture3.specs.declared.fault.Place.TheVariants.{Record};
 ghost use Rattle.capture3.specs.declared.fault.Side.TheVariants.{Client, Server};
-ghost use Rattle.capture3.specs.Entry.{Begin, Call, Close, End, Turn};
 ghost use Rattle.capture3.specs.Examples.{bad_mtype, bad_mtype_cut, magic_1, null_call_items, null_capture, null_entries, word_0, word_1};
 ghost use Rattle.capture3.specs.Examples.{bad_mtype_mixed, bad_mtype_mixed_cut, call_answered_by_call, client_chunk, magic_2, null_mixed, null_mixed_swapped, server_chunk, word_3};
 ghost use Rattle.capture3.specs.Sides.{file_fault};

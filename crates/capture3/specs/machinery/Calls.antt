@@ -1,12 +1,12 @@
 -- The calls of a connection by their xids.
-use Rattle.std.specs.Prelude.{◌≡◌, ℕ, ◌+◌, ◌<◌, ◌^◌, ◌==◌, if◌then◌else◌, is_some, min, nat_eq, slice_get, IsSome, List, length, Option, Some, None, Result, Ok, Err}
+use Rattle.std.specs.Prelude.{◌≡◌, ℕ, ◌+◌, ◌-◌, ◌%◌, ◌<◌, ◌^◌, ◌==◌, if◌then◌else◌, is_some, min, nat_eq, slice_get, IsSome, List, length, Option, Some, None, Result, Ok, Err}
+use Rattle.std.specs.Int.{w32, swap_bytes}
 use Rattle.std.specs.Map.{lookup}
 use Rattle.rpc_head.specs.declared.values.call.ProcId.{ProcId}
 use Rattle.capture3.specs.BodyProgram.{agrees}
 use Rattle.capture3.specs.Rank.{number_limit}
 use Rattle.capture3.specs.declared.message.calls.NumberedCall.{NumberedCall}
-use Rattle.capture3.specs.declared.message.counting.Counting.{Counting}
-use Rattle.capture3.specs.machinery.Counting.{home_of}
+use Rattle.capture3.specs.declared.message.counting.XidCounting.{XidCounting}
 
 -- the call of each xid, if there is one, and how many xids have one
 pub record Known : Type 0 where
@@ -67,8 +67,13 @@ abbrev pub at_home : Option NumberedCall → Option NumberedCall
 at_home None = None
 at_home (Some call) = if call.number == 0 then None else Some call
 
+-- how far an xid is above the first, in the order of bytes in which they count
+unfoldable pub home_of : XidCounting → ℕ → ℕ
+home_of counting xid =
+    ((if counting.swapped then swap_bytes w32 xid else xid) + (2 ^ 32 - counting.first)) % 2 ^ 32
+
 -- the call of an xid in a line, in which each call is at the home of its xid
-abbrev pub lined : Counting → List NumberedCall → ℕ → Option NumberedCall
+abbrev pub lined : XidCounting → List NumberedCall → ℕ → Option NumberedCall
 lined counting line xid = at_home (slice_get line (home_of counting xid))
 
 -- the call of an xid in a list of pairs
@@ -81,7 +86,7 @@ over None other = other
 over (Some call) other = Some call
 
 -- the calls of a line, and the others
-abbrev pub known_in : Counting → List NumberedCall → List (ℕ × NumberedCall) → ℕ → Known
+abbrev pub known_in : XidCounting → List NumberedCall → List (ℕ × NumberedCall) → ℕ → Known
 known_in counting line others count =
     record { call_of = λ xid. over (lined counting line xid) (in_list others xid); count = count }
 
@@ -94,6 +99,6 @@ abbrev pub known_one : ℕ → NumberedCall → Known
 known_one xid call = record { call_of = λ q. if xid == q then Some call else None; count = 1 }
 
 -- no xid with a home below this has a call
-abbrev pub AreAbove : Counting → ℕ → List (ℕ × NumberedCall) → Type 0
+abbrev pub AreAbove : XidCounting → ℕ → List (ℕ × NumberedCall) → Type 0
 AreAbove counting nearest others = (xid : ℕ) → xid < 2 ^ 32 → home_of counting xid < nearest
     → in_list others xid ≡ None

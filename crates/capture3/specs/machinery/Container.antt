@@ -71,10 +71,6 @@ AreStored position (Some cursor) streams =
     (cursor.taken ≤ length (stream_of cursor.side streams)) × (position.records ≤ cursor.taken)
     × (size streams ≤ position.total) × IsBeforeMark Two position.spot
 
--- the same of a container
-abbrev pub IsStored : Container → Type 0
-IsStored c = AreStored c.position c.cursor c.streams.kept
-
 -- a joiner between two calls: no record is begun where the streams are judged
 abbrev pub IsReady : Option Cursor → Taking → Type 0
 IsReady None taking = IsRunning taking
@@ -87,22 +83,21 @@ pub record CanGoOn (cursor : Option Cursor) (taking : Taking) (c : Container) : 
   pub ready : IsReady cursor taking
 
 -- These bytes of the file lead from one position, joiner and streams to others, and with the last
--- of
--- them this is whole, or nothing.
-pub record Leads (before : Position) (was : Taking) (old : sided.Streams) (bytes : List ℕ)
-    (event : Option Event) (after_it : Position) (now : Taking) (new : sided.Streams) : Type
-    0 where
-  pub machine : Arrives (unpacking_of before was old) bytes event after_it now new
-  pub joiner : Leaves event now
-  pub stored : StoredWith event after_it new
+-- of them this is whole, or nothing.
+pub record Leads (before after_it : Position) (takings : Taking × Taking)
+    (streams : sided.Streams × sided.Streams) (bytes : List ℕ) (event : Option Event) : Type 0 where
+  pub machine : Arrives (unpacking_of before takings.0 streams.0) bytes event after_it takings.1
+      streams.1
+  pub joiner : Leaves event takings.1
+  pub stored : StoredWith event after_it streams.1
   -- what became whole took its room
-  pub room : room_of after_it new + cost_of event new ≤ room_of before old
+  pub room : room_of after_it streams.1 + cost_of event streams.1 ≤ room_of before streams.0
 
 -- the same from a container on
 abbrev pub Reaches : Container → List ℕ → Option Event → Position → Container → Type 0
 Reaches old bytes event position new =
-    Leads old.position old.joiner.taking old.streams.kept bytes event position new.joiner.taking
-    new.streams.kept
+    Leads old.position position (old.joiner.taking, new.joiner.taking)
+    (old.streams.kept, new.streams.kept) bytes event
 
 -- how many bytes of a piece were taken: all of them if nothing is whole, and then some
 pub record TakesPiece {X : Type 0} (piece : List ℕ) (taken : ℕ × Option X) : Type 0 where

@@ -14,8 +14,7 @@ use Rattle.capture3.specs.declared.container.position.TheConstants.{MAGIC}
 use Rattle.capture3.specs.declared.container.position.spot.Event.{Event}
 use Rattle.capture3.specs.declared.container.position.spot.Event.TheVariants.{Begin, Record, Turn, Close}
 use Rattle.capture3.specs.Capture.{Version, One, Two, digit}
-use Rattle.capture3.specs.SidedChunksMachine.{MixedPoint, SideWord, Mixing, MixedEnd, MixedCloses, MixedRefuses, mixed_step, awaiting_side, measured, sided}
-use Rattle.capture3.specs.SidedChunksMachine as mixing
+use Rattle.capture3.specs.SidedChunksMachine.{MixedPoint, SideWord, Mixing, MixedEnd, MixedCloses, MixedRefuses, mixed_step}
 use Rattle.capture3.specs.SidedChunks.{Streams, gathered}
 use Rattle.capture3.specs.Sides.{file_fault}
 
@@ -159,25 +158,11 @@ mixed_ended connections joining (MixedCloses at total streams) =
     Ends (HasStreams streams (before_mark Two at total connections 0 joining))
 mixed_ended connections joining (MixedRefuses fault) = Ends (Refuses fault)
 
--- in a chunk of version 2 with so many bytes to come
-abbrev pub in_side_chunk : (at total connections records : ℕ) → Streams → Side → ℕ → Joining
-    → Unpacking
-in_side_chunk at total connections records streams side left joining =
-    unpacking_with at total connections records (Mixed streams (awaiting_side side left)) joining
-
--- a side word has come
-abbrev pub sides_marked : (at total connections records : ℕ) → Streams → Joining → ℕ
+-- what the machine for the chunks of both sides comes to
+abbrev pub mixed_on : (connections records : ℕ) → Joining → Next Mixing MixedEnd
     → Next Unpacking Unpacked
-sides_marked at total connections records streams joining n =
-    within (mixed_at connections records joining) (mixed_ended connections joining)
-    (sided at total streams n)
-
--- the length word after a side word has come
-abbrev pub sides_counted : (at total connections records : ℕ) → Streams → Side → Joining → ℕ
-    → Next Unpacking Unpacked
-sides_counted at total connections records streams side joining n =
-    within (mixed_at connections records joining) (mixed_ended connections joining)
-    (measured at total streams side n)
+mixed_on connections records joining next =
+    within (mixed_at connections records joining) (mixed_ended connections joining) next
 
 -- one byte more
 abbrev pub open_step : (at total connections records : ℕ) → Joining → Opened → ℕ
@@ -202,8 +187,7 @@ open_step at total connections records joining (Chunk side left) byte =
     within (in_chunk at total connections records side left)
     (record_joined at total connections records side left) (join_next joining byte)
 open_step at total connections records joining (Mixed streams point) byte =
-    within (mixed_at connections records joining) (mixed_ended connections joining)
-    (mixed_step at total streams point byte)
+    mixed_on connections records joining (mixed_step at total streams point byte)
 open_step at total connections records joining (Ended version) byte = Ends (at_byte at AfterEnd)
 
 -- the same by where the machine stands

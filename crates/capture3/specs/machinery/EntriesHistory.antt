@@ -1,17 +1,16 @@
 -- The histories for which a reader of entries stands: what its source gave it, and what it handed
 -- out.
-use Rattle.std.specs.Prelude.{◌≡◌, ℕ, ◌+◌, ◌≤◌, Option, Some, None, Result, Ok, Err, List, [], ◌∷◌, ◌++◌, length, slice_range, ◌≢◌, ◌<◌, Bool, true, false, IsTrue, IsFalse, IsSome, IfErr, IfOk, OnErr}
+use Rattle.std.specs.Prelude.{◌≡◌, ℕ, ◌+◌, ◌≤◌, Option, Some, None, Result, Ok, Err, List, [], ◌∷◌, ◌++◌, length, slice_range, ◌<◌, Bool, true, false, IsTrue, IsFalse, IsSome, IfOk, OnErr}
 use Rattle.capture3.specs.Observed.{Observed, Gave, IsSpent}
 use Rattle.xdr3.specs.Item.{AreBytes}
 use Rattle.std.specs.declared.hash.BuildHasher as BuildHasher
 use Rattle.std.specs.declared.hash.Hasher as Hasher
 use Rattle.capture3.specs.declared.reader.entries.Entries.{Entries}
-use Rattle.capture3.specs.declared.reader.entries.Stage.{Stage}
-use Rattle.capture3.specs.declared.reader.entries.Stage.TheVariants.{Reading, Over, Failed}
+use Rattle.capture3.specs.declared.reader.entries.ReaderStage.{ReaderStage}
+use Rattle.capture3.specs.declared.reader.entries.ReaderStage.TheVariants.{Reading, Over, Failed}
 use Rattle.capture3.specs.declared.reader.entry.Kind.{Kind}
 use Rattle.capture3.specs.declared.reader.entry.Kind.TheVariants as kinds
 use Rattle.capture3.specs.declared.fault.Error.{Error}
-use Rattle.capture3.specs.declared.fault.Error.TheVariants as errors
 use Rattle.capture3.specs.declared.fault.Noted.{Noted}
 use Rattle.capture3.specs.declared.container.Container.{Container}
 use Rattle.capture3.specs.machinery.Container.{room_in}
@@ -19,17 +18,15 @@ use Rattle.capture3.specs.machinery.CountedCalls.{known_of}
 use Rattle.capture3.specs.Entry.{Entry}
 use Rattle.capture3.specs.machinery.Pairing.{HasCome, HasNumber, IsHeld}
 use Rattle.capture3.specs.OpenXids.{open_xids}
-use Rattle.capture3.specs.machinery.Stepping.{IsOfKind}
 use Rattle.capture3.specs.Laws.{most_entries}
 use Rattle.capture3.specs.Progress.{AreCounted, calls_in, replies_in}
 use Rattle.capture3.specs.Typed.{Typed}
 use Rattle.capture3.specs.Entries.{block_size, CountsReads, failure_of, IsMetBy, IsOver, KeepsErrors, KeepsLimits, last_of, loan_of, source_of, UsesSource}
 
 -- how many entries there can be from here on
-abbrev pub entries_left_in : Stage → Container → ℕ
+abbrev pub entries_left_in : ReaderStage → Container → ℕ
 entries_left_in Reading container = room_in container + 1
-entries_left_in Over container = 0
-entries_left_in Failed container = 0
+entries_left_in _ container = 0
 
 module _ {R S H : Type 0} {builds : BuildHasher.Ghosts S H} {hashes : Hasher.Ghosts H} where
   abbrev pub entries_left : Entries R S H builds hashes → ℕ
@@ -62,7 +59,7 @@ module _ {R S H : Type 0} {builds : BuildHasher.Ghosts S H} {hashes : Hasher.Gho
         handed
     pub messages : CountedMessages entries handed
 
-  abbrev pub StandsIn : Stage → Observed → Entries R S H builds hashes → List ℕ → List Entry
+  abbrev pub StandsIn : ReaderStage → Observed → Entries R S H builds hashes → List ℕ → List Entry
       → Type 0
   StandsIn Reading observed entries given handed = IsReading entries given handed
   StandsIn Over observed entries given handed = Typed given handed × IsSpent observed
@@ -88,21 +85,6 @@ module _ {R S H : Type 0} {builds : BuildHasher.Ghosts S H} {hashes : Hasher.Gho
     pub more : List ℕ
     pub consumed : Gave (observed old.source.now) (observed new.source.now) more
     pub stands : StandsFor observed new (given ++ more) handed
-
-  -- this entry is handed out and passed on; or none is, and it goes on or has failed
-  abbrev pub HandsOutOrGoesOn : (R → Observed) → (Passed : Entry → Type 0)
-      → Entries R S H builds hashes → List ℕ → List Entry → Option Kind → Type 0
-  HandsOutOrGoesOn observed Passed new given handed (Some kind) =
-      (entry : Entry) × IsOfKind kind entry × Passed entry
-      × StandsFor observed new given (handed ++ entry ∷ [])
-  HandsOutOrGoesOn observed Passed new given handed None = StandsFor observed new given handed
-
-  pub record Turns (observed : R → Observed) (Passed : Entry → Type 0)
-      (old new : Entries R S H builds hashes) (given : List ℕ) (handed : List Entry) : Type 0
-    where
-      pub more : List ℕ
-      pub consumed : Gave (observed old.source.now) (observed new.source.now) more
-      pub goes_on : HandsOutOrGoesOn observed Passed new (given ++ more) handed (last_of new)
 
   -- ---- what a call inside the reader leaves
 
@@ -134,14 +116,6 @@ module _ {R S H : Type 0} {builds : BuildHasher.Ghosts S H} {hashes : Hasher.Gho
   pub record ReadsOnce {X : Type 0} (failures : R → ℕ) (old new : Entries R S H builds hashes)
       (result : Result X Error) : Type 0 where
     pub read : CountsReads failures old new result
-    pub same_block : block_size new ≡ block_size old
-    pub same_reference : loan_of new ≡ loan_of old
-
-  -- The source is not read, and so no read failed.
-  pub record ReadsNothing {X : Type 0} (old new : Entries R S H builds hashes)
-      (result : Result X Error) : Type 0 where
-    pub never_reads : IfErr result (λ error. error ≢ errors.Read)
-    pub unread : source_of new ≡ source_of old
     pub same_block : block_size new ≡ block_size old
     pub same_reference : loan_of new ≡ loan_of old
 

@@ -132,15 +132,13 @@ resumed j (Ends (Refuses fault)) = Ends (refusal fault)
 -- by the part that is open: as many records are whole as messages were judged, and no record is
 -- open outside the streams of version 1
 abbrev pub AgreesAt : ℕ → Joining → Opened → Judged → Type 0
-AgreesAt records joining (Magic due more) j = joining ≡ Between
-AgreesAt records joining Digit j = joining ≡ Between
-AgreesAt records joining (Mark version part) j = joining ≡ Between
 AgreesAt records joining (Length Client part) j = records ≡ length j.calls
 AgreesAt records joining (Length Server part) j = records ≡ length j.replies
 AgreesAt records joining (Chunk Client left) j = records ≡ length j.calls
 AgreesAt records joining (Chunk Server left) j = records ≡ length j.replies
 AgreesAt records joining (Mixed streams point) j = (joining ≡ Between) × (j.calls ≡ [])
 AgreesAt records joining (Ended version) j = Unit {0}
+AgreesAt records joining _ j = joining ≡ Between
 
 -- the open stream's records have been judged
 abbrev pub Agrees : Unpacking → Judged → Type 0
@@ -172,16 +170,13 @@ server_entries replies = entries.Turn ∷ map reply_entry replies
 
 -- the entries that are whole, by the part that is open
 abbrev pub emitted_at : Opened → Judged → List Entry
-emitted_at (Magic due more) j = j.entries
-emitted_at Digit j = j.entries
-emitted_at (Mark version part) j = j.entries
 emitted_at (Length Client part) j = j.entries ++ client_entries j.calls
 emitted_at (Length Server part) j =
     j.entries ++ (client_entries j.calls ++ server_entries j.replies)
 emitted_at (Chunk Client left) j = j.entries ++ client_entries j.calls
 emitted_at (Chunk Server left) j = j.entries ++ (client_entries j.calls ++ server_entries j.replies)
 emitted_at (Mixed streams point) j = j.entries ++ entries.Begin ∷ []
-emitted_at (Ended version) j = j.entries
+emitted_at _ j = j.entries
 
 -- after entries, what comes next adds
 abbrev pub EmitsOn : Judged → List Entry → Next Unpacking Unpacked → Type 0

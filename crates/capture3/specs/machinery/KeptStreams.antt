@@ -1,7 +1,7 @@
 -- Where a reader stands in the streams of a connection of version 2: all of them have come, and
 -- their records are judged one by one, while no byte of the file is taken.
 use Rattle.std.specs.Prelude.{◌≡◌, ℕ, List, [], ◌∷◌, ◌++◌, length, drop}
-use Rattle.record_mark.specs.Machine.{Runs}
+use Rattle.record_mark.specs.Machine.{Ends, Runs}
 use Rattle.capture3.specs.machinery.Calls.{Known}
 use Rattle.capture3.specs.declared.fault.Fault.{Fault}
 use Rattle.capture3.specs.declared.fault.Side.{Side}
@@ -20,7 +20,6 @@ use Rattle.record_mark.specs.Joining.{Between}
 use Rattle.capture3.specs.machinery.FileStanding.{Judged, conversed, client_entries, server_entries}
 use Rattle.capture3.specs.SidedChunks.{Streams}
 use Rattle.capture3.specs.machinery.ContainerMachine.{Unpacking}
-use Rattle.record_mark.specs.Machine.{Ends}
 
 -- after these messages, before the next record
 abbrev pub between_records : {M : Type 0} → List M → Reading M

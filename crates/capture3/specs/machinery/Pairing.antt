@@ -1,10 +1,10 @@
 -- A capture whose records are judged as they come: where the machine for its file stands.
-use Rattle.std.specs.Prelude.{◌≡◌, ◌≢◌, ◌⊎◌, ℕ, ◌+◌, min, nat_eq, Option, Some, None, List, [], ◌∷◌, ◌++◌, take, drop}
+use Rattle.std.specs.Prelude.{◌≡◌, ◌⊎◌, ℕ, ◌+◌, min, nat_eq, Option, Some, None, List, [], ◌∷◌, ◌++◌, take, drop}
 use Rattle.xdr3.specs.declared.reason.GetError.{GetError}
 use Rattle.xdr3.specs.declared.reason.GetError.TheVariants as gets
 use Rattle.xdr3.specs.Item.{Item}
 use Rattle.record_mark.specs.Joining.{Between, Whole, join_next}
-use Rattle.record_mark.specs.Machine.{Ends, Runs, Stops, after}
+use Rattle.record_mark.specs.Machine.{Next, Goes, Ends, Runs, Stops, after}
 use Rattle.record_mark.specs.Taking.{Taking, IsWhole, body_of, released}
 use Rattle.rpc_head.specs.Messages.{procedure_in}
 use Rattle.capture3.specs.machinery.Calls.{Known}
@@ -27,7 +27,6 @@ use Rattle.capture3.specs.OpenXids.{open_xids}
 use Rattle.capture3.specs.Laws.{begins}
 use Rattle.capture3.specs.Progress.{AreCounted, records_after}
 use Rattle.capture3.specs.Rank.{number_limit, rank}
-use Rattle.capture3.specs.machinery.Placing.{PlacesNext}
 use Rattle.capture3.specs.machinery.Container.{stream_of, unpacking_of}
 use Rattle.capture3.specs.Entry.{Entry}
 use Rattle.capture3.specs.Entry as whole
@@ -80,6 +79,20 @@ met events.Streams position taking streams =
 
 abbrev pub met_in : Event → Container → Unpacked
 met_in event c = met event c.position c.joiner.taking c.streams.kept
+
+-- so many connections and records
+abbrev pub IsAt : (connections records : ℕ) → Unpacking → Type 0
+IsAt connections records u = (u.connections ≡ connections) × (u.records ≡ records)
+
+-- after so many connections and records
+abbrev pub PlacesNext : (connections records : ℕ) → Next Unpacking Unpacked → Type 0
+PlacesNext c r (Goes u) = IsAt c r u
+PlacesNext c r (Ends (Has Begin body u)) = IsAt (c + 1) 0 u
+PlacesNext c r (Ends (Has (Record side) body u)) = IsAt c (r + 1) u
+PlacesNext c r (Ends (Has Turn body u)) = IsAt c 0 u
+PlacesNext c r (Ends (Has Close body u)) = IsAt c r u
+PlacesNext c r (Ends (HasStreams streams u)) = IsAt c 0 u
+PlacesNext c r _ = Unit {0}
 
 -- the last of the bytes made this whole, after these entries
 pub record HasMet (container : Container) (table : Known) (event : Event)
@@ -151,12 +164,9 @@ HasNumber number xids _ = Unit {0}
 
 -- a whole record stands that spells a message of this kind; nothing is said of the other kinds
 abbrev pub SpellsKind : Kind → Taking → Type 0
-SpellsKind kinds.Begin taking = Unit {0}
 SpellsKind (kinds.Call id) taking = IsWhole taking × ∥ SpellsCall id (body_of taking) ∥₁
-SpellsKind kinds.Turn taking = Unit {0}
 SpellsKind (kinds.Reply id) taking = IsWhole taking × ∥ SpellsReply id (body_of taking) ∥₁
-SpellsKind kinds.Close taking = Unit {0}
-SpellsKind kinds.End taking = Unit {0}
+SpellsKind _ taking = Unit {0}
 
 -- the record of this entry stands, if there is one
 abbrev pub SpellsLast : Option Kind → Taking → Type 0
@@ -188,10 +198,9 @@ error_at position side gets.Memory = errors.Memory
 
 -- the bytes are refused, or memory ran out: no device failed
 abbrev pub IsOfBytes : Error → Type 0
-IsOfBytes (errors.Refused fault) = Unit {0}
 IsOfBytes errors.Read = ⊥
 IsOfBytes errors.Write = ⊥
-IsOfBytes errors.Memory = Unit {0}
+IsOfBytes _ = Unit {0}
 
 abbrev pub entry_cost : Option Kind → ℕ
 entry_cost None = 0

@@ -3,7 +3,7 @@ use Rattle.std.specs.Prelude.{◌≡◌, ◌≢◌, ◌≤◌, ◌<◌, ℕ, ◌
 use Rattle.record_mark.specs.Machine.{Next, Ends, Run, Runs, Stops, after, landed}
 use Rattle.record_mark.specs.Joining.{Joining, Between}
 use Rattle.record_mark.specs.Taking.{joined_body}
-use Rattle.capture3.specs.machinery.ContainerMachine.{Unpacking, Unpacked, Opened, Has, HasStreams, Refuses, left_of_magic, awaiting_chunk, chunk_counted, connection_marked, sides_counted, sides_marked, unpack_next, unpacking_with}
+use Rattle.capture3.specs.machinery.ContainerMachine.{Unpacking, Unpacked, Opened, Has, HasStreams, Refuses, left_of_magic, awaiting_chunk, chunk_counted, connection_marked, mixed_on, unpack_next, unpacking_with}
 use Rattle.capture3.specs.machinery.ContainerMachine as unpacking
 use Rattle.capture3.specs.declared.container.position.TheConstants.{MAGIC}
 use Rattle.capture3.specs.declared.fault.Error.{Error}
@@ -43,16 +43,15 @@ opened_word streams (words.SideLength side) part =
     unpacking.Mixed streams (mixing.SideLength side part)
 
 -- what this word leads the machine to, once it is whole
-abbrev pub word_read : WordOf → (at total connections records : ℕ) → sided.Streams → Joining → ℕ
-    → Next Unpacking Unpacked
-word_read (words.Mark version) at total connections records streams joining n =
-    connection_marked (version_of version) at total connections records joining n
-word_read (words.Length side) at total connections records streams joining n =
-    chunk_counted at total connections records side joining n
-word_read words.Side at total connections records streams joining n =
-    sides_marked at total connections records streams joining n
-word_read (words.SideLength side) at total connections records streams joining n =
-    sides_counted at total connections records streams side joining n
+abbrev pub word_read : WordOf → Counts → sided.Streams → Joining → ℕ → Next Unpacking Unpacked
+word_read (words.Mark version) c streams joining n =
+    connection_marked (version_of version) c.at c.total c.connections c.records joining n
+word_read (words.Length side) c streams joining n =
+    chunk_counted c.at c.total c.connections c.records side joining n
+word_read words.Side c streams joining n =
+    mixed_on c.connections c.records joining (mixing.sided c.at c.total streams n)
+word_read (words.SideLength side) c streams joining n =
+    mixed_on c.connections c.records joining (mixing.measured c.at c.total streams side n)
 
 -- the part that is open, as the machine has it
 abbrev pub opened_at : sided.Streams → Spot → ℕ → Opened
@@ -128,13 +127,11 @@ room_before (words.SideLength side) streams = 2 + size streams
 
 -- the same from any part on
 abbrev pub room_here : Spot → sided.Streams → ℕ
-room_here Magic streams = 0
-room_here Digit streams = 0
 room_here (Word word part) streams = room_before word streams
 room_here (Chunk sides.Client left) streams = 2 + left
 room_here (Chunk sides.Server left) streams = 1 + left
 room_here (SideChunk side left) streams = 2 + (size streams + left)
-room_here (Ended version) streams = 0
+room_here _ streams = 0
 
 -- the same with what the counts allow
 abbrev pub room_of : Position → sided.Streams → ℕ

@@ -8,7 +8,7 @@ use Rattle.xdr3.specs.Item.{Item}
 use Rattle.xdr3.specs.Reading.{refused}
 use Rattle.rpc_head.specs.Messages.{procedure_in}
 use Rattle.capture3.specs.declared.message.calls.NumberedCall.{NumberedCall}
-use Rattle.capture3.specs.declared.message.scan.CallHead.{CallHead}
+use Rattle.capture3.specs.declared.message.scan.ScannedCall.{ScannedCall}
 use Rattle.capture3.specs.Bodies.{IsCall, IsReply, procedure_of, xid_in}
 use Rattle.capture3.specs.machinery.Calls.{Known}
 use Rattle.capture3.specs.BodyProgram.{agrees, judge_call, judge_reply}
@@ -19,7 +19,7 @@ use Rattle.capture3.specs.OpenXids.{xid_of}
 -- The body spells a call with this xid and this procedure, it is accepted after calls that agree
 -- with it, and a visitor was passed its items.
 pub record ScansCall {V : Type 0} (rests stands : V → List Item → Type 0) (body : List ℕ)
-    (call : CallHead) (old new : V) : Type 0 where
+    (call : ScannedCall) (old new : V) : Type 0 where
   pub items : List Item
   pub is_call : IsCall body items
   pub xid_is : xid_in items ≡ call.xid

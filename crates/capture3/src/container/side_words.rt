@@ -4,8 +4,8 @@ ghost use Rattle.std.specs.Prelude.{◌≡◌, ◌≤◌, ◌+◌, ◌-◌, ◌<
 ghost use Rattle.capture3.specs.machinery.Position.{IsSoundBefore, Lands, room_of, StepsOver, StoredAt, TakesSome, unpacking_at};
 ghost use Rattle.capture3.specs.machinery.PositionState.{IsSoundPosition, standing_at};
 ghost use Rattle.capture3.specs.SidedChunks as kept;
-ghost use Rattle.capture3.specs.SidedChunks.{size};
-ghost use Rattle.capture3.specs.machinery.ContainerMachine.{in_side_chunk, sides_counted, sides_marked};
+ghost use Rattle.capture3.specs.machinery.ContainerMachine.{Mixed, mixed_on, unpacking_with};
+ghost use Rattle.capture3.specs.SidedChunksMachine.{awaiting_side, measured, sided};
 ghost use Rattle.record_mark.specs.Joining.{Joining};
 ghost use Rattle.record_mark.specs.Taking.{IsRunning, Taking};
 ghost use Rattle.capture3.specs.machinery.Container.{Leads, stream_of};
@@ -26,8 +26,8 @@ impl Counts {
         ensures count { IfOk result (λ taken. taken.count ≡ count) }
         ensures steps { IfOk result (StepsOver self WordOf.Side) }
         ensures machine { (streams : kept.Streams) (joining : Joining)
-            → Lands (sides_marked self.at self.total self.connections self.records streams
-            joining n) streams joining result }
+            → Lands (mixed_on self.connections self.records joining
+            (sided self.at self.total streams n)) streams joining result }
     {
         let side = match n {
             0 => return Ok(self.streams_gathered(count)),
@@ -45,8 +45,8 @@ impl Counts {
         ensures count { result.count ≡ count }
         ensures steps { StepsOver self WordOf.Side result }
         ensures machine { (streams : kept.Streams) (joining : Joining)
-            → Lands (sides_marked self.at self.total self.connections self.records streams
-            joining 0) streams joining (Ok result) }
+            → Lands (mixed_on self.connections self.records joining
+            (sided self.at self.total streams 0)) streams joining (Ok result) }
     {
         Transition {
             count,
@@ -74,8 +74,8 @@ impl Counts {
         ensures count { IfOk result (λ taken. taken.count ≡ count) }
         ensures steps { IfOk result (StepsOver self (WordOf.SideLength side)) }
         ensures machine { (streams : kept.Streams) (joining : Joining)
-            → Lands (sides_counted self.at self.total self.connections self.records streams side
-            joining len) streams joining result }
+            → Lands (mixed_on self.connections self.records joining
+            (measured self.at self.total streams side len)) streams joining result }
     {
         if len == 0 {
             return Err(file_fault(self.at, Reason::BadMark));
@@ -99,8 +99,9 @@ impl Counts {
         // The bytes taken, with which nothing is whole.
         ensures taken { IfOk result (TakesSome rest.now) }
         ensures leads { (taking : Taking) → IsRunning taking
-            → IfOk result (λ t. Leads (standing_at self (Spot.SideChunk side left)) taking
-            streams.old.kept (take t.count rest.now) t.event t.position taking streams.new.kept) }
+            → IfOk result (λ t. Leads (standing_at self (Spot.SideChunk side left)) t.position
+            (taking, taking) (streams.old.kept, streams.new.kept) (take t.count rest.now)
+            t.event) }
 
         // Errors.
         ensures error { IfErr result (λ error. error ≡ Error.Memory) }
@@ -121,14 +122,15 @@ impl Counts {
         ensures count { result.count ≡ count }
         ensures event { result.event ≡ None }
         ensures machine { (streams : kept.Streams) (joining : Joining)
-            → unpacking_at result.position streams joining ≡ in_side_chunk self.at self.total
-            self.connections self.records streams side (left - count) joining }
+            → unpacking_at result.position streams joining ≡ unpacking_with self.at self.total
+            self.connections self.records (Mixed streams (awaiting_side side (left - count)))
+            joining }
 
         // What is kept with the bytes fits the position.
-        ensures room { (old new : kept.Streams) → size new ≡ size old + count
+        ensures room { (old new : kept.Streams) → kept.size new ≡ kept.size old + count
             → room_of result.position new ≡ room_of
             (standing_at self (Spot.SideChunk side left)) old }
-        ensures stored { (old new : kept.Streams) → size new ≡ size old + count
+        ensures stored { (old new : kept.Streams) → kept.size new ≡ kept.size old + count
             → StoredAt (Spot.SideChunk side left) self.total old
             → StoredAt result.position.spot result.position.total new }
     {

@@ -4,7 +4,7 @@ ghost use Rattle.std.specs.Prelude.{◌≡◌, ◌≢◌, ◌<◌, ◌^◌, ℕ,
 ghost use Rattle.capture3.specs.machinery.Calls.{lined, next_number, Admits, AreAbove, AreSame, KnowsNone, Puts};
 
 use crate::message::calls::{CallTable, KnownCalls, NumberedCall, number_if};
-use crate::message::counting::Counting;
+use crate::message::counting::XidCounting;
 use indexmap::IndexMap;
 use rpc_head::ProcId;
 use std::alloc::{AllocError, Global};
@@ -17,7 +17,7 @@ const FEW: usize = 16;
 /// result.
 #[derive(Drop)]
 pub(crate) struct CountedCalls<S: BuildHasher + Drop> {
-    counting: Counting,
+    counting: XidCounting,
     // Each call is at the home of its xid, which no other xid has. An empty home has number 0.
     line: Vec<NumberedCall>,
     empty_homes: usize,
@@ -36,7 +36,7 @@ impl<S: BuildHasher + Drop> CountedCalls<S> {
         ensures { KnowsNone (known_of result) }
     {
         CountedCalls {
-            counting: Counting::from(0, false),
+            counting: XidCounting::from(0, false),
             line: Vec::new(alloc),
             empty_homes: 0,
             others: IndexMap::with_hasher(alloc, hasher),
@@ -88,11 +88,11 @@ impl<S: BuildHasher + Drop> CountedCalls<S> {
             return;
         }
         match self.line.len() {
-            0 => self.counting = Counting::from(xid, false),
+            0 => self.counting = XidCounting::from(xid, false),
             1 => {
                 let first = self.counting.first_xid();
                 let swapped = xid.swap_bytes() == first.swap_bytes().wrapping_add(1);
-                self.counting = Counting::from(first, swapped);
+                self.counting = XidCounting::from(first, swapped);
             }
             _ => {}
         }

@@ -1,24 +1,24 @@
 //! How the xids of a connection count up.
 
 ghost use Rattle.std.specs.Prelude.{◌≡◌};
-ghost use Rattle.capture3.specs.machinery.Counting.{home_of};
+ghost use Rattle.capture3.specs.machinery.Calls.{home_of};
 
 /// A client mostly counts its xids up by one, either as words or with their bytes in the other
 /// order, as a little-endian host keeps them.
 #[derive(Clone, Copy)]
-pub(crate) struct Counting {
+pub(crate) struct XidCounting {
     // The first xid, in the order of bytes in which the xids count.
     first: u32,
     swapped: bool,
 }
 
-impl Counting {
+impl XidCounting {
     /// Counts from this xid on.
-    pub(crate) fn from(xid: u32, swapped: bool) -> Counting
+    pub(crate) fn from(xid: u32, swapped: bool) -> XidCounting
         ensures { home_of result xid ≡ 0 }
     {
         let first = if swapped { xid.swap_bytes() } else { xid };
-        Counting { first, swapped }
+        XidCounting { first, swapped }
     }
 
     /// Returns the xid from which it counts.

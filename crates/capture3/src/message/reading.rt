@@ -9,8 +9,7 @@ ghost use Rattle.xdr3.specs.View.{MovesOn};
 ghost use Rattle.capture3.specs.Bodies.{IsCall, IsReply};
 ghost use Rattle.capture3.specs.machinery.Messages.{results_after};
 ghost use Rattle.capture3.specs.MessageValues.{answered_items, call_items, is_success, items_after_head};
-ghost use Rattle.capture3.specs.machinery.Spelled.{SpellsCall, SpellsReply};
-ghost use Rattle.capture3.specs.machinery.UnspelledMessages.{SpellsNoCall, SpellsNoReply};
+ghost use Rattle.capture3.specs.machinery.Spelled.{SpellsCall, SpellsNoCall, SpellsNoReply, SpellsReply};
 ghost use Rattle.procs3.specs.Variants.{args_name, results_name};
 
 use crate::message::values::{CallMsg, ReplyMsg};

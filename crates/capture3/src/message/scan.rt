@@ -17,7 +17,7 @@ use xdr3::{GetError, Input, Reason, Visit};
 
 /// What a call says of itself: its xid, and the procedure that it calls.
 #[derive(Clone, Copy)]
-pub(crate) struct CallHead {
+pub(crate) struct ScannedCall {
     pub(crate) xid: u32,
     pub(crate) id: ProcId,
 }
@@ -25,7 +25,10 @@ pub(crate) struct CallHead {
 /// Parses a record of the client's stream, and passes its items to the visitor. Returns the call's
 /// xid and procedure, without comparing them with earlier calls of the connection. After an error
 /// the contents of the visitor are unspecified.
-pub(crate) fn scan_call<V: MessageVisit>(body: &[u8], visitor: &mut V) -> Result<CallHead, GetError>
+pub(crate) fn scan_call<V: MessageVisit>(
+    body: &[u8],
+    visitor: &mut V,
+) -> Result<ScannedCall, GetError>
     requires { length body.now ≤ body_limit }
     ensures ok { IfOk result
         (λ call. ScansCall V.rests V.stands body.now call visitor.old visitor.new) }
@@ -47,7 +50,7 @@ pub(crate) fn scan_call<V: MessageVisit>(body: &[u8], visitor: &mut V) -> Result
         vers,
         proc_no,
     } = id;
-    Ok(CallHead {
+    Ok(ScannedCall {
         xid: start.xid,
         id: ProcId {
             prog,
@@ -97,8 +100,8 @@ fn scan_results_after<V: Visit>(
     visitor: &mut V,
 ) -> Result<(), GetError>
     ensures ok { OnOk result
-        (ScansLayout V.stands
-        (results_after success id) input.old input.new visitor.old visitor.new) }
+        (ScansLayout V.stands (results_after success id)
+        (input.old, visitor.old) (input.new, visitor.new)) }
     ensures err { IfErr result (λ error. StopsLayout (results_after success id) input.old error) }
 {
     // The prover takes from this that the place is within the body.

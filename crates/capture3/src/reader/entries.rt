@@ -3,7 +3,7 @@
 ghost use Rattle.std.specs.Prelude.{◌≡◌, ◌≢◌, ◌≤◌, ◌<◌, ◌+◌, ◌++◌, ◌∷◌, ℕ, List, [], length, vec_len, IsTrue, IsFalse, IsSome, IfErr, IfOk, IfSome, OnErr, OnOk, Err, Ok, None, Some};
 ghost use Rattle.capture3.specs.Observed.{IsSpent, ReadGives};
 ghost use Rattle.record_mark.specs.Taking.{released};
-ghost use Rattle.capture3.specs.declared.reader.entries.Stage.TheVariants as stages;
+ghost use Rattle.capture3.specs.declared.reader.entries.ReaderStage.TheVariants as stages;
 ghost use Rattle.capture3.specs.declared.fault.Error.TheVariants as errors;
 ghost use Rattle.xdr3.specs.Item.{AreBytes};
 ghost use Rattle.capture3.specs.Device.{Counts};
@@ -37,7 +37,7 @@ const MOST_JUDGED: u64 = 9_664_200_709;
 
 /// What a reader returns from now on.
 #[derive(Clone, Copy)]
-enum Stage {
+enum ReaderStage {
     /// The entries that are left.
     Reading,
     /// None, after the end.
@@ -61,7 +61,7 @@ pub struct Entries<'r, R, S: BuildHasher + Drop> {
     // How many bytes were judged.
     judged: u64,
     pairing: Pairing<CountedCalls<S>>,
-    stage: Stage,
+    stage: ReaderStage,
     ghost ordered: { start ≤ end },
     ghost within: { end ≤ vec_len block },
     ghost roomy: { 0 < vec_len block },
@@ -74,17 +74,19 @@ pub struct Entries<'r, R, S: BuildHasher + Drop> {
 
 impl<'r, R: Source, S: BuildHasher + Drop> Entries<'r, R, S> {
     ghost use Rattle.std.specs.Borrow.{sem};
+    ghost use Rattle.std.specs.Io.BufRead.{Rests};
     ghost use Rattle.capture3.specs.Kept.{IsLent};
-    ghost use Rattle.capture3.specs.Lending.{EndsAs};
+    ghost use Rattle.capture3.specs.Lending.{entries_row, IsNextLent, LendsNext};
     ghost use Rattle.capture3.specs.ReadAs.{IsReadAs};
-    ghost use Rattle.capture3.specs.ReadEntries.{EndsRead};
+    ghost use Rattle.capture3.specs.ReadEntries.{ReadsNext};
     ghost use Rattle.capture3.specs.Entries.{block_size, failure_of, IsOver, KeepsErrors, last_of, loan_of, source_of, UsesSource};
     ghost use Rattle.capture3.specs.Handing.{HandsOutGiven};
     ghost use Rattle.capture3.specs.machinery.Stepping.{IsNextOfKind, kind_lent, kind_read};
     ghost use Rattle.capture3.specs.MessageVisit.{Hears};
     ghost use Rattle.capture3.specs.Numbering.{number_after, number_lent};
     ghost use Rattle.capture3.specs.Progress.{HasPassed};
-    ghost use Rattle.capture3.specs.machinery.EntriesHistory.{entries_left, FillsOrEnds, HasRead, IsUsedUp, LeavesKind, next_kind, NotesFailure, ReadsNothing, ReadsOnce, StandsFor, with_error};
+    ghost use Rattle.capture3.specs.machinery.Pairing.{IsOfBytes};
+    ghost use Rattle.capture3.specs.machinery.EntriesHistory.{entries_left, FillsOrEnds, HasRead, IsUsedUp, LeavesKind, next_kind, NotesFailure, ReadsOnce, StandsFor, with_error};
 
     /// Returns a reader through a block that is not empty. It reads nothing yet. The hasher is for
     /// the calls of a connection by their xids, and affects no result.
@@ -105,7 +107,7 @@ impl<'r, R: Source, S: BuildHasher + Drop> Entries<'r, R, S> {
             end: 0,
             judged: 0,
             pairing: Pairing::new(alloc, CountedCalls::new(alloc, hasher)),
-            stage: Stage::Reading,
+            stage: ReaderStage::Reading,
         }
     }
 
@@ -151,8 +153,9 @@ impl<'r, R: Source, S: BuildHasher + Drop> Entries<'r, R, S> {
     /// if memory ran out for the value of a call, the next call goes on after that entry.
     pub fn next(&mut self) -> Result<Option<EntryRef<'_>>, Error>
         // What the reader ends as, and what is lent.
-        ensures* ends { sem 𝓛 (EndsRead R.row S.row S.Hasher.row S.BuildHasher S.Hasher.Hasher
-            R.observed R.failures self.entry result) }
+        ensures* ends { sem 𝓛 (Rests
+            (entries_row R.row S.row S.Hasher.row S.BuildHasher S.Hasher.Hasher) self.entry
+            (ReadsNext R.observed R.failures self.entry.now result)) }
 
         // What is known while the entry is used.
         ensures left { IfOk result (λ next. IsSome next → 0 < entries_left self.old) }
@@ -186,8 +189,10 @@ impl<'r, R: Source, S: BuildHasher + Drop> Entries<'r, R, S> {
         visitor: &mut V,
     ) -> Result<Option<LentEntry<'_>>, Error>
         // What the reader ends as, and what is lent.
-        ensures* ends { sem 𝓛 (EndsAs R.row S.row S.Hasher.row S.BuildHasher S.Hasher.Hasher
-            R.observed V.rests V.stands R.failures self.entry visitor.old visitor.new result) }
+        ensures* ends { sem 𝓛 (Rests
+            (entries_row R.row S.row S.Hasher.row S.BuildHasher S.Hasher.Hasher) self.entry
+            (LendsNext R.observed R.failures
+            (IsNextLent V.rests V.stands visitor.old visitor.new) self.entry.now result)) }
 
         // What is known while the entry is used.
         ensures unmoved { IfOk result (λ next. next ≡ None → visitor.new ≡ visitor.old) }
@@ -202,8 +207,7 @@ impl<'r, R: Source, S: BuildHasher + Drop> Entries<'r, R, S> {
     }
 
     /// Reads up to the next entry and returns whether there is one; `false` after the last one. The
-    /// entry and the error are left in `pairing`, because a larger result costs each message the
-    /// instructions that move it.
+    /// entry and the error are left in `pairing`.
     #[inline(always)]
     fn step<V: MessageVisit>(&mut self, visitor: &mut V) -> Result<bool, Noted>
         ensures answers { (given : List ℕ) (handed : List spec.Entry)
@@ -215,9 +219,9 @@ impl<'r, R: Source, S: BuildHasher + Drop> Entries<'r, R, S> {
             (next_kind self.new result) }
     {
         match self.stage {
-            Stage::Reading => {}
-            Stage::Over => return Ok(false),
-            Stage::Failed => return Err(Noted),
+            ReaderStage::Reading => {}
+            ReaderStage::Over => return Ok(false),
+            ReaderStage::Failed => return Err(Noted),
         }
         while self.judged <= MOST_JUDGED {
             // Written out, since `?` takes more instructions for each message.
@@ -237,7 +241,7 @@ impl<'r, R: Source, S: BuildHasher + Drop> Entries<'r, R, S> {
                 }
                 Err(Noted) => {
                     self.pairing.last = None;
-                    self.stage = Stage::Failed;
+                    self.stage = ReaderStage::Failed;
                     return Err(Noted);
                 }
             }
@@ -250,7 +254,7 @@ impl<'r, R: Source, S: BuildHasher + Drop> Entries<'r, R, S> {
             reason: Reason::AfterEnd,
         });
         self.pairing.last = None;
-        self.stage = Stage::Failed;
+        self.stage = ReaderStage::Failed;
         Err(Noted)
     }
 
@@ -308,7 +312,7 @@ impl<'r, R: Source, S: BuildHasher + Drop> Entries<'r, R, S> {
     /// Reads the next block if nothing is left at hand. Returns `false` at the end of the bytes.
     #[inline(always)]
     fn refill(&mut self) -> Result<bool, Noted>
-        requires reading { self.old.stage ≡ Stage.Reading }
+        requires reading { self.old.stage ≡ ReaderStage.Reading }
         requires bounded { self.old.judged ≤ most_bytes Two + 1 }
 
         // What was read.
@@ -319,7 +323,7 @@ impl<'r, R: Source, S: BuildHasher + Drop> Entries<'r, R, S> {
 
         // What stays.
         ensures stays { OnOk result ((self.new.pairing ≡ self.old.pairing)
-            × (self.new.judged ≡ self.old.judged) × (self.new.stage ≡ Stage.Reading)) }
+            × (self.new.judged ≡ self.old.judged) × (self.new.stage ≡ ReaderStage.Reading)) }
 
         // Errors.
         ensures failure { NotesFailure self.new result }
@@ -340,7 +344,7 @@ impl<'r, R: Source, S: BuildHasher + Drop> Entries<'r, R, S> {
             Err(_) => {
                 self.pairing.error = Error::Read;
                 self.pairing.last = None;
-                self.stage = Stage::Failed;
+                self.stage = ReaderStage::Failed;
                 Err(Noted)
             }
         }
@@ -348,7 +352,7 @@ impl<'r, R: Source, S: BuildHasher + Drop> Entries<'r, R, S> {
 
     /// Ends the capture, of which no byte is left.
     fn finish(&mut self) -> Result<(), Noted>
-        requires reading { self.old.stage ≡ Stage.Reading }
+        requires reading { self.old.stage ≡ ReaderStage.Reading }
         requires used_up { IsUsedUp self.old }
         requires end { IsSpent (R.observed (source_of self.old)) }
 
@@ -360,24 +364,25 @@ impl<'r, R: Source, S: BuildHasher + Drop> Entries<'r, R, S> {
             → StandsFor R.observed self.old given handed
             → OnErr result (StandsFor R.observed self.new given handed) }
         ensures last { OnOk result (last_of self.new ≡ Some Kind.End) }
-        ensures over { OnOk result (self.new.stage ≡ Stage.Over) }
+        ensures over { OnOk result (self.new.stage ≡ ReaderStage.Over) }
 
         // Errors.
         ensures failure { NotesFailure self.new result }
+        ensures refused { OnErr result (IsOfBytes self.new.pairing.error) }
 
         // The device is not read.
-        ensures device { ReadsNothing self.old self.new (with_error self.new result) }
+        ensures device { (self.new.source ≡ self.old.source) × (self.new.block ≡ self.old.block) }
     {
         match self.pairing.end(self.judged) {
             Ok(()) => {
                 self.pairing.last = Some(Kind::End);
-                self.stage = Stage::Over;
+                self.stage = ReaderStage::Over;
                 Ok(())
             }
             Err(error) => {
                 self.pairing.error = error;
                 self.pairing.last = None;
-                self.stage = Stage::Failed;
+                self.stage = ReaderStage::Failed;
                 Err(Noted)
             }
         }

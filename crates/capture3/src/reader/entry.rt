@@ -4,7 +4,7 @@ ghost use Rattle.std.specs.Prelude.{◌≡◌, ◌≤◌, ℕ, List, length, is_
 ghost use Rattle.record_mark.specs.RecordMark.{max_body};
 ghost use Rattle.xdr3.specs.Item.{Item};
 ghost use Rattle.capture3.specs.Bodies.{IsCall, IsReply, Starts, xid_in};
-ghost use Rattle.capture3.specs.MessageScan.{PassesCall, PassesReply};
+ghost use Rattle.capture3.specs.MessageScan.{PassesMessage};
 ghost use Rattle.capture3.specs.machinery.Spelled.{SpellsCall, SpellsReply};
 
 use crate::message::calls::{NumberedCall, OneCall};
@@ -142,7 +142,7 @@ impl<'a> CallRef<'a> {
     /// memory runs out in the visitor, whose contents are unspecified then.
     pub fn scan<V: MessageVisit>(&self, visitor: &mut V) -> Result<(), AllocError>
         ensures { OnOk result
-            (PassesCall V.rests V.stands self.now.body.now visitor.old visitor.new) }
+            (PassesMessage V.rests V.stands (IsCall self.now.body.now) visitor.old visitor.new) }
     {
         match scan_call(self.body, visitor) {
             Ok(_) => Ok(()),
@@ -197,7 +197,9 @@ impl<'a> ReplyRef<'a> {
     /// memory runs out in the visitor, whose contents are unspecified then.
     pub fn scan<V: MessageVisit>(&self, visitor: &mut V) -> Result<(), AllocError>
         ensures { OnOk result
-            (PassesReply V.rests V.stands self.now.body.now self.now.id visitor.old visitor.new) }
+            (PassesMessage V.rests V.stands
+            (λ items. IsReply self.now.body.now (record { id = self.now.id; items = items }))
+            visitor.old visitor.new) }
     {
         match scan_reply(&self.answered(), self.body, visitor) {
             Ok(_) => Ok(()),

@@ -2,12 +2,10 @@
 
 ghost use Rattle.std.specs.Prelude.{◌≢◌, ◌≤◌, ℕ, List, IfErr, IfOk, vec_len};
 ghost use Rattle.capture3.specs.Capture.{max_connections};
-ghost use Rattle.capture3.specs.Chunks.{max_bytes};
 ghost use Rattle.capture3.specs.Entries.{OnRefused};
 ghost use Rattle.capture3.specs.Entry as spec;
 ghost use Rattle.capture3.specs.FirstFault.{FirstFault};
 ghost use Rattle.capture3.specs.Kept.{AreKept, begun};
-ghost use Rattle.capture3.specs.Laws.{spelled};
 ghost use Rattle.capture3.specs.Laws.{most_entries};
 ghost use Rattle.capture3.specs.Typed.{Typed};
 
@@ -34,8 +32,6 @@ pub fn parse(alloc: Global, bytes: &[u8]) -> Result<Vec<Entry>, Error>
     ensures read { IfErr result (λ error. error ≢ Error.Read) }
     ensures write { IfErr result (λ error. error ≢ Error.Write) }
     ensures connections { IfOk result (λ kept. begun kept.items ≤ max_connections) }
-    ensures spelled { IfOk result
-        (λ _. (entries : List spec.Entry) → Typed bytes.now entries → spelled entries ≤ max_bytes) }
     ensures few { IfOk result (λ kept. vec_len kept ≤ most_entries) }
 {
     let mut pairing = Pairing::new(alloc, CallList::new(alloc));

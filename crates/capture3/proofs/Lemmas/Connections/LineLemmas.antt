@@ -1,5 +1,5 @@
 -- Calls in a line, each at the home of its xid.
-use Rattle.capture3.proofs.Common.{◌≡◌, ◌≢◌, ℕ, zero, suc, ◌==◌, ◌+◌, ◌-◌, ◌<◌, ◌≤◌, ◌%◌, Bool, true, false, cond, if◌then◌else◌, nat_eq, Option, Some, None, List, [], ◌∷◌, ◌++◌, length, take, take_all, refl, sym, ap, ◌∙◌, eq-eqb, eqb-true, arith, slice_get, swap_bytes, w32, home_of, Counting, NumberedCall, AreSame, Puts, at_home, lined, get_or, replicate, reverse, set, ◌^◌, slice_get_past, from_be_bytes, to_be_bytes, to_le_bytes}
+use Rattle.capture3.proofs.Common.{◌≡◌, ◌≢◌, ℕ, zero, suc, ◌==◌, ◌+◌, ◌-◌, ◌<◌, ◌≤◌, ◌%◌, Bool, true, false, cond, if◌then◌else◌, nat_eq, Option, Some, None, List, [], ◌∷◌, ◌++◌, length, take, take_all, refl, sym, ap, ◌∙◌, eq-eqb, eqb-true, arith, slice_get, swap_bytes, w32, home_of, XidCounting, NumberedCall, AreSame, Puts, at_home, lined, get_or, replicate, reverse, set, ◌^◌, slice_get_past, from_be_bytes, to_be_bytes, to_le_bytes}
 use Rattle.std.proofs.Math.Dec.{eqb-suc-suc, eqb-suc-zero, eqb-zero-suc}
 use Rattle.std.proofs.lemmas.Nat.{be_bytes_4, from_be_bytes-to_be_bytes_4}
 use Rattle.capture3.proofs.Lemmas.Connections.RankLemmas.{by_test}
@@ -28,7 +28,7 @@ apart_still : (m n k : ℕ) → m < 4294967296 → n < 4294967296
 apart_still m n k small_m small_n e = omega (arith, small_m, small_n, e)
 
 -- no two xids have one home
-pub one_at_home : (counting : Counting) (a b : ℕ) → a < 2 ^ 32 → b < 2 ^ 32
+pub one_at_home : (counting : XidCounting) (a b : ℕ) → a < 2 ^ 32 → b < 2 ^ 32
     → home_of counting a ≡ home_of counting b → a ≡ b
 unfolding home_of
 one_at_home counting a b small_a small_b e = by_order counting.swapped e
@@ -92,7 +92,8 @@ replaced (one ∷ line) (suc at) call some within (suc i) =
 -- ---- the xids of a line that changes
 
 -- what is put at its home is put for its xid
-pub puts_home : (counting : Counting) (old new : List NumberedCall) (xid : ℕ) (call : NumberedCall)
+pub puts_home : (counting : XidCounting) (old new : List NumberedCall) (xid : ℕ)
+    (call : NumberedCall)
     → xid < 2 ^ 32
     → ((i : ℕ) → home_at new i
     ≡ (if home_of counting xid == i then Some call else home_at old i))
@@ -110,7 +111,7 @@ puts_home counting old new xid call small puts q small_q =
     differ f e = let t = eq-eqb xid q e in absurd (cc)
 
 -- a call after the last home, up to which the line was filled with empty ones
-pub puts_last : (counting : Counting) (line grown : List NumberedCall) (xid : ℕ)
+pub puts_last : (counting : XidCounting) (line grown : List NumberedCall) (xid : ℕ)
     (call : NumberedCall) → xid < 2 ^ 32 → call.number ≢ 0
     → ((i : ℕ) → home_at grown i ≡ home_at line i) → length grown ≡ home_of counting xid
     → Puts (lined counting line) xid call (lined counting (grown ++ call ∷ []))
@@ -127,7 +128,8 @@ filled line upto n none short is i =
     ∙ emptied line n none is i
 
 -- a call in a home of the line
-pub puts_set : (counting : Counting) (line : List NumberedCall) (at xid : ℕ) (call : NumberedCall)
+pub puts_set : (counting : XidCounting) (line : List NumberedCall) (at xid : ℕ)
+    (call : NumberedCall)
     → xid < 2 ^ 32 → call.number ≢ 0 → at ≡ home_of counting xid → at < length line
     → Puts (lined counting line) xid call (lined counting (set line at call))
 puts_set counting line at xid call small some is within =
@@ -136,7 +138,7 @@ puts_set counting line at xid call small some is within =
     ∙ ap (λ (n : ℕ). if n == i then Some call else home_at line i) is)
 
 -- the xid of a line's only call has the first home, however the xids count
-pub counted_anew : (old new : Counting) (line : List NumberedCall) (first : ℕ) → length line ≡ 1
+pub counted_anew : (old new : XidCounting) (line : List NumberedCall) (first : ℕ) → length line ≡ 1
     → first < 2 ^ 32 → home_of old first ≡ 0 → home_of new first ≡ 0
     → AreSame (lined old line) (lined new line)
 counted_anew old new line first one small in_old in_new q small_q =

@@ -1,6 +1,6 @@
 -- Containers, as the machine has them: chunks' bytes at once, and step after step.
 use Rattle.std.proofs.Math.Seq.{take-add, take-take}
-use Rattle.capture3.proofs.Common.{RecordTooLong, Joining, Joined, Between, Whole, TooLong, join_next, landed, Next, Runs, Stops, after, Run, Taking, IsRunning, joining_of, body_of, Error, Side, Event, Streams, with_more, Spot, Version, after-append, counted_runs, counted_stops, Transition, CanGoOn, Container, Reaches, unpacking_in, unpacking_of, Arrives, ShowsError, Leaves, WordPart, bytes_so_far, fault_in_record, ◌≡◌, subst, [], false, is_some, take_all, ℕ, ◌+◌, ◌-◌, ◌≤◌, ◌≢◌, Cursor, Option, Some, None, Result, Ok, Err, IfOk, IfErr, List, length, take, drop, refl, sym, ap, ◌∙◌, arith, length-take, length-drop, ◌++◌, Record, Unpacking, Has, in_chunk, in_side_chunk, record_joined, unpack_next, IsBeforeMark, unpacking_at, cost_of, IsOfContainer, StepsFrom, Moves, MovesFrom, ShowsFault, StoredAt, StoredWith, version_of}
+use Rattle.capture3.proofs.Common.{RecordTooLong, Joining, Joined, Between, Whole, TooLong, join_next, landed, Next, Runs, Stops, after, Run, Taking, IsRunning, joining_of, body_of, Error, Side, Event, Streams, with_more, Spot, Version, after-append, counted_runs, counted_stops, Transition, CanGoOn, Container, Reaches, unpacking_in, unpacking_of, Arrives, ShowsError, Leaves, WordPart, bytes_so_far, fault_in_record, ◌≡◌, subst, [], false, is_some, take_all, ℕ, ◌+◌, ◌-◌, ◌≤◌, ◌≢◌, Cursor, Option, Some, None, Result, Ok, Err, IfOk, IfErr, List, length, take, drop, refl, sym, ap, ◌∙◌, arith, length-take, length-drop, ◌++◌, Record, Unpacking, Has, in_chunk, awaiting_side, Mixed, unpacking_with, record_joined, unpack_next, IsBeforeMark, unpacking_at, cost_of, IsOfContainer, StepsFrom, Moves, MovesFrom, ShowsFault, StoredAt, StoredWith, version_of}
 use Rattle.record_mark.specs.Taking.{released}
 use Rattle.capture3.specs.declared.container.position.spot.Event.TheVariants as events
 use Rattle.capture3.specs.machinery.Container.{Comes, ComesNext, Recalled, room_in, StepsTo}
@@ -100,11 +100,9 @@ steps_to old new rest (Err error) taken reaches cursor position = tt
 recalled_one : (cursor : Cursor) (p q : Position) (streams left : Streams) (taking : Taking)
     (next : Option Cursor) (event : Event) → Recalled cursor p q streams left taking next event
     → (Some event ≢ Some events.Streams) × (cost_of (Some event) left ≡ 1)
-recalled_one cursor p q streams left taking next (events.Record side) r = (λ e. absurd (cc), refl)
-recalled_one cursor p q streams left taking next events.Turn r = (λ e. absurd (cc), refl)
-recalled_one cursor p q streams left taking next events.Close r = (λ e. absurd (cc), refl)
 recalled_one cursor p q streams left taking next events.Begin r = absurd r
 recalled_one cursor p q streams left taking next events.Streams r = absurd r
+recalled_one cursor p q streams left taking next event r = (λ e. absurd (cc), refl)
 
 pub recalled_next : (old new : Container) (piece : List ℕ) (n : ℕ) (cursor : Cursor)
     (p : Position) (streams : Streams) (event : Event)
@@ -206,7 +204,8 @@ pub gathers : (p q : Position) (streams : Streams) (side : Side) (left count mos
     → count ≡ length (take most rest)
     → ((streams : Streams) (joining : Joining)
     → unpacking_at q streams joining
-    ≡ in_side_chunk p.at p.total p.connections p.records streams side (left - count) joining)
+    ≡ unpacking_with p.at p.total p.connections p.records
+    (Mixed streams (awaiting_side side (left - count))) joining)
     → Arrives (unpacking_of p taking streams) (take most rest) None q taking
     (with_more streams side (take most rest))
 gathers p q streams side left count most taking rest here fits is leads =

@@ -25,6 +25,34 @@ cut_rest judge s n count stream =
     ap (rest_end judge s) (sym (take-append-drop count (drop n stream))
     ∙ ap (λ (b : List ℕ). take count (drop n stream) ++ b) (drop_more n count stream))
 
+-- after so many bytes of a stream and these messages, whose rest is to be judged yet
+module _ {M : Type 0} (judge : Judge M) (messages : List M) (taken : ℕ) (stream : List ℕ)
+    (here : stream_end judge stream
+    ≡ rest_end judge (between_records messages) (drop taken stream)) where
+  accepts_next : (count : ℕ) (body : List ℕ) (m : M)
+      → after join_next (Runs Between) (take count (drop taken stream)) ≡ Stops (Whole body)
+      → judge messages body ≡ Ok m
+      → stream_end judge stream
+      ≡ rest_end judge (between_records (messages ++ m ∷ [])) (drop (taken + count) stream)
+  accepts_next count body m whole ok =
+      here ∙ cut_rest judge (between_records messages) taken count stream
+      ∙ rest_accepts judge messages (take count (drop taken stream)) (drop (taken + count) stream)
+      body m whole ok
+
+  -- the next record is refused, or too long
+  pub refuses_next : (count : ℕ) (x : Joined) (fault : RecordFault)
+      → after join_next (Runs Between) (take count (drop taken stream)) ≡ Stops x
+      → recorded judge messages x ≡ Ends fault → stream_end judge stream ≡ Faulty messages fault
+  refuses_next count x fault stops ends =
+      here ∙ cut_rest judge (between_records messages) taken count stream
+      ∙ rest_refuses judge messages (take count (drop taken stream)) (drop (taken + count) stream)
+      x fault stops ends
+
+  -- the stream ends, between records or within one
+  pub leaves_next : (j : Joining) → after join_next (Runs Between) (drop taken stream) ≡ Runs j
+      → stream_end judge stream ≡ left_in messages j
+  leaves_next j runs = here ∙ rest_leaves judge messages (drop taken stream) j runs
+
 -- the last of the bytes shows the fault
 pub shows_at_last : {bytes : List ℕ} {handed : List Entry} (front : List ℕ) (byte : ℕ)
     (state : Parsing) (shown : ShownFault) → bytes ≡ front ++ byte ∷ [] → parsed front ≡ Runs state
@@ -75,9 +103,7 @@ module _ (u : Unpacking) (streams : Streams) (taken records : ℕ) (table : Know
         calls = table_is;
         opened = opened_more handed r.so_far.calls call begins r.opened;
         here = (
-          h.0 ∙ cut_rest judge_call (between_records r.so_far.calls) taken count streams.client
-              ∙ rest_accepts judge_call r.so_far.calls (take count (drop taken streams.client))
-              (drop (taken + count) streams.client) body call whole ok,
+          accepts_next judge_call r.so_far.calls taken streams.client h.0 count body call whole ok,
           omega (arith, h.1, length-append r.so_far.calls (call ∷ [])),
           ap (λ (l : List Entry). l ++ entries.Call call ∷ []) h.2
               ∙ sym (call_added r.so_far.entries r.so_far.calls call),
@@ -87,7 +113,7 @@ module _ (u : Unpacking) (streams : Streams) (taken records : ℕ) (table : Know
             r.placed (omega arith) refl;
       }
 
-  client_shows : (fault : RecordFault)
+  pub client_shows : (fault : RecordFault)
       → stream_end judge_call streams.client ≡ Faulty r.so_far.calls fault
       → ShowsFirst bytes handed (client_refusal u.connections r.so_far.calls fault).fault
   client_shows fault faulty =
@@ -98,26 +124,6 @@ module _ (u : Unpacking) (streams : Streams) (taken records : ℕ) (table : Know
       (r.here.2
       ∙ sym (append_assoc r.so_far.entries (entries.Begin ∷ []) (map entries.Call r.so_far.calls))
       ∙ ap (λ (l : List Entry). l ++ map entries.Call r.so_far.calls) (sym r.emits))
-
-  -- the next record is refused, or too long
-  pub call_refused : (count : ℕ) (x : Joined) (fault : RecordFault)
-      → after join_next (Runs Between) (take count (drop taken streams.client)) ≡ Stops x
-      → recorded judge_call r.so_far.calls x ≡ Ends fault
-      → ShowsFirst bytes handed (client_refusal u.connections r.so_far.calls fault).fault
-  call_refused count x fault stops ends =
-      client_shows fault
-      (r.here.0 ∙ cut_rest judge_call (between_records r.so_far.calls) taken count streams.client
-      ∙ rest_refuses judge_call r.so_far.calls (take count (drop taken streams.client))
-      (drop (taken + count) streams.client) x fault stops ends)
-
-  -- a record is open where the stream ends
-  pub call_cut : (j : Joining) (fault : RecordFault)
-      → after join_next (Runs Between) (drop taken streams.client) ≡ Runs j
-      → left_in r.so_far.calls j ≡ Faulty r.so_far.calls fault
-      → ShowsFirst bytes handed (client_refusal u.connections r.so_far.calls fault).fault
-  call_cut j fault runs cut =
-      client_shows fault (r.here.0
-      ∙ rest_leaves judge_call r.so_far.calls (drop taken streams.client) j runs ∙ cut)
 
   -- the stream ends
   pub turn_recalled : after join_next (Runs Between) (drop taken streams.client) ≡ Runs Between
@@ -137,7 +143,7 @@ module _ (u : Unpacking) (streams : Streams) (taken records : ℕ) (table : Know
         opened =
             opened_still handed entries.Turn (xids_in r.so_far.calls) (λ xs. refl) r.opened;
         here = (
-          h.0 ∙ rest_leaves judge_call r.so_far.calls (drop taken streams.client) Between runs,
+          leaves_next judge_call r.so_far.calls taken streams.client h.0 Between runs,
           refl,
           refl,
           ap (λ (l : List Entry). l ++ entries.Turn ∷ []) h.2
@@ -174,12 +180,8 @@ module _ (u : Unpacking) (streams : Streams) (taken records : ℕ) (table : Know
             opened_still handed (reply_entry reply) (xids_in r.so_far.calls) (λ xs. refl) r.opened;
         here = (
           h.0,
-          h.1
-              ∙ cut_rest (judge_replies r.so_far.calls) (between_records r.so_far.replies) taken
-              count streams.server
-              ∙ rest_accepts (judge_replies r.so_far.calls) r.so_far.replies
-              (take count (drop taken streams.server)) (drop (taken + count) streams.server)
-              body reply whole ok,
+          accepts_next (judge_replies r.so_far.calls) r.so_far.replies taken streams.server h.1
+              count body reply whole ok,
           omega (arith, h.2, length-append r.so_far.replies (reply ∷ [])),
           ap (λ (l : List Entry). l ++ reply_entry reply ∷ []) h.3
               ∙ sym (reply_added r.so_far.entries r.so_far.calls r.so_far.replies reply),
@@ -200,7 +202,7 @@ module _ (u : Unpacking) (streams : Streams) (taken records : ℕ) (table : Know
       r.here.0
       ∙ ap (λ y. said u r.so_far (after_server u.connections u.at u.total r.so_far.calls y)) e
 
-  server_shows : (fault : RecordFault)
+  pub server_shows : (fault : RecordFault)
       → stream_end (judge_replies r.so_far.calls) streams.server ≡ Faulty r.so_far.replies fault
       → ShowsFirst bytes handed
       (server_refusal u.connections r.so_far.calls r.so_far.replies fault).fault
@@ -213,30 +215,6 @@ module _ (u : Unpacking) (streams : Streams) (taken records : ℕ) (table : Know
       (map entries.Call r.so_far.calls ++ server_entries r.so_far.replies))
       ∙ rw (← r.emits))
 
-  pub reply_refused : (count : ℕ) (x : Joined) (fault : RecordFault)
-      → after join_next (Runs Between) (take count (drop taken streams.server)) ≡ Stops x
-      → recorded (judge_replies r.so_far.calls) r.so_far.replies x ≡ Ends fault
-      → ShowsFirst bytes handed
-      (server_refusal u.connections r.so_far.calls r.so_far.replies fault).fault
-  reply_refused count x fault stops ends =
-      server_shows fault
-      (r.here.1
-      ∙ cut_rest (judge_replies r.so_far.calls) (between_records r.so_far.replies) taken count
-      streams.server
-      ∙ rest_refuses (judge_replies r.so_far.calls) r.so_far.replies
-      (take count (drop taken streams.server)) (drop (taken + count) streams.server) x fault
-      stops ends)
-
-  pub reply_cut : (j : Joining) (fault : RecordFault)
-      → after join_next (Runs Between) (drop taken streams.server) ≡ Runs j
-      → left_in r.so_far.replies j ≡ Faulty r.so_far.replies fault
-      → ShowsFirst bytes handed
-      (server_refusal u.connections r.so_far.calls r.so_far.replies fault).fault
-  reply_cut j fault runs cut =
-      server_shows fault (r.here.1
-      ∙ rest_leaves (judge_replies r.so_far.calls) r.so_far.replies
-      (drop taken streams.server) j runs ∙ cut)
-
   -- the connection ends: the machine runs on, at a connection word
   pub close_recalled : after join_next (Runs Between) (drop taken streams.server) ≡ Runs Between
       → (parsed bytes
@@ -246,9 +224,9 @@ module _ (u : Unpacking) (streams : Streams) (taken records : ℕ) (table : Know
   close_recalled runs = (
     ap parsed r.split ∙ after-append file_next (Runs file_start) r.front (r.byte ∷ [])
         ∙ ap (λ run. after file_next run (r.byte ∷ [])) r.runs
-        ∙ ap landed (both_said (Held r.so_far.replies) (r.here.1
-        ∙ rest_leaves (judge_replies r.so_far.calls) r.so_far.replies
-        (drop taken streams.server) Between runs)),
+        ∙ ap landed (both_said (Held r.so_far.replies)
+        (leaves_next (judge_replies r.so_far.calls) r.so_far.replies taken streams.server r.here.1
+        Between runs)),
     ap (λ (l : List Entry). l ++ entries.Close ∷ []) r.here.3
         ∙ append_assoc r.so_far.entries
         (client_entries r.so_far.calls ++ server_entries r.so_far.replies) (entries.Close ∷ []),

@@ -27,7 +27,7 @@ pub word_part : (counts : Counts) (streams : Streams) (joining : Joining) (word 
     (take count bytes)
     ≡ Runs (unpacking_at (standing_at counts (Word word longer)) streams joining)
 word_part counts streams joining word part longer bytes count taken =
-    word_goes_on word counts.at counts.total counts.connections counts.records streams joining
+    word_goes_on word counts streams joining
     (bytes_so_far part) (take count bytes) (short_part part) (bytes_so_far longer) taken.0
     (short_part longer)
 
@@ -35,10 +35,9 @@ pub word_whole : (counts : Counts) (streams : Streams) (joining : Joining) (word
     (part : WordPart) (bytes : List ℕ) (count n : ℕ) → TakesWord part bytes count (Whole n)
     → after unpack_next (Runs (unpacking_at (standing_at counts (Word word part)) streams joining))
     (take count bytes)
-    ≡ landed
-    (word_read word counts.at counts.total counts.connections counts.records streams joining n)
+    ≡ landed (word_read word counts streams joining n)
 word_whole counts streams joining word part bytes count n taken =
-    word_ends word counts.at counts.total counts.connections counts.records streams joining
+    word_ends word counts streams joining
     (bytes_so_far part) (take count bytes) (short_part part) n taken
 
 -- what a whole word leads to, the bytes taken lead to

@@ -1,5 +1,5 @@
 -- The machine that gathers the chunks of both sides.
-use Rattle.capture3.proofs.Common.{lengths, ◌≡◌, inl, inr, ℕ, zero, suc, ◌+◌, ◌<◌, ◌≤◌, List, [], ◌∷◌, ◌++◌, length, refl, sym, ap, ◌∙◌, append_assoc, append-nil, arith, length-append, nat_lt, ltb-true, ltb-false, le-ltb, Run, Runs, Stops, landed, after, IsWord, Joins, word_next, Leads, leads_within, IsPart, word_leads, Joins-snoc, BadMark, Side, Client, Server, max_bytes, Context, MixedShows, BadSide, NoLength, TooMuch, file_fault, SideWord, SideLength, SideChunk, Mixing, MixedEnd, MixedCloses, MixedRefuses, awaiting_side, sided, measured, mixed_next, mixing_from, Streams, size, SidedChunk, IsSidedChunk, side_word, of_side, gathered, carried_by, with_more, AreMixed, BeginsMixed, mixing_in, AfterLength, WithinSided}
+use Rattle.capture3.proofs.Common.{lengths, ◌≡◌, inl, inr, ℕ, zero, suc, ◌+◌, ◌<◌, ◌≤◌, List, [], ◌∷◌, ◌++◌, length, refl, sym, ap, ◌∙◌, append_assoc, append-nil, arith, length-append, nat_lt, ltb-true, ltb-false, le-ltb, Run, Runs, Stops, landed, after, IsWord, Joins, word_next, Leads, leads_within, IsPart, word_leads, Joins-snoc, BadMark, Side, Client, Server, max_bytes, Context, MixedShows, BadSide, NoLength, TooMuch, file_fault, SideWord, SideLength, SideChunk, Mixing, MixedEnd, MixedCloses, MixedRefuses, awaiting_side, sided, measured, mixed_next, mixing_from, Streams, size, SidedChunk, IsSidedChunk, side_word, of_side, gathered, carried_by, with_more, AreMixed, BeginsMixed, mixing_in, AfterLength, AfterSideWord, WithinSided}
 use Rattle.capture3.proofs.Lemmas.Connections.RankLemmas.{by_test}
 use Rattle.capture3.proofs.Lemmas.Files.EndedMachines.{after_two, word_ends, word_goes}
 
@@ -10,12 +10,13 @@ mixed_state context bytes (inl b) =
     mixing_in (context.start + length b.front) (context.before + size (gathered b.chunks))
     (gathered b.chunks) (SideWord b.part)
 mixed_state context bytes (inr (inl b)) =
-    mixing_in (context.start + length b.front + 4) (context.before + size (gathered b.chunks))
-    (gathered b.chunks) (SideLength b.side b.part)
+    mixing_in (context.start + length b.here.front + 4)
+    (context.before + size (gathered b.here.chunks)) (gathered b.here.chunks)
+    (SideLength b.here.side b.here.rest)
 mixed_state context bytes (inr (inr b)) =
     mixing_in (context.start + length bytes + suc b.left)
-    (context.before + size (gathered b.chunks) + (length b.got + suc b.left))
-    (with_more (gathered b.chunks) b.side b.got) (SideChunk b.side b.left)
+    (context.before + size (gathered b.here.chunks) + (length b.got + suc b.left))
+    (with_more (gathered b.here.chunks) b.here.side b.got) (SideChunk b.here.side b.left)
 
 abbrev pub HasMixed : Context → List ℕ → Mixing → Type 0
 HasMixed context bytes s =
@@ -102,14 +103,16 @@ module _ (context : Context) where
       (gathered chunks) (SideLength side []))
   goes_sided bytes front word chunks side split joined is fits = (
     inr (inl (record {
-      chunks = chunks;
-      side = side;
-      front = front;
-      word = word;
-      part = [];
-      split = split ∙ sym (append-nil (front ++ word));
-      joined = joined;
-      sided = is;
+      here = record {
+        chunks = chunks;
+        side = side;
+        front = front;
+        word = word;
+        rest = [];
+        split = split ∙ sym (append-nil (front ++ word));
+        joined = joined;
+        sided = is;
+      };
       short = omega arith;
       fits = fits;
     })),
@@ -156,56 +159,68 @@ module _ (context : Context) where
       })
 
   measured_leads : (bytes : List ℕ) (b : AfterLength bytes)
-      → context.before + size (gathered b.chunks) ≤ max_bytes → (n : ℕ) → b.count ≡ n
+      → context.before + size (gathered b.here.chunks) ≤ max_bytes → (n : ℕ) → b.count ≡ n
       → Leads (HasMixed context) (EndsMixed context) bytes
-      (measured (context.start + length b.front + 4) (context.before + size (gathered b.chunks))
-      (gathered b.chunks) b.side n)
+      (measured (context.start + length b.here.front + 4)
+      (context.before + size (gathered b.here.chunks)) (gathered b.here.chunks) b.here.side n)
   measured_leads bytes b fits zero none = NoLength b none refl
   measured_leads bytes b fits (suc left) is =
-      let total : ℕ = context.before + size (gathered b.chunks) in
+      let total : ℕ = context.before + size (gathered b.here.chunks) in
       by_test (nat_lt max_bytes (total + suc left))
       (λ over.
       let passes = ltb-true max_bytes (total + suc left) over in
       rw over (TooMuch b (omega arith) (omega arith) refl))
       (λ over. rw over (
         inr (inr (record {
-          chunks = b.chunks;
-          side = b.side;
-          front = b.front;
-          word = b.word;
-          header = b.header;
+          here = b.here;
+          header = b.here.rest;
           got = [];
           left = left;
-          split = b.split ∙ sym (append-nil (b.front ++ b.word ++ b.header));
-          joined = b.joined;
-          sided = b.sided;
+          split = sym (append-nil b.here.rest);
           counts = (b.counts.0, b.counts.1 ∙ is ∙ omega arith);
           fits = omega (arith, ltb-false max_bytes (total + suc left) over);
         })),
-        same_mixing _
-            (omega (lengths, ap length b.split))
-            (omega arith) (sym (with_more-nil (gathered b.chunks) b.side)),
+        same_mixing _ (omega (lengths, ap length b.here.split, b.here.sided.0, b.counts.0))
+            (omega arith) (sym (with_more-nil (gathered b.here.chunks) b.here.side)),
       ))
+
+  -- one byte more after a side word
+  abbrev one_byte_more : (bytes : List ℕ) (byte : ℕ) (b : AfterSideWord bytes) (rest : List ℕ)
+      → b.rest ++ byte ∷ [] ≡ rest → AfterSideWord (bytes ++ byte ∷ [])
+  one_byte_more bytes byte b rest is =
+      let more : bytes ++ byte ∷ [] ≡ b.front ++ b.word ++ (b.rest ++ byte ∷ []) =
+      simp (b.split, append_assoc) in
+      record {
+        chunks = b.chunks;
+        side = b.side;
+        front = b.front;
+        word = b.word;
+        rest = rest;
+        split = more ∙ ap (λ (l : List ℕ). b.front ++ b.word ++ l) is;
+        joined = b.joined;
+        sided = b.sided;
+      }
 
   -- one byte more of a chunk
   more_mixed : (bytes : List ℕ) (byte : ℕ) (w : WithinSided context.before bytes) (left : ℕ)
       → w.left ≡ left
       → HasMixed context (bytes ++ byte ∷ [])
       (mixing_in (context.start + length bytes + suc left)
-      (context.before + size (gathered w.chunks) + (length w.got + suc left))
-      (with_more (with_more (gathered w.chunks) w.side w.got) w.side (byte ∷ []))
-      (awaiting_side w.side left))
+      (context.before + size (gathered w.here.chunks) + (length w.got + suc left))
+      (with_more (with_more (gathered w.here.chunks) w.here.side w.got) w.here.side (byte ∷ []))
+      (awaiting_side w.here.side left))
   more_mixed bytes byte w zero is =
       let got : List ℕ = w.got ++ byte ∷ [] in
-      let chunk : SidedChunk = record { side = w.side; bytes = got } in
-      let all = gathered-snoc w.chunks chunk in
-      let size_is = ap size all ∙ size-with_more (gathered w.chunks) w.side got in
-      let last : IsSidedChunk (w.word ++ (w.header ++ got)) chunk =
+      let b = w.here in
+      let chunk : SidedChunk = record { side = b.side; bytes = got } in
+      let all = gathered-snoc b.chunks chunk in
+      let size_is = ap size all ∙ size-with_more (gathered b.chunks) b.side got in
+      let last : IsSidedChunk (b.word ++ (w.header ++ got)) chunk =
       record {
-        word = w.word;
+        word = b.word;
         rest = w.header ++ got;
         split = refl;
-        sided = w.sided;
+        sided = b.sided;
         chunked =
             record {
               header = w.header;
@@ -214,40 +229,35 @@ module _ (context : Context) where
               some = omega lengths;
             };
       } in
-      let split : bytes ++ byte ∷ [] ≡ w.front ++ (w.word ++ (w.header ++ got)) =
-      simp (w.split, append_assoc) in (
+      let split : bytes ++ byte ∷ [] ≡ b.front ++ (b.word ++ (w.header ++ got)) =
+      simp (b.split, w.split, append_assoc) in (
         inl (record {
-          chunks = w.chunks ++ chunk ∷ [];
+          chunks = b.chunks ++ chunk ∷ [];
           front = bytes ++ byte ∷ [];
           part = [];
           split = sym (append-nil (bytes ++ byte ∷ []));
           joined =
-              rw split (Joins-snoc IsSidedChunk w.chunks w.front (w.word ++ (w.header ++ got)) chunk
-              w.joined last);
+              rw split (Joins-snoc IsSidedChunk b.chunks b.front (b.word ++ (w.header ++ got)) chunk
+              b.joined last);
           short = omega lengths;
           fits = omega lengths;
         }),
         same_mixing _ (omega lengths) (omega lengths)
-            (with_more-append (gathered w.chunks) w.side w.got (byte ∷ []) ∙ sym all),
+            (with_more-append (gathered b.chunks) b.side w.got (byte ∷ []) ∙ sym all),
       )
   more_mixed bytes byte w (suc left) is =
       let more = length-append w.got (byte ∷ []) in (
         inr (inr (record {
-          chunks = w.chunks;
-          side = w.side;
-          front = w.front;
-          word = w.word;
+          here = one_byte_more bytes byte w.here (w.here.rest ++ byte ∷ []) refl;
           header = w.header;
           got = w.got ++ byte ∷ [];
           left = left;
           split = simp (w.split, append_assoc);
-          joined = w.joined;
-          sided = w.sided;
           counts = (w.counts.0, w.counts.1 ∙ omega lengths);
           fits = omega lengths;
         })),
         same_mixing _ (omega lengths) (omega lengths)
-            (with_more-append (gathered w.chunks) w.side w.got (byte ∷ [])),
+            (with_more-append (gathered w.here.chunks) w.here.side w.got (byte ∷ [])),
       )
 
   begun_leads : (bytes : List ℕ) (b : BeginsMixed context.before bytes) (byte : ℕ)
@@ -279,23 +289,16 @@ module _ (context : Context) where
       b.fits)
       (word_next b.part byte) (word_leads b.part byte b.short)
   begun_leads bytes (inr (inl b)) byte =
-      let at : ℕ = context.start + length b.front + 4 in
-      let total : ℕ = context.before + size (gathered b.chunks) in
-      let more : bytes ++ byte ∷ [] ≡ b.front ++ b.word ++ (b.part ++ byte ∷ []) =
-      simp (b.split, append_assoc) in
+      let at : ℕ = context.start + length b.here.front + 4 in
+      let streams : Streams = gathered b.here.chunks in
+      let total : ℕ = context.before + size streams in
+      let part : List ℕ = b.here.rest in
       leads_within IsPart IsWord (HasMixed context) (EndsMixed context)
-      (λ p. mixing_in at total (gathered b.chunks) (SideLength b.side p))
-      (measured at total (gathered b.chunks) b.side) (b.part ++ byte ∷ []) (bytes ++ byte ∷ [])
+      (λ p. mixing_in at total streams (SideLength b.here.side p))
+      (measured at total streams b.here.side) (part ++ byte ∷ []) (bytes ++ byte ∷ [])
       (λ p is. (
         inr (inl (record {
-          chunks = b.chunks;
-          side = b.side;
-          front = b.front;
-          word = b.word;
-          part = p;
-          split = more ∙ ap (λ (l : List ℕ). b.front ++ b.word ++ l) is.0;
-          joined = b.joined;
-          sided = b.sided;
+          here = one_byte_more bytes byte b.here p is.0;
           short = is.1;
           fits = b.fits;
         })),
@@ -304,19 +307,12 @@ module _ (context : Context) where
       (λ n is.
       measured_leads (bytes ++ byte ∷ [])
       (record {
-        chunks = b.chunks;
-        side = b.side;
-        front = b.front;
-        word = b.word;
-        header = b.part ++ byte ∷ [];
+        here = one_byte_more bytes byte b.here (part ++ byte ∷ []) refl;
         count = n;
-        split = more;
-        joined = b.joined;
-        sided = b.sided;
         counts = is;
       })
       b.fits n refl)
-      (word_next b.part byte) (word_leads b.part byte b.short)
+      (word_next part byte) (word_leads part byte b.short)
   begun_leads bytes (inr (inr w)) byte = more_mixed bytes byte w w.left refl
 
   pub mixed_leads : (bytes : List ℕ) (s : Mixing) (byte : ℕ) → HasMixed context bytes s
@@ -490,25 +486,26 @@ module _ (context : Context) where
       after_two _ _ b.front b.part b.split (front_lands b.front b.chunks b.joined b.fits)
       (word_goes mixed_next (λ p. mixing_in at total (gathered b.chunks) (SideWord p))
       (sided at total (gathered b.chunks)) (λ s byte. refl) b.part b.short)
-  begun_runs bytes (inr (inl b)) =
+  begun_runs bytes (inr (inl h)) =
+      let b = h.here in
       let at : ℕ = context.start + length b.front in
       let total : ℕ = context.before + size (gathered b.chunks) in
-      after_two _ _ b.front (b.word ++ b.part) (b.split ∙ append_assoc b.front b.word b.part)
-      (front_lands b.front b.chunks b.joined b.fits)
-      (after_side at total (gathered b.chunks) b.side b.word b.part b.sided
+      after_two _ _ b.front (b.word ++ b.rest) (b.split ∙ append_assoc b.front b.word b.rest)
+      (front_lands b.front b.chunks b.joined h.fits)
+      (after_side at total (gathered b.chunks) b.side b.word b.rest b.sided
       ∙ word_goes mixed_next
       (λ p. mixing_in (at + 4) total (gathered b.chunks) (SideLength b.side p))
-      (measured (at + 4) total (gathered b.chunks) b.side) (λ s byte. refl) b.part b.short)
+      (measured (at + 4) total (gathered b.chunks) b.side) (λ s byte. refl) b.rest h.short)
   begun_runs bytes (inr (inr w)) =
-      let split : bytes ≡ w.front ++ (w.word ++ (w.header ++ w.got)) =
-      simp (w.split, append_assoc) in
-      after_two _ _ w.front (w.word ++ (w.header ++ w.got)) split
-      (front_lands w.front w.chunks w.joined (omega (arith, w.fits)))
-      (chunk_lands (context.start + length w.front) (context.before + size (gathered w.chunks))
-      (gathered w.chunks) w.side w.word w.header w.got (suc w.left) w.sided w.counts (omega arith)
+      let b = w.here in
+      let split : bytes ≡ b.front ++ (b.word ++ (w.header ++ w.got)) =
+      simp (b.split, w.split, append_assoc) in
+      after_two _ _ b.front (b.word ++ (w.header ++ w.got)) split
+      (front_lands b.front b.chunks b.joined (omega (arith, w.fits)))
+      (chunk_lands (context.start + length b.front) (context.before + size (gathered b.chunks))
+      (gathered b.chunks) b.side b.word w.header w.got (suc w.left) b.sided w.counts (omega arith)
       w.fits
-      ∙ ap Runs (same_mixing _
-      (omega (lengths, ap length w.split)) refl refl))
+      ∙ ap Runs (same_mixing _ (omega (lengths, ap length split, b.sided.0, w.counts.0)) refl refl))
 
   pub mixed_runs : (bytes : List ℕ) (s : Mixing) → HasMixed context bytes s
       → mixed_taken context bytes ≡ Runs s

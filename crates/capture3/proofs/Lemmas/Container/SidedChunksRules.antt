@@ -86,18 +86,19 @@ module _ (context : Context) where
       ∙ rw at_is))
 
   header_over : (bytes : List ℕ) (b : AfterLength bytes) (fault : Fault)
-      → landed (measured (context.start + length b.front + 4)
-      (context.before + size (gathered b.chunks)) (gathered b.chunks) b.side b.count)
+      → landed (measured (context.start + length b.here.front + 4)
+      (context.before + size (gathered b.here.chunks)) (gathered b.here.chunks) b.here.side b.count)
       ≡ Stops (MixedRefuses fault)
       → Over RefusedMixed (mixed_taken context bytes) (MixedRefuses fault)
-  header_over bytes b fault stops =
+  header_over bytes h fault stops =
+      let b = h.here in
       let at : ℕ = context.start + length b.front in
       let total : ℕ = context.before + size (gathered b.chunks) in
-      after_or b.chunks bytes b.front (b.word ++ b.header) (MixedRefuses fault)
-      (b.split ∙ append_assoc b.front b.word b.header)
-      (omega lengths) b.joined
-      (after_side at total (gathered b.chunks) b.side b.word b.header b.sided
-      ∙ header_lands (at + 4) total b.count (gathered b.chunks) b.side b.header b.counts ∙ stops)
+      after_or b.chunks bytes b.front (b.word ++ b.rest) (MixedRefuses fault)
+      (b.split ∙ append_assoc b.front b.word b.rest)
+      (omega (lengths, b.sided.0)) b.joined
+      (after_side at total (gathered b.chunks) b.side b.word b.rest b.sided
+      ∙ header_lands (at + 4) total h.count (gathered b.chunks) b.side b.rest h.counts ∙ stops)
 
   too_much_stops : (at total n : ℕ) (streams : Streams) (side : Side) → 0 < n
       → max_bytes < total + n
@@ -120,8 +121,9 @@ module _ (context : Context) where
   mixed_over bytes fault (NoLength b none is) = header_over bytes b fault (rw (none, is))
   mixed_over bytes fault (TooMuch b some passes is) =
       header_over bytes b fault
-      (rw is (too_much_stops (context.start + length b.front + 4)
-      (context.before + size (gathered b.chunks)) b.count (gathered b.chunks) b.side some passes))
+      (rw is (too_much_stops (context.start + length b.here.front + 4)
+      (context.before + size (gathered b.here.chunks)) b.count (gathered b.here.chunks) b.here.side
+      some passes))
 
   -- a fault's bytes are not none
   pub mixed_some : (bytes : List ℕ) (fault : Fault) → MixedShows context bytes fault
@@ -129,6 +131,6 @@ module _ (context : Context) where
   mixed_some bytes fault (BadSide h) =
       omega (lengths, ap length h.split)
   mixed_some bytes fault (NoLength b none is) =
-      omega (lengths, ap length b.split)
+      omega (lengths, ap length b.here.split, b.counts.0)
   mixed_some bytes fault (TooMuch b some passes is) =
-      omega (lengths, ap length b.split)
+      omega (lengths, ap length b.here.split, b.counts.0)

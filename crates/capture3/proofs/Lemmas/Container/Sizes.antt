@@ -51,10 +51,27 @@ mixed_begun_size : (before : ℕ) (bytes : List ℕ) → BeginsMixed before byte
     → 9 * before + length bytes ≤ 9 * max_bytes + 8
 mixed_begun_size before bytes (inl b) =
     omega (lengths, sided_size b.chunks b.front b.joined, ap length b.split)
-mixed_begun_size before bytes (inr (inl b)) =
-    omega (lengths, sided_size b.chunks b.front b.joined, ap length b.split)
-mixed_begun_size before bytes (inr (inr b)) =
-    omega (lengths, sided_size b.chunks b.front b.joined, ap length b.split)
+mixed_begun_size before bytes (inr (inl h)) =
+    let b = h.here in
+    omega (
+      lengths,
+      sided_size b.chunks b.front b.joined,
+      ap length b.split,
+      b.sided.0,
+      h.short,
+      h.fits,
+    )
+mixed_begun_size before bytes (inr (inr h)) =
+    let b = h.here in
+    omega (
+      lengths,
+      sided_size b.chunks b.front b.joined,
+      ap length b.split,
+      b.sided.0,
+      ap length h.split,
+      h.counts.0,
+      h.fits,
+    )
 
 -- the bytes of a connection's words, beside those of its chunks
 abbrev words_size : Version → ℕ

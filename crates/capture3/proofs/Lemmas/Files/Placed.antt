@@ -93,9 +93,9 @@ mixed_in_place context file bytes fault within (BadSide s) =
     rw s.is
     (omega (lengths, within, ap length s.split))
 mixed_in_place context file bytes fault within (NoLength b none e) =
-    rw e (omega (lengths, within, ap length b.split))
+    rw e (omega (lengths, within, ap length b.here.split, b.here.sided.0, b.counts.0))
 mixed_in_place context file bytes fault within (TooMuch b some passes e) =
-    rw e (omega (lengths, within, ap length b.split))
+    rw e (omega (lengths, within, ap length b.here.split, b.here.sided.0, b.counts.0))
 
 first_in_place : {M : Type 0} (judge : Judgement M) (connection : ℕ) (side : Side)
     (file stream : List ℕ) (messages : List M) (fault : RecordFault) → RefusesInPlace judge side

@@ -1,7 +1,7 @@
 -- Whole messages that are read and told at once: judging them by the scans of their parts.
 use Rattle.std.specs.Prelude.{IfErr}
 use Rattle.std.specs.Prelude.{◌<◌, ◌^◌}
-use Rattle.capture3.proofs.Common.{IsErrAnd, ◌≡◌, ℕ, Bool, true, false, cond, List, [], ◌∷◌, ◌++◌, append_assoc, length, Some, None, Result, Ok, Err, refl, sym, ap, subst, ◌∙◌, eq-eqb, XidConflict, Stop, reading_layout, reading, refused, ProcId, MessageStart, call_head, message_start, reply_head, start_items, arguments_of, CallHead, Known, NumberedCall, procedure_in_call, procedure_of, agrees, judge_call, judge_reply, GetError, AreBytes, Item, followed_by, Adds, results_after}
+use Rattle.capture3.proofs.Common.{IsErrAnd, ◌≡◌, ℕ, Bool, true, false, cond, List, [], ◌∷◌, ◌++◌, append_assoc, length, Some, None, Result, Ok, Err, refl, sym, ap, subst, ◌∙◌, eq-eqb, XidConflict, Stop, reading_layout, reading, refused, ProcId, MessageStart, call_head, message_start, reply_head, start_items, arguments_of, ScannedCall, Known, NumberedCall, procedure_in_call, procedure_of, agrees, judge_call, judge_reply, GetError, AreBytes, Item, followed_by, Adds, results_after}
 use Rattle.xdr3.specs.declared.reason.GetError.TheVariants as errors
 use Rattle.xdr3.specs.Scan.{ScansLayout, Stops, StopsLayout}
 use Rattle.xdr3.specs.View.{View}
@@ -62,7 +62,7 @@ call_head_stops before body s v1 e b h =
 
 call_begun : {V : Type 0} (stands : V → List Item → Type 0) (body : List ℕ) (s : MessageStart)
     (id : ProcId) (v1 v2 : View) (n1 n2 : V) → StartRead body s false v1
-    → ScansCallHead stands id v1 v2 n1 n2
+    → ScansCallHead stands id (v1, n1) (v2, n2)
     → (front : List Item) × CallBegins body s id front v1.at v2.at × (v2.body ≡ body)
     × Adds stands n1 n2 front
 unfolding ScansCallHead
@@ -81,7 +81,7 @@ call_begun stands body s id v1 v2 n1 n2 b h = (
 pub arguments_stop : {V : Type 0} (stands : V → List Item → Type 0) (before : List (List Item))
     (body : List ℕ) (s : MessageStart) (id : ProcId) (v1 v2 : View) (n1 n2 : V) (e : GetError)
     → StartRead body s false v1
-    → ScansCallHead stands id v1 v2 n1 n2 → StopsLayout (arguments_of id) v2 e
+    → ScansCallHead stands id (v1, n1) (v2, n2) → StopsLayout (arguments_of id) v2 e
     → StopsMessage e (judge_call before body)
 unfolding StopsLayout
 arguments_stop stands before body s id v1 v2 n1 n2 e b h x = λ stop is.
@@ -102,7 +102,8 @@ pub call_told : {V : Type 0} (rests stands : V → List Item → Type 0) (body :
     (s : MessageStart)
     (id : ProcId) (v1 v2 v3 : View) (n0 n1 n2 n3 : V) → StartRead body s false v1
     → OpensMessage rests stands n0 n1 (start_items s)
-    → ScansCallHead stands id v1 v2 n1 n2 → ScansLayout stands (arguments_of id) v2 v3 n2 n3
+    → ScansCallHead stands id (v1, n1) (v2, n2)
+    → ScansLayout stands (arguments_of id) (v2, n2) (v3, n3)
     → CallRead rests stands body s id v1.at v2.at v3 n0 n3
 unfolding ScansLayout followed_by
 call_told rests stands body s id v1 v2 v3 n0 n1 n2 n3 b a h x =
@@ -137,7 +138,7 @@ call_scans rests stands body s id head end last old new are r is = record {
 
 -- a call that agrees with those before it is accepted
 pub call_agrees : {V : Type 0} (rests stands : V → List Item → Type 0) (before : List (List Item))
-    (body : List ℕ) (call : CallHead) (old new : V)
+    (body : List ℕ) (call : ScannedCall) (old new : V)
     → (s : ScansCall rests stands body call old new)
     → agrees (procedure_of before call.xid) call.id ≡ true
     → judge_call before body ≡ Ok s.items
@@ -158,7 +159,7 @@ reply_head_stops calls body s id v1 e b asked h = λ stop is.
 reply_begun : {V : Type 0} (stands : V → List Item → Type 0) (calls : List (List Item))
     (body : List ℕ) (s : MessageStart) (id : ProcId) (success : Bool) (v1 v2 : View) (n1 n2 : V)
     → StartRead body s true v1
-    → procedure_of calls s.xid ≡ Some id → ScansReplyHead stands success v1 v2 n1 n2
+    → procedure_of calls s.xid ≡ Some id → ScansReplyHead stands success (v1, n1) (v2, n2)
     → (front : List Item) × ReplyBegins calls body s id success front v1.at v2.at × (v2.body ≡ body)
     × Adds stands n1 n2 front
 unfolding ScansReplyHead
@@ -179,7 +180,7 @@ pub results_stop : {V : Type 0} (stands : V → List Item → Type 0) (calls : L
     (body : List ℕ) (s : MessageStart) (id : ProcId) (success : Bool) (v1 v2 : View) (n1 n2 : V)
     (e : GetError)
     → StartRead body s true v1 → procedure_of calls s.xid ≡ Some id
-    → ScansReplyHead stands success v1 v2 n1 n2 → StopsLayout (results_after success id) v2 e
+    → ScansReplyHead stands success (v1, n1) (v2, n2) → StopsLayout (results_after success id) v2 e
     → StopsMessage e (judge_reply calls body)
 unfolding StopsLayout
 results_stop stands calls body s id success v1 v2 n1 n2 e b asked h x = λ stop is.
@@ -206,8 +207,9 @@ pub reply_told : {V : Type 0} (rests stands : V → List Item → Type 0) (body 
     (s : MessageStart)
     (id : ProcId) (success : Bool) (v1 v2 v3 : View) (n0 n1 n2 n3 : V)
     → StartRead body s true v1
-    → OpensMessage rests stands n0 n1 (start_items s) → ScansReplyHead stands success v1 v2 n1 n2
-    → ScansLayout stands (results_after success id) v2 v3 n2 n3
+    → OpensMessage rests stands n0 n1 (start_items s)
+    → ScansReplyHead stands success (v1, n1) (v2, n2)
+    → ScansLayout stands (results_after success id) (v2, n2) (v3, n3)
     → ReplyRead rests stands body s id success v1.at v2.at v3 n0 n3
 unfolding ScansReplyHead ScansLayout followed_by
 reply_told rests stands body s id success v1 v2 v3 n0 n1 n2 n3 b a h x =

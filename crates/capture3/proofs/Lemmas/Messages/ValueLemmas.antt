@@ -7,8 +7,8 @@ use Rattle.xdr3.specs.Reading.{reading}
 use Rattle.rpc_head.specs.declared.values.call.CallHead.{CallHead}
 use Rattle.rpc_head.specs.declared.values.call.ProcId.{ProcId}
 use Rattle.rpc_head.specs.declared.values.message_start.MessageStart.{MessageStart}
-use Rattle.rpc_head.specs.declared.values.reply.Accept.TheVariants.{Success, ProgUnavail, ProgMismatch, ProcUnavail, GarbageArgs, SystemErr}
-use Rattle.rpc_head.specs.declared.values.reply.Deny.TheVariants.{RpcMismatch, AuthError}
+use Rattle.rpc_head.specs.declared.values.reply.Accept.TheVariants.{Success}
+use Rattle.rpc_head.specs.declared.values.reply.Deny.TheVariants.{RpcMismatch}
 use Rattle.rpc_head.specs.declared.values.reply.ReplyHead.{ReplyHead}
 use Rattle.rpc_head.specs.declared.values.reply.ReplyHead.TheVariants.{Accepted, Denied}
 use Rattle.rpc_head.specs.HeadScan.{procedure_in_head, success_in_head}
@@ -17,9 +17,8 @@ use Rattle.rpc_head.specs.Shapes.{message_start}
 use Rattle.rpc_head.specs.MessageStart.{start_items}
 use Rattle.capture3.specs.BodyProgram.{is_same}
 use Rattle.capture3.specs.machinery.ScannedMessages.{StopsMessage}
-use Rattle.capture3.specs.machinery.Spelled.{SpellsCall}
+use Rattle.capture3.specs.machinery.Spelled.{SpellsCall, SpellsNoCall, SpellsNoReply}
 use Rattle.capture3.proofs.Lemmas.Messages.SpelledLemmas.{asking, call_never_stops, one_call, one_reply, reply_start, xid_read, reply_never_stops}
-use Rattle.capture3.specs.machinery.UnspelledMessages.{SpellsNoCall, SpellsNoReply}
 
 -- ---- calls
 
@@ -55,13 +54,8 @@ no_call (Err e) body h =
 pub success_of_head : (h : ReplyHead) → success_in_head (reply_head_items h) ≡ is_success h
 unfolding followed_by
 success_of_head (Accepted verf Success) = refl
-success_of_head (Accepted verf ProgUnavail) = refl
-success_of_head (Accepted verf (ProgMismatch low high)) = refl
-success_of_head (Accepted verf ProcUnavail) = refl
-success_of_head (Accepted verf GarbageArgs) = refl
-success_of_head (Accepted verf SystemErr) = refl
 success_of_head (Denied (RpcMismatch low high)) = refl
-success_of_head (Denied (AuthError stat)) = refl
+success_of_head h = refl
 
 -- a call with this xid and this procedure
 abbrev pub the_call : ℕ → ProcId → List (List Item)

@@ -1,6 +1,6 @@
 -- What a reader of entries makes of its histories, step by step.
-use Rattle.std.proofs.Common.{◌≡◌, ◌⊎◌, inl, inr, ℕ, ◌+◌, ◌-◌, ◌≤◌, ◌<◌, Option, Some, None, Result, Ok, Err, IsSome, IfErr, IfOk, OnErr, OnOk, List, [], ◌∷◌, ◌++◌, length, take, drop, slice_range, refl, sym, ap, subst, ◌∙◌, append_assoc, append-nil, length-append, arith, take-append-drop, length-take, length-drop, vec_len}
-use Rattle.capture3.proofs.Common.{CanGoOn, common_steps, Pairing, CountedCalls, known_of, open_xids, ∥∥₁_elim, CaptureCut, AreBytes, Item, Runs, Stops, Stopped, Taking, Led, OutOfMemory, IsRunning, released, Known, Kind, Error, Spot, Container, Cursor, Two, max_connections, Entry, End, FirstFault, IsClean, begins, most_bytes, Parsing, parsed, emitted, AreFirstReached, AreWhole, Reached, parsing_at, Streams, file_fault, IsWellFormed, props, Observed, Gave, IsSpent, AreStored, IsReady, room_in, unpacking_of}
+use Rattle.std.proofs.Common.{◌≡◌, ◌⊎◌, inl, inr, ℕ, ◌+◌, ◌-◌, ◌≤◌, ◌<◌, Option, Some, None, Ok, Err, IsSome, List, [], ◌∷◌, ◌++◌, length, take, drop, slice_range, refl, sym, ap, subst, ◌∙◌, append_assoc, append-nil, length-append, arith, take-append-drop, length-take, length-drop, vec_len}
+use Rattle.capture3.proofs.Common.{CanGoOn, common_steps, Pairing, CountedCalls, known_of, open_xids, ∥∥₁_elim, CaptureCut, AreBytes, Runs, Taking, Led, IsRunning, released, Known, Kind, Error, Spot, Container, Cursor, Two, max_connections, Entry, End, FirstFault, IsClean, begins, most_bytes, Parsing, parsed, emitted, AreFirstReached, AreWhole, Reached, parsing_at, Streams, file_fault, IsWellFormed, props, Observed, Gave, IsSpent, AreStored, IsReady, room_in, unpacking_of}
 use Rattle.std.proofs.lemmas.List.{drop-take}
 use Rattle.capture3.specs.Progress.{AreCounted}
 use Rattle.capture3.specs.machinery.Pairing.{CountsMessages}
@@ -11,15 +11,15 @@ use Rattle.std.specs.declared.hash.BuildHasher as BuildHasher
 use Rattle.std.specs.declared.hash.Hasher as Hasher
 use Rattle.std.proofs.lemmas.List.{same_from_push}
 use Rattle.capture3.specs.declared.reader.entries.Entries.{Entries}
-use Rattle.capture3.specs.declared.reader.entries.Stage.{Stage}
-use Rattle.capture3.specs.declared.reader.entries.Stage.TheVariants.{Reading, Over, Failed}
+use Rattle.capture3.specs.declared.reader.entries.ReaderStage.{ReaderStage}
+use Rattle.capture3.specs.declared.reader.entries.ReaderStage.TheVariants.{Reading, Over, Failed}
 use Rattle.capture3.specs.declared.reader.entry.Kind.TheVariants as kinds
 use Rattle.capture3.specs.declared.fault.Error.TheVariants as errors
 use Rattle.capture3.specs.declared.container.position.Position.{Position}
 use Rattle.capture3.specs.declared.container.position.spot.Spot.TheVariants as spots
 use Rattle.capture3.specs.declared.container.position.spot.WordOf.TheVariants as words
 use Rattle.capture3.specs.Entries.{AreAllBeforeEnd, IsMetBy, failure_in, failure_of, last_of}
-use Rattle.capture3.specs.machinery.EntriesHistory.{CountedMessages, entries_left_in, entries_left, unjudged, IsReading, StandsIn, StandsFor, HoldsLast, HasRead, HandsOutOrGoesOn, Turns}
+use Rattle.capture3.specs.machinery.EntriesHistory.{CountedMessages, entries_left_in, entries_left, unjudged, IsReading, StandsIn, StandsFor, HoldsLast, HasRead}
 use Rattle.capture3.specs.Handing.{HandsOut, HandsOutGiven}
 use Rattle.capture3.specs.machinery.Stepping.{IsNextOfKind, IsOfKind}
 use Rattle.capture3.specs.machinery.Pairing.{StandsAt, StandsOrRecalls, HasCome, HasNumber, after_side_word, GoesTo, FailsAt, IsHeld, entry_cost}
@@ -41,14 +41,7 @@ use Rattle.capture3.proofs.Lemmas.Files.Verdicts.{clean_from_runs, run_shows, ve
 
 before_mark-prop : (spot : Spot) → IsProp (IsBeforeMark Two spot)
 before_mark-prop (spots.Word (words.Mark version) part) = hlevel props
-before_mark-prop (spots.Word (words.Length side) part) = hlevel props
-before_mark-prop (spots.Word words.Side part) = hlevel props
-before_mark-prop (spots.Word (words.SideLength side) part) = hlevel props
-before_mark-prop spots.Magic = hlevel props
-before_mark-prop spots.Digit = hlevel props
-before_mark-prop (spots.Chunk side left) = hlevel props
-before_mark-prop (spots.SideChunk side left) = hlevel props
-before_mark-prop (spots.Ended version) = hlevel props
+before_mark-prop spot = hlevel props
 
 empty-prop : (streams : Streams) → IsProp (AreEmpty streams)
 empty-prop streams = hlevel props
@@ -57,13 +50,8 @@ stored_at-prop : (spot : Spot) (total : ℕ) (streams : Streams)
     → IsProp (StoredAt spot total streams)
 stored_at-prop (spots.Word words.Side part) total streams = hlevel props
 stored_at-prop (spots.Word (words.SideLength side) part) total streams = hlevel props
-stored_at-prop (spots.Word (words.Mark version) part) total streams = empty-prop streams
-stored_at-prop (spots.Word (words.Length side) part) total streams = empty-prop streams
 stored_at-prop (spots.SideChunk side left) total streams = hlevel props
-stored_at-prop spots.Magic total streams = empty-prop streams
-stored_at-prop spots.Digit total streams = empty-prop streams
-stored_at-prop (spots.Chunk side left) total streams = empty-prop streams
-stored_at-prop (spots.Ended version) total streams = empty-prop streams
+stored_at-prop spot total streams = empty-prop streams
 
 stored-prop : (p : Position) (cursor : Option Cursor) (streams : Streams)
     → IsProp (AreStored p cursor streams)
@@ -72,9 +60,7 @@ stored-prop p (Some cursor) streams = hlevel (props, before_mark-prop)
 
 running-prop : (t : Taking) → IsProp (IsRunning t)
 running-prop (Led (Runs s)) = hlevel props
-running-prop (Led (Stops end)) = hlevel props
-running-prop (Led (Stopped end)) = hlevel props
-running-prop OutOfMemory = hlevel props
+running-prop t = hlevel props
 
 ready-prop : (cursor : Option Cursor) (t : Taking) → IsProp (IsReady cursor t)
 ready-prop None t = running-prop t
@@ -87,19 +73,15 @@ pub can_go_on : (cursor : Option Cursor) (t : Taking) (c : Container) → ∥ Ca
     → CanGoOn cursor t c
 can_go_on cursor t c h = ∥∥₁_elim h (going_on-prop cursor t c) (λ s. s)
 
-failed_stage : (stage : Stage) (error other : Error) → failure_in stage error ≡ Some other
+failed_stage : (stage : ReaderStage) (error other : Error) → failure_in stage error ≡ Some other
     → stage ≡ Failed
-failed_stage Reading error other is = absurd (cc)
-failed_stage Over error other is = absurd (cc)
 failed_stage Failed error other is = refl
+failed_stage stage error other is = absurd (cc)
 
 kind_held : (kind : Kind) (t : Taking) (entry : Entry) → IsHeld kind t entry → IsOfKind kind entry
-kind_held kinds.Begin t entry is = is
 kind_held (kinds.Call id) t entry (items, whole, is_call, id_is, is) = (items, id_is, is)
-kind_held kinds.Turn t entry is = is
 kind_held (kinds.Reply id) t entry (items, whole, is_reply, is) = (items, is)
-kind_held kinds.Close t entry is = is
-kind_held kinds.End t entry is = is
+kind_held kind t entry is = is
 
 -- ---- after bytes that the machine has taken
 
@@ -228,11 +210,7 @@ not_ended bytes p t streams table model are s not =
 
 end_or_not : (spot : Spot) → IsEndSpot spot ⊎ (IsEndSpot spot → ⊥)
 end_or_not (spots.Ended version) = inl tt
-end_or_not spots.Magic = inr (λ e. e)
-end_or_not spots.Digit = inr (λ e. e)
-end_or_not (spots.Word word part) = inr (λ e. e)
-end_or_not (spots.Chunk side left) = inr (λ e. e)
-end_or_not (spots.SideChunk side left) = inr (λ e. e)
+end_or_not spot = inr (λ e. e)
 
 pub all_before_end : (bytes : List ℕ) (p : Position) (t : Taking) (streams : Streams)
     (table : Known) (model : List Entry) → AreBytes bytes
@@ -247,11 +225,27 @@ all_before_end bytes p t streams table model are s =
 
 module _ {R S H : Type 0} {builds : BuildHasher.Ghosts S H} {hashes : Hasher.Ghosts H}
     (observed : R → Observed) where
-  here_at : (e : Entries R S H builds hashes) (stage : Stage) (given : List ℕ) (handed : List Entry)
+  -- this entry is handed out and passed on; or none is, and it goes on or has failed
+  abbrev pub HandsOutOrGoesOn : (Passed : Entry → Type 0)
+      → Entries R S H builds hashes → List ℕ → List Entry → Option Kind → Type 0
+  HandsOutOrGoesOn Passed new given handed (Some kind) =
+      (entry : Entry) × IsOfKind kind entry × Passed entry
+      × StandsFor observed new given (handed ++ entry ∷ [])
+  HandsOutOrGoesOn Passed new given handed None = StandsFor observed new given handed
+
+  pub record Turns (Passed : Entry → Type 0) (old new : Entries R S H builds hashes)
+      (given : List ℕ) (handed : List Entry) : Type 0 where
+    pub more : List ℕ
+    pub consumed : Gave (observed old.source.now) (observed new.source.now) more
+    pub goes_on : HandsOutOrGoesOn Passed new (given ++ more) handed (last_of new)
+
+  here_at : (e : Entries R S H builds hashes) (stage : ReaderStage) (given : List ℕ)
+      (handed : List Entry)
       → e.stage ≡ stage → StandsFor observed e given handed
       → StandsIn stage (observed e.source.now) e given handed
   here_at e stage given handed is s =
-      subst (λ (stage : Stage). StandsIn stage (observed e.source.now) e given handed) is s.here
+      subst (λ (stage : ReaderStage). StandsIn stage (observed e.source.now) e given handed) is
+      s.here
 
   pub reading_of : (e : Entries R S H builds hashes) (given : List ℕ) (handed : List Entry)
       → e.stage ≡ Reading → StandsFor observed e given handed → IsReading e given handed
@@ -259,7 +253,7 @@ module _ {R S H : Type 0} {builds : BuildHasher.Ghosts S H} {hashes : Hasher.Gho
 
   left_is : (e : Entries R S H builds hashes) → e.stage ≡ Reading
       → entries_left e ≡ room_in e.pairing.container + 1
-  left_is e is = ap (λ (stage : Stage). entries_left_in stage e.pairing.container) is
+  left_is e is = ap (λ (stage : ReaderStage). entries_left_in stage e.pairing.container) is
 
   -- ---- the entry that was handed out last
 
@@ -312,7 +306,8 @@ module _ {R S H : Type 0} {builds : BuildHasher.Ghosts S H} {hashes : Hasher.Gho
         };
     holds = holds;
     here =
-        subst (λ (stage : Stage). StandsIn stage (observed e.source.now) e given handed) (sym is) r;
+        subst (λ (stage : ReaderStage). StandsIn stage (observed e.source.now) e given handed)
+        (sym is) r;
   }
 
   -- it has failed
@@ -327,7 +322,7 @@ module _ {R S H : Type 0} {builds : BuildHasher.Ghosts S H} {hashes : Hasher.Gho
         omega (
           arith,
           s.limits.few,
-          ap (λ (stage : Stage). entries_left_in stage new.pairing.container) is,
+          ap (λ (stage : ReaderStage). entries_left_in stage new.pairing.container) is,
         );
     limits =
         record {
@@ -338,7 +333,7 @@ module _ {R S H : Type 0} {builds : BuildHasher.Ghosts S H} {hashes : Hasher.Gho
         };
     holds = none_last new handed none;
     here =
-        subst (λ (stage : Stage). StandsIn stage (observed new.source.now) new given handed)
+        subst (λ (stage : ReaderStage). StandsIn stage (observed new.source.now) new given handed)
         (sym is)
         met;
   }
@@ -352,7 +347,7 @@ module _ {R S H : Type 0} {builds : BuildHasher.Ghosts S H} {hashes : Hasher.Gho
       → failure_of e ≡ None → StandsFor observed e given handed → AreFirstReached given handed
   stands_first e given handed goes s = by_stage e.stage refl s.here
     where
-      by_stage : (stage : Stage) → e.stage ≡ stage
+      by_stage : (stage : ReaderStage) → e.stage ≡ stage
           → StandsIn stage (observed e.source.now) e given handed → AreFirstReached given handed
       by_stage Reading is h = first_in e given handed s.bytes h
       by_stage Over is h = ([], subst (Reached given) (sym (append-nil handed)) (inl h.0))
@@ -492,7 +487,7 @@ module _ {R S H : Type 0} {builds : BuildHasher.Ghosts S H} {hashes : Hasher.Gho
       (judged ++ take count (unjudged old)) handed)
       → CountsMessages came old.pairing.calls_taken old.pairing.replies_taken
       new.pairing.calls_taken new.pairing.replies_taken
-      → HandsOutOrGoesOn observed Passed new given handed came
+      → HandsOutOrGoesOn Passed new given handed came
   judged_on Passed old new count given handed None is goes last size judged block fits
       within room s leads counts =
       let r = reading_of old given handed is s in
@@ -565,7 +560,7 @@ module _ {R S H : Type 0} {builds : BuildHasher.Ghosts S H} {hashes : Hasher.Gho
       (judged ++ take count (slice_range items old.start old.end)) handed)
       → CountsMessages came old.pairing.calls_taken old.pairing.replies_taken
       new.pairing.calls_taken new.pairing.replies_taken
-      → HandsOutOrGoesOn observed Passed new given handed came
+      → HandsOutOrGoesOn Passed new given handed came
   judged_piece Passed old new count items given handed came same all is goes last
       size judged block fits room s leads counts =
       let within : old.end ≤ length old.block.items =
@@ -608,7 +603,7 @@ module _ {R S H : Type 0} {builds : BuildHasher.Ghosts S H} {hashes : Hasher.Gho
               arith,
               room_before old given handed is s,
               length-append handed (End ∷ []),
-              ap (λ (stage : Stage). entries_left_in stage new.pairing.container) over,
+              ap (λ (stage : ReaderStage). entries_left_in stage new.pairing.container) over,
             );
         limits = record {
           few = omega (arith, room_before old given handed is s, length-append handed (End ∷ []));
@@ -619,7 +614,7 @@ module _ {R S H : Type 0} {builds : BuildHasher.Ghosts S H} {hashes : Hasher.Gho
         holds = now_last new handed kinds.End End last refl tt;
         here =
             subst
-            (λ (stage : Stage).
+            (λ (stage : ReaderStage).
             StandsIn stage (observed new.source.now) new given (handed ++ End ∷ [])) (sym over) (
               typed,
               end,
@@ -658,7 +653,7 @@ module _ {R S H : Type 0} {builds : BuildHasher.Ghosts S H} {hashes : Hasher.Gho
       handed × CountedMessages e handed
   has_passed e given handed s going = by_stage e.stage refl s.here
     where
-      by_stage : (stage : Stage) → e.stage ≡ stage
+      by_stage : (stage : ReaderStage) → e.stage ≡ stage
           → StandsIn stage (observed e.source.now) e given handed
           → AreCounted e.pairing.container.position.connections
           e.pairing.container.position.records handed × CountedMessages e handed
@@ -682,17 +677,17 @@ module _ {R S H : Type 0} {builds : BuildHasher.Ghosts S H} {hashes : Hasher.Gho
   pub none_on : (Passed : Entry → Type 0)
       (new : Entries R S H builds hashes) (given : List ℕ) (handed : List Entry)
       → last_of new ≡ None → StandsFor observed new given handed
-      → HandsOutOrGoesOn observed Passed new given handed (last_of new)
+      → HandsOutOrGoesOn Passed new given handed (last_of new)
   none_on Passed new given handed none s =
-      subst (HandsOutOrGoesOn observed Passed new given handed) (sym none) s
+      subst (HandsOutOrGoesOn Passed new given handed) (sym none) s
 
   -- the end is handed out
   pub end_on : (Passed : Entry → Type 0) (new : Entries R S H builds hashes) (given : List ℕ)
       (handed : List Entry) → Passed End → last_of new ≡ Some kinds.End
       → StandsFor observed new given (handed ++ End ∷ [])
-      → HandsOutOrGoesOn observed Passed new given handed (last_of new)
+      → HandsOutOrGoesOn Passed new given handed (last_of new)
   end_on Passed new given handed told last s =
-      subst (HandsOutOrGoesOn observed Passed new given handed) (sym last) (End, refl, told, s)
+      subst (HandsOutOrGoesOn Passed new given handed) (sym last) (End, refl, told, s)
 
   -- after the turns so far, the block is read, and then it is judged
   pub turned : (Passed : Entry → Type 0) (old so_far mid new : Entries R S H builds hashes)
@@ -700,8 +695,8 @@ module _ {R S H : Type 0} {builds : BuildHasher.Ghosts S H} {hashes : Hasher.Gho
       → ((given : List ℕ) (handed : List Entry) → StandsFor observed so_far given handed
       → HasRead observed so_far mid given handed)
       → ((given : List ℕ) (handed : List Entry) → StandsFor observed mid given handed
-      → HandsOutOrGoesOn observed Passed new given handed (last_of new))
-      → new.source.now ≡ mid.source.now → Turns observed Passed old new given handed
+      → HandsOutOrGoesOn Passed new given handed (last_of new))
+      → new.source.now ≡ mid.source.now → Turns Passed old new given handed
   turned Passed old so_far mid new given handed first reads goes same =
       let next = reads (given ++ first.more) handed first.stands in
       record {
@@ -711,7 +706,7 @@ module _ {R S H : Type 0} {builds : BuildHasher.Ghosts S H} {hashes : Hasher.Gho
             (sym same) (gave_both (observed old.source.now) (observed so_far.source.now)
             (observed mid.source.now) first.more next.more first.consumed next.consumed);
         goes_on =
-            subst (λ (b : List ℕ). HandsOutOrGoesOn observed Passed new b handed (last_of new))
+            subst (λ (b : List ℕ). HandsOutOrGoesOn Passed new b handed (last_of new))
             (append_assoc given first.more next.more)
             (goes ((given ++ first.more) ++ next.more) handed next.stands);
       }
@@ -719,13 +714,13 @@ module _ {R S H : Type 0} {builds : BuildHasher.Ghosts S H} {hashes : Hasher.Gho
   -- no entry is whole yet
   pub read_on : (Passed : Entry → Type 0)
       (old new : Entries R S H builds hashes) (given : List ℕ) (handed : List Entry)
-      → last_of new ≡ None → Turns observed Passed old new given handed
+      → last_of new ≡ None → Turns Passed old new given handed
       → HasRead observed old new given handed
   read_on Passed old new given handed none t = record {
     more = t.more;
     consumed = t.consumed;
     stands =
-        subst (HandsOutOrGoesOn observed Passed new (given ++ t.more) handed) none
+        subst (HandsOutOrGoesOn Passed new (given ++ t.more) handed) none
         t.goes_on;
   }
 
@@ -733,7 +728,7 @@ module _ {R S H : Type 0} {builds : BuildHasher.Ghosts S H} {hashes : Hasher.Gho
   pub too_long : (Passed : Entry → Type 0)
       (old mid new : Entries R S H builds hashes) (given : List ℕ) (handed : List Entry)
       → HasRead observed old mid given handed → mid.stage ≡ Reading
-      → most_bytes Two + 1 < mid.judged → Turns observed Passed old new given handed
+      → most_bytes Two + 1 < mid.judged → Turns Passed old new given handed
   too_long Passed old mid new given handed read is far =
       let r = reading_of mid (given ++ read.more) handed is read.stands in
       absurd (omega (
@@ -750,7 +745,7 @@ module _ {R S H : Type 0} {builds : BuildHasher.Ghosts S H} {hashes : Hasher.Gho
   pub answers_kind : (Passed : Entry → Type 0)
       (old new : Entries R S H builds hashes) (given : List ℕ) (handed : List Entry)
       → IsSome (last_of new) → failure_of new ≡ None
-      → Turns observed Passed old new given handed
+      → Turns Passed old new given handed
       → HandsOutGiven observed (IsNextOfKind Passed) old new given handed
       (Ok (last_of new))
   answers_kind Passed old new given handed some goes t = record {
@@ -760,7 +755,7 @@ module _ {R S H : Type 0} {builds : BuildHasher.Ghosts S H} {hashes : Hasher.Gho
   }
     where
       by_last : (last : Option Kind) → IsSome last
-          → HandsOutOrGoesOn observed Passed new (given ++ t.more) handed last
+          → HandsOutOrGoesOn Passed new (given ++ t.more) handed last
           → HandsOut observed (IsNextOfKind Passed) new (given ++ t.more) handed
           (Ok last)
       by_last None none h = absurd (cc)
@@ -771,11 +766,11 @@ module _ {R S H : Type 0} {builds : BuildHasher.Ghosts S H} {hashes : Hasher.Gho
   pub answers_error : {X : Type 0} (Passed : Entry → Type 0) (Is : List Entry → X → Entry → Type 0)
       (old new : Entries R S H builds hashes)
       (given : List ℕ) (handed : List Entry) → failure_of new ≡ Some new.pairing.error
-      → last_of new ≡ None → Turns observed Passed old new given handed
+      → last_of new ≡ None → Turns Passed old new given handed
       → HandsOutGiven observed Is old new given handed (Err new.pairing.error)
   answers_error Passed Is old new given handed failed none t =
       let s =
-      subst (HandsOutOrGoesOn observed Passed new (given ++ t.more) handed) none
+      subst (HandsOutOrGoesOn Passed new (given ++ t.more) handed) none
       t.goes_on in
       record {
         more = t.more;

@@ -1,14 +1,11 @@
 -- The record that stands of a message that is lent.
-use Rattle.capture3.proofs.Common.{◌≡◌, ◌∙◌, ap, subst, Option, Some, Runs, Stops, Stopped, Whole, TooLong, Taking, Led, OutOfMemory, IsWhole, Kind, props}
+use Rattle.capture3.proofs.Common.{◌≡◌, ◌∙◌, ap, subst, Option, Some, Stops, Whole, Taking, Led, IsWhole, Kind, props}
 use Rattle.std.proofs.Math.Logic.{∥∥₁_elim, ∥∥₁_prop}
 use Rattle.capture3.specs.machinery.Pairing.{SpellsKind, SpellsLast}
 
 whole-prop : (t : Taking) → IsProp (IsWhole t)
 whole-prop (Led (Stops (Whole body))) = hlevel props
-whole-prop (Led (Stops (TooLong at))) = hlevel props
-whole-prop (Led (Runs s)) = hlevel props
-whole-prop (Led (Stopped end)) = hlevel props
-whole-prop OutOfMemory = hlevel props
+whole-prop t = hlevel props
 
 pub stands_whole : {X : Type 0} (t : Taking) → ∥ IsWhole t × X ∥₁ → IsWhole t
 stands_whole t h = ∥∥₁_elim h (whole-prop t) (λ s. s.0)

@@ -1,5 +1,5 @@
 -- A step of the reader returns a kind; the calls above it lend the entry.
-use Rattle.capture3.proofs.Common.{◌≡◌, inl, inr, ◌∙◌, ap, subst, sym, refl, ℕ, ◌<◌, Option, None, Some, Result, Ok, Err, IfSome, IsSome, List, [], ◌∷◌, ◌++◌, Error, Entry, Kind, Item}
+use Rattle.capture3.proofs.Common.{◌≡◌, inl, inr, ap, subst, sym, refl, ℕ, Option, None, Some, Result, Ok, Err, IfSome, IsSome, List, [], ◌∷◌, ◌++◌, Error, Entry, Kind, Item}
 use Rattle.std.specs.declared.hash.BuildHasher as BuildHasher
 use Rattle.std.specs.declared.hash.Hasher as Hasher
 use Rattle.capture3.specs.declared.fault.Error.TheVariants as errors
@@ -7,7 +7,7 @@ use Rattle.capture3.specs.declared.fault.Error.TheVariants.{Memory}
 use Rattle.capture3.specs.declared.reader.entries.Entries.{Entries}
 use Rattle.capture3.specs.declared.reader.entry.LentEntry.{LentEntry}
 use Rattle.capture3.specs.declared.reader.entry_ref.EntryRef.{EntryRef}
-use Rattle.capture3.specs.Entries.{CountsReading, KeepsErrors, UsesSource, failure_of, last_of}
+use Rattle.capture3.specs.Entries.{KeepsErrors, UsesSource, failure_of, last_of}
 use Rattle.capture3.specs.Handing.{HandsOutGiven}
 use Rattle.capture3.specs.Kept.{IsLent, kind_of}
 use Rattle.capture3.specs.Lending.{IsNextLent, LendsNext}
@@ -112,7 +112,7 @@ module _ {R S H : Type 0} {builds : BuildHasher.Ghosts S H} {hashes : Hasher.Gho
         → IsSaid (λ before entry. IfSome next (λ one. IsLent one entry))
         → IsSaid (λ before entry. IfSome next (λ one. number_lent one ≡ number_after before entry))
         → LeavesKind failures old new was now (Ok (kind_lent next))
-        → LendsNext observed rests stands failures old was now (Ok next) new
+        → LendsNext observed failures (IsNextLent rests stands was now) old (Ok next) new
     lends_kind None answers is_lent numbered left =
         record {
           answers = λ given handed s.
@@ -139,7 +139,7 @@ module _ {R S H : Type 0} {builds : BuildHasher.Ghosts S H} {hashes : Hasher.Gho
         → Answers last → IsSaid (λ before entry. IfSome next (λ one. IsLent one entry))
         → IsSaid (λ before entry. IfSome next (λ one. number_lent one ≡ number_after before entry))
         → LeavesKind failures old new was now (Ok last)
-        → LendsNext observed rests stands failures old was now (Ok next) new
+        → LendsNext observed failures (IsNextLent rests stands was now) old (Ok next) new
     lends next last same answers is_lent numbered left =
         lends_kind next (subst Answers (sym same) answers) is_lent numbered
         (subst (λ kind. LeavesKind failures old new was now (Ok kind)) (sym same) left)

@@ -1,17 +1,17 @@
 -- A capture whose records are judged as they come: step after step.
-use Rattle.capture3.proofs.Common.{open_xids, ap₂, ◌≡◌, ◌<◌, inl, inr, suc, ◌+◌, length, arith, append-nil, ℕ, Option, Some, None, List, [], ◌∷◌, ◌++◌, take, drop, refl, sym, ap, ◌∙◌, subst, append_assoc, take-append-drop, Item, RecordCut, RecordTooLong, Joining, Between, Header, Bytes, Whole, TooLong, Ends, Runs, Stops, Stopped, after, landed, Known, Container, Error, Fault, Side, Client, Server, Event, Spot, ReplyItems, refusal, Entry, fault_at, Streams, Cursor, after-append, judge_call, judge_reply, Parsing, file_next, file_start, parsed, emitted, IsBeforeMark, opened_at, unpacking_at, StoredWith, Two, KnowsNone, Recalls, ShowsFirst, IsTableOf, xids_in, Judged, parsing_at, resumed, call_judged, reply_judged, emitted_at, connection_begun, turned, connection_closed, unpacking_with, fault_in_record, xid_in, Ok, nat_eq, Stop}
+use Rattle.capture3.proofs.Common.{open_xids, ap₂, ◌≡◌, ◌<◌, inl, inr, suc, ◌+◌, length, arith, append-nil, ℕ, Option, Some, None, List, [], ◌∷◌, ◌++◌, take, drop, refl, sym, ap, ◌∙◌, subst, append_assoc, take-append-drop, Item, RecordCut, RecordTooLong, Joining, Between, Header, Bytes, Whole, TooLong, Ends, Runs, Stops, after, landed, Known, Container, Error, Fault, Side, Client, Server, Event, Spot, ReplyItems, refusal, Entry, fault_at, Streams, Cursor, after-append, judge_call, judge_replies, judge_reply, Parsing, file_next, file_start, parsed, emitted, IsBeforeMark, opened_at, unpacking_at, StoredWith, Two, KnowsNone, Recalls, ShowsFirst, IsTableOf, xids_in, Judged, parsing_at, resumed, call_judged, reply_judged, emitted_at, connection_begun, turned, connection_closed, unpacking_with, fault_in_record, xid_in, Ok, nat_eq, Stop}
 use Rattle.std.specs.Prelude.{min, ◌^◌}
 use Rattle.capture3.specs.Rank.{number_limit, rank}
-use Rattle.record_mark.specs.Taking.{Taking, Led, OutOfMemory, IsRunning, IsWhole, body_of, joined_body, released, unbegun}
+use Rattle.record_mark.specs.Taking.{Taking, Led, IsRunning, IsWhole, body_of, joined_body, released, unbegun}
 use Rattle.capture3.specs.declared.reader.entry.Kind.TheVariants as kinds
 use Rattle.capture3.specs.declared.fault.Error.TheVariants as errors
 use Rattle.capture3.specs.declared.container.position.spot.Event.TheVariants.{Begin, Record, Turn, Close}
 use Rattle.capture3.specs.declared.container.position.Position.{Position}
-use Rattle.capture3.specs.machinery.Container.{AreStored, Comes, ComesNext, ComesToFault, FirstKept, FromFile, InFile, InFirstKept, InNextKept, IsStored, Leaves, NextKept, Recalled, first_cursor, RecallFails, unpacking_of, arrived, Arrives, ShowsError}
+use Rattle.capture3.specs.machinery.Container.{AreStored, Comes, ComesToFault, FirstKept, FromFile, InFile, InFirstKept, InNextKept, Leaves, NextKept, Recalled, first_cursor, RecallFails, unpacking_of, arrived, Arrives, ShowsError}
 use Rattle.capture3.specs.Entry as entries
 use Rattle.capture3.specs.machinery.Pairing.{StandsAt, StandsOrRecalls, HasCome, after_side_word, HasMet, HasRecalled, MeetsEvent, met, met_in, GoesTo, FailsAt, IsOfBytes, error_at}
 use Rattle.capture3.specs.machinery.ScannedMessages.{ScansCall, ScansReply, StopsMessage}
-use Rattle.capture3.specs.declared.message.scan.CallHead.{CallHead}
+use Rattle.capture3.specs.declared.message.scan.ScannedCall.{ScannedCall}
 use Rattle.capture3.specs.machinery.Calls.{Gains, number_for}
 use Rattle.capture3.specs.MessageVisit.{OpensMessage, Hears}
 use Rattle.capture3.proofs.Lemmas.Messages.MessageScanLemmas.{call_agrees}
@@ -20,7 +20,7 @@ use Rattle.xdr3.specs.declared.reason.GetError.{GetError}
 use Rattle.xdr3.specs.declared.reason.GetError.TheVariants as gets
 use Rattle.capture3.specs.StreamMachine as reading
 use Rattle.capture3.specs.declared.container.position.spot.Event.TheVariants as events
-use Rattle.capture3.proofs.Lemmas.Container.KeptStreamsLemmas.{call_cut, call_recalled, call_refused, close_recalled, reply_cut, reply_recalled, reply_refused, shows_at_last, turn_recalled}
+use Rattle.capture3.proofs.Lemmas.Container.KeptStreamsLemmas.{call_recalled, client_shows, close_recalled, leaves_next, refuses_next, reply_recalled, server_shows, shows_at_last, turn_recalled}
 use Rattle.capture3.proofs.Lemmas.Container.ContainerLemmas.{mark_is}
 use Rattle.capture3.specs.machinery.FileStanding as resuming
 use Rattle.capture3.specs.machinery.ContainerMachine.{Mark, Unpacking, Refuses, unpack_next, unpacking_start}
@@ -91,10 +91,7 @@ stands_on p q t u old new table bytes all piece event s is came =
 met_is : (event : Event) (q : Position) (u : Taking) (streams : Streams)
     → arrived (Some event) q u streams ≡ Stops (met event q u streams)
 met_is Begin q u streams = refl
-met_is (Record side) q u streams = refl
-met_is Turn q u streams = refl
-met_is Close q u streams = refl
-met_is events.Streams q u streams = refl
+met_is event q u streams = refl
 
 pub stands_met : (p : Position) (t : Taking) (old : Streams) (new : Container)
     (table : Known) (bytes : List ℕ) (all : List Entry) (piece : List ℕ) (event : Event)
@@ -164,9 +161,8 @@ stands_fails p t streams table bytes all piece (errors.Refused fault) s (n, with
       is = refl;
       emits = s.emitted ∙ sym m.emits ∙ sym (append-nil (emitted m.state));
     }
-stands_fails p t streams table bytes all piece errors.Read s fails = fails
-stands_fails p t streams table bytes all piece errors.Write s fails = fails
 stands_fails p t streams table bytes all piece errors.Memory s fails = tt
+stands_fails p t streams table bytes all piece error s fails = fails
 
 -- what the first bytes fail at, all fail at
 pub fails_longer : (bytes piece : List ℕ) (n : ℕ) (all : List Entry) (error : Error)
@@ -189,24 +185,17 @@ fails_longer bytes piece n all (errors.Refused fault) s =
       is = s.is;
       emits = s.emits;
     }
-fails_longer bytes piece n all errors.Read f = f
-fails_longer bytes piece n all errors.Write f = f
-fails_longer bytes piece n all errors.Memory f = tt
+fails_longer bytes piece n all error f = f
 
 -- ---- what is whole
 
 pub at_rest : (t : Taking) → IsRunning t → released t ≡ t
 at_rest (Led (Runs s)) h = refl
-at_rest (Led (Stops end)) h = absurd h
-at_rest (Led (Stopped end)) h = absurd h
-at_rest OutOfMemory h = absurd h
+at_rest t h = absurd h
 
 pub let_go : (t : Taking) → IsWhole t → released t ≡ unbegun
 let_go (Led (Stops (Whole body))) h = refl
-let_go (Led (Stops (TooLong at))) h = absurd h
-let_go (Led (Runs s)) h = absurd h
-let_go (Led (Stopped end)) h = absurd h
-let_go OutOfMemory h = absurd h
+let_go t h = absurd h
 
 come_at_rest : (c : Container) (table : Known) (bytes : List ℕ) (all : List Entry)
     → c.cursor ≡ None → IsRunning c.joiner.taking
@@ -294,7 +283,7 @@ module _ {V : Type 0} (rests stands : V → List Item → Type 0) where
   -- ---- a call, from the file or from streams
 
   -- a call that is admitted joins the calls of its connection
-  call_joins : (was now : V) (table new : Known) (body : List ℕ) (call : CallHead) (number : ℕ)
+  call_joins : (was now : V) (table new : Known) (body : List ℕ) (call : ScannedCall) (number : ℕ)
       → (k : ScansCall rests stands body call was now) → call.xid < 2 ^ 32
       → Some number ≡ number_for table call.xid call.id → Gains table call.xid call.id new
       → (calls : List (List Item)) → IsTableOf table calls
@@ -315,7 +304,7 @@ module _ {V : Type 0} (rests stands : V → List Item → Type 0) where
       )
 
   pub call_goes : (was now : V) (c : Container) (table new : Known) (bytes : List ℕ)
-      (all : List Entry) (call : CallHead) (number : ℕ) → IsWhole c.joiner.taking
+      (all : List Entry) (call : ScannedCall) (number : ℕ) → IsWhole c.joiner.taking
       → MeetsEvent c table (Record Client) bytes all
       → ScansCall rests stands (body_of c.joiner.taking) call was now → call.xid < 2 ^ 32
       → Some number ≡ number_for table call.xid call.id → Gains table call.xid call.id new
@@ -456,17 +445,20 @@ module _ (c : Container) (table : Known) (bytes : List ℕ) (all : List Entry) (
       let same : suc (length j.calls) ≡ c.position.records =
       omega (arith, m.records_are, m.stood.here.1) in
       subst (λ (n : ℕ). ShowsFirst bytes all (fault_here Client n)) same
-      (call_refused (after_side_word c.position) c.streams.kept m.taken m.records table bytes all
-      m.stood m.count (Whole (body_of c.joiner.taking)) (fault_at j.calls stop.at stop.reason)
-      m.joins (ap (reading.judged j.calls) (stops stop refl)))
+      (client_shows (after_side_word c.position) c.streams.kept m.taken m.records table bytes all
+      m.stood (fault_at j.calls stop.at stop.reason)
+      (refuses_next judge_call j.calls m.taken c.streams.kept.client m.stood.here.0 m.count
+      (Whole (body_of c.joiner.taking)) _ m.joins (ap (reading.judged j.calls) (stops stop refl))))
   streams_stop Server m stops =
       let j : Judged = m.stood.so_far in
       let same : suc (length j.replies) ≡ c.position.records =
       omega (arith, m.records_are, m.stood.here.2) in
       subst (λ (n : ℕ). ShowsFirst bytes all (fault_here Server n)) same
-      (reply_refused (after_side_word c.position) c.streams.kept m.taken m.records table bytes all
-      m.stood m.count (Whole (body_of c.joiner.taking)) (fault_at j.replies stop.at stop.reason)
-      m.joins (ap (reading.judged j.replies) (stops stop refl)))
+      (server_shows (after_side_word c.position) c.streams.kept m.taken m.records table bytes all
+      m.stood (fault_at j.replies stop.at stop.reason)
+      (refuses_next (judge_replies j.calls) j.replies m.taken c.streams.kept.server m.stood.here.1
+      m.count (Whole (body_of c.joiner.taking)) _ m.joins
+      (ap (reading.judged j.replies) (stops stop refl))))
 
 pub record_fails : (c : Container) (table : Known) (bytes : List ℕ) (all : List Entry)
     (side : Side) (error : GetError) → MeetsEvent c table (Record side) bytes all
@@ -593,8 +585,7 @@ module _ (cursor : Cursor) (old new : Container) (table : Known) (bytes : List �
   recalled_meets (Record side) leaves stored r = recalled_record side r
   recalled_meets Turn leaves stored r = inr (recalled_turn r)
   recalled_meets Close leaves stored r = inr (recalled_close leaves stored r)
-  recalled_meets Begin leaves stored r = absurd r
-  recalled_meets events.Streams leaves stored r = absurd r
+  recalled_meets event leaves stored r = absurd r
 
 left_open : {M : Type 0} (messages : List M) (j : Joining) → (j ≡ Between → ⊥)
     → reading.left_in messages j
@@ -612,30 +603,36 @@ recall_fails_at Client taken p streams table bytes all fault r (inl (at, n, stop
     let same : suc (length r.so_far.calls) ≡ p.records + 1 = omega (arith, r.here.1) in
     subst (ShowsFirst bytes all) (ap
     (λ (k : ℕ). fault_in_record p.connections Client k at RecordTooLong) same ∙ sym is)
-    (call_refused (after_side_word p) streams taken p.records table bytes all r n (TooLong at)
-    (fault_at r.so_far.calls at RecordTooLong) stops refl)
+    (client_shows (after_side_word p) streams taken p.records table bytes all r
+    (fault_at r.so_far.calls at RecordTooLong)
+    (refuses_next judge_call r.so_far.calls taken streams.client r.here.0 n (TooLong at) _ stops
+    refl))
 recall_fails_at Client taken p streams table bytes all fault r (inr (j, open_is, runs, is)) =
     let same : suc (length r.so_far.calls) ≡ p.records + 1 = omega (arith, r.here.1) in
     subst (ShowsFirst bytes all) (ap
     (λ (k : ℕ). fault_in_record p.connections Client k (length (joined_body j)) RecordCut)
     same ∙ sym is)
-    (call_cut (after_side_word p) streams taken p.records table bytes all r j
-    (fault_at r.so_far.calls (length (joined_body j)) RecordCut) runs
-    (left_open r.so_far.calls j open_is))
+    (client_shows (after_side_word p) streams taken p.records table bytes all r
+    (fault_at r.so_far.calls (length (joined_body j)) RecordCut)
+    (leaves_next judge_call r.so_far.calls taken streams.client r.here.0 j runs
+    ∙ left_open r.so_far.calls j open_is))
 recall_fails_at Server taken p streams table bytes all fault r (inl (at, n, stops, is)) =
     let same : suc (length r.so_far.replies) ≡ p.records + 1 = omega (arith, r.here.2) in
     subst (ShowsFirst bytes all) (ap
     (λ (k : ℕ). fault_in_record p.connections Server k at RecordTooLong) same ∙ sym is)
-    (reply_refused (after_side_word p) streams taken p.records table bytes all r n (TooLong at)
-    (fault_at r.so_far.replies at RecordTooLong) stops refl)
+    (server_shows (after_side_word p) streams taken p.records table bytes all r
+    (fault_at r.so_far.replies at RecordTooLong)
+    (refuses_next (judge_replies r.so_far.calls) r.so_far.replies taken streams.server r.here.1 n
+    (TooLong at) _ stops refl))
 recall_fails_at Server taken p streams table bytes all fault r (inr (j, open_is, runs, is)) =
     let same : suc (length r.so_far.replies) ≡ p.records + 1 = omega (arith, r.here.2) in
     subst (ShowsFirst bytes all) (ap
     (λ (k : ℕ). fault_in_record p.connections Server k (length (joined_body j)) RecordCut)
     same ∙ sym is)
-    (reply_cut (after_side_word p) streams taken p.records table bytes all r j
-    (fault_at r.so_far.replies (length (joined_body j)) RecordCut) runs
-    (left_open r.so_far.replies j open_is))
+    (server_shows (after_side_word p) streams taken p.records table bytes all r
+    (fault_at r.so_far.replies (length (joined_body j)) RecordCut)
+    (leaves_next (judge_replies r.so_far.calls) r.so_far.replies taken streams.server r.here.1 j
+    runs ∙ left_open r.so_far.replies j open_is))
 
 recall_fails : (cursor : Cursor) (p : Position) (t : Taking) (streams : Streams)
     (table : Known) (bytes : List ℕ) (all : List Entry) (error : Error)
@@ -643,9 +640,7 @@ recall_fails : (cursor : Cursor) (p : Position) (t : Taking) (streams : Streams)
     → RecallFails cursor p streams error → FailsAt bytes all error
 recall_fails cursor p t streams table bytes all (errors.Refused fault) s f =
     recall_fails_at cursor.side cursor.taken p streams table bytes all fault s f
-recall_fails cursor p t streams table bytes all errors.Read s f = f
-recall_fails cursor p t streams table bytes all errors.Write s f = f
-recall_fails cursor p t streams table bytes all errors.Memory s f = tt
+recall_fails cursor p t streams table bytes all error s f = f
 
 -- the entries so far were counted
 pub counted_here : (cursor : Option Cursor) (p : Position) (t : Taking) (streams : Streams)
@@ -689,7 +684,8 @@ module _ (old new : Container) (table : Known) (bytes : List ℕ) (all : List En
   comes_on is leaves (NextKept cursor one some nothing also recalled) = absurd (cc)
 
   pub comes_meets : (event : Event) → came ≡ Some event → Leaves came new.joiner.taking
-      → IsStored old → Comes old new piece came → MeetsEvent new table event (bytes ++ piece) all
+      → AreStored old.position old.cursor old.streams.kept → Comes old new piece came
+      → MeetsEvent new table event (bytes ++ piece) all
   comes_meets event is leaves stored (FromFile none unopened arrives) =
       inl (
         unopened,
@@ -714,16 +710,6 @@ module _ (old new : Container) (table : Known) (bytes : List ℕ) (all : List En
       (rw some at stored)
       recalled))
 
--- the same of what comes next
-pub next_meets : (old new : Container) (table : Known) (bytes : List ℕ) (all : List Entry)
-    (piece : List ℕ) (next : ℕ × Option Event) → StandsOrRecalls old.cursor old.position
-    old.joiner.taking old.streams.kept table bytes all → IsStored old → ComesNext old new piece next
-    → (event : Event) → next.1 ≡ Some event
-    → MeetsEvent new table event (bytes ++ take next.0 piece) all
-next_meets old new table bytes all piece next s stored comes event is =
-    comes_meets old new table bytes all (take next.0 piece) next.1 s event is comes.joiner stored
-    comes.comes
-
 pub comes_to_fault : (old : Container) (table : Known) (bytes : List ℕ)
     (all : List Entry) (piece : List ℕ) (error : Error)
     → StandsOrRecalls old.cursor old.position old.joiner.taking old.streams.kept table bytes all
@@ -747,9 +733,6 @@ pub comes_of_bytes : (old : Container) (bytes : List ℕ) (error : Error)
     → ComesToFault old bytes error → IsOfBytes error
 comes_of_bytes old bytes (errors.Refused fault) h = tt
 comes_of_bytes old bytes errors.Memory h = tt
-comes_of_bytes old bytes errors.Read (InFile none shows) = shows
-comes_of_bytes old bytes errors.Read (InFirstKept mid n none arrives fails) = fails
-comes_of_bytes old bytes errors.Read (InNextKept cursor some fails) = fails
-comes_of_bytes old bytes errors.Write (InFile none shows) = shows
-comes_of_bytes old bytes errors.Write (InFirstKept mid n none arrives fails) = fails
-comes_of_bytes old bytes errors.Write (InNextKept cursor some fails) = fails
+comes_of_bytes old bytes error (InFile none shows) = shows
+comes_of_bytes old bytes error (InFirstKept mid n none arrives fails) = fails
+comes_of_bytes old bytes error (InNextKept cursor some fails) = fails

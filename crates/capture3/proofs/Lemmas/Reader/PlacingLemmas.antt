@@ -7,9 +7,8 @@ use Rattle.capture3.specs.declared.reader.entry.Kind.TheVariants as kinds
 use Rattle.capture3.specs.machinery.Stepping.{IsOfKind}
 use Rattle.capture3.specs.Progress.{AreCounted, calls_in, records_after, replies_in}
 use Rattle.capture3.specs.Rank.{number_limit}
-use Rattle.capture3.specs.machinery.Pairing.{CountsMessages}
 use Rattle.capture3.specs.machinery.ContainerMachine.{Opened, Magic, Digit, Mark, Length, Chunk, Mixed, Ended, Unpacking, Unpacked, chunk_counted, connection_marked, in_chunk, mixed_at, mixed_ended, open_step, record_joined, unpack_next}
-use Rattle.capture3.specs.machinery.Placing.{IsAt, PlacesNext}
+use Rattle.capture3.specs.machinery.Pairing.{CountsMessages, IsAt, PlacesNext}
 use Rattle.capture3.proofs.Lemmas.Reached.Limits.{begins-append}
 
 -- ---- one byte
@@ -191,11 +190,5 @@ messages_more (kinds.Reply id) c r d s before one (items, is) (same, more) few c
         replies-append before (one ∷ []),
       ),
     )
-messages_more kinds.Begin c r d s before one is (same, still) few calls replies =
-    none_more c r d s before one (rw is refl) (rw is refl) same still calls replies
-messages_more kinds.Turn c r d s before one is (same, still) few calls replies =
-    none_more c r d s before one (rw is refl) (rw is refl) same still calls replies
-messages_more kinds.Close c r d s before one is (same, still) few calls replies =
-    none_more c r d s before one (rw is refl) (rw is refl) same still calls replies
-messages_more kinds.End c r d s before one is (same, still) few calls replies =
+messages_more kind c r d s before one is (same, still) few calls replies =
     none_more c r d s before one (rw is refl) (rw is refl) same still calls replies

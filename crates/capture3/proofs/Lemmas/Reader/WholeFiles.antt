@@ -1,5 +1,5 @@
 -- A whole file: from where its machine stands to what is to be said of it.
-use Rattle.capture3.proofs.Common.{Result, ◌≡◌, ℕ, zero, suc, ◌+◌, ◌-◌, Option, Some, None, take-append-drop, List, [], ◌∷◌, ◌++◌, length, take, take_all, drop, length-drop, append-nil, arith, refl, sym, ap, ◌∙◌, subst, Ok, Err, Bool, false, is_some, CaptureCut, AreBytes, Item, Joining, Taking, released, Known, Kind, Error, Client, Server, Spot, Container, Cursor, Version, unpacking_of, Entry, End, FirstFault, begins, concluded, verdict_of, ShowsFirst, Streams, file_fault, Typed, StandsAt, StandsOrRecalls, HasCome, GoesTo, FailsAt, IsHeld, opened_at, version_of, IsEndSpot, Judged, resumed_at, emitted_at, MAGIC}
+use Rattle.capture3.proofs.Common.{Result, ◌≡◌, ℕ, zero, suc, ◌+◌, ◌-◌, Option, Some, None, take-append-drop, List, [], ◌∷◌, ◌++◌, length, take, take_all, drop, length-drop, append-nil, arith, refl, sym, ap, ◌∙◌, subst, Ok, Err, Bool, false, is_some, CaptureCut, AreBytes, Joining, Taking, released, Known, Kind, Error, Client, Server, Spot, Container, Cursor, Version, unpacking_of, Entry, End, FirstFault, begins, concluded, verdict_of, ShowsFirst, Streams, file_fault, Typed, StandsAt, StandsOrRecalls, HasCome, GoesTo, FailsAt, IsHeld, opened_at, version_of, IsEndSpot, Judged, resumed_at, emitted_at, MAGIC}
 use Rattle.capture3.specs.declared.reader.entry.Entry as kept
 use Rattle.capture3.specs.declared.reader.entry.Entry.TheVariants as variants
 use Rattle.capture3.specs.declared.fault.Error.TheVariants as errors
@@ -134,9 +134,7 @@ first_fault (Err (errors.Refused fault)) bytes n entries error is are f =
     subst (λ (b : List ℕ). ShowsFirst b entries fault) (taken_whole bytes n) met in
     subst (λ (b : List ℕ). FirstFault b fault) (append-nil bytes)
     (first_of bytes [] entries fault are shows).0
-first_fault (Err errors.Read) bytes n entries error is are f = tt
-first_fault (Err errors.Write) bytes n entries error is are f = tt
-first_fault (Err errors.Memory) bytes n entries error is are f = tt
+first_fault (Err other) bytes n entries error is are f = tt
 
 -- ---- along the bytes
 
@@ -216,11 +214,7 @@ begun_is (one ∷ items) entries are =
         ap (λ (n : ℕ). 1 + n) same ∙ ap (λ (e : Entry). begins (e ∷ rest)) (sym is)
     begun_more (variants.Call call) items entry rest is same =
         same ∙ ap (λ (e : Entry). begins (e ∷ rest)) (sym is.3)
-    begun_more variants.Turn items entry rest is same =
-        same ∙ ap (λ (e : Entry). begins (e ∷ rest)) (sym is)
     begun_more (variants.Reply reply) items entry rest is same =
         same ∙ ap (λ (e : Entry). begins (e ∷ rest)) (sym is.2)
-    begun_more variants.Close items entry rest is same =
-        same ∙ ap (λ (e : Entry). begins (e ∷ rest)) (sym is)
-    begun_more variants.End items entry rest is same =
+    begun_more one items entry rest is same =
         same ∙ ap (λ (e : Entry). begins (e ∷ rest)) (sym is)

@@ -126,8 +126,7 @@ impl Counts {
         ensures steps { IfOk result (StepsOver self word) }
         ensures machine { (streams : kept.Streams) (joining : Joining)
             → StoredBefore word self.total streams → IsOpenBody so_far joining
-            → Lands (word_read word self.at self.total self.connections self.records streams joining
-            n) streams joining result }
+            → Lands (word_read word self streams joining n) streams joining result }
     {
         match word {
             WordOf::Mark(version) => self.after_mark(version, n, count),
@@ -344,8 +343,9 @@ impl Counts {
         ensures taken { IfOk result (TakesSome rest.now) }
         ensures leads { (streams : kept.Streams)
             → StoredAt (Spot.Chunk side left) self.total streams
-            → IfOk result (λ t. Leads (standing_at self (Spot.Chunk side left)) joiner.old.taking
-            streams (take t.count rest.now) t.event t.position joiner.new.taking streams) }
+            → IfOk result (λ t. Leads (standing_at self (Spot.Chunk side left)) t.position
+            (joiner.old.taking, joiner.new.taking) (streams, streams) (take t.count rest.now)
+            t.event) }
 
         // Errors.
         ensures fault { (streams : kept.Streams)

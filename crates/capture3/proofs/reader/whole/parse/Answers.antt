@@ -70,9 +70,6 @@ returns-clause-connections c =
     let of = returns-clause-entries c in
     omega (arith, begun_is _ of.0 of.2, (typed_within c.args.bytes.now of.0 of.1).few)
 
-pub returns-clause-spelled : goal.returns-clause-spelled
-returns-clause-spelled c entries typed = (typed_within c.args.bytes.now entries typed).small
-
 pub returns-in_err-end-clause-fault : goal.returns-in_err-end-clause-fault
 returns-in_err-end-clause-fault c =
     let invariant = c.loop-taken.invariant in

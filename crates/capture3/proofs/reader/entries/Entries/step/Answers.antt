@@ -21,7 +21,7 @@ returns-in-Ok-clause-answers g c given handed s =
     (c.loop-self.invariant.has_read given handed s) c.refill.ensures.has_read
     (λ so_far out at.
     end_on g.R.Source.observed Passed c.finish.new.self so_far out told ends.last
-    (ends.ok so_far out at)) ends.device.unread)
+    (ends.ok so_far out at)) (ap (λ s. s.now) ends.device.0))
 
 pub returns-in-Err-finish-clause-answers : goal.returns-in-Err-finish-clause-answers
 returns-in-Err-finish-clause-answers g c given handed s =
@@ -35,7 +35,7 @@ returns-in-Err-finish-clause-answers g c given handed s =
     (c.loop-self.invariant.has_read given handed s) c.refill.ensures.has_read
     (λ so_far out at.
     none_on g.R.Source.observed Passed c.finish.new.self so_far out ends.failure.unlent
-    (ends.err so_far out at)) ends.device.unread)
+    (ends.err so_far out at)) (ap (λ s. s.now) ends.device.0))
 
 pub returns-in-Err-clause-answers : goal.returns-in-Err-clause-answers
 returns-in-Err-clause-answers g c given handed s =

@@ -1,5 +1,5 @@
 use Rattle.capture3.proofs.Common.{◌≡◌, ◌≤◌, ◌+◌, ◌-◌, List, ℕ, Entry, Two, most_bytes, entries_left, HasRead, StandsFor}
-use Rattle.capture3.specs.declared.reader.entries.Stage.TheVariants.{Reading}
+use Rattle.capture3.specs.declared.reader.entries.ReaderStage.TheVariants.{Reading}
 use Rattle.capture3.specs.Entries.{block_size}
 use Rattle.capture3.proofs.reader.entries.Entries.step.Given as goal
 

@@ -15,8 +15,7 @@ returns-in-Whole-clause-machine c joining body streams stored =
     lands_moves
     (unpacking_at (standing_at c.args.self (Word c.args.word c.args.part)) streams joining)
     c.args.rest.now streams joining c.taken-count.result.0
-    (word_read c.args.word c.args.self.at c.args.self.total c.args.self.connections
-    c.args.self.records streams joining c.in-Whole.n) _ c.taken-count.ensures.within
+    (word_read c.args.word c.args.self streams joining c.in-Whole.n) _ c.taken-count.ensures.within
     (word_whole c.args.self streams joining c.args.word c.args.part c.args.rest.now _ c.in-Whole.n
     (rw c.in-Whole.is at c.taken-count.ensures.word))
     c.after_word.ensures.count (c.after_word.ensures.machine streams joining stored body)

@@ -1,6 +1,6 @@
 use Rattle.capture3.proofs.Common.{◌≡◌, ℕ, ◌+◌, ◌-◌, ◌%◌, Bool, if◌then◌else◌, ap, sym, ◌∙◌, w32, swap_bytes, home_of}
-use Rattle.capture3.proofs.message.counting.Counting.home.Goals as goal
-use Rattle.capture3.proofs.message.counting.Counting.home.Goals.{then-self, else-self}
+use Rattle.capture3.proofs.message.counting.XidCounting.home.Goals as goal
+use Rattle.capture3.proofs.message.counting.XidCounting.home.Goals.{then-self, else-self}
 
 pub returns : goal.returns
 unfolding home_of

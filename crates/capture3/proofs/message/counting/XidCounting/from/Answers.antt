@@ -1,5 +1,5 @@
 use Rattle.capture3.proofs.Common.{◌≡◌, ℕ, ◌+◌, ◌-◌, ◌%◌, ◌<◌, Bool, if◌then◌else◌, ap, sym, ◌∙◌, arith, w32, swap_bytes, home_of}
-use Rattle.capture3.proofs.message.counting.Counting.from.Goals as goal
+use Rattle.capture3.proofs.message.counting.XidCounting.from.Goals as goal
 
 from_itself : (n first : ℕ) → n ≡ first → first < 4294967296
     → (n + (4294967296 - first)) % 4294967296 ≡ 0

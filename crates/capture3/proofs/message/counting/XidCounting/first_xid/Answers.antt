@@ -1,6 +1,6 @@
 use Rattle.capture3.proofs.Common.{◌≡◌, ℕ, ◌+◌, ◌-◌, ◌%◌, ◌<◌, Bool, if◌then◌else◌, ap, ◌∙◌, arith, w32, swap_bytes, home_of}
 use Rattle.capture3.proofs.Lemmas.Connections.LineLemmas.{swapped_twice}
-use Rattle.capture3.proofs.message.counting.Counting.first_xid.Goals as goal
+use Rattle.capture3.proofs.message.counting.XidCounting.first_xid.Goals as goal
 
 at_zero : (n first : ℕ) → n ≡ first → first < 4294967296
     → (n + (4294967296 - first)) % 4294967296 ≡ 0
