@@ -72,11 +72,9 @@ pub use Rattle.canon3.specs.declared.canonical_form.message_writer.MessageWriter
 pub use Rattle.canon3.specs.declared.comparison.verdict.SameError.{SameError}
 pub use Rattle.capture3.specs.declared.reader.progress.Progress.{Progress}
 pub use Rattle.canon3.specs.declared.summary.Summary.{Summary}
-pub use Rattle.canon3.specs.machinery.ComparisonSteps.{Agree, HasGivenOn, PartWith}
-pub use Rattle.canon3.specs.machinery.FormSteps.{are_some, magic_unless, values_before}
-pub use Rattle.canon3.specs.machinery.MessageWriter.{AreFew, Before, HoldsBefore, IsGoing, IsNotedAs, IsWithinMessage, Notes, WriterRests, WriterStands, items_of_writer, values_of}
+pub use Rattle.canon3.specs.machinery.ComparisonSteps.{Agree, PartWith}
+pub use Rattle.canon3.specs.machinery.MessageWriter.{AreFew, Before, HoldsBefore, IsGoing, IsNotedAs, IsWithinMessage, WriterRests, WriterStands, items_of_writer, values_before, values_of}
 pub use Rattle.capture3.specs.OpenXids.{open_xids}
-pub use Rattle.canon3.specs.machinery.PartialWrites.{TookUpTo}
-pub use Rattle.canon3.specs.machinery.ProgressSteps.{place_from, side_in}
+pub use Rattle.canon3.specs.machinery.ProgressSteps.{place_from}
 pub use Rattle.canon3.specs.machinery.Spelling.{HasSpelled, bytes_after, spelling_of}
 pub use Rattle.canon3.specs.HandleTable.{all_items}

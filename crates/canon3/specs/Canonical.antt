@@ -3,6 +3,7 @@ use Rattle.std.specs.Prelude.{ℕ, List, [], ◌∷◌, map, nat_eq, bytes_eq}
 use Rattle.byteorder.specs.Endian.{big_bytes}
 use Rattle.xdr3.specs.Item.{Item, Word, Opaque, Handle, WriteVerf, word_bytes}
 use Rattle.capture3.specs.Entry.{Entry, Begin, Call, Turn, Reply, Close, End}
+use Rattle.canon3.specs.Bytes.{bytes_of}
 use Rattle.canon3.specs.Values.{handles, verifiers, call_xids}
 use Rattle.capture3.specs.Rank.{rank}
 
@@ -34,3 +35,6 @@ numbered hs vs xs (End ∷ es) = End ∷ numbered hs vs xs es
 -- connection's calls
 abbrev pub canonical : List Entry → List Entry
 canonical es = numbered (handles es) (verifiers es) [] es
+
+abbrev pub canonical_bytes : List Entry → List ℕ
+canonical_bytes es = bytes_of (canonical es)

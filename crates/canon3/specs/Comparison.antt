@@ -1,6 +1,6 @@
 -- What a comparison of two captures answers.
 use Rattle.std.specs.Prelude.{◌≡◌, ℕ, ◌+◌, ◌-◌, ◌^◌, Bool, true, false, cond, min, List, Result, Ok, Err}
-use Rattle.capture3.specs.Observed.{Gave, IsSpent, Observed}
+use Rattle.capture3.specs.Observed.{Gave, Observed}
 use Rattle.capture3.specs.declared.fault.Error.{Error}
 use Rattle.capture3.specs.declared.fault.Error.TheVariants as errors
 use Rattle.capture3.specs.declared.fault.Fault.{Fault}
@@ -15,15 +15,14 @@ use Rattle.canon3.specs.declared.comparison.verdict.Which.{Which}
 use Rattle.canon3.specs.declared.comparison.verdict.Which.TheVariants.{First, Second}
 use Rattle.canon3.specs.Parting.{Parting}
 use Rattle.canon3.specs.Renaming.{Same}
+use Rattle.canon3.specs.Summary.{GaveAll}
 
 -- The fault is the first of the first file, or of the second where the first is well formed. No
 -- other error says anything of them.
 abbrev pub StopsComparing : (file other : List ℕ) → Error → Which → Type 0
 StopsComparing file other (errors.Refused fault) First = FirstFault file fault
 StopsComparing file other (errors.Refused fault) Second = IsWellFormed file × FirstFault other fault
-StopsComparing file other errors.Read which = Unit {0}
-StopsComparing file other errors.Write which = Unit {0}
-StopsComparing file other errors.Memory which = Unit {0}
+StopsComparing file other _ which = Unit {0}
 
 -- Both files are well formed, and their entries are the same up to renaming, or are not and part at
 -- the place; or an error came.
@@ -34,40 +33,30 @@ DecidesSame file other (Ok (verdicts.Differ place)) = (a : List Entry) × (b : L
     × Typed file a × Typed other b × (Same a b → ⊥) × Parting a b place
 DecidesSame file other (Err error) = StopsComparing file other error.error error.which
 
--- the source gave a capture with these entries, and no byte is left
-pub record GaveAll (old new : Observed) (entries : List Entry) : Type 0 where
-  pub given : List ℕ
-  pub gave : Gave old new given
-  pub ended : IsSpent new
-  pub typed : Typed given entries
-
 -- the source gave bytes that show this fault
-pub record GaveFault (old new : Observed) (fault : Fault) : Type 0 where
+pub record GaveFault (source : Observed × Observed) (fault : Fault) : Type 0 where
   pub given : List ℕ
   pub handed : List Entry
-  pub gave : Gave old new given
-  pub shown : IsShownBy new given handed fault
+  pub gave : Gave source.0 source.1 given
+  pub shown : IsShownBy source.1 given handed fault
 
--- two sources, as each was observed before the call, and as it is now
-module _ (old new old_other new_other : Observed) where
+-- two sources, each as it was observed before the call, and as it is now
+module _ (first second : Observed × Observed) where
   -- The fault is shown by what the first gave, or by what the second gave if the first gave a whole
   -- capture. No other error says anything.
   abbrev pub StopsGiven : Error → Which → Type 0
-  StopsGiven (errors.Refused fault) First = GaveFault old new fault
-  StopsGiven (errors.Refused fault) Second = ((a : List Entry) × GaveAll old new a)
-      × GaveFault old_other new_other fault
-  StopsGiven errors.Read which = Unit {0}
-  StopsGiven errors.Write which = Unit {0}
-  StopsGiven errors.Memory which = Unit {0}
+  StopsGiven (errors.Refused fault) First = GaveFault first fault
+  StopsGiven (errors.Refused fault) Second = ((a : List Entry) × GaveAll first a)
+      × GaveFault second fault
+  StopsGiven _ which = Unit {0}
 
   -- Both gave whole captures, whose entries are the same up to renaming, or are not and part at the
   -- place; or an error came.
   abbrev pub DecidesGiven : Result Verdict SameError → Type 0
-  DecidesGiven (Ok verdicts.Same) = (a : List Entry) × (b : List Entry) × GaveAll old new a
-      × GaveAll old_other new_other b × Same a b
-  DecidesGiven (Ok (verdicts.Differ place)) =
-      (a : List Entry) × (b : List Entry) × GaveAll old new a × GaveAll old_other new_other b
-      × (Same a b → ⊥) × Parting a b place
+  DecidesGiven (Ok verdicts.Same) = (a : List Entry) × (b : List Entry) × GaveAll first a
+      × GaveAll second b × Same a b
+  DecidesGiven (Ok (verdicts.Differ place)) = (a : List Entry) × (b : List Entry)
+      × GaveAll first a × GaveAll second b × (Same a b → ⊥) × Parting a b place
   DecidesGiven (Err error) = StopsGiven error.error error.which
 
 -- a read of this one failed

@@ -5,7 +5,6 @@ pub mod Summary
 pub mod Values
 pub mod OneToOne
 pub mod Renaming
-pub mod Rank
 pub mod Canonical
 pub mod Bytes
 pub mod CanonicalStream
@@ -17,6 +16,5 @@ pub mod SinkWrites
 pub mod MemSink
 pub mod WriteErrors
 pub mod EntryWriter
-pub mod CanonicalForm
 pub mod Comparison
 pub mod machinery

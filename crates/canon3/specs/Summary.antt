@@ -1,4 +1,4 @@
--- What a capture has of each kind.
+-- A source that gave a capture, and what a capture has of each kind.
 use Rattle.std.specs.Prelude.{◌≡◌, ℕ, List, IfOk, bytes_eq, length, min, Result, Ok, Err}
 use Rattle.capture3.specs.Observed.{Gave, IsSpent, Observed}
 use Rattle.capture3.specs.declared.fault.Error.{Error}
@@ -12,6 +12,14 @@ use Rattle.canon3.specs.declared.summary.MessageCounts.{MessageCounts}
 use Rattle.canon3.specs.declared.summary.Summary.{Summary}
 use Rattle.capture3.specs.Rank.{distinct, number_limit}
 use Rattle.canon3.specs.Values.{handles}
+
+-- a source, as it was observed before and is observed now, gave a capture with these entries, and
+-- no byte is left
+pub record GaveAll (source : Observed × Observed) (entries : List Entry) : Type 0 where
+  pub given : List ℕ
+  pub gave : Gave source.0 source.1 given
+  pub ended : IsSpent source.1
+  pub typed : Typed given entries
 
 -- the bytes are a well-formed capture, and have so many connections, calls and replies
 pub record AreMessageCounts (bytes : List ℕ) (counts : MessageCounts) : Type 0 where

@@ -1,9 +1,7 @@
 -- What clauses inside the crate and proofs name, and no reader of a public clause has to believe.
-pub mod FormSteps
 pub mod ComparisonSteps
 pub mod Reading
 pub mod WritingSteps
 pub mod MessageWriter
 pub mod ProgressSteps
-pub mod PartialWrites
 pub mod Spelling

@@ -7,11 +7,11 @@ ghost use Rattle.std.specs.Prelude.{◌≡◌, ◌<◌, ◌^◌, ◌++◌, ◌�
 ghost use Rattle.capture3.specs.Entries.{CountsReading};
 ghost use Rattle.capture3.specs.Entry as spec;
 ghost use Rattle.canon3.specs.Laws.{AreFirst};
-ghost use Rattle.canon3.specs.machinery.MessageWriter.{WriterRests, WriterStands};
+ghost use Rattle.canon3.specs.machinery.MessageWriter.{WriterRests, WriterStands, values_before};
 ghost use Rattle.capture3.specs.Observed.{GavePrefix};
-ghost use Rattle.canon3.specs.CanonicalForm.{canonical_bytes, RewritesGiven, WritesNoMore};
-ghost use Rattle.canon3.specs.EntryWriter.{WritesAll};
-ghost use Rattle.canon3.specs.machinery.FormSteps.{Follows, values_before};
+ghost use Rattle.canon3.specs.Canonical.{canonical_bytes};
+ghost use Rattle.canon3.specs.EntryWriter.{WritesAll, WritesGiven};
+ghost use Rattle.canon3.specs.machinery.Spelling.{Follows};
 ghost use Rattle.capture3.specs.MessageVisit.{HasHeard};
 ghost use Rattle.capture3.specs.Numbering.{IsLentAfter};
 ghost use Rattle.canon3.specs.WriteErrors.{CountsWriting, IsOfWriting};
@@ -49,14 +49,11 @@ pub fn canon<R: Source, W: Sink, S: BuildHasher + Drop>(
     sink: &mut W,
 ) -> Result<Summary, Error>
     // What is written.
-    ensures rewrites { RewritesGiven (R.observed source.old) (R.observed source.new)
-        (W.written sink.old) (W.written sink.new) result }
+    ensures rewrites { WritesGiven canonical_bytes (R.observed source.old, R.observed source.new)
+        (W.written sink.old, W.written sink.new) result }
     ensures whole { (bytes : List ℕ)
         → GavePrefix (R.observed source.old) (R.observed source.new) bytes
-        → WritesAll canonical_bytes bytes (W.written sink.old) (W.written sink.new) result }
-    ensures no_longer { (bytes : List ℕ)
-        → GavePrefix (R.observed source.old) (R.observed source.new) bytes
-        → WritesNoMore bytes (W.written sink.old) (W.written sink.new) result }
+        → WritesAll canonical_bytes bytes (W.written sink.old, W.written sink.new) result }
     ensures flushes { OnOk result (IsFlushed (W.written sink.new) (W.flushed sink.new)) }
 
     // The devices.
@@ -92,10 +89,9 @@ fn write_after_magic<S: BuildHasher + Drop, W: Sink>(
 }
 
 impl<S: BuildHasher + Drop> EntryWriter for MessageWriter<S> {
-    ghost use Rattle.canon3.specs.machinery.MessageWriter.{IsGoing};
-    ghost use Rattle.canon3.specs.CanonicalForm.{canonical_bytes};
+    ghost use Rattle.canon3.specs.machinery.MessageWriter.{IsGoing, values_before};
+    ghost use Rattle.canon3.specs.Canonical.{canonical_bytes};
     ghost use Rattle.canon3.specs.Summary.{IsSummary};
-    ghost use Rattle.canon3.specs.machinery.FormSteps.{values_before};
 
     type Counts = Summary;
 

@@ -8,7 +8,8 @@ ghost use Rattle.capture3.specs.Entries.{failure_of, source_of};
 ghost use Rattle.capture3.specs.machinery.EntriesHistory.{entries_left};
 ghost use Rattle.capture3.specs.Entry as spec;
 ghost use Rattle.canon3.specs.Comparison.{CountsReadingOf, DecidesGiven, DecidesSame};
-ghost use Rattle.canon3.specs.machinery.ComparisonSteps.{Compares, FindsOut, HasGiven, HasGivenOn, IsFound, IsReadAfter, IsReadOut, HaveReceived, IsComparing, Meets, met_second, refusal_in, StepsOn};
+ghost use Rattle.canon3.specs.machinery.ComparisonSteps.{Compares, FindsOut, IsFound, IsReadAfter, IsReadOut, HaveReceived, IsComparing, Meets, met_second, refusal_in, StepsOn};
+ghost use Rattle.canon3.specs.machinery.WritingSteps.{HasGiven, since, source_since};
 ghost use Rattle.canon3.specs.machinery.Reading.{ReadsBoth, ReadsOne, ReadsSecond};
 ghost use Rattle.canon3.specs.Laws.{AreFirst};
 ghost use Rattle.capture3.specs.Numbering.{IsLentAfter};
@@ -46,10 +47,8 @@ pub fn same<A: Source, B: Source, S: BuildHasher + Drop>(
     second: &mut B,
 ) -> Result<Verdict, SameError>
     // The verdict.
-    ensures decides { (file other : List ℕ) → (A.observed first.old).left ≡ Some file
-        → (B.observed second.old).left ≡ Some other → DecidesSame file other result }
-    ensures gave { DecidesGiven (A.observed first.old) (A.observed first.new)
-        (B.observed second.old) (B.observed second.new) result }
+    ensures gave { DecidesGiven (A.observed first.old, A.observed first.new)
+        (B.observed second.old, B.observed second.new) result }
     ensures whole { (file other : List ℕ)
         → GavePrefix (A.observed first.old) (A.observed first.new) file
         → GavePrefix (B.observed second.old) (B.observed second.new) other
@@ -102,9 +101,10 @@ fn conclude<A: Source, B: Source, S: BuildHasher + Drop>(
     requires going_first { failure_of first.old ≡ None }
     requires going_second { failure_of second.old ≡ refusal_in (Some finding) }
     ensures gave { (start other_start : Observed)
-        → IsFound A.observed B.observed start other_start first.old second.old finding
-        → DecidesGiven start (A.observed (source_of first.new))
-        other_start (B.observed (source_of second.new)) result }
+        → IsFound (since A.observed start first.old) (since B.observed other_start second.old)
+        finding
+        → DecidesGiven (source_since (since A.observed start first.new))
+        (source_since (since B.observed other_start second.new)) result }
     ensures reads { ReadsBoth A.failures B.failures first.old first.new
         second.old second.new result }
 {
@@ -131,8 +131,8 @@ fn read_second<R: Source, S: BuildHasher + Drop>(
 ) -> Result<Verdict, SameError>
     requires going { failure_of entries.old ≡ None }
     ensures out { (start : Observed) (handed : List spec.Entry)
-        → HasGiven R.observed start entries.old handed
-        → IsReadAfter start (R.observed (source_of entries.new)) handed verdict result }
+        → HasGiven (since R.observed start entries.old) handed
+        → IsReadAfter (source_since (since R.observed start entries.new)) handed verdict result }
     ensures reads { ReadsSecond R.failures entries.old entries.new result }
 {
     match drain(entries) {
@@ -148,8 +148,8 @@ fn read_second<R: Source, S: BuildHasher + Drop>(
 fn drain<R: Source, S: BuildHasher + Drop>(entries: &mut Entries<'_, R, S>) -> Result<(), Error>
     requires going { failure_of entries.old ≡ None }
     ensures out { (start : Observed) (handed : List spec.Entry)
-        → HasGivenOn R.observed start entries.old handed
-        → IsReadOut start (R.observed (source_of entries.new)) handed result }
+        → HasGiven (since R.observed start entries.old) handed
+        → IsReadOut (source_since (since R.observed start entries.new)) handed result }
     ensures reads { ReadsOne R.failures entries.old entries.new result }
 {
     write_rest(entries, &mut Nowhere, &mut Silent)
@@ -169,15 +169,16 @@ impl<S: BuildHasher + Drop> Comparison<S> {
         first: &mut Entries<'_, A, S>,
         second: &mut Entries<'_, B, S>,
     ) -> Result<Verdict, SameError>
-        requires begins { IsComparing A.observed B.observed (A.observed (source_of first.old))
-            (B.observed (source_of second.old)) first.old second.old self.old }
+        requires begins { IsComparing
+            (since A.observed (A.observed (source_of first.old)) first.old)
+            (since B.observed (B.observed (source_of second.old)) second.old) self.old }
         requires going_first { failure_of first.old ≡ None }
         requires going_second { failure_of second.old ≡ None }
 
         // The verdict.
-        ensures gave { DecidesGiven (A.observed (source_of first.old))
-            (A.observed (source_of first.new))
-            (B.observed (source_of second.old)) (B.observed (source_of second.new)) result }
+        ensures gave { DecidesGiven
+            (A.observed (source_of first.old), A.observed (source_of first.new))
+            (B.observed (source_of second.old), B.observed (source_of second.new)) result }
 
         // The devices.
         ensures reads { ReadsBoth A.failures B.failures first.old first.new
@@ -198,8 +199,10 @@ impl<S: BuildHasher + Drop> Comparison<S> {
 
         // What is found.
         ensures found { (start other_start : Observed)
-            → IsComparing A.observed B.observed start other_start first.old second.old self.old
-            → FindsOut A.observed B.observed start other_start first.new second.new result }
+            → IsComparing (since A.observed start first.old)
+            (since B.observed other_start second.old) self.old
+            → FindsOut (since A.observed start first.new) (since B.observed other_start second.new)
+            result }
         ensures going_first { OnOk result (failure_of first.new ≡ None) }
         ensures going_second { IfOk result
             (λ finding. failure_of second.new ≡ refusal_in (Some finding)) }
@@ -229,8 +232,10 @@ impl<S: BuildHasher + Drop> Comparison<S> {
 
         // What came of the two entries.
         ensures steps { (start other_start : Observed)
-            → IsComparing A.observed B.observed start other_start first.old second.old self.old
-            → StepsOn A.observed B.observed start other_start first.new second.new self.new result }
+            → IsComparing (since A.observed start first.old)
+            (since B.observed other_start second.old) self.old
+            → StepsOn (since A.observed start first.new) (since B.observed other_start second.new)
+            self.new result }
 
         // The readers go on.
         ensures fewer { IfOk result (λ next. next ≡ None
@@ -264,11 +269,13 @@ impl<S: BuildHasher + Drop> Comparison<S> {
         requires going { failure_of second.old ≡ None }
 
         // What came of the two entries.
-        ensures meets { (first now start : Observed) (a b : List spec.Entry) (e : spec.Entry)
+        ensures meets { (first : Observed × Observed) (start : Observed) (a b : List spec.Entry)
+            (e : spec.Entry)
             → IsLentAfter a entry.entry e → AreFirst (a ++ e ∷ [])
             → HasPassed before a → length a + 1 < 2 ^ 32
-            → HaveReceived self.old a b (Some e) None → HasGiven B.observed start second.old b
-            → Meets B.observed first now start second.new self.new a b e result }
+            → HaveReceived self.old a b (Some e) None
+            → HasGiven (since B.observed start second.old) b
+            → Meets first (since B.observed start second.new) self.new a b e result }
 
         // What stays.
         ensures going { IfOk result (λ next. failure_of second.new ≡ refusal_in next) }

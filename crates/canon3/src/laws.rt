@@ -1,17 +1,23 @@
 //! Laws of the definitions. Each function has a law as its contract, and does nothing.
 
-ghost use Rattle.std.specs.Prelude.{◌≡◌, ◌+◌, ℕ, List, [], ◌∷◌, ◌++◌, map, take, bytes_eq};
+ghost use Rattle.std.specs.Prelude.{◌≡◌, ◌+◌, ℕ, List, [], ◌∷◌, ◌++◌, map, take, bytes_eq, Result, Some};
 ghost use Rattle.std.specs.List.{position_or_len};
 ghost use Rattle.xdr3.specs.Item.{Item};
 ghost use Rattle.rpc_head.specs.declared.values.call.ProcId.{ProcId};
 ghost use Rattle.capture3.specs.Capture.{total_size};
+ghost use Rattle.capture3.specs.Observed.{Observed};
+ghost use Rattle.capture3.specs.declared.fault.Error.{Error};
 ghost use Rattle.capture3.specs.Entry.{Entry};
 ghost use Rattle.capture3.specs.Reached.{Reached};
 ghost use Rattle.capture3.specs.Typed.{Typed};
 ghost use Rattle.capture3.specs.Rank.{rank, distinct, with_key};
-ghost use Rattle.canon3.specs.Rank.{IsInjectiveOn};
-ghost use Rattle.canon3.specs.OneToOne.{Member, Pairs, OneToOne, IsHandle, AreBeside};
+ghost use Rattle.canon3.specs.OneToOne.{Member, Pairs, OneToOne, IsHandle, IsInjectiveOn, AreBeside};
 ghost use Rattle.canon3.specs.Renaming.{Pairwise, Same};
+ghost use Rattle.canon3.specs.Comparison.{DecidesGiven, DecidesSame};
+ghost use Rattle.canon3.specs.Summary.{ConcludesAll, ConcludesGiven};
+ghost use Rattle.canon3.specs.declared.comparison.verdict.SameError.{SameError};
+ghost use Rattle.canon3.specs.declared.comparison.verdict.Verdict.{Verdict};
+ghost use Rattle.canon3.specs.declared.summary.Summary.{Summary};
 ghost use Rattle.canon3.specs.Canonical.{canonical};
 ghost use Rattle.canon3.specs.CanonicalStream.{entries_after};
 ghost use Rattle.canon3.specs.Bytes.{bytes_of};
@@ -108,4 +114,15 @@ pub fn comparison_finds_the_parting()
     ensures places { (a b : List Entry) → AreFirst a → AreFirst b → HavePlaces a b }
     ensures ends { (file other : List ℕ) (a b : List Entry) → Typed file a → Typed other b
         → EndTogether a b }
+{}
+
+/// If a source tells which bytes it has left, it gives a prefix of them. So what `check` and `same`
+/// return of the bytes that were given holds of all of those.
+pub fn left_bytes_are_given()
+    ensures check { (bytes : List ℕ) (old new : Observed) (result : Result Summary Error)
+        → old.left ≡ Some bytes → ConcludesGiven old new result → ConcludesAll bytes result }
+    ensures same { (file other : List ℕ) (first second : Observed × Observed)
+        (result : Result Verdict SameError) → first.0.left ≡ Some file
+        → second.0.left ≡ Some other → DecidesGiven first second result
+        → DecidesSame file other result }
 {}

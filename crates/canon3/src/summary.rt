@@ -1,10 +1,9 @@
 //! Whether a capture is well formed, and what it has.
 
-ghost use Rattle.std.specs.Prelude.{◌≡◌, ◌≢◌, ℕ, List, Some, IfErr, IfOk};
+ghost use Rattle.std.specs.Prelude.{◌≢◌, ℕ, List, IfErr};
 ghost use Rattle.capture3.specs.Observed.{GavePrefix};
-ghost use Rattle.capture3.specs.Entries.{CountsReading, OnRefused};
+ghost use Rattle.capture3.specs.Entries.{CountsReading};
 ghost use Rattle.capture3.specs.Entry as spec;
-ghost use Rattle.capture3.specs.FirstFault.{FirstFault};
 ghost use Rattle.capture3.specs.Progress.{HasPassed};
 ghost use Rattle.capture3.specs.Typed.{Typed};
 ghost use Rattle.canon3.specs.Summary.{AreCountedHandles, AreMessageCounts, ConcludesAll, ConcludesGiven, IsSummary};
@@ -80,10 +79,6 @@ pub fn check<R: Source, S: BuildHasher + Drop>(
     source: &mut R,
 ) -> Result<Summary, Error>
     // What is concluded.
-    ensures ok { (bytes : List ℕ) → (R.observed source.old).left ≡ Some bytes
-        → IfOk result (IsSummary bytes) }
-    ensures refused { (bytes : List ℕ) → (R.observed source.old).left ≡ Some bytes
-        → OnRefused result (FirstFault bytes) }
     ensures concludes { ConcludesGiven (R.observed source.old) (R.observed source.new) result }
     ensures whole { (bytes : List ℕ)
         → GavePrefix (R.observed source.old) (R.observed source.new) bytes

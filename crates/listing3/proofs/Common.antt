@@ -1,10 +1,9 @@
 -- The names that most proofs of the crate cite, passed on from one place. Declares nothing.
 pub use Rattle.canon3.proofs.Lemmas.WellFormed.Conversations.{AreConversing, Conversation, IsSpelledCall, IsSpelledReply, all_in, length_of_record, of_all, reply_items, stream_of, weight}
 pub use Rattle.canon3.proofs.Lemmas.WellFormed.Messages.{BeginsWithWord, FitsCall, FitsReply, call_begins, each_of_call, each_of_reply, is_headed_call, is_headed_reply, reply_begins}
-pub use Rattle.canon3.proofs.Lemmas.Writing.SinkWritesLemmas.{front_of_first, front_of_second}
+pub use Rattle.canon3.proofs.Lemmas.Writing.SinkWritesLemmas.{TookUpTo, front_of_first, front_of_second}
 pub use Rattle.canon3.specs.Parting.{connections, records_after}
 pub use Rattle.canon3.specs.SinkWrites.{AppendsFront}
-pub use Rattle.canon3.specs.machinery.PartialWrites.{TookUpTo}
 pub use Rattle.canon3.specs.HandleTable.{all_items}
 pub use Rattle.capture3.specs.Bodies.{ReplyItems, xid_in}
 pub use Rattle.capture3.specs.Entry.{Begin, Call, Close, End, Entry, Reply, Turn, items_of}
@@ -35,7 +34,7 @@ pub use Rattle.listing3.specs.Listing.{client, entry_line, is_plain, item_name, 
 pub use Rattle.listing3.specs.declared.line_writer.items_text.Gap.{Gap}
 pub use Rattle.listing3.specs.declared.line_writer.items_text.ItemsText.{ItemsText}
 pub use Rattle.listing3.specs.machinery.Fields.{HasShortName, field_name}
-pub use Rattle.listing3.specs.machinery.Halves.{AreHalves, halves_in_order}
+pub use Rattle.listing3.specs.machinery.Digits.{AreHalves, halves_in_order}
 pub use Rattle.listing3.specs.machinery.ItemsText.{HasData, IsTextOfBody, IsWithin, TextStands, filled}
 pub use Rattle.listing3.specs.machinery.LineWriter.{HasLineUnderWay, LineRests, LineStands, SkipsOthers, after_front, always, items_before}
 pub use Rattle.listing3.specs.machinery.WritesText.{WritesText}

@@ -88,9 +88,10 @@ module _ (a b : ℕ) (fields : List PlainField) (bytes : List ℕ)
   }
 
   pub both_put : (old middle new : List ℕ) (at : ℕ) (ends last : ℕ × ℕ)
-      → PutsFields a Front bytes old middle at ends
-      → PutsFields b Back (take (length bytes - ends.1) (drop ends.1 bytes)) middle new ends.0 last
-      → PutsFields (a + b) fields bytes old new at (last.0, ends.1 + last.1)
+      → PutsFields a Front bytes (old, middle) at ends
+      → PutsFields b Back (take (length bytes - ends.1) (drop ends.1 bytes)) (middle, new) ends.0
+      last
+      → PutsFields (a + b) fields bytes (old, new) at (last.0, ends.1 + last.1)
   both_put old middle new at ends last first second = record {
     within = omega (arith, first.within, second.within);
     size = ap₂ (λ m n. m + n) first.size second.size ∙ sizes;

@@ -1,7 +1,6 @@
 -- What clauses inside the crate and proofs name, and no reader of a public clause has to believe.
 pub mod LineWriter
 pub mod Digits
-pub mod Halves
 pub mod Fields
 pub mod ItemsText
 pub mod PutsBytes

@@ -30,7 +30,7 @@ use crate::line_writer::large_data::write_filled;
 use canon3::{EntryWriter, Sink, write_both};
 use capture3::{Error, Kind, LentEntry, MessageVisit, Progress};
 use procs3::proc_name;
-use rpc_head::{ProcId, Start};
+use rpc_head::{ProcId, Start, after_xid};
 use std::alloc::{AllocError, Global};
 use std::hash::BuildHasher;
 use xdr3::{PlainField, Visit};
@@ -67,13 +67,6 @@ fn body_of(entry: LentEntry<'_>) -> &[u8]
         LentEntry::Reply(reply) => reply.body,
         LentEntry::Begin | LentEntry::Turn | LentEntry::Close | LentEntry::End => &[],
     }
-}
-
-/// Returns what follows the xid in a message's body.
-fn after_xid(body: &[u8]) -> &[u8]
-    ensures { result.now ≡ drop 4 body.now }
-{
-    &body[body.len().min(4)..]
 }
 
 /// Returns the same error, made anew. If it were returned as it came, through memory, the result of each

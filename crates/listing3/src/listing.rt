@@ -40,11 +40,11 @@ pub fn show<R: Source, W: Sink, S: BuildHasher + Drop>(
     source: &mut R,
     sink: &mut W,
 ) -> Result<Summary, Error>
-    ensures lists { WritesGiven shown (R.observed source.old) (R.observed source.new)
-        (W.written sink.old) (W.written sink.new) result }
+    ensures lists { WritesGiven shown (R.observed source.old, R.observed source.new)
+        (W.written sink.old, W.written sink.new) result }
     ensures whole { (bytes : List ℕ)
         → GavePrefix (R.observed source.old) (R.observed source.new) bytes
-        → WritesAll shown bytes (W.written sink.old) (W.written sink.new) result }
+        → WritesAll shown bytes (W.written sink.old, W.written sink.new) result }
     ensures flushes { OnOk result (IsFlushed (W.written sink.new) (W.flushed sink.new)) }
     ensures read { CountsReading (R.failures source.old) (R.failures source.new) result }
     ensures write { CountsWriting (W.failures sink.old) (W.failures sink.new) result }
@@ -62,11 +62,12 @@ pub fn list<R: Source, W: Sink, S: BuildHasher + Drop>(
     source: &mut R,
     sink: &mut W,
 ) -> Result<MessageCounts, Error>
-    ensures lists { WritesGivenCounted AreMessageCounts shown (R.observed source.old)
-        (R.observed source.new) (W.written sink.old) (W.written sink.new) result }
+    ensures lists { WritesGivenCounted AreMessageCounts shown
+        (R.observed source.old, R.observed source.new) (W.written sink.old, W.written sink.new)
+        result }
     ensures whole { (bytes : List ℕ)
         → GavePrefix (R.observed source.old) (R.observed source.new) bytes
-        → WritesAllCounted AreMessageCounts shown bytes (W.written sink.old) (W.written sink.new)
+        → WritesAllCounted AreMessageCounts shown bytes (W.written sink.old, W.written sink.new)
         result }
     ensures flushes { OnOk result (IsFlushed (W.written sink.new) (W.flushed sink.new)) }
     ensures read { CountsReading (R.failures source.old) (R.failures source.new) result }

@@ -1,6 +1,7 @@
 -- Chunks of a stream, one after another.
-use Rattle.packing3.proofs.Common.{arith, ap, sym, refl, subst, append-nil, ◌≡◌, ◌∙◌, ◌≤◌, ◌<◌, ◌+◌, ℕ, List, [], ◌∷◌, ◌++◌, length, length-append, Option, gave_both, Appends, word_bytes, Error, max_bytes, chunk_bytes, AppendsFront, Extent, AreCut, IsPackedStream, full_size, concat, flat_map, Gave, IsSpent, Observed, Appends-nil, Appends-trans, ChunkPassesLimit, Explains, AreFull, Grows, HasChunk, HasFull, HasStream, IsStopped, StopsInChunk, StopsInStream, last_chunk, so_far}
+use Rattle.packing3.proofs.Common.{arith, ap, sym, refl, subst, append-nil, ◌≡◌, ◌∙◌, ◌≤◌, ◌<◌, ◌+◌, ℕ, List, [], ◌∷◌, ◌++◌, length, length-append, Option, gave_both, Appends, word_bytes, Error, max_bytes, chunk_bytes, AppendsFront, Extent, AreCut, IsPackedStream, full_size, concat, flat_map, Gave, IsSpent, Observed, Appends-nil, Appends-trans, ChunkPassesLimit, CaptureSoFar, Explains, Grows, HasChunk, HasStream, IsStopped, StopsInChunk, StopsInStream, last_chunk, so_far}
 use Rattle.std.proofs.lemmas.Grind.{flat_map-append}
+use Rattle.std.specs.List.{AllByRecursion}
 use Rattle.record_mark.proofs.Words.{concat-snoc}
 use Rattle.capture3.specs.declared.fault.Error.TheVariants as errors
 use Rattle.capture3.specs.declared.fault.Place.TheVariants as places
@@ -9,6 +10,17 @@ use Rattle.byteorder.specs.Numbers.{length-bytes_high_first}
 use Rattle.packing3.proofs.Stops.{stopped_after, stopped_before, stopped_writing}
 
 -- ---- chunks that are full, and one more
+
+abbrev pub AreFull : List (List ℕ) → Type 0
+AreFull = AllByRecursion (λ chunk. length chunk ≡ full_size)
+
+-- full chunks of the source's next bytes are written
+pub record HasFull (old_observed observed : Observed) (old new : CaptureSoFar) : Type 0 where
+  pub full : List (List ℕ)
+  pub each : AreFull full
+  pub consumed : Gave old_observed observed (concat full)
+  pub appended : Appends old.bytes new.bytes (flat_map chunk_bytes full)
+  pub grows : Grows old.extent new.extent (flat_map chunk_bytes full) (length (concat full))
 
 full_snoc : (full : List (List ℕ)) (chunk : List ℕ) → AreFull full → length chunk ≡ full_size
     → AreFull (full ++ chunk ∷ [])

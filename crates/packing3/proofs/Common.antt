@@ -19,7 +19,7 @@ pub use Rattle.xdr3.specs.Item.{word_bytes}
 pub use Rattle.packing3.specs.Packed.{AreCut, ArePacked, IsPackedConnection, IsPackedStream, full_size}
 pub use Rattle.packing3.specs.Stopped.{BreaksOff, ChunkPassesLimit, HasNoRoom, Explains}
 pub use Rattle.packing3.specs.declared.extent.Extent.{Extent}
-pub use Rattle.packing3.specs.machinery.Streaming.{AreFull, Grows, GrowsLittle, HasChunk, HasConnection, HasFull, HasStream, IsStopped, StopsInChunk, StopsInConnection, StopsInStream, WritesConnection, WritesStream, last_chunk}
+pub use Rattle.packing3.specs.machinery.Streaming.{CaptureSoFar, Grows, GrowsLittle, HasChunk, HasConnection, HasStream, IsStopped, StopsInChunk, StopsInConnection, StopsInStream, WritesConnection, WritesStream, last_chunk}
 pub use Rattle.packing3.specs.Devices.{Sources}
 pub use Rattle.packing3.specs.machinery.Streaming.{CaptureSoFar}
 

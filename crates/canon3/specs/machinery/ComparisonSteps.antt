@@ -1,6 +1,6 @@
 -- Two captures that are compared entry by entry: how far it has come, and what each step finds.
 use Rattle.std.specs.Prelude.{◌≡◌, ◌≢◌, ℕ, length, Option, None, Some, List, [], ◌∷◌, ◌++◌, Result, Ok, Err}
-use Rattle.capture3.specs.Observed.{Gave, Observed}
+use Rattle.capture3.specs.Observed.{Observed}
 use Rattle.std.specs.declared.hash.BuildHasher as BuildHasher
 use Rattle.std.specs.declared.hash.Hasher as Hasher
 use Rattle.capture3.specs.declared.reader.entries.Entries.{Entries}
@@ -8,7 +8,6 @@ use Rattle.capture3.specs.declared.fault.Error.{Error}
 use Rattle.capture3.specs.declared.fault.Error.TheVariants as errors
 use Rattle.capture3.specs.declared.fault.Place.{Place}
 use Rattle.capture3.specs.Entries.{source_of}
-use Rattle.capture3.specs.machinery.EntriesHistory.{StandsFor}
 use Rattle.capture3.specs.Entry.{Entry}
 use Rattle.capture3.specs.MessageVisit.{HasHeard}
 use Rattle.capture3.specs.Typed.{Typed}
@@ -22,10 +21,11 @@ use Rattle.canon3.specs.declared.comparison.verdict.Which.TheVariants.{Second}
 use Rattle.canon3.specs.Bytes.{bytes_of}
 use Rattle.canon3.specs.Canonical.{canonical}
 use Rattle.canon3.specs.declared.canonical_form.message_writer.MessageWriter.{MessageWriter}
-use Rattle.canon3.specs.machinery.FormSteps.{values_before}
-use Rattle.canon3.specs.machinery.MessageWriter.{WriterRests, WriterStands}
+use Rattle.canon3.specs.machinery.MessageWriter.{values_before, WriterRests, WriterStands}
 use Rattle.canon3.specs.Parting.{IsPlaceOf}
-use Rattle.canon3.specs.Comparison.{CountsReadingOf, GaveAll, GaveFault, StopsGiven}
+use Rattle.canon3.specs.machinery.WritingSteps.{HasGiven, ReaderSince, source_since}
+use Rattle.canon3.specs.Comparison.{CountsReadingOf, GaveFault, StopsGiven}
+use Rattle.canon3.specs.Summary.{GaveAll}
 
 -- as many first entries of each, whose canonical forms have equal bytes
 pub record Agree (a b : List Entry) : Type 0 where
@@ -62,9 +62,7 @@ Compares comparison a b e f (Some place) = PartWith a b e f place
 -- an error of the second, whose refusal waits
 abbrev pub met_second : Error → Result (Option Finding) SameError
 met_second (errors.Refused fault) = Ok (Some (findings.Refused fault))
-met_second errors.Read = Err (record { which = Second; error = errors.Read })
-met_second errors.Write = Err (record { which = Second; error = errors.Write })
-met_second errors.Memory = Err (record { which = Second; error = errors.Memory })
+met_second error = Err (record { which = Second; error = error })
 
 -- the refusal that waits
 abbrev pub refusal_in : Option Finding → Option Error
@@ -79,77 +77,61 @@ CountsReadsOf which failures old new result =
     CountsReadingOf which (failures (source_of old)) (failures (source_of new)) result
 
 -- what an error of a reader says of what its source gave
-abbrev pub GaveError : (start now : Observed) → Error → Type 0
-GaveError start now (errors.Refused fault) = GaveFault start now fault
-GaveError start now _ = Unit {0}
+abbrev pub GaveError : (source : Observed × Observed) → Error → Type 0
+GaveError source (errors.Refused fault) = GaveFault source fault
+GaveError source _ = Unit {0}
 
 -- the source gave all that it had, after these entries
-abbrev pub IsReadOut : {X : Type 0} → (start now : Observed) → List Entry → Result X Error → Type 0
-IsReadOut start now handed (Ok x) = (more : List Entry) × GaveAll start now (handed ++ more)
-IsReadOut start now handed (Err error) = GaveError start now error
+abbrev pub IsReadOut : {X : Type 0} → (source : Observed × Observed) → List Entry → Result X Error
+    → Type 0
+IsReadOut source handed (Ok x) = (more : List Entry) × GaveAll source (handed ++ more)
+IsReadOut source handed (Err error) = GaveError source error
 
 -- the same of the second source, with this verdict
-abbrev pub IsReadAfter : (start now : Observed) → List Entry → Verdict → Result Verdict SameError
-    → Type 0
-IsReadAfter start now handed verdict (Ok answer) = (answer ≡ verdict) × (more : List Entry)
-    × GaveAll start now (handed ++ more)
-IsReadAfter start now handed verdict (Err error) = (error.which ≡ Second)
-    × GaveError start now error.error
+abbrev pub IsReadAfter : (source : Observed × Observed) → List Entry → Verdict
+    → Result Verdict SameError → Type 0
+IsReadAfter source handed verdict (Ok answer) = (answer ≡ verdict) × (more : List Entry)
+    × GaveAll source (handed ++ more)
+IsReadAfter source handed verdict (Err error) = (error.which ≡ Second)
+    × GaveError source error.error
 
--- a reader, and what was observed of its source at the start
+-- the first source, and the second's reader
 module _ {R S H : Type 0} {builds : BuildHasher.Ghosts S H} {hashes : Hasher.Ghosts H}
-    (telling : R → Observed) (start : Observed) (reader : Entries R S H builds hashes) where
-  -- it handed out these entries
-  pub record HasGiven (handed : List Entry) : Type 0 where
-    pub given : List ℕ
-    pub consumed : Gave start (telling (source_of reader)) given
-    pub stands : StandsFor telling reader given handed
-
-  -- these, and more after them
-  pub record HasGivenOn (handed : List Entry) : Type 0 where
-    pub more : List Entry
-    pub all : HasGiven (handed ++ more)
-
--- the first source was observed so at the start and now, and the second so at its start
-module _ {R S H : Type 0} {builds : BuildHasher.Ghosts S H} {hashes : Hasher.Ghosts H}
-    (telling : R → Observed) (first now start : Observed) (reader : Entries R S H builds hashes)
+    (first : Observed × Observed) (second : ReaderSince R S H builds hashes)
     (comparison : Comparison S H) (a b : List Entry) (e : Entry) where
   -- the second's entry came beside e, and they are alike
   pub record GoesWith : Type 0 where
     pub f : Entry
-    pub given : HasGiven telling start reader (b ++ f ∷ [])
+    pub given : HasGiven second (b ++ f ∷ [])
     pub compared : IsCompared comparison (a ++ e ∷ []) (b ++ f ∷ [])
 
   pub record PartsHere (place : Place) : Type 0 where
     pub f : Entry
-    pub given : HasGiven telling start reader (b ++ f ∷ [])
+    pub given : HasGiven second (b ++ f ∷ [])
     pub parts : PartWith a b e f place
 
   abbrev pub Meets : Result (Option Finding) SameError → Type 0
   Meets (Ok None) = GoesWith
   Meets (Ok (Some findings.Ended)) = ⊥
   Meets (Ok (Some (findings.Parted place))) = PartsHere place
-  Meets (Ok (Some (findings.Refused fault))) = GaveFault start (telling (source_of reader)) fault
-  Meets (Err error) =
-      StopsGiven first now start (telling (source_of reader)) error.error error.which
+  Meets (Ok (Some (findings.Refused fault))) = GaveFault (source_since second) fault
+  Meets (Err error) = StopsGiven first (source_since second) error.error error.which
 
--- two readers, and what was observed of their sources at the start
 module _ {A B S H : Type 0} {builds : BuildHasher.Ghosts S H} {hashes : Hasher.Ghosts H}
-    (telling : A → Observed) (telling_other : B → Observed) (start other_start : Observed)
-    (first : Entries A S H builds hashes) (second : Entries B S H builds hashes) where
+    (first : ReaderSince A S H builds hashes) (second : ReaderSince B S H builds hashes) where
   -- what the two handed out was compared
   pub record IsComparing (comparison : Comparison S H) : Type 0 where
     pub a : List Entry
     pub b : List Entry
-    pub first_given : HasGiven telling start first a
-    pub second_given : HasGiven telling_other other_start second b
+    pub first_given : HasGiven first a
+    pub second_given : HasGiven second b
     pub compared : IsCompared comparison a b
 
   pub record HaveEnded : Type 0 where
     pub a : List Entry
     pub b : List Entry
-    pub first_given : HasGiven telling start first a
-    pub second_given : HasGiven telling_other other_start second b
+    pub first_given : HasGiven first a
+    pub second_given : HasGiven second b
     pub agree : Agree a b
     pub file : List ℕ
     pub typed : Typed file a
@@ -159,25 +141,22 @@ module _ {A B S H : Type 0} {builds : BuildHasher.Ghosts S H} {hashes : Hasher.G
     pub b : List Entry
     pub e : Entry
     pub f : Entry
-    pub first_given : HasGiven telling start first (a ++ e ∷ [])
-    pub second_given : HasGiven telling_other other_start second (b ++ f ∷ [])
+    pub first_given : HasGiven first (a ++ e ∷ [])
+    pub second_given : HasGiven second (b ++ f ∷ [])
     pub parts : PartWith a b e f place
 
   abbrev pub IsFound : Finding → Type 0
   IsFound findings.Ended = HaveEnded
   IsFound (findings.Parted place) = HaveParted place
-  IsFound (findings.Refused fault) = ((a : List Entry) × HasGiven telling start first a)
-      × GaveFault other_start (telling_other (source_of second)) fault
+  IsFound (findings.Refused fault) = ((a : List Entry) × HasGiven first a)
+      × GaveFault (source_since second) fault
 
   abbrev pub FindsOut : Result Finding SameError → Type 0
   FindsOut (Ok finding) = IsFound finding
   FindsOut (Err error) =
-      StopsGiven start (telling (source_of first)) other_start (telling_other (source_of second))
-      error.error error.which
+      StopsGiven (source_since first) (source_since second) error.error error.which
 
   abbrev pub StepsOn : Comparison S H → Result (Option Finding) SameError → Type 0
   StepsOn comparison (Ok None) = IsComparing comparison
   StepsOn comparison (Ok (Some finding)) = IsFound finding
-  StepsOn comparison (Err error) =
-      StopsGiven start (telling (source_of first)) other_start (telling_other (source_of second))
-      error.error error.which
+  StepsOn comparison (Err error) = FindsOut (Err error)

@@ -36,12 +36,6 @@ IsNotedAs noted items others =
     (body : List ℕ) → Spells items body → length body < 2 ^ 64
     → Makes noted body (zero_spelling others)
 
--- after the items and the others of which this was so, it is so of these too
-abbrev pub Notes : (old new : Noted) → (items others : List Item) → Type 0
-Notes old new items others =
-    (before after : List Item) → IsNotedAs old before after
-    → IsNotedAs new (before ++ items) (after ++ others)
-
 -- the items after the xid are noted as those with numbers
 abbrev pub IsNotedMessage : Noted → Before → List Item → Type 0
 IsNotedMessage noted before items =
@@ -67,6 +61,10 @@ in_front_of (x ∷ xs) items = Rest [] x ∷ in_front_of xs items
 
 abbrev pub items_of_writer : Before → List Item → List Item
 items_of_writer before items = in_front_of before.handles (in_front_of before.verifiers items)
+
+-- the values of the entries so far, in front of the next message
+abbrev pub values_before : List Entry → List Item
+values_before entries = items_of_writer (values_of entries) []
 
 -- a message under way, and what was there before it
 pub record HasMessageUnderWay {S H : Type 0} (n : MessageWriter S H)

@@ -4,7 +4,6 @@ use Rattle.capture3.specs.declared.fault.Side.{Side}
 use Rattle.capture3.specs.declared.fault.Side.TheVariants.{Client, Server}
 use Rattle.capture3.specs.declared.fault.Place.{Place}
 use Rattle.capture3.specs.declared.fault.Place.TheVariants as places
-use Rattle.capture3.specs.Entry.{Entry, Call, Reply}
 use Rattle.capture3.specs.declared.reader.progress.Progress.{Progress}
 use Rattle.capture3.specs.declared.reader.entry.Kind.{Kind}
 use Rattle.capture3.specs.declared.reader.entry.Kind.TheVariants as kinds
@@ -14,11 +13,6 @@ abbrev pub side_of_kind : Kind → Option Side
 side_of_kind (kinds.Call id) = Some Client
 side_of_kind (kinds.Reply id) = Some Server
 side_of_kind _ = None
-
-abbrev pub side_in : Entry → Option Side
-side_in (Call items) = Some Client
-side_in (Reply id items) = Some Server
-side_in _ = None
 
 -- the next record where one of the two is a message, and else the next connection
 abbrev pub place_from : Progress → Option Side → Option Side → Place

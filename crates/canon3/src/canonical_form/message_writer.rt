@@ -11,19 +11,18 @@ ghost use Rattle.canon3.specs.Renaming.{IsPlain};
 
 use crate::numbers::Numbers;
 use crate::sink::whole_writes::{HEAD, chunk_head};
-use byteorder::{BigEndian, ByteOrder};
-use capture3::{MessageVisit, pack_chunk};
+use capture3::MessageVisit;
 use nfs3_types::Handle;
 use patches::Patches;
 use record_mark::BODY_LIMIT;
-use rpc_head::Start;
+use rpc_head::{Start, after_xid};
 use std::alloc::{AllocError, Global};
 use std::hash::BuildHasher;
 use xdr3::room::{make_room, put_bytes};
-use xdr3::{PlainField, Visit};
+use xdr3::{PlainField, Visit, residue, spelled_hyper, spelled_word};
 
 /// So many bytes take longer to copy than to write by themselves.
-const MANY: usize = 16_384;
+const MANY: usize = 4_096;
 
 /// The numbers of a capture's values so far, and what they replace in the body of the message whose
 /// items are visited. The reader has the number of the message's xid.
@@ -55,27 +54,13 @@ fn number_of_handle<S: BuildHasher + Drop>(
     handles.number_of(Handle::from_short(bytes))
 }
 
-/// Returns the number of residual bytes after `len` bytes.
-fn residue(len: usize) -> usize
-    ensures { result ≡ residue len }
-{
-    (4 - len % 4) % 4
-}
-
-/// Returns what follows the xid in a message's body.
-pub(crate) fn after_xid(body: &[u8]) -> &[u8]
-    ensures { result.now ≡ drop 4 body.now }
-{
-    &body[body.len().min(4)..]
-}
-
 /// Returns the encoding of a handle of four bytes, which are the number.
 fn spelled_number(number: u32) -> [u8; 8]
     ensures { result ≡ word_bytes 4 ++ word_bytes number }
 {
     let mut run = [0u8; 8];
-    run[..4].copy_from_slice(&pack_chunk(4));
-    run[4..].copy_from_slice(&pack_chunk(number));
+    run[..4].copy_from_slice(&spelled_word(4));
+    run[4..].copy_from_slice(&spelled_word(number));
     run
 }
 
@@ -162,7 +147,7 @@ impl<S: BuildHasher + Drop> MessageWriter<S> {
             → HoldsBefore self.new before }
     {
         make_room(&mut self.room, 0, 4)?;
-        let end = put_bytes(&mut self.room, 0, &pack_chunk(self.xid));
+        let end = put_bytes(&mut self.room, 0, &spelled_word(self.xid));
         self.patches.write(after_xid(body), &mut self.room, end)
     }
 
@@ -204,7 +189,7 @@ impl<S: BuildHasher + Drop> MessageWriter<S> {
             → HoldsBefore self.new before }
     {
         make_room(&mut self.room, 0, HEAD + 4)?;
-        let start = put_bytes(&mut self.room, HEAD, &pack_chunk(self.xid));
+        let start = put_bytes(&mut self.room, HEAD, &spelled_word(self.xid));
         let (end, rest) = self
             .patches
             .write_front(after_xid(body), &mut self.room, start)?;
@@ -232,9 +217,8 @@ impl<S: BuildHasher + Drop> MessageWriter<S> {
             (WriteVerf name bytes.now ∷ [])) }
     {
         let number = self.verfs.number_of(*bytes)?;
-        let mut hyper = [0u8; 8];
-        BigEndian::write_u64(&mut hyper, u64::from(number));
-        self.patches.replace(8, &hyper, 8)
+        self.patches
+            .replace(8, &spelled_hyper(u64::from(number)), 8)
     }
 
     /// Notes that opaque data of `len` bytes stays, and that its residual bytes become zeros. A

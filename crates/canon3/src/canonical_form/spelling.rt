@@ -4,9 +4,8 @@ ghost use Rattle.std.specs.Prelude.{◌≡◌, ◌≢◌, ◌<◌, ◌^◌, ◌+
 ghost use Rattle.std.specs.Io.KnownBytes.{Appends};
 ghost use Rattle.capture3.specs.Entry as spec;
 ghost use Rattle.canon3.specs.Laws.{AreFirst};
-ghost use Rattle.canon3.specs.machinery.MessageWriter.{Before, HoldsBefore, WriterRests, WriterStands, message_of};
+ghost use Rattle.canon3.specs.machinery.MessageWriter.{Before, HoldsBefore, WriterRests, WriterStands, message_of, values_before};
 ghost use Rattle.canon3.specs.machinery.Spelling.{HasSpelled, spelling_of};
-ghost use Rattle.canon3.specs.machinery.FormSteps.{values_before};
 ghost use Rattle.capture3.specs.MessageVisit.{HasHeard};
 ghost use Rattle.capture3.specs.Numbering.{IsLentAfter};
 ghost use Rattle.canon3.specs.WriteErrors.{CountsWriting, IsOfWriting};

@@ -1,17 +1,21 @@
 //! What is written of a capture while it is read, from a source to a sink.
 
-ghost use Rattle.std.specs.Prelude.{◌≡◌, ℕ, List, [], Option, None, IfErr, OnOk};
+ghost use Rattle.std.specs.Prelude.{◌≡◌, ◌<◌, ◌^◌, ◌++◌, ◌∷◌, ℕ, List, [], length, Option, None, IfErr, MatchResult, OnOk};
+ghost use Rattle.std.specs.Io.KnownBytes.{Appends};
 ghost use Rattle.capture3.specs.Observed.{GavePrefix, Observed};
 ghost use Rattle.xdr3.specs.Item.{Item};
 ghost use Rattle.capture3.specs.Entries.{CountsReading, failure_of};
 ghost use Rattle.capture3.specs.Entry as spec;
+ghost use Rattle.capture3.specs.MessageVisit.{HasHeard};
+ghost use Rattle.capture3.specs.Numbering.{IsLentAfter};
 ghost use Rattle.capture3.specs.Progress.{HasPassed};
 ghost use Rattle.capture3.specs.Typed.{Typed};
-ghost use Rattle.canon3.specs.EntryWriter.{KeepsPrefixes, WritesAllCounted, WritesGivenCounted, WritesOne};
+ghost use Rattle.canon3.specs.EntryWriter.{KeepsPrefixes, StopsWriting, WritesAllCounted, WritesGivenCounted};
+ghost use Rattle.canon3.specs.Laws.{AreFirst};
 ghost use Rattle.canon3.specs.machinery.Reading.{ReadsAndWrites};
-ghost use Rattle.canon3.specs.machinery.WritingSteps.{WritesToTheEnd, IsWriting};
+ghost use Rattle.canon3.specs.machinery.WritingSteps.{HasGiven, HasWritten, IsDone, since, source_since};
 ghost use Rattle.canon3.specs.WriteErrors.{CountsWriting, IsOfWriting};
-ghost use Rattle.canon3.specs.SinkWrites.{IsFlushed};
+ghost use Rattle.canon3.specs.SinkWrites.{AppendsFront, IsFlushed};
 
 use crate::sink::Sink;
 use capture3::{Entries, Error, LentEntry, MessageVisit, Progress, Source, new_block};
@@ -51,8 +55,15 @@ pub trait EntryWriter: MessageVisit {
         sink: &mut W,
         entry: LentEntry<'_>,
     ) -> Result<(), Error>
-        ensures writes { WritesOne form before Self.rests Self.stands going self.old self.new
-            progress entry.entry (W.written sink.old) (W.written sink.new) result }
+        ensures writes { (old : Option (List ℕ)) (entries : List spec.Entry) (one : spec.Entry)
+            → IsLentAfter entries entry.entry one → AreFirst (entries ++ one ∷ [])
+            → length (entries ++ one ∷ []) < 2 ^ 32 → HasPassed progress entries
+            → HasHeard Self.rests Self.stands self.old (before entries) one
+            → Appends old (W.written sink.old) (form entries)
+            → MatchResult result (λ _. going self.new
+            × Self.rests self.new (before (entries ++ one ∷ []))
+            × Appends old (W.written sink.new) (form (entries ++ one ∷ [])))
+            (λ _. AppendsFront old (W.written sink.new) (form (entries ++ one ∷ []))) }
         ensures count { CountsWriting (W.failures sink.old) (W.failures sink.new) result }
         ensures error { IfErr result IsOfWriting };
 
@@ -89,11 +100,12 @@ pub fn write_entries<R: Source, W: Sink, E: EntryWriter, S: BuildHasher + Drop>(
     requires prefixes { KeepsPrefixes E.form }
 
     // What is written.
-    ensures writes { WritesGivenCounted E.are_counts E.form (R.observed source.old)
-        (R.observed source.new) (W.written sink.old) (W.written sink.new) result }
+    ensures writes { WritesGivenCounted E.are_counts E.form
+        (R.observed source.old, R.observed source.new) (W.written sink.old, W.written sink.new)
+        result }
     ensures whole { (bytes : List ℕ)
         → GavePrefix (R.observed source.old) (R.observed source.new) bytes
-        → WritesAllCounted E.are_counts E.form bytes (W.written sink.old) (W.written sink.new)
+        → WritesAllCounted E.are_counts E.form bytes (W.written sink.old, W.written sink.new)
         result }
     ensures flushes { OnOk result (IsFlushed (W.written sink.new) (W.flushed sink.new)) }
 
@@ -124,12 +136,13 @@ pub(crate) fn write_rest<R: Source, W: Sink, E: EntryWriter, S: BuildHasher + Dr
 ) -> Result<(), Error>
     requires going { failure_of entries.old ≡ None }
     requires prefixes { KeepsPrefixes E.form }
-    ensures over { (first : Observed) (front : List spec.Entry) (old : Option (List ℕ))
-        → IsWriting E.form E.before E.rests E.going R.observed first front old entries.old
-        writer.old
-        (W.written sink.old)
-        → WritesToTheEnd E.form E.before E.rests E.going R.observed first front old entries.new
-        writer.new (W.written sink.new) result }
+    ensures over { (start : Observed) (handed : List spec.Entry) (old : Option (List ℕ))
+        → HasGiven (since R.observed start entries.old) handed
+        → HasWritten E.form E.before E.rests E.going writer.old (old, W.written sink.old) handed
+        → MatchResult result (λ _. IsDone (since R.observed start entries.new)
+        (HasWritten E.form E.before E.rests E.going writer.new (old, W.written sink.new)) handed)
+        (StopsWriting E.form (source_since (since R.observed start entries.new))
+        (old, W.written sink.new)) }
     ensures going { OnOk result (failure_of entries.new ≡ None) }
     ensures devices { ReadsAndWrites R.failures entries.old entries.new (W.failures sink.old)
         (W.failures sink.new) result }

@@ -1,6 +1,6 @@
 -- A line, and what is held after it.
 use Rattle.std.proofs.Common.{◌+◌}
-use Rattle.listing3.proofs.Common.{◌≡◌, ◌⊎◌, inl, inr, ℕ, List, [], ◌∷◌, ◌++◌, ◌<◌, length, drop, refl, sym, ap, ap₂, ◌∙◌, subst, append_assoc, append-nil, length-append, arith, Result, Ok, Err, Appends, PlainField, Item, Word, Opaque, Handle, run_items, ProcId, head_names, ◌^◌, Option, codes, decimal, OnErr, OnOk, Appends-trans, Spells, Adds, Keeps, procedure_in, Entry, Begin, Call, Turn, Reply, Close, End, Gap, ItemsText, is_headed_call, is_headed_reply, front_of_second, filled, IsTextOfBody, TextStands, always, after_front, HasLineUnderWay, LineRests, items_before, LineStands, SkipsOthers, entry_line, line, opening, prefix, procedure_name, shown, shown_items, WritesText}
+use Rattle.listing3.proofs.Common.{◌≡◌, ◌⊎◌, inl, inr, ℕ, List, [], ◌∷◌, ◌++◌, ◌<◌, length, drop, refl, sym, ap, ap₂, ◌∙◌, subst, append_assoc, append-nil, length-append, arith, Result, Ok, Err, Appends, AppendsFront, PlainField, Item, Word, Opaque, Handle, run_items, ProcId, head_names, ◌^◌, Option, codes, decimal, OnErr, OnOk, Appends-trans, Spells, Adds, Keeps, procedure_in, Entry, Begin, Call, Turn, Reply, Close, End, Gap, ItemsText, is_headed_call, is_headed_reply, front_of_second, filled, IsTextOfBody, TextStands, always, after_front, HasLineUnderWay, LineRests, items_before, LineStands, SkipsOthers, entry_line, line, opening, prefix, procedure_name, shown, shown_items, WritesText}
 use Rattle.capture3.specs.declared.reader.entry.Kind.{Kind}
 use Rattle.capture3.specs.declared.reader.entry.Kind.TheVariants as kinds
 use Rattle.capture3.specs.declared.fault.Error.{Error}
@@ -13,7 +13,7 @@ use Rattle.rpc_head.specs.declared.values.message_start.MessageStart.{MessageSta
 use Rattle.canon3.specs.HandleTable.{all_items}
 use Rattle.listing3.specs.declared.line_writer.LineWriter.{LineWriter}
 use Rattle.capture3.specs.declared.reader.progress.Progress.{Progress}
-use Rattle.canon3.specs.EntryWriter.{HasWrittenOrCut}
+use Rattle.std.specs.Prelude.{MatchResult}
 use Rattle.canon3.specs.Laws.{AreFirst}
 use Rattle.capture3.specs.Progress.{HasPassed}
 use Rattle.canon3.proofs.Lemmas.Progress.ProgressLemmas.{records_within}
@@ -306,8 +306,9 @@ pub listed_more : {H X : Type 0} (gathers : H → List Item → Type 0) (now : L
     → Appends old between (shown entries)
     → LineRests gathers now (items_before (entries ++ one ∷ []))
     → WritesText between after (entry_line progress.connections progress.records one) r
-    → HasWrittenOrCut shown items_before (LineRests gathers) always now old after
-    (entries ++ one ∷ []) r
+    → MatchResult r (λ _. always now × LineRests gathers now (items_before (entries ++ one ∷ []))
+    × Appends old after (shown (entries ++ one ∷ [])))
+    (λ _. AppendsFront old after (shown (entries ++ one ∷ [])))
 listed_more gathers now old between after progress entries one (Ok x) came written stands more = (
   tt,
   stands,

@@ -21,12 +21,10 @@ pub record HasFields (count : ℕ) (run : List PlainField) (bytes : List ℕ) : 
   pub short : All HasShortName run
   pub size : run_size run ≤ length bytes
 
--- From the old buffer to the new one the texts of so many fields were put at a position. `ends` is
+-- From the old room to the new one the texts of so many fields were put at a position. `ends` is
 -- the position after them, and how many of the bytes they have.
-pub record PutsFields (count : ℕ) (run : List PlainField) (bytes old new : List ℕ) (at : ℕ)
-    (ends : ℕ × ℕ)
-    : Type 0
-  where
-    pub within : ends.0 ≤ at + 64 * count
-    pub size : ends.1 ≡ run_size run
-    pub puts : PutsBytes old new at ends.0 (shown_items (run_items run bytes))
+pub record PutsFields (count : ℕ) (run : List PlainField) (bytes : List ℕ)
+    (room : List ℕ × List ℕ) (at : ℕ) (ends : ℕ × ℕ) : Type 0 where
+  pub within : ends.0 ≤ at + 64 * count
+  pub size : ends.1 ≡ run_size run
+  pub puts : PutsBytes room.0 room.1 at ends.0 (shown_items (run_items run bytes))

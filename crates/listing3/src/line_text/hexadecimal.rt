@@ -2,7 +2,7 @@
 
 ghost use Rattle.std.specs.Prelude.{◌≡◌, ◌<◌, ◌≤◌, ◌+◌, ◌*◌, ◌++◌, length, map, take, slice_index};
 ghost use Rattle.hex.specs.Hex.{encode_lower, encode_with, lower_digits};
-ghost use Rattle.listing3.specs.machinery.Halves.{halves_in_order, AreHalves};
+ghost use Rattle.listing3.specs.machinery.Digits.{halves_in_order, AreHalves};
 ghost use Rattle.listing3.specs.machinery.PutsBytes.{PutsBytes};
 
 use crate::line_text::names::block;

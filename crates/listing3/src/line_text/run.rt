@@ -129,7 +129,7 @@ fn put_field(room: &mut [u8], at: usize, field: PlainField, bytes: &[u8]) -> (us
 fn put_one_field(room: &mut [u8], at: usize, fields: &[PlainField], bytes: &[u8]) -> (usize, usize)
     requires fields { HasFields 1 fields.now bytes.now }
     requires room { at + FIELD ≤ length room.old }
-    ensures { PutsFields 1 fields.now bytes.now room.old room.new at result }
+    ensures { PutsFields 1 fields.now bytes.now (room.old, room.new) at result }
 {
     put_field(room, at, fields[0], bytes)
 }
@@ -140,7 +140,7 @@ fn put_one_field(room: &mut [u8], at: usize, fields: &[PlainField], bytes: &[u8]
 fn put_two_fields(room: &mut [u8], at: usize, fields: &[PlainField], bytes: &[u8]) -> (usize, usize)
     requires fields { HasFields 2 fields.now bytes.now }
     requires room { at + 2 * FIELD ≤ length room.old }
-    ensures { PutsFields 2 fields.now bytes.now room.old room.new at result }
+    ensures { PutsFields 2 fields.now bytes.now (room.old, room.new) at result }
 {
     let (end, size) = put_field(room, at, fields[0], bytes);
     let (last, more) = put_field(room, end, fields[1], &bytes[size..]);
@@ -158,7 +158,7 @@ fn put_three_fields(
 ) -> (usize, usize)
     requires fields { HasFields 3 fields.now bytes.now }
     requires room { at + 3 * FIELD ≤ length room.old }
-    ensures { PutsFields 3 fields.now bytes.now room.old room.new at result }
+    ensures { PutsFields 3 fields.now bytes.now (room.old, room.new) at result }
 {
     let (end, size) = put_two_fields(room, at, &fields[..2], bytes);
     let (last, more) = put_field(room, end, fields[2], &bytes[size..]);
@@ -176,7 +176,7 @@ fn put_four_fields(
 ) -> (usize, usize)
     requires fields { HasFields 4 fields.now bytes.now }
     requires room { at + 4 * FIELD ≤ length room.old }
-    ensures { PutsFields 4 fields.now bytes.now room.old room.new at result }
+    ensures { PutsFields 4 fields.now bytes.now (room.old, room.new) at result }
 {
     let (end, size) = put_two_fields(room, at, &fields[..2], bytes);
     let (last, more) = put_two_fields(room, end, &fields[2..], &bytes[size..]);
@@ -194,7 +194,7 @@ fn put_five_fields(
 ) -> (usize, usize)
     requires fields { HasFields 5 fields.now bytes.now }
     requires room { at + 5 * FIELD ≤ length room.old }
-    ensures { PutsFields 5 fields.now bytes.now room.old room.new at result }
+    ensures { PutsFields 5 fields.now bytes.now (room.old, room.new) at result }
 {
     let (end, size) = put_four_fields(room, at, &fields[..4], bytes);
     let (last, more) = put_one_field(room, end, &fields[4..], &bytes[size..]);
@@ -212,7 +212,7 @@ fn put_eight_fields(
 ) -> (usize, usize)
     requires fields { HasFields 8 fields.now bytes.now }
     requires room { at + 8 * FIELD ≤ length room.old }
-    ensures { PutsFields 8 fields.now bytes.now room.old room.new at result }
+    ensures { PutsFields 8 fields.now bytes.now (room.old, room.new) at result }
 {
     let (end, size) = put_four_fields(room, at, &fields[..4], bytes);
     let (last, more) = put_four_fields(room, end, &fields[4..], &bytes[size..]);
@@ -230,7 +230,7 @@ fn put_sixteen_fields(
 ) -> (usize, usize)
     requires fields { HasFields 16 fields.now bytes.now }
     requires room { at + 16 * FIELD ≤ length room.old }
-    ensures { PutsFields 16 fields.now bytes.now room.old room.new at result }
+    ensures { PutsFields 16 fields.now bytes.now (room.old, room.new) at result }
 {
     let (end, size) = put_eight_fields(room, at, &fields[..8], bytes);
     let (last, more) = put_eight_fields(room, end, &fields[8..], &bytes[size..]);

@@ -1,15 +1,12 @@
 //! What is kept of the file handles of the messages that are listed.
 
-ghost use Rattle.std.specs.Prelude.{ℕ, List};
+ghost use Rattle.std.specs.Prelude.{List};
 ghost use Rattle.capture3.specs.Entry as spec;
-ghost use Rattle.capture3.specs.Progress.{HasPassed};
-ghost use Rattle.capture3.specs.Typed.{Typed};
 ghost use Rattle.canon3.specs.HandleTable.{all_items};
-ghost use Rattle.canon3.specs.Summary.{AreMessageCounts, IsSummary};
 ghost use Rattle.listing3.specs.machinery.LineWriter.{SkipsOthers};
 
-use canon3::{HandleTable, MessageCounts, Summary};
-use capture3::{Progress, Silent};
+use canon3::{EntryWriter, HandleTable};
+use capture3::Silent;
 use std::hash::BuildHasher;
 use xdr3::Visit;
 
@@ -20,18 +17,12 @@ pub(crate) trait Gathering: Visit {
     ghost skips: { SkipsOthers Self.stands };
 }
 
-/// What is counted of a capture whose handles are gathered so.
-pub(crate) trait Counting: Gathering {
-    type Counts;
-
-    /// These are the counts of a capture of these bytes.
-    ghost are_counts: { List ℕ → Self.Counts → Type 0 };
-
-    /// Returns the counts of a capture whose entries all came.
-    fn counts(&self, progress: Progress) -> Self::Counts
-        ensures { (bytes : List ℕ) (entries : List spec.Entry) → Typed bytes entries
-            → HasPassed progress entries → Self.stands self.now (all_items entries)
-            → are_counts bytes result };
+/// A writer of nothing that counts a capture, also if only its handles are passed to it.
+pub(crate) trait Counting: Gathering + EntryWriter {
+    /// If it represents the items of these entries, it is as a writer that they were passed to.
+    ghost ends: { (counting : Self) (entries : List spec.Entry)
+        → Self.stands counting (all_items entries)
+        → Self.going counting × Self.rests counting (Self.before entries) };
 }
 
 impl<S: BuildHasher + Drop> Gathering for HandleTable<S> {
@@ -41,13 +32,7 @@ impl<S: BuildHasher + Drop> Gathering for HandleTable<S> {
 }
 
 impl<S: BuildHasher + Drop> Counting for HandleTable<S> {
-    type Counts = Summary;
-
-    ghost are_counts = { IsSummary };
-
-    fn counts(&self, progress: Progress) -> Summary {
-        Summary::of(progress, self.len())
-    }
+    ghost ends = { λ _ _ stands. (tt, stands) };
 }
 
 impl Gathering for Silent {
@@ -55,11 +40,5 @@ impl Gathering for Silent {
 }
 
 impl Counting for Silent {
-    type Counts = MessageCounts;
-
-    ghost are_counts = { AreMessageCounts };
-
-    fn counts(&self, progress: Progress) -> MessageCounts {
-        MessageCounts::of(progress)
-    }
+    ghost ends = { λ _ _ _. (tt, tt) };
 }

@@ -1,8 +1,8 @@
 -- What the functions within the crate write: a chunk, a stream, a connection.
-use Rattle.std.specs.Prelude.{◌≡◌, ℕ, ◌+◌, ◌*◌, ◌<◌, ◌≤◌, List, [], ◌∷◌, ◌++◌, length, Option, ⊤, Result, Ok, Err}
+use Rattle.std.specs.Prelude.{◌≡◌, ℕ, ◌+◌, ◌*◌, ◌<◌, ◌≤◌, List, [], ◌∷◌, ◌++◌, length, Option, Result, Ok, Err}
 use Rattle.capture3.specs.Observed.{Gave, IsSpent, Observed}
 use Rattle.std.specs.Io.KnownBytes.{Appends}
-use Rattle.std.specs.List.{concat, flat_map}
+use Rattle.std.specs.List.{flat_map}
 use Rattle.capture3.specs.declared.fault.Error.{Error}
 use Rattle.capture3.specs.SidedChunks.{Streams, size}
 use Rattle.canon3.specs.Bytes.{chunk_bytes}
@@ -14,11 +14,6 @@ use Rattle.packing3.specs.Stopped.{Explains}
 -- fewer bytes than this were given
 abbrev pub GaveFewer : (old new : Observed) → ℕ → Type 0
 GaveFewer old new n = (bytes : List ℕ) × Gave old new bytes × (length bytes < n)
-
--- each chunk is full
-abbrev pub AreFull : List (List ℕ) → Type 0
-AreFull [] = ⊤
-AreFull (chunk ∷ more) = (length chunk ≡ full_size) × AreFull more
 
 -- the last chunk: none, or some bytes
 abbrev pub last_chunk : List ℕ → List (List ℕ)
@@ -52,14 +47,6 @@ pub record HasChunk (old_observed observed : Observed) (old new : CaptureSoFar) 
   pub ended : n < full_size → IsSpent observed
   pub appended : Appends old.bytes new.bytes (flat_map chunk_bytes (last_chunk chunk))
   pub grows : Grows old.extent new.extent (flat_map chunk_bytes (last_chunk chunk)) n
-
--- full chunks of the source's next bytes are written
-pub record HasFull (old_observed observed : Observed) (old new : CaptureSoFar) : Type 0 where
-  pub full : List (List ℕ)
-  pub each : AreFull full
-  pub consumed : Gave old_observed observed (concat full)
-  pub appended : Appends old.bytes new.bytes (flat_map chunk_bytes full)
-  pub grows : Grows old.extent new.extent (flat_map chunk_bytes full) (length (concat full))
 
 -- the source's bytes are written to their end, as a stream
 pub record HasStream (old_observed observed : Observed) (old new : CaptureSoFar) : Type 0 where

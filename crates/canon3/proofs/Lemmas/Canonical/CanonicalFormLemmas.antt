@@ -1,13 +1,13 @@
 -- What was rewritten, entry by entry.
-use Rattle.canon3.proofs.Common.{◌≡◌, ℕ, ◌+◌, List, [], ◌∷◌, ◌++◌, refl, sym, ap, ◌∙◌, subst, arith, Option, Result, Ok, Err, Appends, Error, magic, Entry, Begin, End, MessageWriter, bytes_of, canonical, AreFirst, IsGoing, WriterRests, connections, AppendsFront, Appends-trans, Summary}
+use Rattle.canon3.proofs.Common.{◌≡◌, ℕ, ◌+◌, List, [], ◌∷◌, ◌++◌, refl, sym, ap, ◌∙◌, subst, arith, Option, Result, Ok, Err, Appends, Error, magic, Entry, Begin, End, MessageWriter, bytes_of, canonical, AreFirst, IsGoing, WriterRests, connections, AppendsFront, Appends-trans}
 use Rattle.std.proofs.lemmas.Bool.Decides.{nat_tests}
-use Rattle.canon3.specs.EntryWriter.{HasWrittenOrCut, WritesAll}
-use Rattle.canon3.specs.CanonicalForm.{canonical_bytes, WritesNoMore}
-use Rattle.canon3.specs.machinery.FormSteps.{are_some, Follows, magic_unless, values_before}
+use Rattle.std.specs.Prelude.{MatchResult}
+use Rattle.canon3.specs.Canonical.{canonical_bytes}
+use Rattle.canon3.specs.machinery.MessageWriter.{values_before}
+use Rattle.canon3.specs.machinery.Spelling.{Follows}
 use Rattle.canon3.specs.Bytes.{magic_before}
-use Rattle.canon3.proofs.Lemmas.Changes.Numbers.{canonical_is_file}
 use Rattle.canon3.proofs.Lemmas.Order.First.{first_in_order}
-use Rattle.canon3.proofs.Lemmas.Canonical.Growing.{form_grows}
+use Rattle.canon3.proofs.Lemmas.Canonical.Growing.{are_some, form_grows, magic_unless}
 use Rattle.canon3.proofs.Lemmas.Order.Order.{Stage, Between, Over, end, Runs, steps}
 use Rattle.canon3.proofs.Lemmas.Writing.SinkWritesLemmas.{front_of_first, front_of_second}
 
@@ -50,8 +50,9 @@ module _ {S H : Type 0} (n : MessageWriter S H) (old before between after : Opti
 
   pub written_or_cut : {X : Type 0} (r : Result X Error)
       → Appends before between (magic_before count) → Follows n between after entries one r
-      → HasWrittenOrCut canonical_bytes values_before WriterRests IsGoing n old after
-      (entries ++ one ∷ []) r
+      → MatchResult r (λ _. IsGoing n × WriterRests n (values_before (entries ++ one ∷ []))
+      × Appends old after (canonical_bytes (entries ++ one ∷ [])))
+      (λ _. AppendsFront old after (canonical_bytes (entries ++ one ∷ [])))
   written_or_cut (Ok x) magic (going, stands, followed) = (
     going,
     stands,
@@ -68,11 +69,3 @@ module _ {S H : Type 0} (n : MessageWriter S H) (old before between after : Opti
       front_of_first old between _ _ _ (form_grows entries one first)
       (front_of_second old before between _ _ _ refl so_far
       (subst (AppendsFront before between) (the_magic entries one count first counted) cut))
-
--- ---- its stream bytes
-
-pub written_no_more : (bytes : List ℕ) (old new : Option (List ℕ)) (result : Result Summary Error)
-    → WritesAll canonical_bytes bytes old new result → WritesNoMore bytes old new result
-written_no_more bytes old new (Ok summary) (entries, typed, is, written) =
-    (entries, typed, written, canonical_is_file bytes entries typed)
-written_no_more bytes old new (Err error) w = tt

@@ -1,5 +1,5 @@
 -- The canonical form grows after the entries so far.
-use Rattle.canon3.proofs.Common.{◌≡◌, ℕ, true, List, [], ◌∷◌, ◌++◌, refl, sym, ap, ◌∙◌, append_assoc, append-nil, flat_map, flat_map-append, Item, Word, One, magic, Entry, Begin, Call, Reply, items_of, bytes_of, entry_bytes, canonical, numbered, entries_after, open_xids, AreFirst, are_some, magic_unless, handles, handles_in, verifiers, verifiers_in, xid_of, bytes_after}
+use Rattle.canon3.proofs.Common.{◌≡◌, ℕ, Bool, true, false, List, [], ◌∷◌, ◌++◌, refl, sym, ap, ◌∙◌, append_assoc, append-nil, flat_map, flat_map-append, Item, Word, One, magic, Entry, Begin, Call, Reply, items_of, bytes_of, entry_bytes, canonical, numbered, entries_after, open_xids, AreFirst, handles, handles_in, verifiers, verifiers_in, xid_of, bytes_after}
 use Rattle.canon3.proofs.Lemmas.Order.First.{first_in_order}
 use Rattle.canon3.proofs.Lemmas.Order.Order.{BeginsWithXid, IsAnswering}
 use Rattle.canon3.proofs.Lemmas.Canonical.CanonicalStreamLemmas.{canonical-after, entries_after-append}
@@ -45,6 +45,15 @@ answering_begins xs (Word name x ∷ items) known = tt
 answering_begins xs _ known = absurd known
 
 -- ---- bytes
+
+abbrev pub are_some : List Entry → Bool
+are_some [] = false
+are_some (entry ∷ entries) = true
+
+-- the magic, where no entry came before
+abbrev pub magic_unless : Bool → List ℕ
+magic_unless true = []
+magic_unless false = magic One
 
 some_numbered : (e : Entry) (a : List Entry) (hs vs : List (List ℕ)) (xs : List ℕ)
     → are_some (numbered hs vs xs (e ∷ a)) ≡ true

@@ -1,13 +1,10 @@
 -- A comparison of two captures, entry by entry.
-use Rattle.canon3.proofs.Common.{◌≡◌, ◌≢◌, ℕ, List, [], ◌∷◌, ◌++◌, append-nil, Option, None, Some, Result, Ok, Err, refl, sym, ap, ◌∙◌, subst, Gave, Observed, gave_on, gave_none, IsPrefixOf, shown_of_all, Item, Entries, Error, Place, Entry, Typed, MessageWriter, AreFirst, WriterRests, WriterStands, values_before, Same, HasPassed, place_from, side_in, IsMetBy, source_of, StandsFor, Progress, SameError, bytes_after, HasSpelled, spelling_of, ◌+◌, ◌≤◌, ◌<◌, ◌^◌, length, length-append, arith}
+use Rattle.canon3.proofs.Common.{◌≡◌, ◌≢◌, ℕ, List, [], ◌∷◌, ◌++◌, append-nil, Option, None, Some, Result, Ok, Err, refl, sym, ap, ◌∙◌, Gave, Observed, IsPrefixOf, shown_of_all, Error, Place, Entry, Typed, MessageWriter, AreFirst, WriterRests, WriterStands, values_before, Same, HasPassed, place_from, IsMetBy, Progress, SameError, bytes_after, HasSpelled, spelling_of, ◌+◌, ◌≤◌, ◌<◌, ◌^◌, length, length-append, arith}
 use Rattle.std.specs.Option.{IsSomeAnd, MatchOption}
 use Rattle.std.specs.declared.hash.BuildHasher as BuildHasher
 use Rattle.std.specs.declared.hash.Hasher as Hasher
 use Rattle.capture3.specs.declared.fault.Error.TheVariants as errors
-use Rattle.capture3.specs.declared.reader.entry.LentEntry.{LentEntry}
-use Rattle.capture3.specs.Handing.{HandsOutGiven}
 use Rattle.capture3.specs.Laws.{most_entries}
-use Rattle.capture3.specs.Lending.{IsNextLent}
 use Rattle.capture3.specs.MessageVisit.{Hears}
 use Rattle.canon3.specs.declared.comparison.Comparison.{Comparison}
 use Rattle.canon3.specs.declared.comparison.Finding.{Finding}
@@ -17,14 +14,16 @@ use Rattle.canon3.specs.declared.comparison.verdict.Verdict.{Verdict}
 use Rattle.canon3.specs.declared.comparison.verdict.Verdict.TheVariants as verdicts
 use Rattle.canon3.specs.declared.comparison.verdict.Which.{Which}
 use Rattle.canon3.specs.declared.comparison.verdict.Which.TheVariants.{First, Second}
-use Rattle.canon3.specs.Comparison.{DecidesGiven, DecidesSame, GaveAll, StopsComparing, StopsGiven}
+use Rattle.std.specs.Prelude.{MatchResult}
+use Rattle.canon3.specs.Comparison.{DecidesGiven, DecidesSame, StopsComparing, StopsGiven}
+use Rattle.canon3.specs.EntryWriter.{StopsWriting}
 use Rattle.canon3.specs.HandleTable.{nothing}
-use Rattle.canon3.specs.machinery.WritingSteps.{WritesToTheEnd}
-use Rattle.canon3.specs.machinery.ComparisonSteps.{Agree, Compares, HasGiven, HasGivenOn, HaveEnded, HaveParted, IsCompared, IsFound, IsReadAfter, IsReadOut, HaveReceived, Meets, met_second, PartWith, GaveError, StepsOn}
+use Rattle.canon3.specs.Summary.{GaveAll}
+use Rattle.canon3.specs.machinery.WritingSteps.{HasGiven, IsDone, ReaderSince, source_since}
+use Rattle.canon3.specs.machinery.ComparisonSteps.{Agree, Compares, HaveEnded, HaveParted, IsCompared, IsFound, IsReadAfter, IsReadOut, HaveReceived, Meets, met_second, PartWith, GaveError, StepsOn}
 use Rattle.canon3.proofs.Lemmas.Renaming.AgreementLemmas.{agree_more, differ_here, mark_alike, no_more, not_same, parting, place_there, typed_first}
 use Rattle.canon3.proofs.Lemmas.Order.First.{same_from_bytes}
-use Rattle.canon3.proofs.Lemmas.Order.Reaching.{first_reached}
-use Rattle.canon3.proofs.Lemmas.Progress.ProgressLemmas.{place_is}
+use Rattle.canon3.proofs.Lemmas.Progress.ProgressLemmas.{place_is, side_in}
 
 -- ---- an entry of each
 
@@ -83,37 +82,36 @@ module _ {S H : Type 0} (comparison : Comparison S H) (a b : List Entry)
 
 -- ---- what a reader answers
 
-says_of : (start now : Observed) (given : List ℕ) (handed : List Entry) (error : Error)
-    → Gave start now given → IsMetBy error now given handed → GaveError start now error
-says_of start now given handed (errors.Refused fault) gave met =
+pub gave_error : (source : Observed × Observed) (handed : List Entry) (error : Error)
+    → (given : List ℕ) × Gave source.0 source.1 given × IsMetBy error source.1 given handed
+    → GaveError source error
+gave_error source handed (errors.Refused fault) (given, gave, met) =
     record { given = given; handed = handed; gave = gave; shown = met }
-says_of start now given handed _ gave met = tt
+gave_error source handed _ met = tt
 
-module _ (old new old_other new_other : Observed) where
-  pub first_stops : (error : Error) → GaveError old new error
-      → StopsGiven old new old_other new_other error First
+module _ (first second : Observed × Observed) where
+  pub first_stops : (error : Error) → GaveError first error → StopsGiven first second error First
   first_stops (errors.Refused fault) met = met
   first_stops _ met = tt
 
-  pub second_stops : (a : List Entry) (error : Error) → GaveAll old new a
-      → GaveError old_other new_other error → StopsGiven old new old_other new_other error Second
+  pub second_stops : (a : List Entry) (error : Error) → GaveAll first a → GaveError second error
+      → StopsGiven first second error Second
   second_stops a (errors.Refused fault) whole met = ((a, whole), met)
   second_stops a _ whole met = tt
 
 -- ---- of all bytes, of which those that were given are a prefix
 
--- two sources, as each was observed before the call and is now, and all bytes of each
-module _ (old new old_other new_other : Observed) (file other : List ℕ)
-    (prefix : (given : List ℕ) → Gave old new given → IsPrefixOf new given file)
-    (other_prefix : (given : List ℕ) → Gave old_other new_other given
-    → IsPrefixOf new_other given other) where
-  all_typed : (a : List Entry) → GaveAll old new a → Typed file a
+module _ (first second : Observed × Observed) (file other : List ℕ)
+    (prefix : (given : List ℕ) → Gave first.0 first.1 given → IsPrefixOf first.1 given file)
+    (other_prefix : (given : List ℕ) → Gave second.0 second.1 given
+    → IsPrefixOf second.1 given other) where
+  all_typed : (a : List Entry) → GaveAll first a → Typed file a
   all_typed a all = rw ((prefix all.given all.gave).all all.ended) at all.typed
 
-  all_other_typed : (b : List Entry) → GaveAll old_other new_other b → Typed other b
+  all_other_typed : (b : List Entry) → GaveAll second b → Typed other b
   all_other_typed b all = rw ((other_prefix all.given all.gave).all all.ended) at all.typed
 
-  stops_all : (error : Error) (which : Which) → StopsGiven old new old_other new_other error which
+  stops_all : (error : Error) (which : Which) → StopsGiven first second error which
       → StopsComparing file other error which
   stops_all (errors.Refused fault) First f =
       (shown_of_all _ _ file _ _ (prefix f.given f.gave) f.shown).0
@@ -121,8 +119,8 @@ module _ (old new old_other new_other : Observed) (file other : List ℕ)
       ((a, all_typed a whole), (shown_of_all _ _ other _ _ (other_prefix f.given f.gave) f.shown).0)
   stops_all _ which s = tt
 
-  pub decides_all : (result : Result Verdict SameError)
-      → DecidesGiven old new old_other new_other result → DecidesSame file other result
+  pub decides_all : (result : Result Verdict SameError) → DecidesGiven first second result
+      → DecidesSame file other result
   decides_all (Ok verdicts.Same) (a, b, whole, other_whole, alike) =
       (a, b, all_typed a whole, all_other_typed b other_whole, alike)
   decides_all (Ok (verdicts.Differ place)) (a, b, whole, other_whole, unlike, parts) =
@@ -131,85 +129,22 @@ module _ (old new old_other new_other : Observed) (file other : List ℕ)
 
 -- ---- along a reader
 
-module _ {R S H V : Type 0} {builds : BuildHasher.Ghosts S H} {hashes : Hasher.Ghosts H}
-    (telling : R → Observed) (rests stands : V → List Item → Type 0) (start : Observed)
-    (old new : Entries R S H builds hashes) (was now : V) (handed : List Entry) where
-  -- what a call of it says of what the source gave, and of the visitor
-  abbrev pub Hands : Result (Option LentEntry) Error → Type 0
-  Hands (Ok (Some lent)) = (entry : Entry) × IsNextLent rests stands was now handed lent entry
-      × AreFirst (handed ++ entry ∷ []) × HasGiven telling start new (handed ++ entry ∷ [])
-  Hands (Ok None) =
-      GaveAll start (telling (source_of new)) handed × HasGiven telling start new handed
-  Hands (Err error) = GaveError start (telling (source_of new)) error
-
-  pub hands : (h : HasGiven telling start old handed) (result : Result (Option LentEntry) Error)
-      → HandsOutGiven telling (IsNextLent rests stands was now) old new h.given handed result
-      → Hands result
-  hands h (Ok (Some lent)) a =
-      let (entry, is, reached, stands_for) = a.hands_out in (
-        entry,
-        is,
-        first_reached (h.given ++ a.more) (handed ++ entry ∷ []) reached,
-        record {
-          given = h.given ++ a.more;
-          consumed = gave_on start h.consumed a;
-          stands = stands_for;
-        },
-      )
-  hands h (Ok None) a =
-      let (typed, ended, stands_for) = a.hands_out in
-      let gave = gave_on start h.consumed a in (
-        record { given = h.given ++ a.more; gave = gave; ended = ended; typed = typed },
-        record { given = h.given ++ a.more; consumed = gave; stands = stands_for },
-      )
-  hands h (Err error) a =
-      says_of start (telling (source_of new)) (h.given ++ a.more) handed error
-      (gave_on start h.consumed a) a.hands_out.0
-
-module _ {R S H : Type 0} {builds : BuildHasher.Ghosts S H} {hashes : Hasher.Ghosts H}
-    (telling : R → Observed) (start : Observed) (reader : Entries R S H builds hashes)
-    (handed : List Entry) where
-  pub given_on : HasGiven telling start reader handed → HasGivenOn telling start reader handed
-  given_on h =
-      record { more = []; all = subst (HasGiven telling start reader) (sym (append-nil handed)) h }
-
 -- all that were left were handed out
-pub read_out : {R S H T X : Type 0} {builds : BuildHasher.Ghosts S H} {hashes : Hasher.Ghosts H}
-    (telling : R → Observed) (start : Observed) (handed : List Entry)
-    (before : List Entry → List Item)
-    (rests : T → List Item → Type 0) (going : T → Type 0) (reader : Entries R S H builds hashes)
-    (writer : T) (new : Option (List ℕ)) (result : Result X Error)
-    → WritesToTheEnd nothing before rests going telling start handed None reader writer new result
-    → IsReadOut start (telling (source_of reader)) handed result
-read_out telling start handed before rests going reader writer new (Ok x) d = (
-  d.more,
-  record {
-    given = d.given;
-    gave = d.ended.consumed;
-    ended = d.ended.ended;
-    typed = d.ended.typed;
-  },
-)
-read_out telling start handed before rests going reader writer new (Err (errors.Refused fault)) s =
-    record {
-      given = s.given;
-      handed = s.stopped.0;
-      gave = s.consumed;
-      shown = s.stopped.1;
-    }
-read_out telling start handed before rests going reader writer new (Err _) s = tt
+pub read_out : {R S H X : Type 0} {builds : BuildHasher.Ghosts S H} {hashes : Hasher.Ghosts H}
+    (r : ReaderSince R S H builds hashes) (Wrote : List Entry → Type 0) (handed : List Entry)
+    (result : Result X Error)
+    → MatchResult result (λ _. IsDone r Wrote handed)
+    (StopsWriting nothing (source_since r) (None, None))
+    → IsReadOut (source_since r) handed result
+read_out r Wrote handed (Ok x) d = (d.more, d.all)
+read_out r Wrote handed (Err (errors.Refused fault)) (given, gave, (entries, met, appends)) =
+    record { given = given; handed = entries; gave = gave; shown = met }
+read_out r Wrote handed (Err _) s = tt
 
 -- so many entries were handed out, and more may be left
 pub one_fewer : (a : List Entry) (e : Entry) (left : ℕ)
     → length (a ++ e ∷ []) + left ≤ most_entries → length a + 1 < 2 ^ 32
 one_fewer a e left few = omega (arith, few, length-append a (e ∷ []))
-
--- a new reader
-pub fresh : {R S H : Type 0} {builds : BuildHasher.Ghosts S H} {hashes : Hasher.Ghosts H}
-    (telling : R → Observed) (reader : Entries R S H builds hashes) → StandsFor telling reader [] []
-    → HasGiven telling (telling (source_of reader)) reader []
-fresh telling reader stands =
-    record { given = []; consumed = gave_none (telling (source_of reader)); stands = stands }
 
 -- ---- along two readers
 
@@ -217,20 +152,20 @@ pub turned : (a b : List Entry) → Agree a b → Agree b a
 turned a b g = record { many = sym g.many; bytes = sym g.bytes }
 
 module _ {R S H : Type 0} {builds : BuildHasher.Ghosts S H} {hashes : Hasher.Ghosts H}
-    (telling : R → Observed) (first now start : Observed) (reader : Entries R S H builds hashes)
+    (first : Observed × Observed) (second : ReaderSince R S H builds hashes)
     (comparison : Comparison S H) (a b : List Entry) (e : Entry) where
-  pub refused_meets : (error : Error) → GaveError start (telling (source_of reader)) error
-      → Meets telling first now start reader comparison a b e (met_second error)
+  pub refused_meets : (error : Error) → GaveError (source_since second) error
+      → Meets first second comparison a b e (met_second error)
   refused_meets (errors.Refused fault) met = met
   refused_meets _ met = tt
 
   -- an entry of the second came, and was compared
-  pub compared_meets : (f : Entry) → HasGiven telling start reader (b ++ f ∷ [])
+  pub compared_meets : (f : Entry) → HasGiven second (b ++ f ∷ [])
       → (place : Option Place) (finding : Option Finding)
       → MatchOption place (finding ≡ None)
       (λ p. IsSomeAnd finding (λ parted. parted ≡ findings.Parted p))
       → Compares comparison a b e f place
-      → Meets telling first now start reader comparison a b e (Ok finding)
+      → Meets first second comparison a b e (Ok finding)
   compared_meets f given None finding is compared =
       rw is (record { f = f; given = given; compared = compared })
   compared_meets f given (Some p) None is parts = absurd is
@@ -238,21 +173,18 @@ module _ {R S H : Type 0} {builds : BuildHasher.Ghosts S H} {hashes : Hasher.Gho
       rw is (record { f = f; given = given; parts = parts })
 
   -- the second has not ended before the first
-  pub not_ended : AreFirst (a ++ e ∷ []) → Agree a b → GaveAll start (telling (source_of reader)) b
-      → ⊥
+  pub not_ended : AreFirst (a ++ e ∷ []) → Agree a b → GaveAll (source_since second) b → ⊥
   not_ended order g all =
       let none : e ∷ [] ≡ [] = no_more all.given b a (e ∷ []) all.typed order (turned a b g) in
       absurd (cc)
 
 module _ {A B S H : Type 0} {builds : BuildHasher.Ghosts S H} {hashes : Hasher.Ghosts H}
-    (telling : A → Observed) (telling_other : B → Observed) (start other_start : Observed)
-    (first : Entries A S H builds hashes) (second : Entries B S H builds hashes)
-    (comparison : Comparison S H) where
-  pub stepped : (a b : List Entry) (e : Entry) → HasGiven telling start first (a ++ e ∷ [])
-      → (result : Result (Option Finding) SameError)
-      → Meets telling_other start (telling (source_of first)) other_start second comparison a b e
-      result → StepsOn telling telling_other start other_start first second comparison result
-  stepped a b e given (Ok None) m =
+    (first : ReaderSince A S H builds hashes) (second : ReaderSince B S H builds hashes) where
+  pub stepped : (comparison : Comparison S H) (a b : List Entry) (e : Entry)
+      → HasGiven first (a ++ e ∷ []) → (result : Result (Option Finding) SameError)
+      → Meets (source_since first) second comparison a b e result
+      → StepsOn first second comparison result
+  stepped comparison a b e given (Ok None) m =
       record {
         a = a ++ e ∷ [];
         b = b ++ m.f ∷ [];
@@ -260,8 +192,8 @@ module _ {A B S H : Type 0} {builds : BuildHasher.Ghosts S H} {hashes : Hasher.G
         second_given = m.given;
         compared = m.compared;
       }
-  stepped a b e given (Ok (Some findings.Ended)) m = absurd m
-  stepped a b e given (Ok (Some (findings.Parted place))) m =
+  stepped comparison a b e given (Ok (Some findings.Ended)) m = absurd m
+  stepped comparison a b e given (Ok (Some (findings.Parted place))) m =
       record {
         a = a;
         b = b;
@@ -271,24 +203,20 @@ module _ {A B S H : Type 0} {builds : BuildHasher.Ghosts S H} {hashes : Hasher.G
         second_given = m.given;
         parts = m.parts;
       }
-  stepped a b e given (Ok (Some (findings.Refused fault))) m = ((a ++ e ∷ [], given), m)
-  stepped a b e given (Err error) m = m
+  stepped comparison a b e given (Ok (Some (findings.Refused fault))) m = ((a ++ e ∷ [], given), m)
+  stepped comparison a b e given (Err error) m = m
 
-module _ {A B S H : Type 0} {builds : BuildHasher.Ghosts S H} {hashes : Hasher.Ghosts H}
-    (telling : A → Observed) (telling_other : B → Observed) (start other_start : Observed)
-    (first : Entries A S H builds hashes) (second : Entries B S H builds hashes) where
-  pub first_of : (finding : Finding)
-      → IsFound telling telling_other start other_start first second finding
-      → (a : List Entry) × HasGiven telling start first a
+  pub first_of : (finding : Finding) → IsFound first second finding
+      → (a : List Entry) × HasGiven first a
   first_of findings.Ended found = (found.a, found.first_given)
   first_of (findings.Parted place) found = (found.a ++ found.e ∷ [], found.first_given)
   first_of (findings.Refused fault) found = found.0
 
   -- the sources tell this once both are read out
-  module _ (now other_now : Observed) where
+  module _ (source other : Observed × Observed) where
     -- the first had no more
-    whole_first : (h : HaveEnded telling telling_other start other_start first second)
-        (rest : List Entry) → GaveAll start now (h.a ++ rest) → GaveAll start now h.a
+    whole_first : (h : HaveEnded first second) (rest : List Entry) → GaveAll source (h.a ++ rest)
+        → GaveAll source h.a
     whole_first h rest all =
         let none : rest ≡ [] =
         no_more h.file h.a h.a rest h.typed
@@ -297,11 +225,9 @@ module _ {A B S H : Type 0} {builds : BuildHasher.Ghosts S H} {hashes : Hasher.G
         rw (none, append-nil) at all
 
     -- and the second has no more either
-    pub ended_decides : (h : HaveEnded telling telling_other start other_start first second)
-        (result : Result Verdict SameError)
-        → (more : List Entry) × GaveAll start now (h.a ++ more)
-        → IsReadAfter other_start other_now h.b verdicts.Same result
-        → DecidesGiven start now other_start other_now result
+    pub ended_decides : (h : HaveEnded first second) (result : Result Verdict SameError)
+        → (more : List Entry) × GaveAll source (h.a ++ more)
+        → IsReadAfter other h.b verdicts.Same result → DecidesGiven source other result
     ended_decides h (Ok answer) (rest, all) (same, more, other_all) =
         let whole = whole_first h rest all in
         let none : more ≡ [] =
@@ -313,14 +239,13 @@ module _ {A B S H : Type 0} {builds : BuildHasher.Ghosts S H} {hashes : Hasher.G
         (typed_first other_all.given h.b more other_all.typed) h.agree.bytes in
         rw same (h.a, h.b, whole, other_whole, alike)
     ended_decides h (Err error) (rest, all) (is, met) =
-        rw is (second_stops start now other_start other_now (h.a ++ rest) error.error all met)
+        rw is (second_stops source other (h.a ++ rest) error.error all met)
 
-    pub parted_decides : (place : Place)
-        (h : HaveParted telling telling_other start other_start first second place)
+    pub parted_decides : (place : Place) (h : HaveParted first second place)
         (result : Result Verdict SameError)
-        → (more : List Entry) × GaveAll start now ((h.a ++ h.e ∷ []) ++ more)
-        → IsReadAfter other_start other_now (h.b ++ h.f ∷ []) (verdicts.Differ place) result
-        → DecidesGiven start now other_start other_now result
+        → (more : List Entry) × GaveAll source ((h.a ++ h.e ∷ []) ++ more)
+        → IsReadAfter other (h.b ++ h.f ∷ []) (verdicts.Differ place) result
+        → DecidesGiven source other result
     parted_decides place h (Ok answer) (more, all) (same, rest, other_all) =
         rw same (
           (h.a ++ h.e ∷ []) ++ more,
@@ -333,5 +258,4 @@ module _ {A B S H : Type 0} {builds : BuildHasher.Ghosts S H} {hashes : Hasher.G
               other_all.typed,
         )
     parted_decides place h (Err error) (more, all) (is, met) =
-        rw is (second_stops start now other_start other_now ((h.a ++ h.e ∷ []) ++ more) error.error
-        all met)
+        rw is (second_stops source other ((h.a ++ h.e ∷ []) ++ more) error.error all met)

@@ -3,7 +3,7 @@ use Rattle.canon3.proofs.Common.{◌≡◌, ◌≢◌, ◌⊎◌, inl, inr, ⊎_
 use Rattle.std.specs.Cmp.{IsEquivalence}
 use Rattle.std.proofs.lemmas.Bool.{false_from_ne_true}
 use Rattle.capture3.specs.Rank.{before, distinct, rank, with_key, with_keys}
-use Rattle.canon3.specs.Rank.{IsInjectiveOn}
+use Rattle.canon3.specs.OneToOne.{IsInjectiveOn}
 use Rattle.capture3.proofs.Lemmas.Connections.RankLemmas.{before-append, by_test, cond_either, length-with_keys, or_true, rank-place}
 
 -- ---- lists side by side

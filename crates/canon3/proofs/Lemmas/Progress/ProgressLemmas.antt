@@ -4,7 +4,7 @@ use Rattle.canon3.proofs.Common.{◌≡◌, ◌⊎◌, inl, inr, ℕ, ◌+◌, L
 use Rattle.capture3.specs.declared.fault.Place.TheVariants as places
 use Rattle.capture3.specs.declared.reader.entry.Kind.TheVariants as kinds
 use Rattle.canon3.specs.Parting.{connections, records_after, IsMessageOf, IsPlaceOf, first_message, second_message, first_ends, second_ends, next_record}
-use Rattle.canon3.specs.machinery.ProgressSteps.{place_from, side_in, side_of_kind}
+use Rattle.canon3.specs.machinery.ProgressSteps.{place_from, side_of_kind}
 
 -- ---- one entry more
 
@@ -32,7 +32,12 @@ records_within n (Turn ∷ a) = omega (arith, records_within 0 a)
 records_within n (Reply id items ∷ a) = omega (arith, records_within (n + 1) a)
 records_within n (_ ∷ a) = omega (arith, records_within n a)
 
--- what the kind tells of an entry
+-- whose message an entry is, and what the kind tells of it
+abbrev pub side_in : Entry → Option Side
+side_in (Call items) = Some Client
+side_in (Reply id items) = Some Server
+side_in _ = None
+
 pub record IsPassedAs (kind : Kind) (one : Entry) : Type 0 where
   pub side : side_of_kind kind ≡ side_in one
 

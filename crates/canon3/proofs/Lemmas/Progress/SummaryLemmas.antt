@@ -40,9 +40,9 @@ concluded bytes old new (Err _) prefix c = (tt, tt)
 -- what is concluded where nothing was written
 pub concludes : (old new : Observed) (result : Result Summary Error) (written : Option (List ℕ))
     → IfErr result (λ error. error ≢ errors.Write)
-    → WritesGiven nothing old new written written result → ConcludesGiven old new result
-concludes old new (Ok summary) written never (given, gave, (entries, ended, typed, is, appends)) =
-    (given, gave, (ended, is))
+    → WritesGiven nothing (old, new) (written, written) result → ConcludesGiven old new result
+concludes old new (Ok summary) written never (entries, all, is, appends) =
+    (all.given, all.gave, (all.ended, is))
 concludes old new (Err (errors.Refused fault)) written never (given, gave, (entries, met, appends))
     =
     (given, gave, (entries, met))

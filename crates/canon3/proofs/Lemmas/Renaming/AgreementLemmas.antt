@@ -1,9 +1,10 @@
 -- First entries of two captures whose canonical forms have equal bytes.
-use Rattle.canon3.proofs.Common.{◌≡◌, ◌≢◌, ◌⊎◌, ℕ, ◌+◌, List, [], ◌∷◌, ◌++◌, length, length-append, take, None, Some, refl, sym, ap, ap₂, ◌∙◌, arith, append_assoc, append-nil, slice_get, Entry, Call, Reply, Typed, Place, bytes_of, canonical, AreFirst, IsPlaceOf, Parting, PartsAt, Same, are_some, magic_unless, side_in, bytes_after, slice_get_past, Agree, PartWith}
+use Rattle.canon3.proofs.Common.{◌≡◌, ◌≢◌, ◌⊎◌, ℕ, ◌+◌, List, [], ◌∷◌, ◌++◌, length, length-append, take, None, Some, refl, sym, ap, ap₂, ◌∙◌, arith, append_assoc, append-nil, slice_get, Entry, Call, Reply, Typed, Place, bytes_of, canonical, AreFirst, IsPlaceOf, Parting, PartsAt, Same, bytes_after, slice_get_past, Agree, PartWith}
 use Rattle.std.proofs.lemmas.List.{append_cancel_left, nil_from_length, take_at}
 use Rattle.canon3.proofs.Lemmas.Order.Ends.{ends_too, past}
 use Rattle.canon3.proofs.Lemmas.Order.First.{first_in_order, parts_where_forms_do, same_from_bytes}
-use Rattle.canon3.proofs.Lemmas.Canonical.Growing.{first_front, form_grows}
+use Rattle.canon3.proofs.Lemmas.Canonical.Growing.{are_some, first_front, form_grows, magic_unless}
+use Rattle.canon3.proofs.Lemmas.Progress.ProgressLemmas.{side_in}
 use Rattle.canon3.proofs.Lemmas.Canonical.OneFormLemmas.{canonical-same}
 use Rattle.canon3.proofs.Lemmas.Comparison.Places.{place_from_parting}
 use Rattle.canon3.proofs.Lemmas.Order.Prefixes.{canonical-take}

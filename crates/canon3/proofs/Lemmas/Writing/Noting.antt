@@ -1,5 +1,5 @@
 -- What stays and what is replaced of the spellings of items.
-use Rattle.canon3.proofs.Common.{◌≡◌, ℕ, ◌+◌, ◌^◌, ◌<◌, List, [], ◌∷◌, ◌++◌, length, replicate, take, drop, refl, sym, ap, ◌∙◌, subst, arith, length-append, append-nil, append_assoc, Result, Ok, Err, flat_map-append, PlainField, run_items, run_size, OnOk, Makes, Noted, IsNotedAs, Notes}
+use Rattle.canon3.proofs.Common.{◌≡◌, ℕ, ◌+◌, ◌^◌, ◌<◌, List, [], ◌∷◌, ◌++◌, length, replicate, take, drop, refl, sym, ap, ◌∙◌, subst, arith, length-append, append-nil, append_assoc, Result, Ok, Err, flat_map-append, PlainField, run_items, run_size, OnOk, Makes, Noted, IsNotedAs}
 use Rattle.std.proofs.lemmas.List.{nil_from_length, take-replicate}
 use Rattle.xdr3.specs.declared.plain.PlainField.TheVariants as fields
 use Rattle.xdr3.specs.Item.{Item, Word, Hyper, Fixed, WriteVerf, Opaque, Rest, Kind, Handle, SpellsItem, Spells, residue, word_bytes, zero_spelling_of, zero_spelling}
@@ -20,6 +20,12 @@ ReplacesRun old new skipped put = (body gone form : List ℕ) → Makes old body
 abbrev pub AreFixed : List Item → (count : ℕ) → Type 0
 AreFixed items count =
     (bytes : List ℕ) → Spells items bytes → (bytes ≡ zero_spelling items) × (length bytes ≡ count)
+
+-- after the items and the others of which this was so, it is so of these too
+abbrev pub Notes : (old new : Noted) → (items others : List Item) → Type 0
+Notes old new items others =
+    (before after : List Item) → IsNotedAs old before after
+    → IsNotedAs new (before ++ items) (after ++ others)
 
 pub noted_none : (noted : Noted) → Makes noted [] [] → IsNotedAs noted [] []
 noted_none noted makes body none few = rw none makes

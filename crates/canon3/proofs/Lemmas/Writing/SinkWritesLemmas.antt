@@ -1,8 +1,14 @@
 -- What a sink has taken of bytes, piece by piece.
-use Rattle.canon3.proofs.Common.{◌≡◌, ℕ, List, [], ◌++◌, ◌∙◌, ap, append_assoc, append-nil, drop, subst, sym, length, length-append, length-drop, length-take, take, take-append-drop, arith, ◌+◌, ◌-◌, ◌^◌, ◌≤◌, Appends, word_bytes, chunk_bytes, record_bytes, AppendsFront, Appends-trans, TookUpTo}
+use Rattle.canon3.proofs.Common.{◌≡◌, ℕ, List, [], ◌++◌, ◌∙◌, ap, append_assoc, append-nil, drop, subst, sym, length, length-append, length-drop, length-take, take, take-append-drop, arith, ◌+◌, ◌-◌, ◌^◌, ◌≤◌, Appends, word_bytes, chunk_bytes, record_bytes, AppendsFront, Appends-trans}
 use Rattle.std.proofs.lemmas.List.{drop-append-le, drop-take, take_all}
 use Rattle.std.proofs.Math.Seq.{take-append-add}
 use Rattle.std.specs.Prelude.{Option}
+
+-- the sink took the bytes up to the rest
+pub record TookUpTo (old new : Option (List ℕ)) (bytes rest : List ℕ) : Type 0 where
+  pub front : List ℕ
+  pub split : bytes ≡ front ++ rest
+  pub appended : Appends old new front
 
 -- the rest of a slice is cut at its own length
 pub taken_more : {bytes rest : List ℕ} (first old new : Option (List ℕ)) (n m : ℕ)

@@ -9,11 +9,11 @@ use Rattle.rpc_head.specs.declared.values.message_start.MessageStart.{MessageSta
 use Rattle.capture3.specs.MessageVisit.{OpensMessage}
 use Rattle.xdr3.specs.Item.{Item, Fixed, Hyper, Word, WriteVerf, Opaque, Rest, Kind, Handle, residue, word_bytes}
 use Rattle.nfs3_types.specs.declared.values.handle.Handle as declared
-use Rattle.canon3.specs.machinery.MessageWriter.{AreFew, Before, IsNotedAs, IsNotedMessage, Notes, in_front_of, items_of_writer, WriterRests, WriterStands}
+use Rattle.canon3.specs.machinery.MessageWriter.{AreFew, Before, IsNotedAs, IsNotedMessage, in_front_of, items_of_writer, WriterRests, WriterStands}
 use Rattle.canon3.proofs.Lemmas.Canonical.CanonicalStreamLemmas.{items_after-push}
 use Rattle.canon3.proofs.Lemmas.Canonical.OneFormLemmas.{plain_handle, plain_verifier, plain_numbered}
 use Rattle.canon3.proofs.Lemmas.Numbers.RankLemmas.{member-append_right, rank-le-length}
-use Rattle.canon3.proofs.Lemmas.Writing.Noting.{KeepsRun, ReplacesRun, bytes_fixed, hyper_fixed, noted_none, notes_handle, notes_kept, notes_padded, notes_verifier, plain_fixed, rest_fixed, run_fixed, word_fixed}
+use Rattle.canon3.proofs.Lemmas.Writing.Noting.{KeepsRun, Notes, ReplacesRun, bytes_fixed, hyper_fixed, noted_none, notes_handle, notes_kept, notes_padded, notes_verifier, plain_fixed, rest_fixed, run_fixed, word_fixed}
 
 pub is_none : (l : List ℕ) (b : Bool) → b ≡ (length l == 0) → b ≡ true → l ≡ []
 is_none l b e t = nil_from_length l ((Decides-eqb (length l) 0).0 (sym e ∙ t))

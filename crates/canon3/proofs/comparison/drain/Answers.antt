@@ -12,14 +12,9 @@ returns g c =
     record {
       out =
           λ start handed h.
-          read_out g.R.Source.observed start handed _ _ _ _ _ _ c.write_rest.result
-          (w.over start handed None (record {
-            given = h.all.given;
-            more = h.more;
-            consumed = h.all.consumed;
-            reads = h.all.stands;
-            writes = record { goes = tt; stands_for = tt; written = Appends-nil None };
-          }));
+          read_out _ _ handed c.write_rest.result
+          (w.over start handed None h
+          (record { goes = tt; stands_for = tt; written = Appends-nil None }));
       reads = record {
         read = w.devices.read;
         write = no_write c.write_rest.result w.devices.write;

@@ -1,5 +1,6 @@
-use Rattle.canon3.proofs.Common.{[], rules, sym, ◌≡◌, ◌∙◌, source_of, prefix_of_kept, prefix_of_observed}
-use Rattle.canon3.proofs.Lemmas.Comparison.ComparisonLemmas.{decides_all, fresh}
+use Rattle.canon3.proofs.Common.{[], rules, sym, ◌≡◌, ◌∙◌, source_of, prefix_of_kept}
+use Rattle.canon3.proofs.Lemmas.Comparison.ComparisonLemmas.{decides_all}
+use Rattle.canon3.proofs.Lemmas.Writing.EntryWriterLemmas.{fresh}
 use Rattle.canon3.proofs.comparison.same.Goals as goal
 
 pub judge-result-requires-clause-begins : goal.judge-result-requires-clause-begins
@@ -27,16 +28,10 @@ returns g c =
     let new_other = g.B.Source.observed (source_of r.new.second) in
     rw (back, other_back, ← c.through-entries.ensures.unread, ← c.through-others.ensures.unread)
     (record {
-      decides =
-          λ file other tells other_tells.
-          decides_all old new old_other new_other file other
-          (λ given. prefix_of_observed old new given file tells)
-          (λ given. prefix_of_observed old_other new_other given other other_tells) r.result
-          r.ensures.gave;
       gave = r.ensures.gave;
       whole =
           λ file other gave other_gave.
-          decides_all old new old_other new_other file other
+          decides_all (old, new) (old_other, new_other) file other
           (λ given. prefix_of_kept old new given file gave)
           (λ given. prefix_of_kept old_other new_other given other other_gave) r.result
           r.ensures.gave;

@@ -1,4 +1,4 @@
-use Rattle.canon3.proofs.Common.{[], None, refl, prefix_of_kept, prefix_of_observed}
+use Rattle.canon3.proofs.Common.{[], None, refl, prefix_of_kept}
 use Rattle.canon3.proofs.Lemmas.Progress.SummaryLemmas.{concluded, concludes, no_write}
 use Rattle.canon3.proofs.summary.check.Goals as goal
 
@@ -14,12 +14,6 @@ returns g c =
     let never = no_write result w.write in
     let all = concludes old new result None never w.writes in
     record {
-      ok =
-          λ bytes tells. (concluded bytes old new result
-          (λ given. prefix_of_observed old new given bytes tells) all).0;
-      refused =
-          λ bytes tells. (concluded bytes old new result
-          (λ given. prefix_of_observed old new given bytes tells) all).1;
       concludes = all;
       whole =
           λ bytes gave.

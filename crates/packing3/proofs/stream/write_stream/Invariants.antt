@@ -1,4 +1,5 @@
-use Rattle.packing3.proofs.Common.{◌≡◌, ◌-◌, length, max_bytes, full_size, HasFull, GrowsLittle, so_far}
+use Rattle.packing3.proofs.Common.{◌≡◌, ◌-◌, length, max_bytes, full_size, GrowsLittle, so_far}
+use Rattle.packing3.proofs.Chunks.{HasFull}
 use Rattle.packing3.proofs.stream.write_stream.Given as goal
 
 abbrev pub invariant-loop-count : goal.invariant-loop-count

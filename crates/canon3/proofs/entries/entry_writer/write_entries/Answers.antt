@@ -1,6 +1,6 @@
-use Rattle.canon3.proofs.Common.{[], sym, ◌≡◌, ◌∙◌, Ok, error_is, inl, source_of, gave_none, prefix_of_kept}
+use Rattle.canon3.proofs.Common.{[], sym, ◌≡◌, ◌∙◌, Ok, error_is, inl, source_of, prefix_of_kept}
 use Rattle.std.proofs.KnownBytes.{Appends-kept}
-use Rattle.canon3.proofs.Lemmas.Writing.EntryWriterLemmas.{all_written, new_writing, nothing_written}
+use Rattle.canon3.proofs.Lemmas.Writing.EntryWriterLemmas.{all_written, begun, fresh, nothing_written}
 use Rattle.canon3.proofs.Lemmas.Writing.SinkWritesLemmas.{whole_front}
 use Rattle.canon3.proofs.entries.entry_writer.write_entries.Goals as goal
 
@@ -14,23 +14,19 @@ returns-in-Ok-flush_all-clause-writes g c =
     c.source-1.given.1 (sym (c.into_source.ensures.same_reference ∙ w.ensures.devices.same_reference
     ∙ c.through-entries.ensures.same_reference)) ∙ c.into_source.ensures.value in
     let done =
-    w.ensures.over (observed (source_of c.through-entries.result)) [] old
-    (new_writing observed c.through-entries.ensures.stands c.requires.well c.requires.new
-    c.requires.empty) in
-    let done = rw c.in_ok-written.was at done in
+    rw c.in_ok-written.was at
+    (w.ensures.over (observed (source_of c.through-entries.result)) [] old
+    (fresh observed c.through-entries.result c.through-entries.ensures.stands)
+    (begun c.requires.well c.requires.new c.requires.empty)) in
     let came =
-    c.progress-progress.ensures done.given done.more done.reads c.in_ok-written.ensures.going in
+    c.progress-progress.ensures done.has_given.given done.more done.has_given.stands
+    c.in_ok-written.ensures.going in
     rw (back, ← c.through-entries.ensures.unread) (
-      done.given,
-      done.ended.consumed,
-      (
-        done.more,
-        done.ended.ended,
-        done.ended.typed,
-        c.counts.ensures done.given done.more done.ended.typed came done.writes.goes
-            done.writes.stands_for,
-        Appends-kept old _ _ _ done.writes.written c.flush_all.ensures.bytes,
-      ),
+      done.more,
+      done.all,
+      c.counts.ensures done.all.given done.more done.all.typed came done.wrote.goes
+          done.wrote.stands_for,
+      Appends-kept old _ _ _ done.wrote.written c.flush_all.ensures.bytes,
     )
 
 pub returns-in-Ok-flush_all-clause-whole : goal.returns-in-Ok-flush_all-clause-whole
@@ -49,15 +45,15 @@ returns-in-Err-flush_all-clause-writes g c =
     c.source-1.given.1 (sym (c.into_source.ensures.same_reference ∙ w.ensures.devices.same_reference
     ∙ c.through-entries.ensures.same_reference)) ∙ c.into_source.ensures.value in
     let done =
-    w.ensures.over (observed (source_of c.through-entries.result)) [] old
-    (new_writing observed c.through-entries.ensures.stands c.requires.well c.requires.new
-    c.requires.empty) in
-    let done = rw c.in_ok-written.was at done in
-    let whole = Appends-kept old _ _ _ done.writes.written c.flush_all.ensures.bytes in
+    rw c.in_ok-written.was at
+    (w.ensures.over (observed (source_of c.through-entries.result)) [] old
+    (fresh observed c.through-entries.result c.through-entries.ensures.stands)
+    (begun c.requires.well c.requires.new c.requires.empty)) in
+    let whole = Appends-kept old _ _ _ done.wrote.written c.flush_all.ensures.bytes in
     rw (back, ← c.through-entries.ensures.unread) (
-      done.given,
-      done.ended.consumed,
-      (done.more, inl done.ended.typed, whole_front old _ _ whole),
+      done.all.given,
+      done.all.gave,
+      (done.more, inl done.all.typed, whole_front old _ _ whole),
     )
 
 pub returns-in_err-written-clause-writes : goal.returns-in_err-written-clause-writes
@@ -69,12 +65,11 @@ returns-in_err-written-clause-writes g c =
     c.source-1.given.1 (sym (c.into_source.ensures.same_reference ∙ w.ensures.devices.same_reference
     ∙ c.through-entries.ensures.same_reference)) ∙ c.into_source.ensures.value in
     let done =
-    w.ensures.over (observed (source_of c.through-entries.result)) [] old
-    (new_writing observed c.through-entries.ensures.stands c.requires.well c.requires.new
-    c.requires.empty) in
-    let done = rw c.in_err-written.was at done in
-    rw (error_is _ _ c.from_residual.ensures, back, ← c.through-entries.ensures.unread)
-    (done.given, done.consumed, done.stopped)
+    rw c.in_err-written.was at
+    (w.ensures.over (observed (source_of c.through-entries.result)) [] old
+    (fresh observed c.through-entries.result c.through-entries.ensures.stands)
+    (begun c.requires.well c.requires.new c.requires.empty)) in
+    rw (error_is _ _ c.from_residual.ensures, back, ← c.through-entries.ensures.unread) done
 
 pub returns-in_err-written-clause-whole : goal.returns-in_err-written-clause-whole
 returns-in_err-written-clause-whole g c bytes gave =
@@ -84,9 +79,5 @@ returns-in_err-written-clause-whole g c bytes gave =
 
 pub returns-in-Err-clause-writes : goal.returns-in-Err-clause-writes
 returns-in-Err-clause-writes g c =
-    let observed = g.R.Source.observed c.args.source.now in (
-      [],
-      gave_none observed,
-      nothing_written g.E.EntryWriter.form c.requires.prefixes observed
-          (g.W.Sink.written c.args.sink.now),
-    )
+    nothing_written g.E.EntryWriter.form c.requires.prefixes
+    (g.R.Source.observed c.args.source.now) (g.W.Sink.written c.args.sink.now)

@@ -1,4 +1,5 @@
-use Rattle.canon3.proofs.Common.{◌≡◌, length, TookUpTo}
+use Rattle.canon3.proofs.Common.{◌≡◌, length}
+use Rattle.canon3.proofs.Lemmas.Writing.SinkWritesLemmas.{TookUpTo}
 use Rattle.canon3.proofs.sink.whole_writes.write_all.Given as goal
 
 abbrev pub invariant-loop-rest : goal.invariant-loop-rest

@@ -4,5 +4,7 @@ use Rattle.listing3.proofs.line_writer.LineWriterEntryWriter.counts.Goals as goa
 
 pub returns : goal.returns
 returns g c bytes entries typed passed goes rests =
-    c.counts.ensures bytes entries typed passed
-    (gathered_between g.H.Visit.stands c.args.self.now (all_items entries) rests)
+    let (going, ended) =
+    g.met.H.Counting.ends c.args.self.now.handles entries
+    (gathered_between g.H.Visit.stands c.args.self.now (all_items entries) rests) in
+    c.counts.ensures bytes entries typed passed going ended
