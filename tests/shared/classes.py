@@ -7,14 +7,14 @@ TABLE = TOP / 'crates/masking3/specs/Classes.antt'
 
 # What lists the names, with a pattern for the list or for each name of it.
 LISTS = {
-    'crates/mask_line3/src/command.rt': r'classes: ([a-z, \n]*)\n  ways:',
+    'crates/nfs3mask/src/line/command.rt': r'classes: ([a-z, \n]*)\n  ways:',
     'completions/nfs3mask.bash': r"local classes='([a-z ]*)'",
     'completions/nfs3mask.fish': r'for class in ([a-z ]*)\n',
     'completions/_nfs3mask': r'classes=\(([a-z ]*)\)',
 }
 # What lists the names with their ways.
 TABLES = {
-    'crates/mask_line3/src/grammar.rt': r'^  (\w+)=(\w+) ',
+    'crates/nfs3mask/src/line/grammar.rt': r'^  (\w+)=(\w+) ',
     'man/nfs3mask.1': r'^(\w+)\|(\w+)\|',
 }
 

@@ -18,7 +18,7 @@ pub use Rattle.capture3.specs.Rank.{before, distinct, number_limit, rank}
 pub use Rattle.canon3.specs.Renaming.{IsPlain, Pairwise, Renames, RenamesItem, RenamesMessage, Same, begins, calls, closes, ended, ends, handle, message, more, none, plain, replies, turns}
 pub use Rattle.canon3.specs.SinkWrites.{AppendsFront}
 pub use Rattle.canon3.specs.Values.{handle_in, handles, handles_in}
-pub use Rattle.canon3.specs.machinery.FormSteps.{are_some, magic_unless}
+pub use Rattle.canon3.proofs.Lemmas.Canonical.Growing.{are_some, magic_unless}
 pub use Rattle.capture3.proofs.Lemmas.Container.BytesOf.{AreBytes-nil}
 pub use Rattle.capture3.specs.Bodies.{ReplyItems, xid_in}
 pub use Rattle.capture3.specs.Chunks.{max_bytes}
@@ -57,13 +57,13 @@ pub use Rattle.masking3.specs.Spots.{after_word, next_spot}
 pub use Rattle.masking3.specs.Texts.{host_by, is_silly_name, silly_by, silly_zero, raw_by, text_by, with_text, zero_name}
 pub use Rattle.masking3.specs.Unnamed.{after_first, emptied, less_by, named_by, named_call, named_entry, names_by, text_size, unnamed_credential, unnamed_items}
 pub use Rattle.masking3.specs.Ways.{usual, way_of}
-pub use Rattle.masking3.specs.declared.class.Class.{Class}
-pub use Rattle.masking3.specs.declared.class.Class.TheVariants.{Machines, Owners, Raw, SillyNames, Times}
-pub use Rattle.masking3.specs.declared.spot.Spot.{Spot}
-pub use Rattle.masking3.specs.declared.spot.Spot.TheVariants.{InCall, InDirectory, InReply, InWcc}
-pub use Rattle.masking3.specs.declared.ways.Way.{Way}
-pub use Rattle.masking3.specs.declared.ways.Way.TheVariants.{Keep, Number, Zero}
-pub use Rattle.masking3.specs.declared.ways.Ways.{Ways}
+pub use Rattle.masking3.specs.declared.values.class.Class.{Class}
+pub use Rattle.masking3.specs.declared.values.class.Class.TheVariants.{Machines, Owners, Raw, SillyNames, Times}
+pub use Rattle.masking3.specs.declared.values.spot.ItemSpot.{ItemSpot}
+pub use Rattle.masking3.specs.declared.values.spot.ItemSpot.TheVariants.{InCall, InDirectory, InReply, InWcc}
+pub use Rattle.masking3.specs.declared.values.ways.Way.{Way}
+pub use Rattle.masking3.specs.declared.values.ways.Way.TheVariants.{Keep, Number, Zero}
+pub use Rattle.masking3.specs.declared.values.ways.Ways.{Ways}
 pub use Rattle.masking3.specs.machinery.ClassTables.{HoldsAt, HoldsValues, no_values, with_one}
 pub use Rattle.masking3.specs.machinery.MaskingWriter.{HasMaskedUnderWay, HasMemory, HasNoneUnderWay, HoldsMasked, MaskRests, MaskStands, after_messages, visited_entry, visited_item, visited_items, visited_value, values_so_far, written_as}
 pub use Rattle.masking3.specs.machinery.MessageSpot.{BeginsOn, first_spot, mtype_of, side_by, spot_after}

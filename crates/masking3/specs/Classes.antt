@@ -5,12 +5,12 @@ use Rattle.byteorder.specs.Endian.{big_number}
 use Rattle.xdr3.specs.Item.{Item, Word, Hyper, Fixed}
 use Rattle.nfs3_types.specs.Names.{names}
 use Rattle.rpc_head.specs.Names.{head_names}
-use Rattle.masking3.specs.declared.class.Class.{Class}
-use Rattle.masking3.specs.declared.class.Class.TheVariants.{Times, Stamps, Machines, Space, Ids, Fsids, Cookies, CookieVerifiers, CreateVerifiers, Owners, Wcc, SillyNames, Raw}
-use Rattle.masking3.specs.declared.spot.Spot.{Spot}
-use Rattle.masking3.specs.declared.spot.Spot.TheVariants.{InCall, InDirectory, InWcc}
-use Rattle.masking3.specs.declared.ways.Way.{Way}
-use Rattle.masking3.specs.declared.ways.Way.TheVariants.{Keep, Zero, Number}
+use Rattle.masking3.specs.declared.values.class.Class.{Class}
+use Rattle.masking3.specs.declared.values.class.Class.TheVariants.{Times, Stamps, Machines, Space, Ids, Fsids, Cookies, CookieVerifiers, CreateVerifiers, Owners, Wcc, SillyNames, Raw}
+use Rattle.masking3.specs.declared.values.spot.ItemSpot.{ItemSpot}
+use Rattle.masking3.specs.declared.values.spot.ItemSpot.TheVariants.{InCall, InDirectory, InWcc}
+use Rattle.masking3.specs.declared.values.ways.Way.{Way}
+use Rattle.masking3.specs.declared.values.ways.Way.TheVariants.{Keep, Zero, Number}
 
 -- ---- the table of classes
 
@@ -68,18 +68,18 @@ names_of_owners = names.uid ∷ names.gid ∷ []
 -- A word `group` of a call is a group of its credential (RFC 5531, appendix A): no other item of a
 -- call has this name. In a reply it tells whether another group of an export follows (RFC 1813,
 -- section 5.2.5), and has no class.
-abbrev pub class_of_group : Spot → Option Class
+abbrev pub class_of_group : ItemSpot → Option Class
 class_of_group InCall = Some Owners
 class_of_group _ = None
 
 -- A size or a count of links has a class where a reply tells it of what others may change
 -- meanwhile: in wcc_data (RFC 1813, section 2.6), and of a directory.
-abbrev pub class_in_wcc : Spot → Option Class
+abbrev pub class_in_wcc : ItemSpot → Option Class
 class_in_wcc InDirectory = Some Wcc
 class_in_wcc InWcc = Some Wcc
 class_in_wcc _ = None
 
-abbrev pub class_of_word : Spot → List ℕ → Option Class
+abbrev pub class_of_word : ItemSpot → List ℕ → Option Class
 class_of_word spot name =
     (if is_one_of names_of_times name then Some Times else
     (if is_one_of (head_names.stamp ∷ []) name then Some Stamps else
@@ -89,7 +89,7 @@ class_of_word spot name =
     (if is_one_of (names.nlink ∷ []) name then class_in_wcc spot else
     None))))))
 
-abbrev pub class_of_hyper : Spot → List ℕ → Option Class
+abbrev pub class_of_hyper : ItemSpot → List ℕ → Option Class
 class_of_hyper spot name =
     (if is_one_of names_of_space name then Some Space else
     (if is_one_of (names.fileid ∷ []) name then Some Ids else
@@ -105,7 +105,7 @@ class_of_fixed name =
     None))
 
 -- the class of an item at this spot, where it has one
-abbrev pub class_of : Spot → Item → Option Class
+abbrev pub class_of : ItemSpot → Item → Option Class
 class_of spot (Word name n) = class_of_word spot name
 class_of spot (Hyper name n) = class_of_hyper spot name
 class_of spot (Fixed name bytes) = class_of_fixed name

@@ -3,9 +3,8 @@ use Rattle.std.specs.Prelude.{◌≡◌, ℕ, List, [], ◌∷◌, codes}
 use Rattle.xdr3.specs.Item.{Item, Word, Hyper, Fixed, Opaque, Text, Var, Handle}
 use Rattle.capture3.specs.Entry.{Entry, Call}
 use Rattle.canon3.specs.Examples.{aa, bb, call_of, getattr, one, success_reply}
-use Rattle.masking3.specs.declared.class.Class.TheVariants.{Owners, Wcc}
-use Rattle.masking3.specs.declared.ways.Way.TheVariants.{Number}
-use Rattle.masking3.specs.declared.ways.Ways.{Ways}
+use Rattle.masking3.specs.declared.values.class.Class.TheVariants.{Owners, Wcc}
+use Rattle.masking3.specs.declared.values.ways.Way.TheVariants.{Number}
 use Rattle.masking3.specs.Masked.{masked}
 use Rattle.masking3.specs.SameBut.{SameBut}
 use Rattle.masking3.specs.Ways.{usual, with_way}
@@ -14,18 +13,23 @@ use Rattle.masking3.specs.Ways.{usual, with_way}
 abbrev pub AreMaskedAs : List Entry → List Entry → Type 0
 AreMaskedAs entries form = masked usual entries ≡ form
 
--- the ids and the times of a fattr3 (RFC 1813, section 2.5)
-abbrev pub file_attributes : (used fsid fileid sec nsec : ℕ) → List Item → List Item
-file_attributes used fsid fileid sec nsec items =
-    Word (codes "type") 1 ∷ Word (codes "mode") 420 ∷ Word (codes "nlink") 1
+-- a fattr3 (RFC 1813, section 2.5), with one time in place of three
+abbrev pub attributes_at : (kind links size used fsid fileid sec nsec : ℕ) → List Item → List Item
+attributes_at kind links size used fsid fileid sec nsec items =
+    Word (codes "type") kind ∷ Word (codes "mode") 420 ∷ Word (codes "nlink") links
     ∷ Word (codes "uid") 1000 ∷ Word (codes "gid") 100
-    ∷ Hyper (codes "size") 5 ∷ Hyper (codes "used") used ∷ Word (codes "rdev1") 0
+    ∷ Hyper (codes "size") size ∷ Hyper (codes "used") used ∷ Word (codes "rdev1") 0
     ∷ Word (codes "rdev2") 0
     ∷ Hyper (codes "fsid") fsid ∷ Hyper (codes "fileid") fileid ∷ Word (codes "atime_sec") sec
     ∷ Word (codes "atime_nsec") nsec
     ∷ Word (codes "mtime_sec") sec ∷ Word (codes "mtime_nsec") nsec
     ∷ Word (codes "ctime_sec") sec ∷ Word (codes "ctime_nsec") nsec
     ∷ items
+
+-- the ids and the times of a file
+abbrev pub file_attributes : (used fsid fileid sec nsec : ℕ) → List Item → List Item
+file_attributes used fsid fileid sec nsec items =
+    attributes_at 1 1 5 used fsid fileid sec nsec items
 
 -- GETATTR (RFC 1813, section 3.3.1): the size stays, and an id of a file is numbered apart from
 -- an equal one of a file system
@@ -107,10 +111,6 @@ abbrev pub MasksCredentials : Type 0
 MasksCredentials = AreMaskedAs (system_null 7 32 123456 (codes "box") 1000 100 27 ∷ [])
     (system_null 7 28 0 [] 1000 100 27 ∷ [])
 
--- owners have numbers too
-abbrev pub numbered_owners : Ways
-numbered_owners = with_way usual Owners Number
-
 -- EXPORT's reply (RFC 1813, section 5.2.5) of one directory for one group
 abbrev pub exported : (xid : ℕ) → Entry
 exported xid = success_reply 100005 5 xid (Word (codes "export") 1
@@ -118,30 +118,17 @@ exported xid = success_reply 100005 5 xid (Word (codes "export") 1
     ∷ Opaque Text (codes "name") (codes "x") ∷ Word (codes "group") 0 ∷ Word (codes "export") 0
     ∷ [])
 
--- a user and the groups of a credential have one series of numbers, and a reply's words of the name
--- `group` stay
+-- where owners have numbers too, a user and the groups of a credential have one series of them, and
+-- a reply's words of the name `group` stay
 abbrev pub MasksOwners : Type 0
 MasksOwners =
-    masked numbered_owners (system_null 7 28 0 [] 1000 100 1000 ∷ exported 8
+    masked (with_way usual Owners Number) (system_null 7 28 0 [] 1000 100 1000 ∷ exported 8
     ∷ system_null 9 28 0 [] 27 1000 100 ∷ [])
     ≡ system_null 7 28 0 [] 1 2 1 ∷ exported 8 ∷ system_null 9 28 0 [] 3 1 2 ∷ []
 
--- sizes and counts of links that others may change have numbers too
-abbrev pub numbered_wcc : Ways
-numbered_wcc = with_way usual Wcc Number
-
--- a fattr3 (RFC 1813, section 2.5) of this type, with so many links and this size
+-- of this type, with so many links and this size
 abbrev pub attributes_of : (kind links size : ℕ) → List Item → List Item
-attributes_of kind links size items =
-    Word (codes "type") kind ∷ Word (codes "mode") 420 ∷ Word (codes "nlink") links
-    ∷ Word (codes "uid") 1000 ∷ Word (codes "gid") 100
-    ∷ Hyper (codes "size") size ∷ Hyper (codes "used") 0 ∷ Word (codes "rdev1") 0
-    ∷ Word (codes "rdev2") 0
-    ∷ Hyper (codes "fsid") 1 ∷ Hyper (codes "fileid") 1 ∷ Word (codes "atime_sec") 0
-    ∷ Word (codes "atime_nsec") 0
-    ∷ Word (codes "mtime_sec") 0 ∷ Word (codes "mtime_nsec") 0
-    ∷ Word (codes "ctime_sec") 0 ∷ Word (codes "ctime_nsec") 0
-    ∷ items
+attributes_of kind links size items = attributes_at kind links size 0 1 1 0 0 items
 
 -- LOOKUP's reply (RFC 1813, section 3.3.3): the attributes of a file, and of the directory
 abbrev pub lookup_reply : (xid links size links_of_directory size_of_directory : ℕ) → Entry
@@ -158,10 +145,11 @@ setattr_reply xid size_before links size =
     ∷ Word (codes "ctime_sec") 0 ∷ Word (codes "ctime_nsec") 0
     ∷ Word (codes "attr") 1 ∷ attributes_of 1 links size [])
 
--- what a lookup tells of a file stays
+-- where sizes and counts of links that others may change have numbers too, what a lookup tells of a
+-- file stays
 abbrev pub MasksWcc : Type 0
 MasksWcc =
-    masked numbered_wcc (lookup_reply 7 1 5 3 4096 ∷ setattr_reply 8 9 1 5 ∷ [])
+    masked (with_way usual Wcc Number) (lookup_reply 7 1 5 3 4096 ∷ setattr_reply 8 9 1 5 ∷ [])
     ≡ lookup_reply 7 1 5 1 2 ∷ setattr_reply 8 3 4 5 ∷ []
 
 -- RENAME (RFC 1813, section 3.3.14) within one directory

@@ -4,10 +4,10 @@ use Rattle.capture3.specs.Entry.{Entry}
 use Rattle.canon3.specs.Bytes.{bytes_of}
 use Rattle.canon3.specs.Canonical.{canonical}
 use Rattle.canon3.specs.Renaming.{Same}
-use Rattle.masking3.specs.declared.class.Class.{Class}
-use Rattle.masking3.specs.declared.ways.Way.{Way}
-use Rattle.masking3.specs.declared.ways.Way.TheVariants.{Keep, Number, Zero}
-use Rattle.masking3.specs.declared.ways.Ways.{Ways}
+use Rattle.masking3.specs.declared.values.class.Class.{Class}
+use Rattle.masking3.specs.declared.values.ways.Way.{Way}
+use Rattle.masking3.specs.declared.values.ways.Way.TheVariants.{Keep, Number, Zero}
+use Rattle.masking3.specs.declared.values.ways.Ways.{Ways}
 use Rattle.masking3.specs.Masked.{masked, values}
 use Rattle.masking3.specs.SameBut.{SameBut}
 use Rattle.masking3.specs.Ways.{way_of}

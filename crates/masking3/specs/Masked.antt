@@ -6,12 +6,12 @@ use Rattle.xdr3.specs.Item.{Item, Word, Hyper, Fixed}
 use Rattle.capture3.specs.Entry.{Entry, Call, Reply}
 use Rattle.canon3.specs.Bytes.{bytes_of}
 use Rattle.capture3.specs.Rank.{rank}
-use Rattle.masking3.specs.declared.class.Class.{Class}
-use Rattle.masking3.specs.declared.spot.Spot.{Spot}
-use Rattle.masking3.specs.declared.spot.Spot.TheVariants.{InCall, InReply}
-use Rattle.masking3.specs.declared.ways.Way.{Way}
-use Rattle.masking3.specs.declared.ways.Way.TheVariants.{Keep, Zero, Number}
-use Rattle.masking3.specs.declared.ways.Ways.{Ways}
+use Rattle.masking3.specs.declared.values.class.Class.{Class}
+use Rattle.masking3.specs.declared.values.spot.ItemSpot.{ItemSpot}
+use Rattle.masking3.specs.declared.values.spot.ItemSpot.TheVariants.{InCall, InReply}
+use Rattle.masking3.specs.declared.values.ways.Way.{Way}
+use Rattle.masking3.specs.declared.values.ways.Way.TheVariants.{Keep, Zero, Number}
+use Rattle.masking3.specs.declared.values.ways.Ways.{Ways}
 use Rattle.masking3.specs.Classes.{class_of, position, class_value, zero_stays}
 use Rattle.masking3.specs.Spots.{next_spot}
 use Rattle.masking3.specs.Unnamed.{names_by}
@@ -29,11 +29,11 @@ value_where class None n = []
 value_where class (Some other) n =
     if (position class == position other) && not (is_zero_that_stays class n) then n ∷ [] else []
 
-abbrev pub value_in : Class → Spot → Item → List ℕ
+abbrev pub value_in : Class → ItemSpot → Item → List ℕ
 value_in class spot item = value_where class (class_of spot item) (class_value item)
 
 -- the values of a class in the items of a message from this spot on, in order
-abbrev pub values_in : Class → Spot → List Item → List ℕ
+abbrev pub values_in : Class → ItemSpot → List Item → List ℕ
 values_in class spot [] = []
 values_in class spot (item ∷ items) =
     value_in class spot item ++ values_in class (next_spot spot item) items
@@ -72,12 +72,12 @@ with_value (Fixed name bytes) (Some m) = Fixed name (big_bytes 8 m)
 with_value item (Some m) = item
 
 -- an item at this spot whose value is masked, where these are the values of each class
-abbrev pub masked_item : Ways → (Class → List ℕ) → Spot → Item → Item
+abbrev pub masked_item : Ways → (Class → List ℕ) → ItemSpot → Item → Item
 masked_item ways seen spot item =
     with_value item (substitute ways seen (class_of spot item) (class_value item))
 
 -- the items of a message from this spot on
-abbrev pub masked_items : Ways → (Class → List ℕ) → Spot → List Item → List Item
+abbrev pub masked_items : Ways → (Class → List ℕ) → ItemSpot → List Item → List Item
 masked_items ways seen spot [] = []
 masked_items ways seen spot (item ∷ items) =
     masked_item ways seen spot item ∷ masked_items ways seen (next_spot spot item) items

@@ -5,12 +5,12 @@ use Rattle.rpc_head.specs.declared.values.call.ProcId.{ProcId}
 use Rattle.capture3.specs.Entry.{Entry, Begin, Call, Turn, Reply, Close, End}
 use Rattle.canon3.specs.OneToOne.{AreBeside, OneToOne, Pairs}
 use Rattle.canon3.specs.Renaming.{Pairwise, Same}
-use Rattle.masking3.specs.declared.class.Class.{Class}
-use Rattle.masking3.specs.declared.spot.Spot.{Spot}
-use Rattle.masking3.specs.declared.spot.Spot.TheVariants.{InCall, InReply}
-use Rattle.masking3.specs.declared.ways.Way.{Way}
-use Rattle.masking3.specs.declared.ways.Way.TheVariants.{Keep, Zero, Number}
-use Rattle.masking3.specs.declared.ways.Ways.{Ways}
+use Rattle.masking3.specs.declared.values.class.Class.{Class}
+use Rattle.masking3.specs.declared.values.spot.ItemSpot.{ItemSpot}
+use Rattle.masking3.specs.declared.values.spot.ItemSpot.TheVariants.{InCall, InReply}
+use Rattle.masking3.specs.declared.values.ways.Way.{Way}
+use Rattle.masking3.specs.declared.values.ways.Way.TheVariants.{Keep, Zero, Number}
+use Rattle.masking3.specs.declared.values.ways.Ways.{Ways}
 use Rattle.masking3.specs.Classes.{class_of, class_value}
 use Rattle.masking3.specs.Masked.{is_zero_that_stays}
 use Rattle.masking3.specs.Spots.{next_spot}
@@ -48,14 +48,14 @@ ChangesOf ways pairs None i j = i ≡ j
 ChangesOf ways pairs (Some class) i j = ChangesBy (way_of ways class) class (pairs class) i j
 
 -- an item at this spot
-abbrev pub ChangesItem : Ways → (Class → Pairs ℕ) → Spot → Item → Item → Type 0
+abbrev pub ChangesItem : Ways → (Class → Pairs ℕ) → ItemSpot → Item → Item → Type 0
 ChangesItem ways pairs spot i j = ChangesOf ways pairs (class_of spot i) i j
 
 -- the items of a message from this spot on
 pub data ChangesItems (ways : Ways) (pairs : Class → Pairs ℕ)
-    : Spot → List Item → List Item → Type 0 where
-  over : {spot : Spot} → ChangesItems ways pairs spot [] []
-  along : {spot : Spot} {i j : Item} {a b : List Item} → ChangesItem ways pairs spot i j
+    : ItemSpot → List Item → List Item → Type 0 where
+  over : {spot : ItemSpot} → ChangesItems ways pairs spot [] []
+  along : {spot : ItemSpot} {i j : Item} {a b : List Item} → ChangesItem ways pairs spot i j
       → ChangesItems ways pairs (next_spot spot i) a b
       → ChangesItems ways pairs spot (i ∷ a) (j ∷ b)
 

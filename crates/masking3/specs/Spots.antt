@@ -2,12 +2,12 @@
 use Rattle.std.specs.Prelude.{ℕ, ◌==◌, bytes_eq, if◌then◌else◌, List}
 use Rattle.xdr3.specs.Item.{Item, Word}
 use Rattle.nfs3_types.specs.Names.{names}
-use Rattle.masking3.specs.declared.spot.Spot.{Spot}
-use Rattle.masking3.specs.declared.spot.Spot.TheVariants.{InCall, InReply, InDirectory, InWcc}
+use Rattle.masking3.specs.declared.values.spot.ItemSpot.{ItemSpot}
+use Rattle.masking3.specs.declared.values.spot.ItemSpot.TheVariants.{InCall, InReply, InDirectory, InWcc}
 
 -- A word `before` begins wcc_data (RFC 1813, section 2.6). A word `type` begins a fattr3, which is
 -- a directory's if it is NF3DIR (2) (section 2.5).
-abbrev pub after_word : Spot → List ℕ → ℕ → Spot
+abbrev pub after_word : ItemSpot → List ℕ → ℕ → ItemSpot
 after_word spot name n =
     (if bytes_eq name names.before then InWcc else
     (if bytes_eq name names.type then (if n == 2 then InDirectory else InReply) else
@@ -15,7 +15,7 @@ after_word spot name n =
 
 -- The spot of what follows an item. No results go on after wcc_data with attributes of other kinds
 -- (RFC 1813, section 3.3).
-abbrev pub next_spot : Spot → Item → Spot
+abbrev pub next_spot : ItemSpot → Item → ItemSpot
 next_spot InCall item = InCall
 next_spot InReply (Word name n) = after_word InReply name n
 next_spot InReply item = InReply

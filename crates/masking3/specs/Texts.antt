@@ -4,9 +4,9 @@ use Rattle.std.specs.Prelude.{ℕ, replicate, ◌==◌, ◌&&◌, ◌||◌, nat_
 use Rattle.std.specs.List.{list_all}
 use Rattle.xdr3.specs.Item.{Item, Opaque, Rest, Text}
 use Rattle.nfs3_types.specs.Names.{names}
-use Rattle.masking3.specs.declared.ways.Way.{Way}
-use Rattle.masking3.specs.declared.ways.Ways.{Ways}
-use Rattle.masking3.specs.declared.class.Class.TheVariants.{Machines, Raw, SillyNames}
+use Rattle.masking3.specs.declared.values.ways.Way.{Way}
+use Rattle.masking3.specs.declared.values.ways.Ways.{Ways}
+use Rattle.masking3.specs.declared.values.class.Class.TheVariants.{Machines, Raw, SillyNames}
 use Rattle.masking3.specs.Ways.{unless_kept, way_of}
 
 -- ---- names of files that were removed while they were open

@@ -3,9 +3,9 @@ use Rattle.std.specs.Prelude.{ℕ, zero, suc, ◌+◌, ◌-◌, bytes_eq, if◌t
 use Rattle.xdr3.specs.Item.{Item, Word, Opaque, Text, residue}
 use Rattle.rpc_head.specs.Names.{head_names}
 use Rattle.capture3.specs.Entry.{Entry, Call, Reply}
-use Rattle.masking3.specs.declared.ways.Way.{Way}
-use Rattle.masking3.specs.declared.ways.Ways.{Ways}
-use Rattle.masking3.specs.declared.class.Class.TheVariants.{Machines}
+use Rattle.masking3.specs.declared.values.ways.Way.{Way}
+use Rattle.masking3.specs.declared.values.ways.Ways.{Ways}
+use Rattle.masking3.specs.declared.values.class.Class.TheVariants.{Machines}
 use Rattle.masking3.specs.Texts.{with_text}
 use Rattle.masking3.specs.Ways.{unless_kept, way_of}
 

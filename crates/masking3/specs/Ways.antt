@@ -1,9 +1,9 @@
 -- What becomes of the values of each class.
 use Rattle.std.specs.Prelude.{get_or, map, slice_set}
-use Rattle.masking3.specs.declared.class.Class.{Class}
-use Rattle.masking3.specs.declared.ways.Way.{Way}
-use Rattle.masking3.specs.declared.ways.Way.TheVariants.{Keep}
-use Rattle.masking3.specs.declared.ways.Ways.{Ways}
+use Rattle.masking3.specs.declared.values.class.Class.{Class}
+use Rattle.masking3.specs.declared.values.ways.Way.{Way}
+use Rattle.masking3.specs.declared.values.ways.Way.TheVariants.{Keep}
+use Rattle.masking3.specs.declared.values.ways.Ways.{Ways}
 use Rattle.masking3.specs.Classes.{classes, position, row}
 
 abbrev pub way_of : Ways → Class → Way

@@ -9,7 +9,7 @@ ghost use Rattle.canon3.specs.Renaming.{Same};
 ghost use Rattle.masking3.specs.Laws.{HasRoomForNumbers, KeepsAll, MaskedBytesDecide, MaskedFormsDecide, MasksAsMuch, MasksFronts, StaysMasked};
 ghost use Rattle.masking3.specs.Masked.{masked};
 ghost use Rattle.masking3.specs.SameBut.{SameBut};
-ghost use Rattle.masking3.specs.declared.ways.Ways.{Ways};
+ghost use Rattle.masking3.specs.declared.values.ways.Ways.{Ways};
 
 /// Masking again changes nothing, if the number of each value has room; in a well-formed file each has.
 pub fn masking_again()

@@ -8,10 +8,10 @@ ghost use Rattle.canon3.specs.WriteErrors.{CountsWriting};
 ghost use Rattle.canon3.specs.SinkWrites.{IsFlushed};
 ghost use Rattle.masking3.specs.Masked.{masked_bytes};
 
-use crate::class::Class;
-use crate::hashers::MaskHashers;
 use crate::masking_writer::{MaskingWriter, Plan, write_entry};
-use crate::ways::Ways;
+use crate::values::class::Class;
+use crate::values::hashers::MaskHashers;
+use crate::values::ways::Ways;
 use canon3::{EntryWriter, Sink, Summary, write_entries, write_magic};
 use capture3::{Error, LentEntry, Progress, Source};
 use std::alloc::Global;
@@ -46,11 +46,11 @@ pub fn mask<R: Source, W: Sink, S: BuildHasher + Copy + Drop>(
     source: &mut R,
     sink: &mut W,
 ) -> Result<Summary, Error>
-    ensures masks { WritesGiven (masked_bytes ways) (R.observed source.old) (R.observed source.new)
-        (W.written sink.old) (W.written sink.new) result }
+    ensures masks { WritesGiven (masked_bytes ways) (R.observed source.old, R.observed source.new)
+        (W.written sink.old, W.written sink.new) result }
     ensures whole { (bytes : List ℕ)
         → GavePrefix (R.observed source.old) (R.observed source.new) bytes
-        → WritesAll (masked_bytes ways) bytes (W.written sink.old) (W.written sink.new) result }
+        → WritesAll (masked_bytes ways) bytes (W.written sink.old, W.written sink.new) result }
     ensures flushes { OnOk result (IsFlushed (W.written sink.new) (W.flushed sink.new)) }
     ensures read { CountsReading (R.failures source.old) (R.failures source.new) result }
     ensures write { CountsWriting (W.failures sink.old) (W.failures sink.new) result }
@@ -67,11 +67,11 @@ fn mask_by_plan<P: Plan, R: Source, W: Sink, S: BuildHasher + Copy + Drop>(
     sink: &mut W,
 ) -> Result<Summary, Error>
     requires { ways ≡ P.ways }
-    ensures masks { WritesGiven (masked_bytes P.ways) (R.observed source.old)
-        (R.observed source.new) (W.written sink.old) (W.written sink.new) result }
+    ensures masks { WritesGiven (masked_bytes P.ways) (R.observed source.old, R.observed source.new)
+        (W.written sink.old, W.written sink.new) result }
     ensures whole { (bytes : List ℕ)
         → GavePrefix (R.observed source.old) (R.observed source.new) bytes
-        → WritesAll (masked_bytes P.ways) bytes (W.written sink.old) (W.written sink.new) result }
+        → WritesAll (masked_bytes P.ways) bytes (W.written sink.old, W.written sink.new) result }
     ensures flushes { OnOk result (IsFlushed (W.written sink.new) (W.flushed sink.new)) }
     ensures read { CountsReading (R.failures source.old) (R.failures source.new) result }
     ensures write { CountsWriting (W.failures sink.old) (W.failures sink.new) result }

@@ -1,8 +1,13 @@
 //! The writer of the masked form, one message at a time.
 
+mod attributes;
+mod kept;
+mod texts;
+mod unnamed_body;
+mod zeros;
+
 ghost use Rattle.std.specs.Prelude.{◌≡◌, ◌≤◌, ◌++◌, ◌∷◌, List, [], length, true, IfErr, OnErr, OnOk};
 ghost use Rattle.std.specs.Io.KnownBytes.{Appends};
-ghost use Rattle.byteorder.specs.Endian.{big_bytes};
 ghost use Rattle.xdr3.specs.Item.{Fixed, Handle as HandleKind, Hyper, Item, Opaque, Rest, Word};
 ghost use Rattle.xdr3.specs.Plain.{run_items, run_size};
 ghost use Rattle.xdr3.specs.Visit.{Adds, body_limit};
@@ -15,15 +20,15 @@ ghost use Rattle.masking3.specs.machinery.MaskingWriter.{HasMemory, HoldsMasked,
 ghost use Rattle.masking3.specs.machinery.MessageSpot.{first_spot};
 ghost use Rattle.masking3.specs.machinery.UnnamedBody.{body_by};
 
-use crate::attributes::are_attributes;
-use crate::class::{Class, class_of_fixed, class_of_hyper, class_of_word};
-use crate::class_tables::ClassTables;
-use crate::kept::{are_kept, is_free_name};
-use crate::spot::{Spot, first_spot, spot_after};
-use crate::texts::masked_text;
-use crate::unnamed_body::write_unnamed;
-use crate::ways::{Way, Ways};
-use crate::zeros::write_zeros;
+use crate::masking_writer::attributes::are_attributes;
+use crate::masking_writer::kept::{are_kept, is_free_name};
+use crate::masking_writer::texts::masked_text;
+use crate::masking_writer::unnamed_body::write_unnamed;
+use crate::masking_writer::zeros::write_zeros;
+use crate::values::class::{Class, class_of_fixed, class_of_hyper, class_of_word};
+use crate::values::class_tables::ClassTables;
+use crate::values::spot::{ItemSpot, first_spot, spot_after};
+use crate::values::ways::{Way, Ways};
 use byteorder::{BigEndian, ByteOrder};
 use canon3::{HandleTable, Sink, write_message, write_word};
 use capture3::{Error, Kind, MessageVisit};
@@ -31,11 +36,11 @@ use rpc_head::Start;
 use std::alloc::{AllocError, Global};
 use std::hash::BuildHasher;
 use std::marker::{Brand, PhantomData};
-use xdr3::{PlainField, Visit, Writer};
+use xdr3::{PlainField, Visit, Writer, spelled_hyper};
 
 /// Stands for ways that are known only when the program runs.
 pub(crate) trait Plan {
-    ghost use Rattle.masking3.specs.declared.ways.Ways.{Ways};
+    ghost use Rattle.masking3.specs.declared.values.ways.Ways.{Ways};
 
     /// The ways.
     ghost ways: { Ways };
@@ -52,7 +57,7 @@ pub(crate) struct MaskingWriter<P: Plan, S: BuildHasher + Drop> {
     pub(crate) classes: ClassTables<S>,
     pub(crate) writer: Writer,
     /// Where the next item of the open message stands.
-    pub(crate) spot: Spot,
+    pub(crate) spot: ItemSpot,
     /// Memory ran out, and the tables may have more than was written.
     pub(crate) failed: bool,
     plan: PhantomData<P>,
@@ -69,7 +74,7 @@ impl<P: Plan, S: BuildHasher + Copy + Drop> MaskingWriter<P, S> {
             handles: HandleTable::new(alloc, handles),
             classes: ClassTables::new(alloc, ways, values),
             writer: Writer::new(alloc),
-            spot: Spot::InCall,
+            spot: ItemSpot::InCall,
             failed: false,
             plan: PhantomData,
         }
@@ -201,15 +206,6 @@ impl<P: Plan, S: BuildHasher + Copy + Drop> MaskingWriter<P, S> {
         self.failed = true;
         Err(error)
     }
-}
-
-/// Returns the bytes of a number, the most significant first (RFC 4506, section 4.5).
-pub(crate) fn spelled_hyper(n: u64) -> [u8; 8]
-    ensures { result ≡ big_bytes 8 n }
-{
-    let mut hyper = [0; 8];
-    BigEndian::write_u64(&mut hyper, n);
-    hyper
 }
 
 /// Writes an entry, whose message has this body, with the name of a call's machine as the way has it.

@@ -4,11 +4,8 @@
 use crate::commands::{Run, agree};
 use canon3::MemSink;
 use capture3::MemSource;
-use line3::LineFault;
-use mask_line3::{mask_job, taken, ways_text};
-use masking3::{Class, MaskHashers, Way, Ways, mask};
+use masking3::{MaskHashers, Ways, mask};
 use std::hash::{BuildHasherDefault, FoldHasher};
-use std::test::Fail;
 
 /// A READDIR of the handle aa with xid 5, an AUTH_SYS credential, a cookie and its verifier, and the reply
 /// that the handle is stale.
@@ -44,38 +41,4 @@ fn a_masked_form_is_written(rt: HostRuntime) {
         return;
     };
     agree(&rt, &masked(&rt, first), &masked(&rt, second));
-}
-
-#[test]
-fn a_line_of_a_mask_is_read(rt: HostRuntime) -> Result<(), Fail> {
-    let mut words = Vec::new(rt.alloc());
-    for word in ["nfs3mask", "a", "b", "owners=number"] {
-        let Ok(word) = String::from_str(rt.alloc(), word) else {
-            return Ok(());
-        };
-        if words.push(word).is_err() {
-            return Ok(());
-        }
-    }
-    let said = match taken(rt.alloc(), words) {
-        Ok(said) => said,
-        Err(fault) => {
-            assert!(rt; matches!(fault, LineFault::Memory));
-            return Ok(());
-        }
-    };
-    match mask_job(rt.alloc(), &said) {
-        Ok(asked) => assert_eq!(rt; asked.ways.way(Class::Owners), Way::Number),
-        Err(fault) => assert!(rt; matches!(fault, LineFault::Memory)),
-    }
-    Ok(())
-}
-
-/// The words are all there, or memory ran out.
-#[test]
-fn a_mask_is_told(rt: HostRuntime) {
-    if let Ok(text) = ways_text(rt.alloc(), Ways::usual()) {
-        assert!(rt; text.as_str().starts_with(" times=zero "));
-        assert!(rt; text.as_str().ends_with(" raw=keep"));
-    }
 }

@@ -1,5 +1,5 @@
 -- What came of files, by what was read of them.
-use Rattle.nfs3canon.proofs.Common.{◌≡◌, ◌≢◌, ◌⊎◌, ℕ, List, [], ◌∷◌, Option, Some, Result, Err, IfErr, inl, inr, refl, subst, sym, TracedReader, Gave, GavePrefix, Error, IsUnread, MayContain, FileReading, reading_under, Outcome, one_failed, prefix_of, observed_of, ComparesFiles, CountsFile, ListsFile}
+use Rattle.nfs3canon.proofs.Common.{◌≡◌, ◌≢◌, ◌⊎◌, ℕ, List, [], ◌∷◌, Option, Some, Result, Err, IfErr, IfSome, inl, inr, refl, subst, sym, TracedReader, Gave, GavePrefix, Error, IsUnread, MayContain, reading_under, Outcome, one_failed, prefix_of, observed_of, ComparesFiles, CountsFile, ListsFile, WriterRun}
 use Rattle.capture3.specs.Entries.{CountsReading}
 use Rattle.capture3.specs.declared.fault.Error.TheVariants as errors
 use Rattle.capture3.proofs.Lemmas.Reader.ObservedLemmas.{IsPrefixOf, prefix_of_kept}
@@ -11,6 +11,7 @@ use Rattle.canon3.specs.declared.comparison.verdict.Which.{Which}
 use Rattle.canon3.specs.declared.comparison.verdict.Which.TheVariants.{First, Second}
 use Rattle.canon3.specs.declared.summary.Summary.{Summary}
 use Rattle.canon3.proofs.Lemmas.Comparison.ComparisonLemmas.{decides_all}
+use Rattle.program3.specs.Files.{FilesRun}
 use Rattle.program3.specs.Opening.{IsOfName, ReportsUnopened}
 use Rattle.program3.specs.declared.input.opening.OpenError.{OpenError}
 use Rattle.program3.specs.declared.input.opening.OpenError.TheVariants as causes
@@ -18,58 +19,55 @@ use Rattle.program3.specs.declared.outcome.Outcome.TheVariants as outcomes
 
 -- ---- a file that was not opened is told by its name, or memory ran out
 
-module _ (holds : List ℕ → Option (List ℕ)) (name : List ℕ) (readings : List FileReading)
-    (none : readings ≡ []) where
-  counts_none : (outcome : Outcome) → IsOfName name outcome → CountsFile holds readings name outcome
+module _ (run : FilesRun) (name : List ℕ) (none : run.readings ≡ []) where
+  counts_none : (outcome : Outcome) → IsOfName name outcome → CountsFile run name outcome
   counts_none (outcomes.Unopened text) named = (named, none)
   counts_none outcome named = absurd named
 
   pub uncounted_reports : (error : OpenError) (outcome : Outcome)
       → ReportsUnopened name error (outcomes.Counted (Err errors.Memory)) outcome
-      → CountsFile holds readings name outcome
+      → CountsFile run name outcome
   uncounted_reports causes.Unopened outcome (inl named) = counts_none outcome named
   uncounted_reports causes.Unopened outcome (inr is) =
-      subst (CountsFile holds readings name) (sym is) (inr (none, refl))
+      subst (CountsFile run name) (sym is) (inr (none, refl))
   uncounted_reports causes.Memory outcome is =
-      subst (CountsFile holds readings name) (sym is) (inr (none, refl))
+      subst (CountsFile run name) (sym is) (inr (none, refl))
 
-  module _ {W : Type 0} (contents : W → Option (List ℕ)) (output : W) where
+  module _ {W : Type 0} (output : WriterRun W) (same : output.after ≡ Some output.before) where
     lists_none : (outcome : Outcome) → IsOfName name outcome
-        → ListsFile holds readings contents name output outcome (Some output)
-    lists_none (outcomes.Unopened text) named = (named, none, refl)
+        → ListsFile run output name outcome
+    lists_none (outcomes.Unopened text) named = (named, none, same)
     lists_none outcome named = absurd named
 
     no_lines : (outcome : Outcome) → outcome ≡ outcomes.Listed (Err errors.Memory)
-        → ListsFile holds readings contents name output outcome (Some output)
-    no_lines outcome is = subst (λ o. ListsFile holds readings contents name output o (Some output))
-        (sym is) (inr (none, refl, refl))
+        → ListsFile run output name outcome
+    no_lines outcome is = subst (ListsFile run output name) (sym is)
+        (inr (none, refl, subst (λ back. IfSome back (λ new. new ≡ output.before)) (sym same) refl))
 
     pub unlisted_reports : (error : OpenError) (outcome : Outcome)
         → ReportsUnopened name error (outcomes.Listed (Err errors.Memory)) outcome
-        → ListsFile holds readings contents name output outcome (Some output)
+        → ListsFile run output name outcome
     unlisted_reports causes.Unopened outcome (inl named) = lists_none outcome named
     unlisted_reports causes.Unopened outcome (inr is) = no_lines outcome is
     unlisted_reports causes.Memory outcome is = no_lines outcome is
 
-module _ (holds : List ℕ → Option (List ℕ)) (first second : List ℕ) (readings : List FileReading)
-    (none : readings ≡ [])
-    (which : Which) where
+module _ (run : FilesRun) (first second : List ℕ) (none : run.readings ≡ []) (which : Which) where
   compares_none : (outcome : Outcome) → IsOfName first outcome ⊎ IsOfName second outcome
-      → ComparesFiles holds readings first second outcome
+      → ComparesFiles run first second outcome
   compares_none (outcomes.Unopened text) named = (named, none)
   compares_none outcome (inl named) = absurd named
   compares_none outcome (inr named) = absurd named
 
   no_memory : (outcome : Outcome)
       → outcome ≡ outcomes.Compared (Err (record { which = which; error = errors.Memory }))
-      → ComparesFiles holds readings first second outcome
+      → ComparesFiles run first second outcome
   no_memory outcome is =
-      subst (ComparesFiles holds readings first second) (sym is) (inr (none, (which, refl)))
+      subst (ComparesFiles run first second) (sym is) (inr (none, (which, refl)))
 
   pub first_uncompared : (error : OpenError) (outcome : Outcome)
       → ReportsUnopened first error
       (outcomes.Compared (Err (record { which = which; error = errors.Memory }))) outcome
-      → ComparesFiles holds readings first second outcome
+      → ComparesFiles run first second outcome
   first_uncompared causes.Unopened outcome (inl named) = compares_none outcome (inl named)
   first_uncompared causes.Unopened outcome (inr is) = no_memory outcome is
   first_uncompared causes.Memory outcome is = no_memory outcome is
@@ -77,7 +75,7 @@ module _ (holds : List ℕ → Option (List ℕ)) (first second : List ℕ) (rea
   pub second_uncompared : (error : OpenError) (outcome : Outcome)
       → ReportsUnopened second error
       (outcomes.Compared (Err (record { which = which; error = errors.Memory }))) outcome
-      → ComparesFiles holds readings first second outcome
+      → ComparesFiles run first second outcome
   second_uncompared causes.Unopened outcome (inl named) = compares_none outcome (inr named)
   second_uncompared causes.Unopened outcome (inr is) = no_memory outcome is
   second_uncompared causes.Memory outcome is = no_memory outcome is
@@ -94,37 +92,37 @@ module _ {R : Type 0} (remaining : R → Option (List ℕ)) (whole : Option (Lis
       prefix_of_kept (observed_of remaining was) (observed_of remaining now) given bytes
       (prefix_of remaining whole name was now unread given bytes gave may) gave
 
-module _ {R : Type 0} (remaining : R → Option (List ℕ)) (holds : List ℕ → Option (List ℕ))
-    (readings : List FileReading) where
+module _ {R : Type 0} (remaining : R → Option (List ℕ)) (run : FilesRun) where
   pub counts_read : (name : List ℕ) (was now : TracedReader R)
-      → IsUnread remaining (holds name) was → (came : Result Summary Error)
-      → readings ≡ reading_under name now ∷ [] → CountsReading was.failures now.failures came
+      → IsUnread remaining (run.holds name) was → (came : Result Summary Error)
+      → run.readings ≡ reading_under name now ∷ [] → CountsReading was.failures now.failures came
       → IfErr came (λ error. error ≢ errors.Write)
       → ConcludesGiven (observed_of remaining was) (observed_of remaining now) came
       → ((bytes : List ℕ) → GavePrefix (observed_of remaining was) (observed_of remaining now) bytes
       → ConcludesAll bytes came)
-      → CountsFile holds readings name (outcomes.Counted came)
+      → CountsFile run name (outcomes.Counted came)
   counts_read name was now unread came is counts written (given, gave, concludes) all = inl (
-    reading_under name now,
-    is,
-    refl,
-    one_failed name was.failures now unread.failures came counts,
+    (
+      reading_under name now,
+      is,
+      refl,
+      one_failed name was.failures now unread.failures came counts,
+      λ bytes may. all bytes
+          (prefix_of remaining (run.holds name) name was now unread given bytes gave may),
+    ),
     written,
-    λ bytes may. all bytes
-        (prefix_of remaining (holds name) name was now unread given bytes gave may),
   )
 
   pub compares_read : (first second : List ℕ) (was now other other_now : TracedReader R)
-      → IsUnread remaining (holds first) was → IsUnread remaining (holds second) other
+      → IsUnread remaining (run.holds first) was → IsUnread remaining (run.holds second) other
       → (came : Result Verdict SameError)
-      → readings ≡ reading_under first now ∷ reading_under second other_now ∷ []
+      → run.readings ≡ reading_under first now ∷ reading_under second other_now ∷ []
       → CountsReadingOf First was.failures now.failures came
       → CountsReadingOf Second other.failures other_now.failures came
       → IfErr came (λ error. error.error ≢ errors.Write)
-      → DecidesGiven (observed_of remaining was) (observed_of remaining now)
-      (observed_of remaining other)
-      (observed_of remaining other_now) came
-      → ComparesFiles holds readings first second (outcomes.Compared came)
+      → DecidesGiven (observed_of remaining was, observed_of remaining now)
+      (observed_of remaining other, observed_of remaining other_now) came
+      → ComparesFiles run first second (outcomes.Compared came)
   compares_read first second was now other other_now unread other_unread came is counts other_counts
       written decides = inl (
         reading_under first now,
@@ -137,10 +135,10 @@ module _ {R : Type 0} (remaining : R → Option (List ℕ)) (holds : List ℕ �
             other_counts,
         written,
         λ file others may others_may.
-            decides_all (observed_of remaining was) (observed_of remaining now)
-            (observed_of remaining other)
-            (observed_of remaining other_now) file others
-            (taken remaining (holds first) first was now unread file may)
-            (taken remaining (holds second) second other other_now other_unread others others_may)
+            decides_all (observed_of remaining was, observed_of remaining now)
+            (observed_of remaining other, observed_of remaining other_now) file others
+            (taken remaining (run.holds first) first was now unread file may)
+            (taken remaining (run.holds second) second other other_now other_unread others
+            others_may)
             came decides,
       )

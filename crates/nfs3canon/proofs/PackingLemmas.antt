@@ -2,7 +2,7 @@
 use Rattle.nfs3canon.proofs.Common.{◌≡◌, ◌<◌, ◌+◌, ◌*◌, ◌/◌, ap, ap₂, sym, refl, subst, inl, inr, arith, false, is_ok, is_err, if◌then◌else◌, append_assoc, ◌∙◌, zero, suc, ℕ, List, [], ◌∷◌, ◌++◌, Option, Result, Ok, Err, Any, String, Global, length, map, take, slice_index_or, string_bytes, length-map, map-append, take_more, TracedReader, Streams, Gave, IsSpent, Error, CountsReadings, IsUnread, FileReading, reading_in, reading_under, Outcome, one_failed, observed_of, AreReadStreams, OneHasFailed, IsReadWhole, PacksFile}
 use Rattle.capture3.specs.declared.fault.Error.TheVariants as errors
 use Rattle.capture3.proofs.Lemmas.Reader.ObservedLemmas.{prefix_of_observed}
-use Rattle.program3.specs.Files.{FailsToMake, FailsToOpenStream, WrittenFile}
+use Rattle.program3.specs.Files.{FailsToMake, FailsToOpenStream, FilesRun, FinishesNone}
 use Rattle.program3.specs.declared.reading.Closed.{Closed}
 use Rattle.program3.specs.declared.outcome.Outcome.TheVariants as outcomes
 use Rattle.nfs3canon.specs.machinery.Packing.{StopsPacking}
@@ -19,63 +19,40 @@ module _ (names : List (List ℕ)) (readings : List FileReading) where
   stops (outcomes.Packed (Err errors.Read)) (k, name, within, is, inl named) = absurd named
   stops (outcomes.Packed (Err errors.Read)) (k, name, within, is, inr (inl other)) = absurd (cc)
   stops (outcomes.Packed (Err errors.Read)) (k, name, within, is, inr (inr other)) = absurd (cc)
-  stops (outcomes.Packed (Err (errors.Refused fault))) any = tt
-  stops (outcomes.Packed (Err errors.Write)) any = tt
-  stops (outcomes.Packed (Err errors.Memory)) any = tt
-  stops (outcomes.Counted came) any = any
-  stops (outcomes.Masked summary words) any = any
-  stops (outcomes.Listed came) any = any
-  stops (outcomes.Compared came) any = any
-  stops (outcomes.Unopened text) any = any
-  stops (outcomes.Line fault) any = any
+  stops (outcomes.Packed (Err error)) any = tt
+  stops outcome any = any
 
   -- the packing met an error
   pub stops_error : (error : Error) → (error ≡ errors.Read → OneHasFailed readings)
       → StopsPacking names readings (outcomes.Packed (Err error))
   stops_error errors.Read failed = failed refl
-  stops_error (errors.Refused fault) failed = tt
-  stops_error errors.Write failed = tt
-  stops_error errors.Memory failed = tt
+  stops_error error failed = tt
 
-  module _ (holds : List ℕ → Option (List ℕ)) (output : List ℕ) (old new : List WrittenFile)
-      (same : new ≡ old) where
-    -- no file was finished
-    pub packs_stopped : (outcome : Outcome) → StopsPacking names readings outcome
-        → PacksFile holds output names readings old new outcome
-    packs_stopped (outcomes.Packed (Ok done)) stopped = absurd stopped
-    packs_stopped (outcomes.Packed (Err errors.Read)) stopped = (stopped, same)
-    packs_stopped (outcomes.Packed (Err (errors.Refused fault))) stopped = same
-    packs_stopped (outcomes.Packed (Err errors.Write)) stopped = same
-    packs_stopped (outcomes.Packed (Err errors.Memory)) stopped = same
-    packs_stopped (outcomes.Counted came) stopped = (inr stopped, same)
-    packs_stopped (outcomes.Masked summary words) stopped = (inr stopped, same)
-    packs_stopped (outcomes.Listed came) stopped = (inr stopped, same)
-    packs_stopped (outcomes.Compared came) stopped = (inr stopped, same)
-    packs_stopped (outcomes.Unopened text) stopped = (inr stopped, same)
-    packs_stopped (outcomes.Line fault) stopped = (inr stopped, same)
+module _ (run : FilesRun) (output : List ℕ) (names : List (List ℕ))
+    (same : FinishesNone run.finished) where
+  -- no file was finished
+  pub packs_stopped : (outcome : Outcome) → StopsPacking names run.readings outcome
+      → PacksFile run output names outcome
+  packs_stopped (outcomes.Packed (Ok done)) stopped = absurd stopped
+  packs_stopped (outcomes.Packed (Err errors.Read)) stopped = (stopped, same)
+  packs_stopped (outcomes.Packed (Err error)) stopped = same
+  packs_stopped outcome stopped = (inr stopped, same)
 
-    not_made : (outcome : Outcome) → FailsToOpenStream output outcome
-        → PacksFile holds output names readings old new outcome
-    not_made (outcomes.Packed (Ok done)) (inl named) = absurd named
-    not_made (outcomes.Packed (Ok done)) (inr (inl other)) = absurd (cc)
-    not_made (outcomes.Packed (Ok done)) (inr (inr other)) = absurd (cc)
-    not_made (outcomes.Packed (Err errors.Read)) (inl named) = absurd named
-    not_made (outcomes.Packed (Err errors.Read)) (inr (inl other)) = absurd (cc)
-    not_made (outcomes.Packed (Err errors.Read)) (inr (inr other)) = absurd (cc)
-    not_made (outcomes.Packed (Err (errors.Refused fault))) fails = same
-    not_made (outcomes.Packed (Err errors.Write)) fails = same
-    not_made (outcomes.Packed (Err errors.Memory)) fails = same
-    not_made (outcomes.Counted came) fails = (inl fails, same)
-    not_made (outcomes.Masked summary words) fails = (inl fails, same)
-    not_made (outcomes.Listed came) fails = (inl fails, same)
-    not_made (outcomes.Compared came) fails = (inl fails, same)
-    not_made (outcomes.Unopened text) fails = (inl fails, same)
-    not_made (outcomes.Line fault) fails = (inl fails, same)
+  not_made : (outcome : Outcome) → FailsToOpenStream output outcome
+      → PacksFile run output names outcome
+  not_made (outcomes.Packed (Ok done)) (inl named) = absurd named
+  not_made (outcomes.Packed (Ok done)) (inr (inl other)) = absurd (cc)
+  not_made (outcomes.Packed (Ok done)) (inr (inr other)) = absurd (cc)
+  not_made (outcomes.Packed (Err errors.Read)) (inl named) = absurd named
+  not_made (outcomes.Packed (Err errors.Read)) (inr (inl other)) = absurd (cc)
+  not_made (outcomes.Packed (Err errors.Read)) (inr (inr other)) = absurd (cc)
+  not_made (outcomes.Packed (Err error)) fails = same
+  not_made outcome fails = (inl fails, same)
 
-    pub packs_none : (outcome : Outcome) → FailsToMake output names outcome
-        → PacksFile holds output names readings old new outcome
-    packs_none outcome (inl fails) = not_made outcome fails
-    packs_none outcome (inr any) = packs_stopped outcome (stops outcome any)
+  pub packs_none : (outcome : Outcome) → FailsToMake output names outcome
+      → PacksFile run output names outcome
+  packs_none outcome (inl fails) = not_made outcome fails
+  packs_none outcome (inr any) = packs_stopped outcome (stops names run.readings outcome any)
 
 -- the name of the stream at an index
 pub name_at : (streams : List (String Global)) (k : ℕ) (stream : String Global)

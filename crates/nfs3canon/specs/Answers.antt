@@ -1,35 +1,24 @@
 -- What comes of a command line, from its words on.
-use Rattle.std.specs.Prelude.{◌≡◌, ◌⊎◌, ℕ, Bool, false, List, [], map, Option, Some, Err, string_bytes}
+use Rattle.std.specs.Prelude.{◌≡◌, ◌⊎◌, ℕ, Bool, false, List, [], map, Some, Err, string_bytes}
 use Rattle.capture3.specs.declared.fault.Error.TheVariants as errors
-use Rattle.canon3.specs.CanonicalForm.{canonical_bytes}
+use Rattle.canon3.specs.Canonical.{canonical_bytes}
 use Rattle.canon3.specs.Summary.{IsSummary}
 use Rattle.canon3.specs.declared.comparison.verdict.Which.TheVariants.{First}
 use Rattle.line3.specs.Asked.{Asks, AreRefused}
 use Rattle.line3.specs.declared.asked.Job.{Job}
 use Rattle.line3.specs.declared.asked.Job.TheVariants as jobs
 use Rattle.line3.specs.declared.asked.LineFault.{LineFault}
-use Rattle.program3.specs.Files.{RewritesFile, WrittenFile}
-use Rattle.program3.specs.Readings.{FileReading}
+use Rattle.program3.specs.Files.{FilesRun, FinishesNone, RewritesFile}
 use Rattle.program3.specs.declared.outcome.Outcome.{Outcome}
 use Rattle.program3.specs.declared.outcome.Outcome.TheVariants as outcomes
-use Rattle.nfs3canon.specs.Files.{ComparesFiles, CountsFile, ListsFile, PacksFile}
+use Rattle.nfs3canon.specs.Files.{ComparesFiles, CountsFile, ListsFile, PacksFile, WriterRun}
 
 -- what a run of the program was given, and what came of it
 pub record ProgramRun (W : Type 0) : Type 0 where
   -- whether the system gave random bytes
   pub has_keys : Bool
-  -- the bytes that files have by their names, where they are known
-  pub holds : List ℕ → Option (List ℕ)
-  -- what was read of files
-  pub readings : List FileReading
-  -- the files that were finished, before and after
-  pub finished_before : List WrittenFile
-  pub finished_after : List WrittenFile
-  -- what a writer to standard output holds
-  pub contents : W → Option (List ℕ)
-  -- standard output before, and what came back of it
-  pub stdout_before : W
-  pub stdout_after : Option W
+  pub files : FilesRun
+  pub stdout : WriterRun W
 
 -- the outcome of a command that hashes is that of a failed read
 abbrev pub AnswersUnread : Job → Outcome → Type 0
@@ -41,31 +30,30 @@ AnswersUnread (jobs.Same first second) outcome =
 AnswersUnread (jobs.Pack output streams) outcome = ⊥
 
 module _ {W : Type 0} (run : ProgramRun W) where
-  -- nothing is finished, and nothing written to standard output
+  -- nothing is written to standard output
+  abbrev pub PrintsNothing : Type 0
+  PrintsNothing = run.stdout.after ≡ Some run.stdout.before
+
+  -- nothing is finished either
   abbrev pub KeepsQuiet : Type 0
-  KeepsQuiet = (run.finished_after ≡ run.finished_before)
-      × (run.stdout_after ≡ Some run.stdout_before)
+  KeepsQuiet = FinishesNone run.files.finished × PrintsNothing
 
   -- the outcome is that of what was read of the files of the job's names
   abbrev pub DoesJob : Job → Outcome → Type 0
-  DoesJob (jobs.Check file) outcome =
-      KeepsQuiet × CountsFile run.holds run.readings file.now outcome
-  DoesJob (jobs.Show file) outcome = (run.finished_after ≡ run.finished_before)
-      × ListsFile run.holds run.readings run.contents file.now run.stdout_before outcome
-      run.stdout_after
-  DoesJob (jobs.Canon input output) outcome = (run.stdout_after ≡ Some run.stdout_before)
-      × RewritesFile IsSummary canonical_bytes run.holds input.now output.now run.readings
-      run.finished_before run.finished_after outcome
+  DoesJob (jobs.Check file) outcome = KeepsQuiet × CountsFile run.files file.now outcome
+  DoesJob (jobs.Show file) outcome =
+      FinishesNone run.files.finished × ListsFile run.files run.stdout file.now outcome
+  DoesJob (jobs.Canon input output) outcome = PrintsNothing
+      × RewritesFile IsSummary canonical_bytes run.files (input.now, output.now) outcome
   DoesJob (jobs.Same first second) outcome =
-      KeepsQuiet × ComparesFiles run.holds run.readings first.now second.now outcome
-  DoesJob (jobs.Pack output streams) outcome = (run.stdout_after ≡ Some run.stdout_before)
-      × PacksFile run.holds output.now (map string_bytes streams.now) run.readings
-      run.finished_before run.finished_after outcome
+      KeepsQuiet × ComparesFiles run.files first.now second.now outcome
+  DoesJob (jobs.Pack output streams) outcome =
+      PrintsNothing × PacksFile run.files output.now (map string_bytes streams.now) outcome
 
   -- Without random bytes a command that hashes reads nothing, and answers as after a failed read.
   abbrev pub LacksKeys : Job → Outcome → Type 0
-  LacksKeys job outcome = (run.has_keys ≡ false) × AnswersUnread job outcome × (run.readings ≡ [])
-      × KeepsQuiet
+  LacksKeys job outcome = (run.has_keys ≡ false) × AnswersUnread job outcome
+      × (run.files.readings ≡ []) × KeepsQuiet
 
   abbrev pub AnswersJob : Job → Outcome → Type 0
   AnswersJob job outcome = DoesJob job outcome ⊎ LacksKeys job outcome
@@ -75,4 +63,4 @@ module _ {W : Type 0} (run : ProgramRun W) where
   abbrev pub AnswersLine : (words : List (List ℕ)) → Outcome → Type 0
   AnswersLine words outcome = ((job : Job) × Asks words job × AnswersJob job outcome)
       ⊎ ((fault : LineFault) × (outcome ≡ outcomes.Line fault) × AreRefused words fault
-      × (run.readings ≡ []) × KeepsQuiet)
+      × (run.files.readings ≡ []) × KeepsQuiet)

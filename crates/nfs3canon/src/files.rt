@@ -20,7 +20,11 @@ pub fn run_check<F: Files, S: BuildHasher + Drop>(
     files: &F,
     name: &str,
 ) -> (Outcome, Readings)
-    ensures counts { CountsFile (F.holds files.now) (readings_in result.1) name.now result.0 }
+    ensures counts { CountsFile (record {
+      holds = F.holds files.now;
+      readings = readings_in result.1;
+      finished = (F.finished files.now, F.finished files.now);
+    }) name.now result.0 }
 {
     match files.open(name) {
         Ok(mut opened) => {
@@ -43,8 +47,11 @@ pub fn run_same<F: Files, S: BuildHasher + Drop>(
     first: &str,
     second: &str,
 ) -> (Outcome, Readings)
-    ensures compares { ComparesFiles (F.holds files.now) (readings_in result.1) first.now second.now
-        result.0 }
+    ensures compares { ComparesFiles (record {
+      holds = F.holds files.now;
+      readings = readings_in result.1;
+      finished = (F.finished files.now, F.finished files.now);
+    }) first.now second.now result.0 }
 {
     let mut opened = match files.open(first) {
         Ok(opened) => opened,

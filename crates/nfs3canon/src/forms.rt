@@ -14,7 +14,7 @@ pub struct Canonical<S: BuildHasher + Drop> {
 }
 
 impl<S: BuildHasher + Drop> Rewriting for Canonical<S> {
-    ghost use Rattle.canon3.specs.CanonicalForm.{canonical_bytes};
+    ghost use Rattle.canon3.specs.Canonical.{canonical_bytes};
     ghost use Rattle.canon3.specs.Summary.{IsSummary};
 
     type Counts = Summary;

@@ -46,13 +46,12 @@ pub fn answered<F: Files, S: BuildHasher + Drop, W: Write + Drop>(
 ) -> Answer<W>
     ensures answers { AnswersLine (record {
       has_keys = is_some hashers;
-      holds = F.holds files.old;
-      readings = readings_in result.readings;
-      finished_before = F.finished files.old;
-      finished_after = F.finished files.new;
-      contents = W.contents;
-      stdout_before = stdout;
-      stdout_after = result.stdout;
+      files = record {
+        holds = F.holds files.old;
+        readings = readings_in result.readings;
+        finished = (F.finished files.old, F.finished files.new);
+      };
+      stdout = record { contents = W.contents; before = stdout; after = result.stdout };
     }) (map string_bytes words.items) result.ended.outcome }
 {
     let said = match taken(alloc, words) {
@@ -91,13 +90,12 @@ fn done<F: Files, S: BuildHasher + Drop, W: Write + Drop>(
     ensures { (words : List (List ℕ)) → Asks words job.entry
         → AnswersJob (record {
           has_keys = is_some hashers;
-          holds = F.holds files.old;
-          readings = readings_in result.readings;
-          finished_before = F.finished files.old;
-          finished_after = F.finished files.new;
-          contents = W.contents;
-          stdout_before = stdout;
-          stdout_after = result.stdout;
+          files = record {
+            holds = F.holds files.old;
+            readings = readings_in result.readings;
+            finished = (F.finished files.old, F.finished files.new);
+          };
+          stdout = record { contents = W.contents; before = stdout; after = result.stdout };
         }) job.entry result.ended.outcome }
 {
     let hashers = match hashers {
@@ -145,13 +143,12 @@ fn done_without<F: Files, W: Write + Drop>(
     ensures { (words : List (List ℕ)) → Asks words job.entry
         → AnswersJob (record {
           has_keys = false;
-          holds = F.holds files.old;
-          readings = readings_in result.readings;
-          finished_before = F.finished files.old;
-          finished_after = F.finished files.new;
-          contents = W.contents;
-          stdout_before = stdout;
-          stdout_after = result.stdout;
+          files = record {
+            holds = F.holds files.old;
+            readings = readings_in result.readings;
+            finished = (F.finished files.old, F.finished files.new);
+          };
+          stdout = record { contents = W.contents; before = stdout; after = result.stdout };
         }) job.entry result.ended.outcome }
 {
     let outcome = match job {
@@ -188,8 +185,12 @@ fn shown<F: Files, S: BuildHasher + Drop, W: Write + Drop>(
     stdout: W,
     name: &str,
 ) -> Answer<W>
-    ensures { ListsFile (F.holds files.now) (readings_in result.readings) W.contents name.now stdout
-        result.ended.outcome result.stdout }
+    ensures { ListsFile (record {
+      holds = F.holds files.now;
+      readings = readings_in result.readings;
+      finished = (F.finished files.now, F.finished files.now);
+    }) (record { contents = W.contents; before = stdout; after = result.stdout }) name.now
+        result.ended.outcome }
 {
     let listed = run_show(alloc, hashers, files, name, stdout);
     Answer {

@@ -31,8 +31,12 @@ pub fn run_show<F: Files, W: Write + Drop, S: BuildHasher + Drop>(
     name: &str,
     output: W,
 ) -> Listed<W>
-    ensures lists { ListsFile (F.holds files.now) (readings_in result.readings) W.contents name.now
-        output result.outcome result.output }
+    ensures lists { ListsFile (record {
+      holds = F.holds files.now;
+      readings = readings_in result.readings;
+      finished = (F.finished files.now, F.finished files.now);
+    }) (record { contents = W.contents; before = output; after = result.output }) name.now
+        result.outcome }
 {
     let mut opened = match files.open(name) {
         Ok(opened) => opened,

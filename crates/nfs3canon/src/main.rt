@@ -40,13 +40,16 @@ fn run<'a>(rt: &'a HostRuntime, words: Vec<String>) -> (Answer<Traced<Stdout>>, 
     ensures answers { (has_keys : Bool) × (stdout : TracedWriter Stdout) × (stdout.taken ≡ [])
         × AnswersLine (record {
           has_keys = has_keys;
-          holds = λ _. None;
-          readings = readings_in result.0.readings;
-          finished_before = [];
-          finished_after = finished_of result.1;
-          contents = λ writer. Some writer.taken;
-          stdout_before = stdout;
-          stdout_after = result.0.stdout;
+          files = record {
+            holds = λ _. None;
+            readings = readings_in result.0.readings;
+            finished = ([], finished_of result.1);
+          };
+          stdout = record {
+            contents = λ writer. Some writer.taken;
+            before = stdout;
+            after = result.0.stdout;
+          };
         }) (map string_bytes words.items) result.0.ended.outcome }
 {
     let mut files = System::new(rt);

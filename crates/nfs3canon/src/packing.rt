@@ -19,9 +19,11 @@ pub fn run_pack<F: Files>(
     output: &str,
     streams: &[String],
 ) -> (Ended, Readings)
-    ensures packs { length streams.now % 2 ≡ 0 → PacksFile (F.holds files.old) output.now
-        (map string_bytes streams.now) (readings_in result.1)
-        (F.finished files.old) (F.finished files.new) result.0.outcome }
+    ensures packs { length streams.now % 2 ≡ 0 → PacksFile (record {
+      holds = F.holds files.old;
+      readings = readings_in result.1;
+      finished = (F.finished files.old, F.finished files.new);
+    }) output.now (map string_bytes streams.now) result.0.outcome }
 {
     let mut closed = Vec::new(alloc);
     let ended = match files.made_apart(output, streams) {
@@ -43,8 +45,11 @@ fn packing_kept<F: Files>(
 ) -> Outcome
     requires { closed.old.items ≡ [] }
     ensures packs { length streams.now % 2 ≡ 0 → F.Output.contents made.file ≡ Some []
-        → PacksFile (F.holds files.old) (F.name_of made.place) (map string_bytes streams.now)
-        (map reading_in closed.new.items) (F.finished files.old) (F.finished files.new) result }
+        → PacksFile (record {
+          holds = F.holds files.old;
+          readings = map reading_in closed.new.items;
+          finished = (F.finished files.old, F.finished files.new);
+        }) (F.name_of made.place) (map string_bytes streams.now) result }
 {
     let Made { file, place } = made;
     match streams_packed(alloc, files, file, &place, streams, closed) {

@@ -54,12 +54,13 @@ impl<'a> Files for MemFiles<'a> {
 
     type Place = String;
 
-    ghost use Rattle.std.specs.Prelude.{Some, string_bytes};
-    ghost use Rattle.nfs3canon.specs.machinery.MemFiles.{kept_files};
+    ghost use Rattle.std.specs.Prelude.{Some, map, reverse, string_bytes};
 
     ghost holds = { λ files _. Some files.bytes.now };
 
-    ghost finished = { λ files. kept_files files.finished.items };
+    ghost finished = { λ files. map
+        (λ made. record { name = string_bytes made.place; bytes = Some made.file.items })
+        (reverse files.finished.items) };
 
     ghost name_of = { string_bytes };
 

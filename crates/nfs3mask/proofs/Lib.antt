@@ -1,1 +1,4 @@
-pub mod MaskingLemmas
+mod ChangeLemmas
+mod GrammarLemmas
+pub mod Common
+pub mod LineLemmas

@@ -1,1 +1,4 @@
+pub mod Changes
+pub mod MaskLine
 pub mod Masking
+pub mod machinery

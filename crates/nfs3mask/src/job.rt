@@ -1,21 +1,21 @@
 //! What the job does with files.
 
-ghost use Rattle.std.specs.Prelude.{◌≡◌, ◌⊎◌, ℕ, List, is_none, true, Option, map, string_bytes};
-ghost use Rattle.canon3.specs.Summary.{IsSummary};
+ghost use Rattle.std.specs.Prelude.{◌≡◌, ℕ, List, is_some, map, string_bytes};
 ghost use Rattle.line3.specs.Asked.{without_end};
-ghost use Rattle.mask_line3.specs.Changes.{mask_text};
-ghost use Rattle.masking3.specs.Masked.{masked_bytes};
-ghost use Rattle.masking3.specs.declared.ways.Ways.{Ways};
-ghost use Rattle.program3.specs.Files.{RewritesFile, WrittenFile};
-ghost use Rattle.program3.specs.Readings.{FileReading, readings_in};
+ghost use Rattle.nfs3mask.specs.Changes.{mask_text};
+ghost use Rattle.program3.specs.Files.{FilesRun};
+ghost use Rattle.program3.specs.Readings.{readings_in};
 ghost use Rattle.program3.specs.declared.outcome.Outcome.TheVariants as outcomes;
 ghost use Rattle.program3.specs.declared.reading.Readings.TheVariants.{Nothing};
-ghost use Rattle.nfs3mask.specs.Masking.{AnswersMaskJob, AnswersMaskLine, MasksFile};
+ghost use Rattle.nfs3mask.specs.Masking.{AnswersMaskJob, AnswersMaskLine, MasksFile, RewritesMasked};
+ghost use Rattle.nfs3mask.specs.declared.line.asked.MaskJob.{MaskJob};
 
+use crate::line::asked::MaskJob;
+use crate::line::change::ways_text;
+use crate::line::command::{mask_job, taken};
 use canon3::{Sink, Summary};
 use capture3::{Error, Source};
 use line3::LineFault;
-use mask_line3::{MaskJob, mask_job, taken, ways_text};
 use masking3::{MaskHashers, Ways, mask};
 use program3::{Ended, Files, Outcome, Readings, Rewriting, run_rewriting};
 use std::alloc::Global;
@@ -50,7 +50,7 @@ impl<S: BuildHasher + Copy + Drop> Rewriting for MaskedForm<S> {
 
 /// What came of a command line: the end, and what was read.
 #[derive(Drop)]
-pub struct Answer {
+pub struct MaskAnswer {
     pub ended: Ended,
     pub readings: Readings,
 }
@@ -61,11 +61,12 @@ pub fn answered<F: Files, S: BuildHasher + Copy + Drop>(
     hashers: Option<MaskHashers<S>>,
     files: &mut F,
     words: Vec<String>,
-) -> Answer
-    ensures answers { AnswersMaskLine (is_none hashers ≡ true) (F.holds files.old)
-        (readings_in result.readings) (F.finished files.old) (F.finished files.new)
-        (map string_bytes words.items)
-        result.ended.outcome }
+) -> MaskAnswer
+    ensures answers { AnswersMaskLine (record {
+      holds = F.holds files.old;
+      readings = readings_in result.readings;
+      finished = (F.finished files.old, F.finished files.new);
+    }) (is_some hashers) (map string_bytes words.items) result.ended.outcome }
 {
     match taken(alloc, words) {
         Ok(said) => said_answered(alloc, hashers, files, said.as_slice()),
@@ -79,11 +80,13 @@ fn said_answered<F: Files, S: BuildHasher + Copy + Drop>(
     hashers: Option<MaskHashers<S>>,
     files: &mut F,
     words: &[String],
-) -> Answer
+) -> MaskAnswer
     ensures { (line : List (List ℕ)) → map string_bytes words.now ≡ without_end 1 line
-        → AnswersMaskLine (is_none hashers ≡ true) (F.holds files.old)
-        (readings_in result.readings) (F.finished files.old) (F.finished files.new) line
-        result.ended.outcome }
+        → AnswersMaskLine (record {
+          holds = F.holds files.old;
+          readings = readings_in result.readings;
+          finished = (F.finished files.old, F.finished files.new);
+        }) (is_some hashers) line result.ended.outcome }
 {
     match mask_job(alloc, words) {
         Ok(job) => done(alloc, hashers, files, job),
@@ -92,11 +95,11 @@ fn said_answered<F: Files, S: BuildHasher + Copy + Drop>(
 }
 
 /// The answer of a command line that is refused.
-fn refused(fault: LineFault) -> Answer
+fn refused(fault: LineFault) -> MaskAnswer
     ensures outcome { result.ended.outcome ≡ outcomes.Line fault }
     ensures readings { result.readings ≡ Nothing }
 {
-    Answer {
+    MaskAnswer {
         ended: Ended::printing(Outcome::Line(fault)),
         readings: Readings::Nothing,
     }
@@ -107,10 +110,12 @@ fn done<F: Files, S: BuildHasher + Copy + Drop>(
     hashers: Option<MaskHashers<S>>,
     files: &mut F,
     job: MaskJob<'_>,
-) -> Answer
-    ensures { AnswersMaskJob (is_none hashers ≡ true) (F.holds files.old)
-        (readings_in result.readings) (F.finished files.old) (F.finished files.new) job.entry
-        result.ended.outcome }
+) -> MaskAnswer
+    ensures { AnswersMaskJob (record {
+      holds = F.holds files.old;
+      readings = readings_in result.readings;
+      finished = (F.finished files.old, F.finished files.new);
+    }) (is_some hashers) job.entry result.ended.outcome }
 {
     let (ended, readings) = match hashers {
         Some(hashers) => run_mask(alloc, hashers, files, job),
@@ -119,7 +124,7 @@ fn done<F: Files, S: BuildHasher + Copy + Drop>(
             Readings::Nothing,
         ),
     };
-    Answer { ended, readings }
+    MaskAnswer { ended, readings }
 }
 
 /// Masks the capture of one name into the file of another. The output is made once the input is open, and
@@ -130,9 +135,11 @@ fn run_mask<F: Files, S: BuildHasher + Copy + Drop>(
     files: &mut F,
     job: MaskJob<'_>,
 ) -> (Ended, Readings)
-    ensures masks { MasksFile (F.holds files.old) job.entry.ways job.entry.input.now
-        job.entry.output.now (readings_in result.1) (F.finished files.old) (F.finished files.new)
-        result.0.outcome }
+    ensures masks { MasksFile (record {
+      holds = F.holds files.old;
+      readings = readings_in result.1;
+      finished = (F.finished files.old, F.finished files.new);
+    }) job.entry result.0.outcome }
 {
     let ways = job.ways;
     let Ok(words) = ways_text(alloc, ways) else {
@@ -151,11 +158,8 @@ fn run_mask<F: Files, S: BuildHasher + Copy + Drop>(
 
 /// Tells the mask with the counts. What came of it stays.
 fn with_mask_text(outcome: Outcome, told: String) -> Outcome
-    ensures { (holds : List ℕ → Option (List ℕ)) (ways : Ways) (input output : List ℕ)
-        (readings : List FileReading) (old new : List WrittenFile)
-        → string_bytes told ≡ mask_text ways
-        → RewritesFile IsSummary (masked_bytes ways) holds input output readings old new outcome
-        → MasksFile holds ways input output readings old new result }
+    ensures { (run : FilesRun) (job : MaskJob) → string_bytes told ≡ mask_text job.ways
+        → RewritesMasked run job outcome → MasksFile run job result }
 {
     match outcome {
         Outcome::Counted(came) => match came {

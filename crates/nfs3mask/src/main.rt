@@ -3,23 +3,25 @@
 
 mod hashers;
 mod job;
+mod line;
 
-ghost use Rattle.std.specs.Prelude.{◌≡◌, [], Bool, None, map, string_bytes, true};
+ghost use Rattle.std.specs.Prelude.{[], Bool, None, map, string_bytes};
 ghost use Rattle.program3.specs.Readings.{readings_in};
 ghost use Rattle.program3.specs.Systems.{finished_of};
 ghost use Rattle.nfs3mask.specs.Masking.{AnswersMaskLine};
 
 use hashers::mask_hashers;
-use job::{Answer, answered};
+use job::{MaskAnswer, answered};
 use program3::{Ended, Outcome, System, print_ended, words};
 use std::process::ExitCode;
 
 /// Does what the words ask for, with the files of the system.
-fn run<'a>(rt: &'a HostRuntime, words: Vec<String>) -> (Answer, System<'a>)
-    ensures answers { (has_no_keys : Bool)
-        × AnswersMaskLine (has_no_keys ≡ true) (λ _. None) (readings_in result.0.readings) []
-        (finished_of result.1)
-        (map string_bytes words.items) result.0.ended.outcome }
+fn run<'a>(rt: &'a HostRuntime, words: Vec<String>) -> (MaskAnswer, System<'a>)
+    ensures answers { (has_keys : Bool) × AnswersMaskLine (record {
+      holds = λ _. None;
+      readings = readings_in result.0.readings;
+      finished = ([], finished_of result.1);
+    }) has_keys (map string_bytes words.items) result.0.ended.outcome }
 {
     let mut files = System::new(rt);
     let answer = answered(rt.alloc(), mask_hashers(rt).ok(), &mut files, words);
@@ -27,7 +29,7 @@ fn run<'a>(rt: &'a HostRuntime, words: Vec<String>) -> (Answer, System<'a>)
 }
 
 /// Closes the files. Without standard output one of them may have its number, and would get the line.
-fn files_closed(ran: (Answer, System<'_>)) -> Ended {
+fn files_closed(ran: (MaskAnswer, System<'_>)) -> Ended {
     let (answer, _files) = ran;
     answer.ended
 }

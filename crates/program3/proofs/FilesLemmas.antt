@@ -8,10 +8,10 @@ use Rattle.capture3.specs.declared.fault.Error.TheVariants as errors
 use Rattle.capture3.specs.Entry.{Entry}
 use Rattle.capture3.specs.Observed.{Observed, Gave, GavePrefix}
 use Rattle.capture3.proofs.Lemmas.Reader.ObservedLemmas.{IsPrefixOf, prefix_of_observed}
+use Rattle.canon3.specs.EntryWriter.{WritesGivenCounted}
 use Rattle.canon3.specs.WriteErrors.{IsOfWriting}
 use Rattle.canon3.specs.declared.summary.Summary.{Summary}
-use Rattle.program3.specs.Files.{FailsToOpen, KeepsForm, RewritesFile, WrittenFile}
-use Rattle.program3.specs.Writing.{WritesOut}
+use Rattle.program3.specs.Files.{FailsToOpen, FilesRun, KeepsForm, RewritesFile, TouchesNone, WritesOut, WrittenFile}
 use Rattle.program3.specs.declared.outcome.Outcome.TheVariants as outcomes
 
 -- a source that tells what is left, and gave nothing yet, gives a prefix of that
@@ -86,6 +86,15 @@ one_failed name was now none (Err errors.Memory) counts = tt
 
 -- ---- what is written through a buffer
 
+-- what a source gave of which a form was written
+pub given_of : {C : Type 0} (AreCountsOf : List ℕ → C → Type 0) (form : List Entry → List ℕ)
+    (before observed : Observed) (old new : Option (List ℕ)) (came : Result C Error)
+    → WritesGivenCounted AreCountsOf form (before, observed) (old, new) came
+    → (given : List ℕ) × Gave before observed given
+given_of AreCountsOf form before observed old new (Ok counts) (entries, all, are, appended) =
+    (all.given, all.gave)
+given_of AreCountsOf form before observed old new (Err error) (given, gave, stopped) = (given, gave)
+
 appends_kept : (old mid new : Option (List ℕ)) (xs : List ℕ) → Appends old mid xs → Keeps mid new
     → Appends old new xs
 appends_kept None mid new xs appended kept = tt
@@ -99,8 +108,8 @@ append_none (Some xs) = ap Some (append-nil xs)
 
 module _ {C : Type 0} (AreCountsOf : List ℕ → C → Type 0) (form : List Entry → List ℕ)
     (bytes : List ℕ) (old mid new : Option (List ℕ)) where
-  written_on : (came : Result C Error) → WritesAllCounted AreCountsOf form bytes old mid came
-      → Keeps mid new → WritesAllCounted AreCountsOf form bytes old new came
+  written_on : (came : Result C Error) → WritesAllCounted AreCountsOf form bytes (old, mid) came
+      → Keeps mid new → WritesAllCounted AreCountsOf form bytes (old, new) came
   written_on (Ok counts) (entries, typed, are, appended) kept =
       (entries, typed, are, appends_kept old mid new (form entries) appended kept)
   written_on (Err (errors.Refused fault)) (entries, first, reached, appended) kept =
@@ -110,21 +119,22 @@ module _ {C : Type 0} (AreCountsOf : List ℕ → C → Type 0) (form : List Ent
   written_on (Err errors.Memory) writes kept = tt
 
   written_out_of : (came now : Result C Error)
-      → WritesAllCounted AreCountsOf form bytes old mid came → WritesOut came mid now new
-      → WritesAllCounted AreCountsOf form bytes old new now
+      → WritesAllCounted AreCountsOf form bytes (old, mid) came → WritesOut came mid now new
+      → WritesAllCounted AreCountsOf form bytes (old, new) now
   written_out_of came now writes (inl failed) =
-      subst (WritesAllCounted AreCountsOf form bytes old new) (sym failed) tt
+      subst (WritesAllCounted AreCountsOf form bytes (old, new)) (sym failed) tt
   written_out_of came now writes (inr (is, kept)) =
-      subst (WritesAllCounted AreCountsOf form bytes old new) (sym is) (written_on came writes kept)
+      subst (WritesAllCounted AreCountsOf form bytes (old, new)) (sym is)
+      (written_on came writes kept)
 
   -- the rest of the buffer was written, or a write has failed
   pub written_all : (came now : Result C Error)
-      → WritesAllCounted AreCountsOf form bytes old mid came
+      → WritesAllCounted AreCountsOf form bytes (old, mid) came
       → (came ≡ Err errors.Write → now ≡ came)
       → (came ≢ Err errors.Write → WritesOut came mid now new)
-      → WritesAllCounted AreCountsOf form bytes old new now
+      → WritesAllCounted AreCountsOf form bytes (old, new) now
   written_all (Err errors.Write) now writes failed out =
-      subst (WritesAllCounted AreCountsOf form bytes old new) (sym (failed refl)) tt
+      subst (WritesAllCounted AreCountsOf form bytes (old, new)) (sym (failed refl)) tt
   written_all (Ok counts) now writes failed out =
       written_out_of (Ok counts) now writes (out (λ is. absurd (cc)))
   written_all (Err (errors.Refused fault)) now writes failed out =
@@ -168,9 +178,9 @@ module _ {C : Type 0} (AreCountsOf : List ℕ → C → Type 0) (form : List Ent
 
   -- the whole form was written, and the file has got its name
   pub keeps_whole : (counts : C) (written : Option (List ℕ)) (new : List WrittenFile)
-      → WritesAllCounted AreCountsOf form bytes (Some []) written (Ok counts)
+      → WritesAllCounted AreCountsOf form bytes (Some [], written) (Ok counts)
       → new ≡ record { name = name; bytes = written } ∷ old
-      → KeepsForm AreCountsOf form name bytes old new (Ok counts)
+      → KeepsForm AreCountsOf form name bytes (old, new) (Ok counts)
   keeps_whole counts written new (entries, typed, are, appended) is = (
     entries,
     typed,
@@ -180,8 +190,8 @@ module _ {C : Type 0} (AreCountsOf : List ℕ → C → Type 0) (form : List Ent
 
   -- an error came, and no file was finished
   pub keeps_none : (error : Error) (was now : Option (List ℕ)) (new : List WrittenFile)
-      → WritesAllCounted AreCountsOf form bytes was now (Err error) → new ≡ old
-      → KeepsForm AreCountsOf form name bytes old new (Err error)
+      → WritesAllCounted AreCountsOf form bytes (was, now) (Err error) → new ≡ old
+      → KeepsForm AreCountsOf form name bytes (old, new) (Err error)
   keeps_none (errors.Refused fault) was now new (entries, first, reached, appended) same =
       (first, same)
   keeps_none errors.Read was now new writes same = (tt, same)
@@ -190,7 +200,7 @@ module _ {C : Type 0} (AreCountsOf : List ℕ → C → Type 0) (form : List Ent
 
   -- a write failed or memory ran out at the end
   pub keeps_stopped : (error : Error) (new : List WrittenFile) → IsOfWriting error → new ≡ old
-      → KeepsForm AreCountsOf form name bytes old new (Err error)
+      → KeepsForm AreCountsOf form name bytes (old, new) (Err error)
   keeps_stopped (errors.Refused fault) new (inl is) same = absurd (cc)
   keeps_stopped (errors.Refused fault) new (inr is) same = absurd (cc)
   keeps_stopped errors.Read new of same = (tt, same)
@@ -198,20 +208,19 @@ module _ {C : Type 0} (AreCountsOf : List ℕ → C → Type 0) (form : List Ent
   keeps_stopped errors.Memory new of same = (tt, same)
 
 module _ (IsSummaryOf : List ℕ → Summary → Type 0) (form : List Entry → List ℕ)
-    (holds : List ℕ → Option (List ℕ)) (input output : List ℕ) (readings : List FileReading)
-    (old new : List WrittenFile) (none : readings ≡ []) (same : new ≡ old) where
+    (run : FilesRun) (names : List ℕ × List ℕ) (none : TouchesNone run) where
   -- nothing was read, and no file was finished
-  pub rewrites_none : (outcome : Outcome) → FailsToOpen input output outcome
-      → RewritesFile IsSummaryOf form holds input output readings old new outcome
+  pub rewrites_none : (outcome : Outcome) → FailsToOpen names.0 names.1 outcome
+      → RewritesFile IsSummaryOf form run names outcome
   rewrites_none (outcomes.Counted came) (inl named) = absurd named
   rewrites_none (outcomes.Counted came) (inr (inl named)) = absurd named
   rewrites_none (outcomes.Counted came) (inr (inr (inl is))) = absurd (cc)
   rewrites_none (outcomes.Counted came) (inr (inr (inr is))) =
       let memory : came ≡ Err errors.Memory = cc in
-      inr (none, memory, same)
-  rewrites_none (outcomes.Masked summary told) fails = (fails, none, same)
-  rewrites_none (outcomes.Listed came) fails = (fails, none, same)
-  rewrites_none (outcomes.Compared came) fails = (fails, none, same)
-  rewrites_none (outcomes.Packed came) fails = (fails, none, same)
-  rewrites_none (outcomes.Unopened text) fails = (fails, none, same)
-  rewrites_none (outcomes.Line fault) fails = (fails, none, same)
+      inr (none, memory)
+  rewrites_none (outcomes.Masked summary told) fails = (fails, none)
+  rewrites_none (outcomes.Listed came) fails = (fails, none)
+  rewrites_none (outcomes.Compared came) fails = (fails, none)
+  rewrites_none (outcomes.Packed came) fails = (fails, none)
+  rewrites_none (outcomes.Unopened text) fails = (fails, none)
+  rewrites_none (outcomes.Line fault) fails = (fails, none)

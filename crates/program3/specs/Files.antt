@@ -1,5 +1,6 @@
 -- Files that a command reads and writes, and what came of it.
 use Rattle.std.specs.Prelude.{◌≡◌, ◌⊎◌, ℕ, List, [], ◌∷◌, Option, Some, Result, Ok, Err, Any}
+use Rattle.std.specs.Io.KnownBytes.{Keeps}
 use Rattle.line3.specs.declared.asked.LineFault.TheVariants as lines
 use Rattle.capture3.specs.declared.fault.Error.{Error}
 use Rattle.capture3.specs.declared.fault.Error.TheVariants as errors
@@ -40,33 +41,58 @@ abbrev pub FailsToMake : (output : List ℕ) → (streams : List (List ℕ)) →
 FailsToMake output streams outcome = FailsToOpenStream output outcome
     ⊎ Any (λ stream. FailsToOpenStream stream outcome) streams
 
+-- the bytes that were gathered for a writer are written, and what came of the job stays, or a write
+-- failed
+abbrev pub WritesOut : {C : Type 0} → Result C Error → Option (List ℕ) → Result C Error
+    → Option (List ℕ) → Type 0
+WritesOut came gathered now written = (now ≡ Err errors.Write)
+    ⊎ ((now ≡ came) × Keeps gathered written)
+
+-- what a command did with files
+pub record FilesRun : Type 0 where
+  -- the bytes that files have by their names, where they are known
+  pub holds : List ℕ → Option (List ℕ)
+  -- what was read of files
+  pub readings : List FileReading
+  -- the files that were finished, before and after
+  pub finished : List WrittenFile × List WrittenFile
+
+-- no file was finished
+abbrev pub FinishesNone : List WrittenFile × List WrittenFile → Type 0
+FinishesNone finished = finished.1 ≡ finished.0
+
+-- nothing was read, and no file was finished
+abbrev pub TouchesNone : FilesRun → Type 0
+TouchesNone run = (run.readings ≡ []) × FinishesNone run.finished
+
+-- The file of this name alone was read. Whatever it may contain, this holds of it; or a read
+-- failed, if one did.
+abbrev pub ReadsFile : {X : Type 0} → FilesRun → (name : List ℕ) → Result X Error
+    → (List ℕ → Type 0) → Type 0
+ReadsFile run name came Holds = (reading : FileReading) × (run.readings ≡ reading ∷ [])
+    × (reading.name ≡ name) × IsByFailedRead reading came
+    × ((bytes : List ℕ) → MayContain (run.holds name) reading bytes → Holds bytes)
+
 -- What came of reading a capture of these bytes, and writing a form of its entries to a file of
 -- this name. It succeeded: these are the capture's counts, and the one file that was finished has
 -- the name, and its bytes are the form of all entries. Or no file was finished, and if the capture
 -- was refused, this is its first fault.
-abbrev pub KeepsForm : {C : Type 0} → (AreCountsOf : List ℕ → C → Type 0)
-    → (form : List Entry → List ℕ) → (name bytes : List ℕ) → (old new : List WrittenFile)
-    → Result C Error → Type 0
-KeepsForm AreCountsOf form name bytes old new (Ok counts) = (entries : List Entry)
-    × Typed bytes entries × AreCountsOf bytes counts
-    × (new ≡ record { name = name; bytes = Some (form entries) } ∷ old)
-KeepsForm {C = C} AreCountsOf form name bytes old new (Err error) =
-    OnRefused {X = C} (Err error) (FirstFault bytes) × (new ≡ old)
+module _ {C : Type 0} (AreCountsOf : List ℕ → C → Type 0) (form : List Entry → List ℕ) where
+  abbrev pub KeepsForm : (name bytes : List ℕ) → List WrittenFile × List WrittenFile
+      → Result C Error → Type 0
+  KeepsForm name bytes finished (Ok counts) = (entries : List Entry) × Typed bytes entries
+      × AreCountsOf bytes counts
+      × (finished.1 ≡ record { name = name; bytes = Some (form entries) } ∷ finished.0)
+  KeepsForm name bytes finished (Err error) =
+      OnRefused {X = C} (Err error) (FirstFault bytes) × FinishesNone finished
 
--- The same of the file of one name, which alone was read, and that of another, whatever the file
--- may
--- contain. Or nothing was read and no file was finished, since one of the two was not opened or
--- made.
-module _ (IsSummaryOf : List ℕ → Summary → Type 0) (form : List Entry → List ℕ)
-    (holds : List ℕ → Option (List ℕ)) (input output : List ℕ) (readings : List FileReading)
-    (old new : List WrittenFile) where
-  abbrev pub KeepsWhatever : FileReading → Result Summary Error → Type 0
-  KeepsWhatever reading came = IsByFailedRead reading came × ((bytes : List ℕ)
-      → MayContain (holds input) reading bytes
-      → KeepsForm IsSummaryOf form output bytes old new came)
-
-  abbrev pub RewritesFile : Outcome → Type 0
-  RewritesFile (outcomes.Counted came) = ((reading : FileReading) × (readings ≡ reading ∷ [])
-      × (reading.name ≡ input) × KeepsWhatever reading came)
-      ⊎ ((readings ≡ []) × (came ≡ Err errors.Memory) × (new ≡ old))
-  RewritesFile outcome = FailsToOpen input output outcome × (readings ≡ []) × (new ≡ old)
+-- The same of the file of the first name, which alone was read, and that of the second. Or nothing
+-- was read and no file was finished, since one of the two was not opened or made.
+abbrev pub RewritesFile : (List ℕ → Summary → Type 0) → (form : List Entry → List ℕ) → FilesRun
+    → (names : List ℕ × List ℕ) → Outcome → Type 0
+RewritesFile IsSummaryOf form run names (outcomes.Counted came) =
+    ReadsFile run names.0 came
+    (λ bytes. KeepsForm IsSummaryOf form names.1 bytes run.finished came)
+    ⊎ (TouchesNone run × (came ≡ Err errors.Memory))
+RewritesFile IsSummaryOf form run names outcome =
+    FailsToOpen names.0 names.1 outcome × TouchesNone run

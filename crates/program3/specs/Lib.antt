@@ -2,11 +2,8 @@ pub mod Ending
 pub mod Files
 pub mod Hashing
 pub mod Opening
-pub mod Places
 pub mod Printed
 pub mod Readings
 pub mod Rights
 pub mod Standard
 pub mod Systems
-pub mod Writing
-pub mod machinery

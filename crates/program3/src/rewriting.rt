@@ -36,12 +36,13 @@ pub trait Rewriting {
         source: &mut R,
         sink: &mut W,
     ) -> Result<Self::Counts, Error>
-        ensures writes { WritesGivenCounted counts (form self) (R.observed source.old)
-            (R.observed source.new) (W.written sink.old) (W.written sink.new) result }
+        ensures writes { WritesGivenCounted counts (form self)
+            (R.observed source.old, R.observed source.new) (W.written sink.old, W.written sink.new)
+            result }
         ensures whole { (bytes : List ℕ)
             → GavePrefix (R.observed source.old) (R.observed source.new) bytes
-            → WritesAllCounted counts (form self) bytes (W.written sink.old)
-            (W.written sink.new) result }
+            → WritesAllCounted counts (form self) bytes (W.written sink.old, W.written sink.new)
+            result }
         ensures read { CountsReading (R.failures source.old) (R.failures source.new) result };
 }
 
@@ -54,9 +55,11 @@ pub fn run_rewriting<F: Files, J: Rewriting<Counts = Summary> + Drop>(
     input: &str,
     output: &str,
 ) -> (Ended, Readings)
-    ensures rewrites { RewritesFile J.counts (J.form rewriting) (F.holds files.old) input.now
-        output.now (readings_in result.1) (F.finished files.old) (F.finished files.new)
-        result.0.outcome }
+    ensures rewrites { RewritesFile J.counts (J.form rewriting) (record {
+      holds = F.holds files.old;
+      readings = readings_in result.1;
+      finished = (F.finished files.old, F.finished files.new);
+    }) (input.now, output.now) result.0.outcome }
 {
     match files.both_opened(input, output) {
         Ok((mut opened, made)) => {
@@ -84,7 +87,7 @@ fn kept<F: Files, J: Rewriting<Counts = Summary> + Drop>(
         → MayContain whole (reading_under name source.new) bytes
         → F.Output.contents made.file ≡ Some []
         → KeepsForm J.counts (J.form rewriting) (F.name_of made.place) bytes
-        (F.finished files.old) (F.finished files.new) result }
+        (F.finished files.old, F.finished files.new) result }
     ensures read { (name : List ℕ) → source.old.failures ≡ 0
         → IsByFailedRead (reading_under name source.new) result }
 {
@@ -145,7 +148,7 @@ pub fn form_written<R: Read, W: Write + Drop, J: Rewriting + Drop>(
         → IsUnread R.remaining whole source.old
         → MayContain whole (reading_under name source.new) bytes
         → IfOk result (λ done. WritesAllCounted J.counts (J.form rewriting) bytes
-        (W.contents output) (W.contents done.1) done.0) }
+        (W.contents output, W.contents done.1) done.0) }
     ensures read { (name : List ℕ) → source.old.failures ≡ 0
         → IfOk result (λ done. IsByFailedRead (reading_under name source.new) done.0) }
     ensures unread { OnErr result (source.new ≡ source.old) }

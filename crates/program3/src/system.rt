@@ -5,16 +5,15 @@ ghost use Rattle.capture3.specs.declared.fault.Error.TheVariants as errors;
 ghost use Rattle.program3.specs.Files.{FailsToOpenStream};
 ghost use Rattle.program3.specs.Opening.{ReportsUnopened};
 ghost use Rattle.program3.specs.declared.outcome.Outcome.TheVariants.{Packed};
-ghost use Rattle.program3.specs.Places.{IsMade};
-ghost use Rattle.program3.specs.Systems.{finished_of};
+ghost use Rattle.program3.specs.Systems.{IsMade, finished_of};
 
 use crate::files::{Files, Made};
 use crate::input::opening::{OpenError, opened, uncounted, unopened};
 use crate::input::retried::Retried;
 use crate::outcome::Outcome;
 use crate::output::destination::Destination;
-use crate::output::identity::{FileId, if_there};
-use crate::output::place::Place;
+use crate::output::identity::{FileIdentity, if_there};
+use crate::output::place::OutputPlace;
 use crate::output::standard::StandardOutput;
 use crate::reading::Opened;
 use canon3::Traced;
@@ -34,7 +33,7 @@ pub struct SafeFile {
 #[derive(Drop)]
 pub struct System<'a> {
     rt: &'a HostRuntime,
-    finished: Vec<Made<SafeFile, Place>>,
+    finished: Vec<Made<SafeFile, OutputPlace>>,
 }
 
 impl<'a> System<'a> {
@@ -55,7 +54,7 @@ impl<'a> System<'a> {
         output: &str,
         own: io::Result<StandardOutput>,
         read: &Metadata,
-    ) -> Result<Option<Made<Traced<File>, Place>>, OpenError>
+    ) -> Result<Option<Made<Traced<File>, OutputPlace>>, OpenError>
         ensures { IfOk result (λ found. IfSome found (λ made. IsMade made output.now)) }
     {
         let own = own?;
@@ -64,8 +63,8 @@ impl<'a> System<'a> {
             return Ok(None);
         }
         let mut spared = printed_to(self.rt.alloc(), own)?;
-        add_id(&mut spared, FileId::of(read))?;
-        let made = Place::make(self.rt, output, &destination, spared)?;
+        add_id(&mut spared, FileIdentity::of(read))?;
+        let made = OutputPlace::make(self.rt, output, &destination, spared)?;
         if made.place.is_regular(read) {
             made.place.remove(self.rt);
             return Ok(None);
@@ -92,7 +91,7 @@ impl Files for System<'_> {
 
     type Safe = SafeFile;
 
-    type Place = Place;
+    type Place = OutputPlace;
 
     ghost use Rattle.std.specs.Prelude.{None, Some, string_bytes};
     ghost use Rattle.program3.specs.Systems.{finished_of};
@@ -114,7 +113,7 @@ impl Files for System<'_> {
         &self,
         input: &str,
         output: &str,
-    ) -> Result<(Opened<Retried<File>>, Made<Traced<File>, Place>), Outcome> {
+    ) -> Result<(Opened<Retried<File>>, Made<Traced<File>, OutputPlace>), Outcome> {
         let alloc = self.rt.alloc();
         let own = StandardOutput::new(self.rt);
         let (reader, read) = match opened(self.rt, input) {
@@ -132,7 +131,7 @@ impl Files for System<'_> {
         &self,
         output: &str,
         streams: &[String],
-    ) -> Result<Made<Traced<File>, Place>, Outcome> {
+    ) -> Result<Made<Traced<File>, OutputPlace>, Outcome> {
         let alloc = self.rt.alloc();
         let own = match StandardOutput::new(self.rt) {
             Ok(own) => own,
@@ -147,14 +146,18 @@ impl Files for System<'_> {
             Err(error) => return Err(unpacked(alloc, output, OpenError::from(error))),
         };
         all_stand_apart(self.rt, &destination, streams, &mut spared)?;
-        match Place::make(self.rt, output, &destination, spared) {
+        match OutputPlace::make(self.rt, output, &destination, spared) {
             Ok(made) => Ok(made),
             Err(error) => Err(unpacked(alloc, output, error)),
         }
     }
 
     // The part may have got the number of a standard input that is closed.
-    fn opened_apart(&self, place: &Place, stream: &str) -> Result<Opened<Retried<File>>, Outcome> {
+    fn opened_apart(
+        &self,
+        place: &OutputPlace,
+        stream: &str,
+    ) -> Result<Opened<Retried<File>>, Outcome> {
         match opened(self.rt, stream) {
             Ok((_, data)) if place.is_regular(&data) => Err(Outcome::Line(LineFault::SameName)),
             Ok((reader, _)) => Ok(Opened::new(stream, Retried { reader })),
@@ -162,16 +165,16 @@ impl Files for System<'_> {
         }
     }
 
-    fn is_standard_output(&self, place: &Place) -> bool {
+    fn is_standard_output(&self, place: &OutputPlace) -> bool {
         place.is_standard_output()
     }
 
-    fn make_safe(&self, file: Traced<File>, place: &Place) -> io::Result<SafeFile> {
+    fn make_safe(&self, file: Traced<File>, place: &OutputPlace) -> io::Result<SafeFile> {
         place.make_safe(file.inner())?;
         Ok(SafeFile { file })
     }
 
-    fn give_name(&mut self, file: SafeFile, place: Place) -> Result<(), Error> {
+    fn give_name(&mut self, file: SafeFile, place: OutputPlace) -> Result<(), Error> {
         if let Err(failed) = self.finished.push(Made { file, place }) {
             failed.value.place.remove(self.rt);
             return Err(Error::Memory);
@@ -185,13 +188,13 @@ impl Files for System<'_> {
         Err(Error::Write)
     }
 
-    fn remove(&self, place: Place) {
+    fn remove(&self, place: OutputPlace) {
         place.remove(self.rt);
     }
 }
 
 /// The file to which the program prints, if there is one.
-fn printed_to(alloc: Global, own: StandardOutput) -> Result<Vec<FileId>, AllocError> {
+fn printed_to(alloc: Global, own: StandardOutput) -> Result<Vec<FileIdentity>, AllocError> {
     let mut ids = Vec::new(alloc);
     if let Some(id) = own.id() {
         add_id(&mut ids, id)?;
@@ -199,7 +202,7 @@ fn printed_to(alloc: Global, own: StandardOutput) -> Result<Vec<FileId>, AllocEr
     Ok(ids)
 }
 
-fn add_id(ids: &mut Vec<FileId>, id: FileId) -> Result<(), AllocError> {
+fn add_id(ids: &mut Vec<FileIdentity>, id: FileIdentity) -> Result<(), AllocError> {
     ids.push(id).map_err(|_| AllocError)
 }
 
@@ -208,7 +211,7 @@ fn all_stand_apart(
     rt: &HostRuntime,
     destination: &Destination,
     streams: &[String],
-    ids: &mut Vec<FileId>,
+    ids: &mut Vec<FileIdentity>,
 ) -> Result<(), Outcome>
     ensures { IfErr result (λ outcome.
         Any (λ stream. FailsToOpenStream stream outcome) (map string_bytes streams.now)) }
@@ -226,7 +229,7 @@ fn stands_apart(
     rt: &HostRuntime,
     destination: &Destination,
     stream: &str,
-    ids: &mut Vec<FileId>,
+    ids: &mut Vec<FileIdentity>,
 ) -> Result<(), Outcome>
     ensures { IfErr result (FailsToOpenStream stream.now) }
 {
@@ -234,7 +237,7 @@ fn stands_apart(
         Ok(Some(data)) if destination.is_regular(&data) => {
             Err(Outcome::Line(LineFault::SameName))
         }
-        Ok(Some(data)) => match add_id(ids, FileId::of(&data)) {
+        Ok(Some(data)) => match add_id(ids, FileIdentity::of(&data)) {
             Ok(()) => Ok(()),
             Err(_) => Err(Outcome::Packed(Err(Error::Memory))),
         },

@@ -1,9 +1,9 @@
 -- Tables of the values of each class.
 use Rattle.std.specs.Prelude.{◌≡◌, ℕ, nat_eq, Option, List, [], ◌++◌, get_or}
 use Rattle.capture3.specs.Rank.{HoldsDistinct}
-use Rattle.masking3.specs.declared.class.Class.{Class}
-use Rattle.masking3.specs.declared.ways.Way.TheVariants.{Number}
-use Rattle.masking3.specs.declared.ways.Ways.{Ways}
+use Rattle.masking3.specs.declared.values.class.Class.{Class}
+use Rattle.masking3.specs.declared.values.ways.Way.TheVariants.{Number}
+use Rattle.masking3.specs.declared.values.ways.Ways.{Ways}
 use Rattle.masking3.specs.Classes.{position}
 use Rattle.masking3.specs.Masked.{value_where}
 use Rattle.masking3.specs.Ways.{way_of}

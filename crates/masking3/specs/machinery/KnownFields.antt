@@ -6,12 +6,12 @@ use Rattle.xdr3.specs.declared.plain.PlainField.TheVariants as fields
 use Rattle.xdr3.specs.Item.{Item, Word, Hyper}
 use Rattle.nfs3_types.specs.Names.{names}
 use Rattle.rpc_head.specs.Names.{head_names}
-use Rattle.masking3.specs.declared.class.Class.{Class}
+use Rattle.masking3.specs.declared.values.class.Class.{Class}
 use Rattle.masking3.specs.declared.masking_writer.MaskingWriter.{MaskingWriter}
-use Rattle.masking3.specs.declared.spot.Spot.{Spot}
+use Rattle.masking3.specs.declared.values.spot.ItemSpot.{ItemSpot}
 use Rattle.masking3.specs.Classes.{class_of_word, is_one_of}
-use Rattle.masking3.specs.declared.ways.Way.{Way}
-use Rattle.masking3.specs.declared.ways.Way.TheVariants.{Keep}
+use Rattle.masking3.specs.declared.values.ways.Way.{Way}
+use Rattle.masking3.specs.declared.values.ways.Way.TheVariants.{Keep}
 use Rattle.masking3.specs.Spots.{next_spot}
 use Rattle.masking3.specs.machinery.UnnamedBody.{body_word}
 
@@ -85,7 +85,7 @@ abbrev pub attributes_in : List ℕ → List Item
 attributes_in bytes = numbered_from 0 bytes attribute_fields
 
 -- at this spot a word of this name has this class, and moves nowhere
-abbrev pub IsKnown : Spot → Option Class → List ℕ → Type 0
+abbrev pub IsKnown : ItemSpot → Option Class → List ℕ → Type 0
 IsKnown spot class name =
     (class_of_word spot name ≡ class) × ((n : ℕ) → next_spot spot (Word name n) ≡ spot)
 

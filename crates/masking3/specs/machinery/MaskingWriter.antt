@@ -9,12 +9,12 @@ use Rattle.capture3.specs.declared.reader.entry.Kind.{Kind}
 use Rattle.capture3.specs.declared.reader.entry.Kind.TheVariants as kinds
 use Rattle.canon3.specs.Bytes.{chunk_bytes, record_bytes}
 use Rattle.canon3.specs.HandleTable.{Gathers}
-use Rattle.masking3.specs.declared.class.Class.{Class}
+use Rattle.masking3.specs.declared.values.class.Class.{Class}
 use Rattle.masking3.specs.declared.masking_writer.MaskingWriter.{MaskingWriter}
-use Rattle.masking3.specs.declared.spot.Spot.{Spot}
-use Rattle.masking3.specs.declared.spot.Spot.TheVariants.{InCall, InReply}
-use Rattle.masking3.specs.declared.ways.Way.{Way}
-use Rattle.masking3.specs.declared.ways.Ways.{Ways}
+use Rattle.masking3.specs.declared.values.spot.ItemSpot.{ItemSpot}
+use Rattle.masking3.specs.declared.values.spot.ItemSpot.TheVariants.{InCall, InReply}
+use Rattle.masking3.specs.declared.values.ways.Way.{Way}
+use Rattle.masking3.specs.declared.values.ways.Ways.{Ways}
 use Rattle.masking3.specs.Classes.{class_of, class_value, position}
 use Rattle.masking3.specs.Masked.{is_zero_that_stays, masked_items, values_in}
 use Rattle.masking3.specs.Spots.{next_spot}
@@ -33,7 +33,7 @@ visited_item None (Hyper name n) = Hyper [] n
 visited_item None item = item
 
 -- what stands for the items of a message from this spot on
-abbrev pub visited_items : Spot → List Item → List Item
+abbrev pub visited_items : ItemSpot → List Item → List Item
 visited_items spot [] = []
 visited_items spot (item ∷ items) =
     visited_item (class_of spot item) item ∷ visited_items (next_spot spot item) items

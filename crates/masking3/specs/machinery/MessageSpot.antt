@@ -4,8 +4,8 @@ use Rattle.xdr3.specs.Item.{Item, Word}
 use Rattle.rpc_head.specs.Names.{head_names}
 use Rattle.capture3.specs.declared.fault.Side.{Side}
 use Rattle.capture3.specs.declared.fault.Side.TheVariants.{Client, Server}
-use Rattle.masking3.specs.declared.spot.Spot.{Spot}
-use Rattle.masking3.specs.declared.spot.Spot.TheVariants.{InCall, InReply}
+use Rattle.masking3.specs.declared.values.spot.ItemSpot.{ItemSpot}
+use Rattle.masking3.specs.declared.values.spot.ItemSpot.TheVariants.{InCall, InReply}
 use Rattle.masking3.specs.Spots.{next_spot}
 
 -- an mtype is CALL (0) or REPLY (1) (RFC 5531, section 9)
@@ -19,12 +19,12 @@ side_by false = Client
 side_by true = Server
 
 -- the spot of the first item
-abbrev pub first_spot : Side → Spot
+abbrev pub first_spot : Side → ItemSpot
 first_spot Client = InCall
 first_spot Server = InReply
 
 -- the spot after items
-abbrev pub spot_after : Spot → List Item → Spot
+abbrev pub spot_after : ItemSpot → List Item → ItemSpot
 spot_after spot items = fold next_spot spot items
 
 -- the items are the first ones of a message of this side, with its xid and its mtype

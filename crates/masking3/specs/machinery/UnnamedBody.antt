@@ -2,7 +2,7 @@
 use Rattle.std.specs.Prelude.{ℕ, ◌+◌, ◌-◌, ◌==◌, ◌&&◌, nat_le, Bool, if◌then◌else◌, List, ◌++◌, length, take, drop}
 use Rattle.byteorder.specs.Endian.{big_number}
 use Rattle.xdr3.specs.Item.{residue, word_bytes}
-use Rattle.masking3.specs.declared.ways.Way.{Way}
+use Rattle.masking3.specs.declared.values.ways.Way.{Way}
 use Rattle.masking3.specs.Ways.{unless_kept}
 
 -- the word at a place

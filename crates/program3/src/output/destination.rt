@@ -1,6 +1,6 @@
 //! What the name of an output leads to, before anything is made.
 
-use crate::output::identity::{FileId, if_there};
+use crate::output::identity::{FileIdentity, if_there};
 use crate::output::standard::StandardOutput;
 use crate::output::standing::MOST_LOOKS;
 use std::fs::Metadata;
@@ -43,7 +43,7 @@ impl Destination {
     }
 
     fn found(found: Metadata, own: StandardOutput) -> Destination {
-        let id = FileId::of(&found);
+        let id = FileIdentity::of(&found);
         if found.is_file() && !own.is(id) {
             return Destination::Replaced(found);
         }
@@ -58,7 +58,7 @@ impl Destination {
         match self {
             Destination::New => false,
             Destination::Replaced(found) | Destination::AsItIs { found, .. } => {
-                FileId::of(found).is_regular(data)
+                FileIdentity::of(found).is_regular(data)
             }
         }
     }

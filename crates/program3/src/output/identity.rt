@@ -30,15 +30,15 @@ pub fn if_there<T: Drop>(found: io::Result<T>) -> io::Result<Option<T>>
 
 /// A file's device, and its number there. It has them under each of its names.
 #[derive(Clone, Copy, Debug, PartialEq, Eq)]
-pub struct FileId {
+pub struct FileIdentity {
     device: u64,
     inode: u64,
 }
 
-impl FileId {
+impl FileIdentity {
     /// Returns the identity of the file of which the system says `data`.
-    pub fn of(data: &Metadata) -> FileId {
-        FileId {
+    pub fn of(data: &Metadata) -> FileIdentity {
+        FileIdentity {
             device: data.dev(),
             inode: data.ino(),
         }
@@ -48,6 +48,6 @@ impl FileId {
     pub fn is_regular(self, data: &Metadata) -> bool
         ensures { IsTrue result → IsFile (file_type data.now) }
     {
-        data.is_file() && self == FileId::of(data)
+        data.is_file() && self == FileIdentity::of(data)
     }
 }

@@ -4,7 +4,7 @@ ghost use Rattle.std.specs.Prelude.{◌≡◌, ◌++◌, IfOk, codes, string_byt
 ghost use Rattle.hex.specs.Hex.{encode_lower};
 
 use crate::input::opening::OpenError;
-use crate::output::identity::{FileId, if_there};
+use crate::output::identity::{FileIdentity, if_there};
 use crate::output::rights::{OWNER_ALONE, PERMISSIONS, give_owner, give_permissions, permissions};
 use crate::output::standing::{MOST_LOOKS, Standing, in_folder_of};
 use std::alloc::{AllocError, Global};
@@ -22,7 +22,7 @@ const EVERYBODY: u32 = 0o666;
 
 /// A file that is not whole yet. Until it gets its name, its owner alone may open it.
 #[derive(Drop)]
-pub struct Part {
+pub struct PartFile {
     name: String,
     whole: String,
     // The file that has the name.
@@ -30,30 +30,30 @@ pub struct Part {
     mode_of_new: u32,
 }
 
-impl Part {
+impl PartFile {
     /// Makes the part of a file of this name that is not there yet.
-    pub fn of_new(rt: &HostRuntime, name: &str) -> Result<(Part, File), OpenError> {
-        Part::make(rt, String::from_str(rt.alloc(), name)?, None)
+    pub fn of_new(rt: &HostRuntime, name: &str) -> Result<(PartFile, File), OpenError> {
+        PartFile::make(rt, String::from_str(rt.alloc(), name)?, None)
     }
 
     /// Makes the part of the regular file to which this name leads, unless it is one of `spared`.
     pub fn of_replaced(
         rt: &HostRuntime,
         name: &str,
-        spared: &[FileId],
-    ) -> Result<(Part, File), OpenError> {
+        spared: &[FileIdentity],
+    ) -> Result<(PartFile, File), OpenError> {
         let (path, replaced) = Standing::found(rt, name, spared)?;
-        Part::make(rt, path, Some(replaced))
+        PartFile::make(rt, path, Some(replaced))
     }
 
     fn make(
         rt: &HostRuntime,
         whole: String,
         replaced: Option<Standing>,
-    ) -> Result<(Part, File), OpenError> {
+    ) -> Result<(PartFile, File), OpenError> {
         let mode_of_new = mode_of_new(rt, whole.as_str())?;
         let (name, file) = make_beside(rt, whole.as_str(), OWNER_ALONE)?;
-        let part = Part {
+        let part = PartFile {
             name,
             whole,
             replaced,
@@ -73,7 +73,7 @@ impl Part {
     }
 
     /// Whether the part would replace this file.
-    pub fn replaces(&self, id: FileId) -> bool {
+    pub fn replaces(&self, id: FileIdentity) -> bool {
         match &self.replaced {
             Some(replaced) => replaced.id() == id,
             None => false,
@@ -96,7 +96,12 @@ impl Part {
     }
 
     /// Gives the file its name. If another run has given it to its own file meanwhile, that one is replaced.
-    pub fn give_name(&self, rt: &HostRuntime, file: &File, spared: &[FileId]) -> io::Result<()> {
+    pub fn give_name(
+        &self,
+        rt: &HostRuntime,
+        file: &File,
+        spared: &[FileIdentity],
+    ) -> io::Result<()> {
         if self.is_named(rt, self.replaced.as_ref())? {
             return Ok(());
         }
@@ -127,9 +132,9 @@ impl Part {
         }
     }
 
-    fn has_replaced(&self, rt: &HostRuntime, replaced: FileId) -> io::Result<bool> {
+    fn has_replaced(&self, rt: &HostRuntime, replaced: FileIdentity) -> io::Result<bool> {
         let there = fs::symlink_metadata(rt, self.whole.as_str())?;
-        if FileId::of(&there) != replaced {
+        if FileIdentity::of(&there) != replaced {
             return Ok(false);
         }
         fs::rename(rt, self.name.as_str(), self.whole.as_str())?;

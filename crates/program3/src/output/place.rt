@@ -1,13 +1,13 @@
 //! The place of a file that a command writes.
 
 ghost use Rattle.std.specs.Prelude.{◌≡◌, IfOk, string_bytes};
-ghost use Rattle.program3.specs.Places.{IsMade};
+ghost use Rattle.program3.specs.Systems.{IsMade};
 
 use crate::files::Made;
 use crate::input::opening::OpenError;
 use crate::output::destination::Destination;
-use crate::output::identity::FileId;
-use crate::output::part::Part;
+use crate::output::identity::FileIdentity;
+use crate::output::part::PartFile;
 use canon3::Traced;
 use std::fs::{File, Metadata, OpenOptions};
 use std::io;
@@ -16,15 +16,15 @@ use std::io;
 /// name once it is whole: until then, and if the command fails, what has the name stays as it is. A device, a
 /// pipe and the program's own standard output are written as they are.
 #[derive(Drop)]
-pub struct Place {
+pub struct OutputPlace {
     name: String,
-    id: FileId,
-    part: Option<Part>,
+    id: FileIdentity,
+    part: Option<PartFile>,
     is_standard_output: bool,
-    spared: Vec<FileId>,
+    spared: Vec<FileIdentity>,
 }
 
-impl Place {
+impl OutputPlace {
     /// Opens or makes the file of this name. `destination` is what the name leads to. `spared` are the files
     /// that are read, or to which the program prints: whatever gets the name meanwhile, none of them is
     /// replaced.
@@ -39,15 +39,15 @@ impl Place {
         rt: &HostRuntime,
         name: &str,
         destination: &Destination,
-        spared: Vec<FileId>,
-    ) -> Result<Made<Traced<File>, Place>, OpenError>
+        spared: Vec<FileIdentity>,
+    ) -> Result<Made<Traced<File>, OutputPlace>, OpenError>
         ensures { IfOk result (λ made. IsMade made name.now) }
     {
         let word = String::from_str(rt.alloc(), name)?;
         match destination {
-            Destination::New => open_part_file(rt, word, Part::of_new(rt, name)?, spared),
+            Destination::New => open_part_file(rt, word, PartFile::of_new(rt, name)?, spared),
             Destination::Replaced(_) => {
-                let made = Part::of_replaced(rt, name, spared.as_slice())?;
+                let made = PartFile::of_replaced(rt, name, spared.as_slice())?;
                 open_part_file(rt, word, made, spared)
             }
             Destination::AsItIs {
@@ -69,7 +69,7 @@ impl Place {
 
     fn replaces(&self, data: &Metadata) -> bool {
         match &self.part {
-            Some(part) => part.replaces(FileId::of(data)),
+            Some(part) => part.replaces(FileIdentity::of(data)),
             None => false,
         }
     }
@@ -112,18 +112,18 @@ impl Place {
 fn open_part_file(
     rt: &HostRuntime,
     name: String,
-    made: (Part, File),
-    spared: Vec<FileId>,
-) -> Result<Made<Traced<File>, Place>, OpenError>
+    made: (PartFile, File),
+    spared: Vec<FileIdentity>,
+) -> Result<Made<Traced<File>, OutputPlace>, OpenError>
     ensures { IfOk result (λ made. IsMade made (string_bytes name)) }
 {
     let (part, file) = made;
     match file.metadata() {
         Ok(data) => Ok(Made {
             file: Traced::new(file),
-            place: Place {
+            place: OutputPlace {
                 name,
-                id: FileId::of(&data),
+                id: FileIdentity::of(&data),
                 part: Some(part),
                 is_standard_output: false,
                 spared,
@@ -143,18 +143,18 @@ fn open_existing(
     name: String,
     found: &Metadata,
     is_standard_output: bool,
-    spared: Vec<FileId>,
-) -> Result<Made<Traced<File>, Place>, OpenError>
+    spared: Vec<FileIdentity>,
+) -> Result<Made<Traced<File>, OutputPlace>, OpenError>
     ensures { IfOk result (λ made. IsMade made (string_bytes name)) }
 {
     let file = OpenOptions::new().append(true).open(rt, name.as_str())?;
-    let id = FileId::of(&file.metadata()?);
-    if id != FileId::of(found) {
+    let id = FileIdentity::of(&file.metadata()?);
+    if id != FileIdentity::of(found) {
         return Err(OpenError::Unopened);
     }
     Ok(Made {
         file: Traced::new(file),
-        place: Place {
+        place: OutputPlace {
             name,
             id,
             part: None,

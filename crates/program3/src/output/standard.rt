@@ -4,7 +4,7 @@ ghost use Rattle.std.specs.Prelude.{◌≡◌, ◌≢◌, IfErr, IfOk, None, Ok,
 ghost use Rattle.std.specs.IoError.{raw_os_error};
 ghost use Rattle.program3.specs.Standard.{bad_number, is_known_as, known_id, may_be};
 
-use crate::output::identity::{FileId, if_there};
+use crate::output::identity::{FileIdentity, if_there};
 use std::io::ErrorKind;
 use std::os::fd::AsFd;
 use std::{fs, io};
@@ -17,7 +17,7 @@ const BAD_NUMBER: i32 = 9;
 pub enum StandardOutput {
     /// To none: its standard output is closed.
     Closed,
-    Open(FileId),
+    Open(FileIdentity),
     /// There is no `/proc`, so nothing tells.
     Unknown,
 }
@@ -34,7 +34,7 @@ impl StandardOutput {
             return Ok(StandardOutput::Closed);
         }
         if let Some(data) = if_there(fs::metadata(rt, "/proc/self/fd/1"))? {
-            return Ok(StandardOutput::Open(FileId::of(&data)));
+            return Ok(StandardOutput::Open(FileIdentity::of(&data)));
         }
         // It is open, so only a system without `/proc` can say that it is not there.
         match if_there(fs::metadata(rt, "/proc/self"))? {
@@ -44,21 +44,21 @@ impl StandardOutput {
     }
 
     /// Whether it is known to be this file.
-    pub fn is(self, id: FileId) -> bool
+    pub fn is(self, id: FileIdentity) -> bool
         ensures { result ≡ is_known_as self id }
     {
         self == StandardOutput::Open(id)
     }
 
     /// Whether nothing speaks against it that it is this file.
-    pub fn may_be(self, id: FileId) -> bool
+    pub fn may_be(self, id: FileIdentity) -> bool
         ensures { result ≡ may_be self id }
     {
         self == StandardOutput::Unknown || self.is(id)
     }
 
     /// Which file it is, if that is known.
-    pub fn id(self) -> Option<FileId>
+    pub fn id(self) -> Option<FileIdentity>
         ensures { result ≡ known_id self }
     {
         match self {

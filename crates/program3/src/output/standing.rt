@@ -1,12 +1,13 @@
 //! The regular file that has the name of an output.
 
 ghost use Rattle.std.specs.Prelude.{◌≡◌, ◌≢◌, ◌↔◌, IfOk, IfSome, IsTrue, bit_and, false};
+ghost use Rattle.std.specs.List.{list_any};
 ghost use Rattle.std.specs.Fs.{file_type, metadata_mode, IsFile};
 ghost use Rattle.capture3.specs.Capture.{magic_front};
-ghost use Rattle.program3.specs.machinery.SparedFiles.{is_among_files};
+ghost use Rattle.program3.specs.Standard.{is_one_file};
 
 use crate::input::opening::OpenError;
-use crate::output::identity::FileId;
+use crate::output::identity::FileIdentity;
 use std::alloc::{AllocError, Global};
 use std::fs::{File, Metadata, OpenOptions};
 use std::io::{ErrorKind, Read};
@@ -23,7 +24,7 @@ const BEGIN: [u8; 7] = *b"NFS3CAP";
 #[derive(Drop)]
 pub struct Standing {
     file: File,
-    id: FileId,
+    id: FileIdentity,
 }
 
 impl Standing {
@@ -38,13 +39,14 @@ impl Standing {
     pub fn found(
         rt: &HostRuntime,
         name: &str,
-        spared: &[FileId],
+        spared: &[FileIdentity],
     ) -> Result<(String, Standing), OpenError>
-        ensures spared { IfOk result (λ found. is_among_files spared.now found.1.id ≡ false) }
+        ensures spared { IfOk result (λ found.
+            list_any (is_one_file found.1.id) spared.now ≡ false) }
     {
         for _ in 0..MOST_LOOKS {
             let data = fs::metadata(rt, name)?;
-            let id = FileId::of(&data);
+            let id = FileIdentity::of(&data);
             if !may_be_replaced(&data) || spared.contains(&id) {
                 return Err(OpenError::Unopened);
             }
@@ -57,11 +59,15 @@ impl Standing {
     }
 
     /// Opens the file of this path if it is the one that was found.
-    fn opened(rt: &HostRuntime, path: &str, found: FileId) -> Result<Option<Standing>, OpenError>
+    fn opened(
+        rt: &HostRuntime,
+        path: &str,
+        found: FileIdentity,
+    ) -> Result<Option<Standing>, OpenError>
         ensures { IfOk result (λ it. IfSome it (λ standing. standing.id ≡ found)) }
     {
         let file = OpenOptions::new().write(true).open(rt, path)?;
-        let id = FileId::of(&file.metadata()?);
+        let id = FileIdentity::of(&file.metadata()?);
         if id != found {
             return Ok(None);
         }
@@ -74,15 +80,16 @@ impl Standing {
     /// # Errors
     ///
     /// That of the system, or `AlreadyExists` if it is anything else.
-    pub fn again(rt: &HostRuntime, path: &str, spared: &[FileId]) -> io::Result<Standing>
-        ensures spared { IfOk result (λ standing. is_among_files spared.now standing.id ≡ false) }
+    pub fn again(rt: &HostRuntime, path: &str, spared: &[FileIdentity]) -> io::Result<Standing>
+        ensures spared { IfOk result (λ standing.
+            list_any (is_one_file standing.id) spared.now ≡ false) }
     {
         if !may_be_replaced(&fs::symlink_metadata(rt, path)?) {
             return Err(io::Error::from(ErrorKind::AlreadyExists));
         }
         let mut file = OpenOptions::new().read(true).write(true).open(rt, path)?;
         let data = file.metadata()?;
-        let id = FileId::of(&data);
+        let id = FileIdentity::of(&data);
         let mut begin = [0; 7];
         file.read_exact(&mut begin)?;
         if !may_be_replaced(&data) || spared.contains(&id) || !begins_capture(&begin) {
@@ -91,7 +98,7 @@ impl Standing {
         Ok(Standing { file, id })
     }
 
-    pub fn id(&self) -> FileId
+    pub fn id(&self) -> FileIdentity
         ensures { result ≡ self.now.id }
     {
         self.id

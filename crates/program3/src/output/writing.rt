@@ -2,7 +2,7 @@
 
 ghost use Rattle.std.specs.Prelude.{◌≡◌, ◌≢◌, Err};
 ghost use Rattle.std.specs.Io.Buffered.{writer_contents, writer_inner};
-ghost use Rattle.program3.specs.Writing.{WritesOut};
+ghost use Rattle.program3.specs.Files.{WritesOut};
 
 use capture3::Error;
 use std::io::{BufWriter, Write};

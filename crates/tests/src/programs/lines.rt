@@ -47,7 +47,7 @@ fn command_lines(rt: HostRuntime) -> Result<(), Fail> {
 }
 
 fn told(alloc: Global, line: &str) -> Result<&'static str, Fail> {
-    let said = match taken(alloc, words_of(alloc, "nfs3canon", line)?) {
+    let said = match taken(alloc, words_of(alloc, line)?) {
         Ok(said) => said,
         Err(fault) => return Ok(name_of_fault(&fault)),
     };
@@ -57,21 +57,17 @@ fn told(alloc: Global, line: &str) -> Result<&'static str, Fail> {
     }
 }
 
-/// The words of a line after a program's name.
-pub(crate) fn words_of(
-    alloc: Global,
-    program: &str,
-    line: &str,
-) -> Result<Vec<String>, AllocError> {
+/// The words of a line after the program's name.
+fn words_of(alloc: Global, line: &str) -> Result<Vec<String>, AllocError> {
     let mut words = Vec::new(alloc);
-    words.push(String::from_str(alloc, program)?)?;
+    words.push(String::from_str(alloc, "nfs3canon")?)?;
     for word in line.split_whitespace() {
         words.push(String::from_str(alloc, word)?)?;
     }
     Ok(words)
 }
 
-pub(crate) fn name_of_fault(fault: &LineFault) -> &'static str {
+fn name_of_fault(fault: &LineFault) -> &'static str {
     match fault {
         LineFault::Usage(text) if !text.is_empty() => "usage",
         LineFault::SameName => "output names an input",

@@ -1,5 +1,5 @@
 -- A capture has fewer values of a class than bytes.
-use Rattle.masking3.proofs.Common.{◌≡◌, ℕ, ◌≤◌, List, [], ◌∷◌, ◌++◌, length, sym, ap, ◌∙◌, subst, arith, length-append, AllByRecursion, flat_map-append, length-bytes_high_first, Item, Word, Hyper, Fixed, Spells, SpellsItem, zero_spelling, zero_spelling_of, max_bytes, Entry, Call, Reply, items_of, AreFirst, all_entries, holds, cond_either, Class, Spot, InCall, InReply, class_of_fixed, class_of_hyper, class_of_word, class_value, position, is_zero_that_stays, value_in, value_where, values, values_in, values_in_entry, next_spot, ◌==◌, ◌&&◌, not, Option, None, Some, Typed}
+use Rattle.masking3.proofs.Common.{◌≡◌, ℕ, ◌≤◌, List, [], ◌∷◌, ◌++◌, length, sym, ap, ◌∙◌, subst, arith, length-append, AllByRecursion, flat_map-append, length-bytes_high_first, Item, Word, Hyper, Fixed, Spells, SpellsItem, zero_spelling, zero_spelling_of, max_bytes, Entry, Call, Reply, items_of, AreFirst, all_entries, holds, cond_either, Class, ItemSpot, InCall, InReply, class_of_fixed, class_of_hyper, class_of_word, class_value, position, is_zero_that_stays, value_in, value_where, values, values_in, values_in_entry, next_spot, ◌==◌, ◌&&◌, not, Option, None, Some, Typed}
 use Rattle.capture3.specs.Laws.{spelled}
 use Rattle.capture3.proofs.Lemmas.Reached.Limits.{typed_within}
 
@@ -10,7 +10,7 @@ module _ (d : Class) where
       cond_either (λ (l : List ℕ). length l ≤ 1)
       ((position d == position e) && not (is_zero_that_stays d n)) (omega arith) (omega arith)
 
-  few_of_item : (spot : Spot) (i : Item) (bytes : List ℕ) → SpellsItem i bytes
+  few_of_item : (spot : ItemSpot) (i : Item) (bytes : List ℕ) → SpellsItem i bytes
       → length (value_in d spot i) ≤ length (zero_spelling_of i)
   few_of_item spot (Word name n) bytes p =
       omega (arith, one_value (class_of_word spot name) n, length-bytes_high_first 4 n)
@@ -20,7 +20,7 @@ module _ (d : Class) where
       omega (arith, one_value (class_of_fixed name) (class_value (Fixed name b)), p.0)
   few_of_item spot i bytes p = omega arith
 
-  few_of_message : (spot : Spot) (items : List Item) (bytes : List ℕ) → Spells items bytes
+  few_of_message : (spot : ItemSpot) (items : List Item) (bytes : List ℕ) → Spells items bytes
       → length (values_in d spot items) ≤ length (zero_spelling items)
   few_of_message spot [] bytes p = omega arith
   few_of_message spot (i ∷ items) bytes p =

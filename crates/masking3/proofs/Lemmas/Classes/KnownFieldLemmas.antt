@@ -1,5 +1,5 @@
 -- Fields whose classes are known by their names.
-use Rattle.masking3.proofs.Common.{◌≡◌, ℕ, ◌+◌, true, false, List, [], ◌∷◌, ◌++◌, refl, sym, ap, ap₂, ◌∙◌, subst, by_test, and_parts, bytes_eq, bytes_eq-Decides, drop, map, list_all, AllByRecursion, Option, None, Some, Item, Word, Hyper, Class, Spot, Ways, head_names, names, class_of, class_of_hyper, class_of_word, class_value, big_number, substitute, value_where, values_in, masked_items, with_text, with_value, handle_in, handles_in, next_spot, spot_after, Way, Keep, Number, way_of, InCall, Owners}
+use Rattle.masking3.proofs.Common.{◌≡◌, ℕ, ◌+◌, true, false, List, [], ◌∷◌, ◌++◌, refl, sym, ap, ap₂, ◌∙◌, subst, by_test, and_parts, bytes_eq, bytes_eq-Decides, drop, map, list_all, AllByRecursion, Option, None, Some, Item, Word, Hyper, Class, ItemSpot, Ways, head_names, names, class_of, class_of_hyper, class_of_word, class_value, big_number, substitute, value_where, values_in, masked_items, with_text, with_value, handle_in, handles_in, next_spot, spot_after, Way, Keep, Number, way_of, InCall, Owners}
 use Rattle.std.proofs.lemmas.List.{drop-drop}
 use Rattle.std.specs.List.{list_any}
 use Rattle.xdr3.specs.declared.plain.PlainField.{PlainField}
@@ -25,7 +25,7 @@ module _ (name : List ℕ) (free : is_free_name name ≡ true) where
   none_of [] all = refl
   none_of (other ∷ others) (f, all) = rw (apart other f, none_of others all) refl
 
-  free_classless : (spot : Spot) → class_of_word spot name ≡ None
+  free_classless : (spot : ItemSpot) → class_of_word spot name ≡ None
   unfolding names head_names
   free_classless spot =
       rw (
@@ -37,7 +37,7 @@ module _ (name : List ℕ) (free : is_free_name name ≡ true) where
         none_of (names.nlink ∷ []) (refl, tt),
       ) refl
 
-  free_moves_not : (spot : Spot) (n : ℕ) → next_spot spot (Word name n) ≡ spot
+  free_moves_not : (spot : ItemSpot) (n : ℕ) → next_spot spot (Word name n) ≡ spot
   unfolding names head_names
   free_moves_not spot n =
       still_name spot name n (apart names.before refl) (apart names.type refl)
@@ -48,15 +48,15 @@ IsOwned o = (d : Class) → o ≡ Some d → d ≡ Owners
 
 -- a word of this name is a user or a group, if it has a class, and moves nowhere
 record IsOwnerName (name : List ℕ) : Type 0 where
-  owned : (spot : Spot) → IsOwned (class_of_word spot name)
-  owner_moves_not : (spot : Spot) (n : ℕ) → next_spot spot (Word name n) ≡ spot
+  owned : (spot : ItemSpot) → IsOwned (class_of_word spot name)
+  owner_moves_not : (spot : ItemSpot) (n : ℕ) → next_spot spot (Word name n) ≡ spot
 
-group_owned : (spot : Spot) → IsOwned (class_of_group spot)
+group_owned : (spot : ItemSpot) → IsOwned (class_of_group spot)
 group_owned InCall d is = cc
 group_owned spot d is = absurd cc
 
 is_owner : (own name : List ℕ) → bytes_eq name own ≡ true
-    → ((spot : Spot) → IsOwned (class_of_word spot own)) → bytes_eq own names.before ≡ false
+    → ((spot : ItemSpot) → IsOwned (class_of_word spot own)) → bytes_eq own names.before ≡ false
     → bytes_eq own names.type ≡ false → IsOwnerName name
 is_owner own name t owned f g =
     subst IsOwnerName (sym ((bytes_eq-Decides name own).0 t)) (record {
@@ -80,8 +80,8 @@ among_owners name t = by_test (bytes_eq name names.uid)
 -- the item has no class whose values change, no handle and no text that is masked, and moves
 -- nowhere
 pub record Stays (ways : Ways) (i : Item) : Type 0 where
-  pub keeps : (spot : Spot) (d : Class) → class_of spot i ≡ Some d → way_of ways d ≡ Keep
-  pub moves_not : (spot : Spot) → next_spot spot i ≡ spot
+  pub keeps : (spot : ItemSpot) (d : Class) → class_of spot i ≡ Some d → way_of ways d ≡ Keep
+  pub moves_not : (spot : ItemSpot) → next_spot spot i ≡ spot
   pub no_handle : handle_in i ≡ []
   pub same_text : with_text ways i ≡ i
 
@@ -134,7 +134,7 @@ module _ (ways : Ways) where
   kept_value d (Some e) n numbered keeps =
       none_of_other d e n (λ same. absurd (cc (numbered, keeps e refl, ap (way_of ways) same)))
 
-  pub kept_values : (d : Class) (spot : Spot) (items : List Item) → way_of ways d ≡ Number
+  pub kept_values : (d : Class) (spot : ItemSpot) (items : List Item) → way_of ways d ≡ Number
       → AllStay ways items → values_in d spot items ≡ []
   kept_values d spot [] numbered all = refl
   kept_values d spot (i ∷ items) numbered (kept, all) =
@@ -148,7 +148,7 @@ module _ (ways : Ways) where
   kept_item seen None i keeps = refl
   kept_item seen (Some e) i keeps = rw (keeps e refl) refl
 
-  pub kept_put : (seen : Class → List ℕ) (spot : Spot) (items : List Item)
+  pub kept_put : (seen : Class → List ℕ) (spot : ItemSpot) (items : List Item)
       → AllStay ways items → map (with_text ways) (masked_items ways seen spot items) ≡ items
   kept_put seen spot [] all = refl
   kept_put seen spot (i ∷ items) (kept, all) =
@@ -161,7 +161,7 @@ module _ (ways : Ways) where
   kept_handles (i ∷ items) (kept, all) =
       ap₂ (λ (l m : List (List ℕ)). l ++ m) kept.no_handle (kept_handles items all)
 
-  pub kept_spot : (spot : Spot) (items : List Item) → AllStay ways items
+  pub kept_spot : (spot : ItemSpot) (items : List Item) → AllStay ways items
       → spot_after spot items ≡ spot
   kept_spot spot [] all = refl
   kept_spot spot (i ∷ items) (kept, all) =
@@ -216,17 +216,17 @@ pub attributes_named : (all : List PlainField) (bytes : List ℕ)
 attributes_named all bytes are = run_named all 0 bytes ∙ ap (numbered_from 0 bytes) are
 
 -- at a known spot: the class of a word, and the spot after it
-pub known_word : (at spot : Spot) (own : Option Class) (name : List ℕ) (n : ℕ) → at ≡ spot
+pub known_word : (at spot : ItemSpot) (own : Option Class) (name : List ℕ) (n : ℕ) → at ≡ spot
     → IsKnown spot own name → (own ≡ class_of at (Word name n)) × (at ≡ next_spot at (Word name n))
 known_word at spot own name n same known = rw same (sym known.0, sym (known.1 n))
 
-pub known_hyper : (at spot : Spot) (own : Option Class) (name : List ℕ) (n : ℕ) → at ≡ spot
+pub known_hyper : (at spot : ItemSpot) (own : Option Class) (name : List ℕ) (n : ℕ) → at ≡ spot
     → class_of_hyper spot name ≡ own
     → (own ≡ class_of at (Hyper name n)) × (at ≡ next_spot at (Hyper name n))
 known_hyper at spot own name n same known =
     rw same (sym known, sym (still_after spot (Hyper name n) tt))
 
-pub known : (spot : Spot) (own : Option Class) (name : List ℕ) → class_of_word spot name ≡ own
+pub known : (spot : ItemSpot) (own : Option Class) (name : List ℕ) → class_of_word spot name ≡ own
     → bytes_eq name names.before ≡ false → bytes_eq name names.type ≡ false
     → IsKnown spot own name
 known spot own name is f g = (is, λ n. still_name spot name n f g)

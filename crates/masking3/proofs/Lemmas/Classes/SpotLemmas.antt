@@ -1,8 +1,8 @@
 -- Where the items of a message stand.
-use Rattle.masking3.proofs.Common.{◌≡◌, ℕ, false, true, List, [], ◌∷◌, ◌++◌, refl, sym, ap, ◌∙◌, subst, append_assoc, bytes_eq-Decides, Item, Word, head_names, names, Side, Client, Server, by_test, cond_either, Class, Spot, InCall, InReply, InDirectory, InWcc, Ways, class_of, class_of_word, masked_item, masked_items, value_in, values_in, ⊤, ◌==◌, bytes_eq, None, Some, after_word, next_spot, spot_after}
+use Rattle.masking3.proofs.Common.{◌≡◌, ℕ, false, true, List, [], ◌∷◌, ◌++◌, refl, sym, ap, ◌∙◌, subst, append_assoc, bytes_eq-Decides, Item, Word, head_names, names, Side, Client, Server, by_test, cond_either, Class, ItemSpot, InCall, InReply, InDirectory, InWcc, Ways, class_of, class_of_word, masked_item, masked_items, value_in, values_in, ⊤, ◌==◌, bytes_eq, None, Some, after_word, next_spot, spot_after}
 
 -- what is so of the spot, and of those after words, is so of the next one
-by_next : (P : Spot → Type 0) (spot : Spot) (i : Item) → P spot
+by_next : (P : ItemSpot → Type 0) (spot : ItemSpot) (i : Item) → P spot
     → ((name : List ℕ) (n : ℕ) → i ≡ Word name n → P (after_word spot name n))
     → P (next_spot spot i)
 by_next P InReply (Word name n) p w = w name n refl
@@ -15,25 +15,26 @@ abbrev pub IsNoWord : Item → Type 0
 IsNoWord (Word name n) = ⊥
 IsNoWord _ = ⊤
 
-pub still_after : (spot : Spot) (i : Item) → IsNoWord i → next_spot spot i ≡ spot
+pub still_after : (spot : ItemSpot) (i : Item) → IsNoWord i → next_spot spot i ≡ spot
 still_after spot i other =
     by_next (λ s. s ≡ spot) spot i refl (λ name n e. absurd (subst IsNoWord e other))
 
-before_free : (spot : Spot) → class_of_word spot names.before ≡ None
+before_free : (spot : ItemSpot) → class_of_word spot names.before ≡ None
 unfolding names head_names
 before_free spot = refl
 
-type_free : (spot : Spot) → class_of_word spot names.type ≡ None
+type_free : (spot : ItemSpot) → class_of_word spot names.type ≡ None
 unfolding names head_names
 type_free spot = refl
 
-pub free_name : (spot : Spot) (name free : List ℕ) → class_of_word spot free ≡ None
+pub free_name : (spot : ItemSpot) (name free : List ℕ) → class_of_word spot free ≡ None
     → bytes_eq name free ≡ true → class_of_word spot name ≡ None
 free_name spot name free none t =
     subst (λ (n : List ℕ). class_of_word spot n ≡ None) (sym ((bytes_eq-Decides name free).0 t))
     none
 
-word_still : (spot : Spot) (name : List ℕ) (n : ℕ) (d : Class) → class_of_word spot name ≡ Some d
+word_still : (spot : ItemSpot) (name : List ℕ) (n : ℕ) (d : Class)
+    → class_of_word spot name ≡ Some d
     → after_word spot name n ≡ spot
 word_still spot name n d is = by_test (bytes_eq name names.before)
     (λ t. absurd (cc (is, free_name spot name names.before (before_free spot) t)))
@@ -42,14 +43,14 @@ word_still spot name n d is = by_test (bytes_eq name names.before)
     (λ g. rw (f, g) refl))
 
 -- an item of a class
-pub still : (spot : Spot) (i : Item) (d : Class) → class_of spot i ≡ Some d
+pub still : (spot : ItemSpot) (i : Item) (d : Class) → class_of spot i ≡ Some d
     → next_spot spot i ≡ spot
 still spot i d is =
     by_next (λ s. s ≡ spot) spot i refl
     (λ name n e. word_still spot name n d (subst (λ k. class_of spot k ≡ Some d) e is))
 
 -- a word that is neither a `before` nor a `type` moves nowhere
-pub still_name : (spot : Spot) (name : List ℕ) (n : ℕ) → bytes_eq name names.before ≡ false
+pub still_name : (spot : ItemSpot) (name : List ℕ) (n : ℕ) → bytes_eq name names.before ≡ false
     → bytes_eq name names.type ≡ false → next_spot spot (Word name n) ≡ spot
 still_name InCall name n f g = refl
 still_name InReply name n f g = rw (f, g) refl
@@ -58,8 +59,8 @@ still_name InWcc name n f g = refl
 
 -- a word of this name has no class, and moves nowhere
 pub record IsFree (name : List ℕ) : Type 0 where
-  pub classless : (spot : Spot) → class_of_word spot name ≡ None
-  pub moves_not : (spot : Spot) (n : ℕ) → next_spot spot (Word name n) ≡ spot
+  pub classless : (spot : ItemSpot) → class_of_word spot name ≡ None
+  pub moves_not : (spot : ItemSpot) (n : ℕ) → next_spot spot (Word name n) ≡ spot
 
 pub xid_free : IsFree head_names.xid
 unfolding names head_names
@@ -79,28 +80,29 @@ mtype_free =
 
 -- ---- the spots of each side
 
-abbrev pub IsOn : Side → Spot → Type 0
+abbrev pub IsOn : Side → ItemSpot → Type 0
 IsOn Client InCall = ⊤
 IsOn Server InReply = ⊤
 IsOn Server InDirectory = ⊤
 IsOn Server InWcc = ⊤
 IsOn _ _ = ⊥
 
-word_on : (spot : Spot) (name : List ℕ) (n : ℕ) → IsOn Server spot
+word_on : (spot : ItemSpot) (name : List ℕ) (n : ℕ) → IsOn Server spot
     → IsOn Server (after_word spot name n)
 word_on spot name n on =
     cond_either (IsOn Server) (bytes_eq name names.before) tt
     (cond_either (IsOn Server) (bytes_eq name names.type) (cond_either (IsOn Server) (n == 2) tt tt)
     on)
 
-pub on_next : (side : Side) (spot : Spot) (i : Item) → IsOn side spot → IsOn side (next_spot spot i)
+pub on_next : (side : Side) (spot : ItemSpot) (i : Item) → IsOn side spot
+    → IsOn side (next_spot spot i)
 on_next Client InCall i on = tt
 on_next Client spot i on = absurd on
 on_next Server spot i on = by_next (IsOn Server) spot i on (λ name n e. word_on spot name n on)
 
 -- ---- items after others
 
-pub values_in-append : (d : Class) (spot : Spot) (a b : List Item)
+pub values_in-append : (d : Class) (spot : ItemSpot) (a b : List Item)
     → values_in d spot (a ++ b) ≡ values_in d spot a ++ values_in d (spot_after spot a) b
 values_in-append d spot [] b = refl
 values_in-append d spot (i ∷ a) b =
@@ -108,7 +110,7 @@ values_in-append d spot (i ∷ a) b =
     ∙ sym (append_assoc (value_in d spot i) (values_in d (next_spot spot i) a)
     (values_in d (spot_after (next_spot spot i) a) b))
 
-pub masked_items-append : (ways : Ways) (seen : Class → List ℕ) (spot : Spot) (a b : List Item)
+pub masked_items-append : (ways : Ways) (seen : Class → List ℕ) (spot : ItemSpot) (a b : List Item)
     → masked_items ways seen spot (a ++ b)
     ≡ masked_items ways seen spot a ++ masked_items ways seen (spot_after spot a) b
 masked_items-append ways seen spot [] b = refl

@@ -1,5 +1,5 @@
 -- What later values leave of the masked form, and how it grows.
-use Rattle.masking3.proofs.Common.{◌≡◌, ℕ, false, List, [], ◌∷◌, ◌++◌, map, refl, sym, ap, ◌∙◌, append_assoc, append-nil, ⊤, nat_eq, Option, None, Some, AllByRecursion, flat_map, Decides-eqb, flat_map-append, map-append, Item, Entry, Call, Reply, AreFirst, Member, here, Class, Spot, InCall, InReply, Way, Number, Ways, class_of, position, class_value, next_spot, named_entry, names_by, way_of, bytes_of, entry_bytes, are_some, magic_unless, by_way, is_zero_that_stays, masked, masked_bytes, masked_entry, masked_item, masked_items, masked_values, number_among, substitute, value_in, value_where, values, values_in, values_in_entry, with_value, by_test, member-append_left, member-append_right, rank-append}
+use Rattle.masking3.proofs.Common.{◌≡◌, ℕ, false, List, [], ◌∷◌, ◌++◌, map, refl, sym, ap, ◌∙◌, append_assoc, append-nil, ⊤, nat_eq, Option, None, Some, AllByRecursion, flat_map, Decides-eqb, flat_map-append, map-append, Item, Entry, Call, Reply, AreFirst, Member, here, Class, ItemSpot, InCall, InReply, Way, Number, Ways, class_of, position, class_value, next_spot, named_entry, names_by, way_of, bytes_of, entry_bytes, are_some, magic_unless, by_way, is_zero_that_stays, masked, masked_bytes, masked_entry, masked_item, masked_items, masked_values, number_among, substitute, value_in, value_where, values, values_in, values_in_entry, with_value, by_test, member-append_left, member-append_right, rank-append}
 use Rattle.capture3.specs.Capture.{One, magic}
 use Rattle.masking3.proofs.Lemmas.Classes.ClassLemmas.{seen_alike}
 
@@ -12,11 +12,11 @@ value_given d n f = rw (f, (Decides-eqb (position d) (position d)).1 refl) refl
 -- ---- values that were seen
 
 -- the value of an item at this spot, where it has one, is among these of its class
-abbrev pub IsAmong : (Class → List ℕ) → Spot → Item → Type 0
+abbrev pub IsAmong : (Class → List ℕ) → ItemSpot → Item → Type 0
 IsAmong seen spot i = (d : Class) → class_of spot i ≡ Some d
     → is_zero_that_stays d (class_value i) ≡ false → Member (class_value i) (seen d)
 
-abbrev pub ItemsAreAmong : (Class → List ℕ) → Spot → List Item → Type 0
+abbrev pub ItemsAreAmong : (Class → List ℕ) → ItemSpot → List Item → Type 0
 ItemsAreAmong seen spot [] = ⊤
 ItemsAreAmong seen spot (i ∷ items) =
     IsAmong seen spot i × ItemsAreAmong seen (next_spot spot i) items
@@ -30,7 +30,7 @@ abbrev pub AreAmong : (Class → List ℕ) → List Entry → Type 0
 AreAmong seen entries = AllByRecursion (EntryIsAmong seen) entries
 
 module _ (seen : Class → List ℕ) where
-  pub items_among : (spot : Spot) (items : List Item)
+  pub items_among : (spot : ItemSpot) (items : List Item)
       → ((d : Class) (x : ℕ) → Member x (values_in d spot items) → Member x (seen d))
       → ItemsAreAmong seen spot items
   items_among spot [] within = tt
@@ -74,7 +74,7 @@ module _ (ways : Ways) (seen more : Class → List ℕ) where
   way_stays Number d n e = ap Some e
   way_stays w d n e = refl
 
-  substitute_stays : (spot : Spot) (i : Item) (o : Option Class) → class_of spot i ≡ o
+  substitute_stays : (spot : ItemSpot) (i : Item) (o : Option Class) → class_of spot i ≡ o
       → IsAmong seen spot i
       → substitute ways followed o (class_value i) ≡ substitute ways seen o (class_value i)
   substitute_stays spot i None is among = refl
@@ -83,7 +83,7 @@ module _ (ways : Ways) (seen more : Class → List ℕ) where
       (λ t. rw t refl)
       (λ f. rw f (rank-append nat_eq Decides-eqb (more d) (among d is f))))
 
-  pub items_stay : (spot : Spot) (items : List Item) → ItemsAreAmong seen spot items
+  pub items_stay : (spot : ItemSpot) (items : List Item) → ItemsAreAmong seen spot items
       → masked_items ways followed spot items ≡ masked_items ways seen spot items
   items_stay spot [] among = refl
   items_stay spot (i ∷ items) among =
@@ -98,7 +98,7 @@ module _ (ways : Ways) (seen more : Class → List ℕ) where
   entries_stay (e ∷ a) among = cc (entries_stay a among.1)
 
 -- an item that has no class stays
-pub unmasked : (ways : Ways) (seen : Class → List ℕ) (spot : Spot) (i : Item)
+pub unmasked : (ways : Ways) (seen : Class → List ℕ) (spot : ItemSpot) (i : Item)
     → class_of spot i ≡ None → masked_item ways seen spot i ≡ i
 unmasked ways seen spot i none =
     ap (λ o. with_value i (substitute ways seen o (class_value i))) none

@@ -1,5 +1,5 @@
 -- Messages with masked values and texts are messages of the same procedures, and no longer.
-use Rattle.masking3.proofs.Common.{◌≡◌, ℕ, ◌<◌, ◌≤◌, ◌^◌, Bool, List, [], ◌∷◌, length, refl, sym, ap, ◌∙◌, arith, IsTrue, nat_eq, Option, None, Some, big_bytes, length-bytes_high_first, Item, Word, Hyper, Fixed, Text, Spells, SpellsItem, zero_spelling, zero_spelling_of, Layout, exactly, rest, after, ProcId, procedure_in, head_names, names, arguments_of, Side, Client, Server, max_bytes, Decides-eqb, ⊤, none, more, Class, Spot, InCall, InReply, Way, Keep, Zero, Number, Ways, class_of, class_of_word, class_value, by_way, is_zero_that_stays, masked_item, masked_items, substitute, with_value, with_text, text_by, raw_by, next_spot, way_of, Raw, Part, fixed_part, hyper_part, opaque_part, rest_part, size_part, word_part, write_verf_part, parts_weaker, call_head, reply_head, FitsCall, FitsReply, is_headed_call, is_headed_reply, reply_next, Shape, both, choose, counted, fixed, hyper, linked, listed, nothing, opaque, sized, write_verf, before, IsEach, are_bytes_of_number, zero_spelled_one, cond_either, equivalence, length-with_keys}
+use Rattle.masking3.proofs.Common.{◌≡◌, ℕ, ◌<◌, ◌≤◌, ◌^◌, Bool, List, [], ◌∷◌, length, refl, sym, ap, ◌∙◌, arith, IsTrue, nat_eq, Option, None, Some, big_bytes, length-bytes_high_first, Item, Word, Hyper, Fixed, Text, Spells, SpellsItem, zero_spelling, zero_spelling_of, Layout, exactly, rest, after, ProcId, procedure_in, head_names, names, arguments_of, Side, Client, Server, max_bytes, Decides-eqb, ⊤, none, more, Class, ItemSpot, InCall, InReply, Way, Keep, Zero, Number, Ways, class_of, class_of_word, class_value, by_way, is_zero_that_stays, masked_item, masked_items, substitute, with_value, with_text, text_by, raw_by, next_spot, way_of, Raw, Part, fixed_part, hyper_part, opaque_part, rest_part, size_part, word_part, write_verf_part, parts_weaker, call_head, reply_head, FitsCall, FitsReply, is_headed_call, is_headed_reply, reply_next, Shape, both, choose, counted, fixed, hyper, linked, listed, nothing, opaque, sized, write_verf, before, IsEach, are_bytes_of_number, zero_spelled_one, cond_either, equivalence, length-with_keys}
 use Rattle.canon3.proofs.Lemmas.Changes.Conversations.{IsLike}
 use Rattle.canon3.proofs.Lemmas.Changes.Messages.{ChangesTo, HeadsStay, call_becomes, message_anew, procedure_becomes, reply_becomes}
 use Rattle.canon3.proofs.Lemmas.Changes.Shapes.{Become, IsSpelledAnew, ItemStaysAsLong, RowTakes, Takes, WordStays, size_stays}
@@ -29,7 +29,8 @@ module _ (ways : Ways) (seen : Class → List ℕ) where
   fixed_with name bytes (Some m) = (big_bytes 8 m, refl)
 
   -- a word that is accepted becomes one that is, and chooses the same
-  chosen : (spot : Spot) (name : List ℕ) (accepted : ℕ → Bool) (next : ℕ → Shape) (o : Option Class)
+  chosen : (spot : ItemSpot) (name : List ℕ) (accepted : ℕ → Bool) (next : ℕ → Shape)
+      (o : Option Class)
       → class_of_word spot name ≡ o → TakesWord o accepted next → (n : ℕ) → IsTrue (accepted n)
       → (m : ℕ) × (masked_item ways seen spot (Word name n) ≡ Word name m) × IsTrue (accepted m)
       × (next m ≡ next n)
@@ -42,18 +43,18 @@ module _ (ways : Ways) (seen : Class → List ℕ) where
   -- ---- what an item becomes
 
   -- what stands for its value
-  abbrev stands : Spot → Item → Option ℕ
+  abbrev stands : ItemSpot → Item → Option ℕ
   stands spot i = substitute ways seen (class_of spot i) (class_value i)
 
   -- it is masked at some spot of the side, and then its text
   abbrev IsMasked : Side → Item → Item → Type 0
   IsMasked side i j =
-      (spot : Spot) × IsOn side spot × (j ≡ with_text ways (masked_item ways seen spot i))
+      (spot : ItemSpot) × IsOn side spot × (j ≡ with_text ways (masked_item ways seen spot i))
 
-  abbrev pub masks : Spot → List Item → List Item
+  abbrev pub masks : ItemSpot → List Item → List Item
   masks spot items = with_texts ways (masked_items ways seen spot items)
 
-  become_masked : (side : Side) (spot : Spot) → IsOn side spot → (items : List Item)
+  become_masked : (side : Side) (spot : ItemSpot) → IsOn side spot → (items : List Item)
       → Become (IsMasked side) items (masks spot items)
   become_masked side spot on [] = none
   become_masked side spot on (i ∷ items) =
@@ -63,7 +64,7 @@ module _ (ways : Ways) (seen : Class → List ℕ) where
 
   module _ (side : Side) where
     abbrev IsFreeOn : List ℕ → Type 0
-    IsFreeOn name = (spot : Spot) → IsOn side spot → class_of_word spot name ≡ None
+    IsFreeOn name = (spot : ItemSpot) → IsOn side spot → class_of_word spot name ≡ None
 
     word_stays : (name : List ℕ) → IsFreeOn name → WordStays (IsMasked side) name
     word_stays name free n j r =
@@ -83,7 +84,7 @@ module _ (ways : Ways) (seen : Class → List ℕ) where
     stays_as_long (opaque_part kind name max) h = λ bytes le j r. rw r.2 refl
     stays_as_long (write_verf_part name) h = λ bytes j r. rw r.2 refl
 
-    module _ (start : Spot) (on : IsOn side start) where
+    module _ (start : ItemSpot) (on : IsOn side start) where
       takes : (s : Shape) → TakesOn side s → Takes (IsMasked side) s
       takes (choose name accepted reason next) h = (
         (λ n j a r.
@@ -134,7 +135,8 @@ module _ (ways : Ways) (seen : Class → List ℕ) where
 
   -- ---- calls and replies
 
-  abbrev change : (side : Side) (spot : Spot) → IsOn side spot → (x : ℕ) (items back : List Item)
+  abbrev change : (side : Side) (spot : ItemSpot) → IsOn side spot
+      → (x : ℕ) (items back : List Item)
       → items ≡ Word head_names.xid x ∷ back → ChangesTo (IsMasked side) items (masks spot items)
   change side spot on x items back is = record {
     first = record { name = head_names.xid; number = x; more = back; is = is };

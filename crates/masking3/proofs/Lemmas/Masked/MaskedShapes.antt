@@ -1,6 +1,6 @@
 -- Each shape of the protocol takes masked values: a word of a class takes any value, and chooses
 -- nothing.
-use Rattle.masking3.proofs.Common.{cond_either, ◌≡◌, ℕ, Bool, false, List, refl, ⊤, ◌||◌, IsTrue, bytes_eq, nat_eq, if◌then◌else◌, Option, None, Some, Item, Text, Layout, exactly, rest, after, HasParts, Part, fixed_part, rest_part, opaque_part, ProcId, has_results, head_names, names, Side, Client, Server, Class, Spot, InCall, class_of_word, Shape, ◌then◌, choose, counted, hyper, linked, listed, nothing, both, sized, word, accept, auth_sys, call_head, credential, deny, gids, parameters, reply_head, verifier, arguments_of, is_mount, is_nfs, mount_results_of, nfs_arguments, nfs_results, results_of}
+use Rattle.masking3.proofs.Common.{cond_either, ◌≡◌, ℕ, Bool, false, List, refl, ⊤, ◌||◌, IsTrue, bytes_eq, nat_eq, if◌then◌else◌, Option, None, Some, Item, Text, Layout, exactly, rest, after, HasParts, Part, fixed_part, rest_part, opaque_part, ProcId, has_results, head_names, names, Side, Client, Server, Class, ItemSpot, InCall, class_of_word, Shape, ◌then◌, choose, counted, hyper, linked, listed, nothing, both, sized, word, accept, auth_sys, call_head, credential, deny, gids, parameters, reply_head, verifier, arguments_of, is_mount, is_nfs, mount_results_of, nfs_arguments, nfs_results, results_of}
 use Rattle.xdr3.specs.Shape.{optional}
 use Rattle.nfs3_types.specs.Shapes.{attributes, dir_op, export, exports, file_kind, flavor, group, guard, handle, mount_list, mount_ok, mounted, post_op_attr, post_op_fh, results, set_hyper, set_word, settable, time, time_how, times, wcc, wcc_attr}
 use Rattle.procs3.specs.Shapes.{access_args, access_ok, commit_ok, create_args, create_how, create_ok, device, dirpath, entry, entry_plus, file_range, fsinfo_ok, fsstat_ok, link_args, link_wcc, lookup_ok, mkdir_args, mknod_args, mknod_what, mount_results, pathconf_ok, read_ok, readdir_args, readdir_ok, readdirplus_args, readdirplus_ok, readlink_ok, rename_args, rename_wcc, setattr_args, symlink_args, write_args, write_ok}
@@ -23,7 +23,7 @@ KeepsSize (opaque_part Text name max) =
     (bytes_eq name names.name ≡ false) × (bytes_eq name names.hostname ≡ false)
 KeepsSize _ = ⊤
 
-abbrev pub TakesMasks : Spot → Shape → Type 0
+abbrev pub TakesMasks : ItemSpot → Shape → Type 0
 TakesMasks spot (choose name accepted reason next) =
     TakesWord (class_of_word spot name) accepted next × ((n : ℕ) → TakesMasks spot (next n))
 TakesMasks spot (both a b) = TakesMasks spot a × TakesMasks spot b
@@ -33,19 +33,19 @@ TakesMasks spot (sized name s) =
     (class_of_word spot name ≡ None) × HasParts KeepsSize s × TakesMasks spot s
 TakesMasks spot _ = ⊤
 
-abbrev pub RowTakesMasks : Spot → Layout → Type 0
+abbrev pub RowTakesMasks : ItemSpot → Layout → Type 0
 RowTakesMasks spot (exactly s) = TakesMasks spot s
 RowTakesMasks spot (rest name) = ⊤
 RowTakesMasks spot (after s next) = ⊥
 
 -- a count of links has a class at some spots
-attributes_at : (spot : Spot) → TakesMasks spot attributes
+attributes_at : (spot : ItemSpot) → TakesMasks spot attributes
 unfolding attributes file_kind times time names head_names
 attributes_at InCall = assumption
 attributes_at _ = assumption
 
 -- at any spot
-module _ (spot : Spot) where
+module _ (spot : ItemSpot) where
   -- ---- parts
 
   optional_takes : (name : List ℕ) (s : Shape) → class_of_word spot name ≡ None → TakesMasks spot s
@@ -161,12 +161,12 @@ credential_takes = (tt, λ n. cond_either (TakesMasks InCall) (nat_eq n 0) tt (a
 
 -- ---- a word for another group of an export has none
 
-exports_at : (spot : Spot) → IsOn Server spot → TakesMasks spot exports
+exports_at : (spot : ItemSpot) → IsOn Server spot → TakesMasks spot exports
 unfolding export exports group head_names names
 exports_at InCall on = absurd on
 exports_at _ on = assumption
 
-module _ (spot : Spot) (on : IsOn Server spot) where
+module _ (spot : ItemSpot) (on : IsOn Server spot) where
   mount_results_of_take : (n : ℕ) → RowTakesMasks spot (mount_results_of n)
   unfolding flavor handle head_names mount_list mount_ok mount_results mounted names
   mount_results_of_take n =
@@ -186,10 +186,10 @@ module _ (spot : Spot) (on : IsOn Server spot) where
 -- ---- at each spot of a side
 
 abbrev pub TakesOn : Side → Shape → Type 0
-TakesOn side s = (spot : Spot) → IsOn side spot → TakesMasks spot s
+TakesOn side s = (spot : ItemSpot) → IsOn side spot → TakesMasks spot s
 
 abbrev pub RowTakesOn : Side → Layout → Type 0
-RowTakesOn side layout = (spot : Spot) → IsOn side spot → RowTakesMasks spot layout
+RowTakesOn side layout = (spot : ItemSpot) → IsOn side spot → RowTakesMasks spot layout
 
 pub call_head_takes : TakesOn Client call_head
 unfolding call_head names head_names

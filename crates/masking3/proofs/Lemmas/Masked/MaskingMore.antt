@@ -1,5 +1,5 @@
 -- Ways that mask more tell no more captures apart.
-use Rattle.masking3.proofs.Common.{◌≡◌, inl, inr, ℕ, List, [], nat_eq, Some, Decides-eqb, Item, Entry, Pairs, Same, by_test, Class, Spot, Way, Keep, Zero, Number, Ways, class_of, class_value, is_zero_that_stays, values, names_by, way_of, Agree, agree-graph, graph, member-graph, AreAlike, ChangesBy, IsNumbered, SameBut, SameButValues}
+use Rattle.masking3.proofs.Common.{◌≡◌, inl, inr, ℕ, List, [], nat_eq, Some, Decides-eqb, Item, Entry, Pairs, Same, by_test, Class, ItemSpot, Way, Keep, Zero, Number, Ways, class_of, class_value, is_zero_that_stays, values, names_by, way_of, Agree, agree-graph, graph, member-graph, AreAlike, ChangesBy, IsNumbered, SameBut, SameButValues}
 use Rattle.masking3.specs.Laws.{KeepsAll, MasksAsMuch, RevealsNoMore}
 use Rattle.masking3.proofs.Lemmas.Masked.MaskedLemmas.{IsAmong}
 use Rattle.masking3.proofs.Lemmas.Masked.SameButLemmas.{AreAgreeing, agree_of, alike_met, alike_put, from_agreeing, kept_of_same, same_of_kept, values_numbered}
@@ -20,11 +20,11 @@ module _ (all : List Entry) (pairs : Class → Pairs ℕ) (agree : AreAgreeing p
   agree_by Number d = agree d
   agree_by Zero d = record { parts = λ p m. elim m [ ]; alike = λ p q m n. elim m [ ] }
 
-  alike_itself : (spot : Spot) (d : Class) (i : Item) → class_of spot i ≡ Some d → AreAlike i i
+  alike_itself : (spot : ItemSpot) (d : Class) (i : Item) → class_of spot i ≡ Some d → AreAlike i i
   alike_itself spot d i is =
       alike_met (alike_put spot i d 0 is) (alike_put spot i d 0 is)
 
-  by_way_more : (w v : Way) → RevealsNoMore w v → (spot : Spot) (d : Class) (i j : Item)
+  by_way_more : (w v : Way) → RevealsNoMore w v → (spot : ItemSpot) (d : Class) (i j : Item)
       → IsAmong (values all) spot i → class_of spot i ≡ Some d → ChangesBy w d (pairs d) i j
       → ChangesBy v d (pairs_by w d) i j
   by_way_more Keep Keep t spot d i j among is h = h

@@ -1,6 +1,6 @@
 -- Two masked captures are the same exactly if the captures are the same but for the values that are
 -- masked.
-use Rattle.masking3.proofs.Common.{and_parts, ◌⊎◌, ◌+◌, append-nil, arith, big_bytes, big_number, big_number-reads_back, rank-le-length, zero_stays, ◌≡◌, inl, inr, ⊎_elim, ℕ, ◌<◌, ◌^◌, true, false, List, [], ◌∷◌, length, map, refl, sym, ap, ◌∙◌, subst, ⊤, ◌==◌, ◌&&◌, not, nat_eq, Option, None, Some, AllByRecursion, Decides-eqb, Item, Word, Hyper, Fixed, Entry, Begin, Call, Turn, Reply, Close, End, rank, Class, Spot, InCall, InReply, Way, Keep, Zero, Number, Ways, class_of, class_value, position, by_way, is_zero_that_stays, masked_values, masked_entry, masked_item, masked_items, number_among, substitute, value_in, value_where, values, values_in, with_value, next_spot, way_of, KeepsAll, AreAlike, words, hypers, eights, IsNumbered, ArePartners, ChangesBy, ChangesOf, ChangesItem, ChangesItems, over, along, ChangesEntry, begin, call, turn, reply, close, end, SameButValues, Member, here, there, Pairs, OneToOne, none, more, Same, Agree, agree-graph, graph, member-graph, by_test, member-append_cases, rank_paired, same_rank, IsPlain, RenamesItem, handle, plain, Pairwise, RenamesMessage, message, Renames, ended, begins, calls, turns, replies, closes, ends}
+use Rattle.masking3.proofs.Common.{and_parts, ◌⊎◌, ◌+◌, append-nil, arith, big_bytes, big_number, big_number-reads_back, rank-le-length, zero_stays, ◌≡◌, inl, inr, ⊎_elim, ℕ, ◌<◌, ◌^◌, true, false, List, [], ◌∷◌, length, map, refl, sym, ap, ◌∙◌, subst, ⊤, ◌==◌, ◌&&◌, not, nat_eq, Option, None, Some, AllByRecursion, Decides-eqb, Item, Word, Hyper, Fixed, Entry, Begin, Call, Turn, Reply, Close, End, rank, Class, ItemSpot, InCall, InReply, Way, Keep, Zero, Number, Ways, class_of, class_value, position, by_way, is_zero_that_stays, masked_values, masked_entry, masked_item, masked_items, number_among, substitute, value_in, value_where, values, values_in, with_value, next_spot, way_of, KeepsAll, AreAlike, words, hypers, eights, IsNumbered, ArePartners, ChangesBy, ChangesOf, ChangesItem, ChangesItems, over, along, ChangesEntry, begin, call, turn, reply, close, end, SameButValues, Member, here, there, Pairs, OneToOne, none, more, Same, Agree, agree-graph, graph, member-graph, by_test, member-append_cases, rank_paired, same_rank, IsPlain, RenamesItem, handle, plain, Pairwise, RenamesMessage, message, Renames, ended, begins, calls, turns, replies, closes, ends}
 use Rattle.canon3.specs.Renaming.{verifier}
 use Rattle.canon3.proofs.Lemmas.Canonical.OneFormLemmas.{In}
 use Rattle.canon3.proofs.Lemmas.Numbers.RankLemmas.{pairwise-append}
@@ -11,7 +11,7 @@ use Rattle.masking3.proofs.Lemmas.Masked.MaskedLemmas.{AreAmong, IsAmong, ItemsA
 
 -- ---- items that are equal but for their values
 
-alike_class : (spot : Spot) {i j : Item} → AreAlike i j → class_of spot j ≡ class_of spot i
+alike_class : (spot : ItemSpot) {i j : Item} → AreAlike i j → class_of spot j ≡ class_of spot i
 alike_class spot words = refl
 alike_class spot _ = refl
 
@@ -24,7 +24,7 @@ alike_with : (i j : Item) (m : ℕ) → AreAlike i j → with_value i (Some m) �
 alike_with i j m words = refl
 alike_with i j m _ = refl
 
-pub alike_put : (spot : Spot) (i : Item) (d : Class) (m : ℕ) → class_of spot i ≡ Some d
+pub alike_put : (spot : ItemSpot) (i : Item) (d : Class) (m : ℕ) → class_of spot i ≡ Some d
     → AreAlike i (with_value i (Some m))
 alike_put spot (Word name n) d m is = words
 alike_put spot (Hyper name n) d m is = hypers
@@ -37,7 +37,7 @@ alike_plain _ = tt
 
 -- ---- an item with another value
 
-value_put : (spot : Spot) (i : Item) (m : ℕ) (d : Class) → m < 2 ^ 64 → class_of spot i ≡ Some d
+value_put : (spot : ItemSpot) (i : Item) (m : ℕ) (d : Class) → m < 2 ^ 64 → class_of spot i ≡ Some d
     → class_value (with_value i (Some m)) ≡ m
 value_put spot (Word name n) m d small is = refl
 value_put spot (Hyper name n) m d small is = refl
@@ -71,25 +71,25 @@ module _ (ways : Ways) (pairs : Class → Pairs ℕ) where
   changed_is None i j h = inl h
   changed_is (Some d) i j h = by_way_is (way_of ways d) d i j h
 
-  changed_class : (spot : Spot) (i j : Item) → ChangesItem ways pairs spot i j
+  changed_class : (spot : ItemSpot) (i j : Item) → ChangesItem ways pairs spot i j
       → class_of spot j ≡ class_of spot i
   changed_class spot i j h =
       ⊎_elim (λ e. ap (class_of spot) (sym e)) (alike_class spot)
       (changed_is (class_of spot i) i j h)
 
   -- what follows is at the same spot
-  spot_of_changed : (spot : Spot) (o : Option Class) (i j : Item) → class_of spot i ≡ o
+  spot_of_changed : (spot : ItemSpot) (o : Option Class) (i j : Item) → class_of spot i ≡ o
       → class_of spot j ≡ o → ChangesOf ways pairs o i j → next_spot spot i ≡ next_spot spot j
   spot_of_changed spot None i j is so h = ap (next_spot spot) h
   spot_of_changed spot (Some d) i j is so h = still spot i d is ∙ sym (still spot j d so)
 
-  changed_spot : (spot : Spot) (i j : Item) → ChangesItem ways pairs spot i j
+  changed_spot : (spot : ItemSpot) (i j : Item) → ChangesItem ways pairs spot i j
       → next_spot spot i ≡ next_spot spot j
   changed_spot spot i j h =
       spot_of_changed spot (class_of spot i) i j refl (changed_class spot i j h) h
 
   -- what is of no class was the same before
-  same_before : (spot : Spot) (i j : Item) → class_of spot j ≡ None
+  same_before : (spot : ItemSpot) (i j : Item) → class_of spot j ≡ None
       → ChangesItem ways pairs spot i j → i ≡ j
   same_before spot i j is h =
       rw (sym (changed_class spot i j h) ∙ is) at h
@@ -106,7 +106,8 @@ HasFreeXid (Reply id items) = StartsFree items
 HasFreeXid _ = ⊤
 
 module _ (ways : Ways) (pairs : Class → Pairs ℕ) where
-  starts_free : (spot : Spot) {m n : List Item} → StartsFree m → ChangesItems ways pairs spot m n
+  starts_free : (spot : ItemSpot) {m n : List Item} → StartsFree m
+      → ChangesItems ways pairs spot m n
       → StartsFree n
   starts_free spot {m = Word name x ∷ items} free (along {b = js} c p) =
       subst (λ k. StartsFree (k ∷ js)) (rw (free.classless spot) at c) free
@@ -129,14 +130,15 @@ AreAgreeing pairs = (d : Class) → Agree nat_eq (IsNumbered d) (pairs d)
 
 -- from what is so of each item of a class whose value was seen
 module _ (ways others : Ways) (ps qs : Class → Pairs ℕ) (seen : Class → List ℕ)
-    (items : (spot : Spot) (d : Class) (i j : Item) → IsAmong seen spot i → class_of spot i ≡ Some d
+    (items : (spot : ItemSpot) (d : Class) (i j : Item) → IsAmong seen spot i
+    → class_of spot i ≡ Some d
     → ChangesBy (way_of ways d) d (ps d) i j → ChangesBy (way_of others d) d (qs d) i j) where
-  of_others : (spot : Spot) (o : Option Class) (i j : Item) → IsAmong seen spot i
+  of_others : (spot : ItemSpot) (o : Option Class) (i j : Item) → IsAmong seen spot i
       → class_of spot i ≡ o → ChangesOf ways ps o i j → ChangesOf others qs o i j
   of_others spot None i j among is h = h
   of_others spot (Some d) i j among is h = items spot d i j among is h
 
-  message_others : (spot : Spot) {m n : List Item} → ItemsAreAmong seen spot m
+  message_others : (spot : ItemSpot) {m n : List Item} → ItemsAreAmong seen spot m
       → ChangesItems ways ps spot m n → ChangesItems others qs spot m n
   message_others spot among over = over
   message_others spot among (along {i = i} {j = j} c p) =
@@ -159,7 +161,7 @@ module _ (ways others : Ways) (ps qs : Class → Pairs ℕ) (seen : Class → Li
 
 -- what follows a renamed item is at the same spot
 module _ {us vs : Pairs (List ℕ)} where
-  renamed_spot : (spot : Spot) (i j : Item) → RenamesItem us vs i j
+  renamed_spot : (spot : ItemSpot) (i j : Item) → RenamesItem us vs i j
       → next_spot spot i ≡ next_spot spot j
   renamed_spot spot i j (handle m) = still_after spot i tt ∙ sym (still_after spot j tt)
   renamed_spot spot i j (verifier m) = still_after spot i tt ∙ sym (still_after spot j tt)
@@ -192,14 +194,14 @@ module _ (ways : Ways) (ps qs : Class → Pairs ℕ) (first : AreAgreeing ps)
   of_met None i j k g h = g ∙ sym h
   of_met (Some d) i j k g h = by_way_met (way_of ways d) d i j k g h
 
-  stays_met : (spot : Spot) (i j : Item) → class_of spot j ≡ None → ChangesItem ways ps spot i j
+  stays_met : (spot : ItemSpot) (i j : Item) → class_of spot j ≡ None → ChangesItem ways ps spot i j
       → ChangesItem ways met spot i j
   stays_met spot i j is h =
       let e = same_before ways ps spot i j is h in
       subst (λ o. ChangesOf ways met o i j) (sym (ap (class_of spot) e ∙ is)) e
 
   module _ {us vs : Pairs (List ℕ)} where
-    item_met : (spot : Spot) (i j k l : Item) → ChangesItem ways ps spot i j
+    item_met : (spot : ItemSpot) (i j k l : Item) → ChangesItem ways ps spot i j
         → RenamesItem us vs j l → ChangesItem ways qs spot k l
         → (m : Item) × ChangesItem ways met spot i m × RenamesItem us vs m k
     item_met spot i j k l g (plain item f) h = (
@@ -214,7 +216,7 @@ module _ (ways : Ways) (ps qs : Class → Pairs ℕ) (first : AreAgreeing ps)
     item_met spot i j k l g (verifier m) h =
         (j, stays_met spot i j refl g, rw (same_before ways qs spot k l refl h) (verifier m))
 
-    items_met : (spot : Spot) {a b c d : List Item} → ChangesItems ways ps spot a b
+    items_met : (spot : ItemSpot) {a b c d : List Item} → ChangesItems ways ps spot a b
         → Pairwise (RenamesItem us vs) b d → ChangesItems ways qs spot c d
         → (m : List Item) × ChangesItems ways met spot a m × Pairwise (RenamesItem us vs) m c
     items_met spot over none over = ([], over, none)
@@ -227,7 +229,7 @@ module _ (ways : Ways) (ps qs : Class → Pairs ℕ) (first : AreAgreeing ps)
         let all = items_met (next_spot spot i) p q (rw spots at s) in
         (one.0 ∷ all.0, along one.1 all.1, more one.2 all.2)
 
-    message_met : (spot : Spot) {xs : Pairs ℕ} {a b c d : List Item} → StartsFree b
+    message_met : (spot : ItemSpot) {xs : Pairs ℕ} {a b c d : List Item} → StartsFree b
         → RenamesMessage us vs xs b d → ChangesItems ways ps spot a b
         → ChangesItems ways qs spot c d
         → (m : List Item) × ChangesItems ways met spot a m × RenamesMessage us vs xs m c
@@ -287,7 +289,7 @@ value_numbered d (Some e) n x m =
     (λ z. absurd (cc (rw z at (and_parts (position d == position e) _ t).1))) (λ z. z)))
     (λ f. let no : Member x [] = rw f at m in elim no [ ])
 
-in_message_numbered : (d : Class) (spot : Spot) (items : List Item) (x : ℕ)
+in_message_numbered : (d : Class) (spot : ItemSpot) (items : List Item) (x : ℕ)
     → Member x (values_in d spot items) → IsNumbered d x
 in_message_numbered d spot [] x m = elim m [ ]
 in_message_numbered d spot (i ∷ items) x m =
@@ -322,21 +324,22 @@ numbers_agree all d =
 
 module _ (ways : Ways) (seen : Class → List ℕ)
     (room : (c : Class) → way_of ways c ≡ Number → length (seen c) < 2 ^ 64) where
-  partner : (spot : Spot) (d : Class) (i : Item) → IsAmong seen spot i → class_of spot i ≡ Some d
+  partner : (spot : ItemSpot) (d : Class) (i : Item) → IsAmong seen spot i
+      → class_of spot i ≡ Some d
       → ArePartners d (number_pairs seen d) (class_value i)
       (number_among (seen d) d (class_value i))
   partner spot d i among is = by_test (is_zero_that_stays d (class_value i))
       (λ t. inr (t, rw t (rw (and_parts (zero_stays d) _ t).0 refl)))
       (λ f. inl (rw f (member-graph (number_of seen d) (among d is f))))
 
-  small : (spot : Spot) (d : Class) (i : Item) → IsAmong seen spot i → class_of spot i ≡ Some d
+  small : (spot : ItemSpot) (d : Class) (i : Item) → IsAmong seen spot i → class_of spot i ≡ Some d
       → length (seen d) < 2 ^ 64 → number_among (seen d) d (class_value i) < 2 ^ 64
   small spot d i among is few = by_test (is_zero_that_stays d (class_value i))
       (λ t. rw t (omega arith))
       (λ f. let low = rank-le-length nat_eq Decides-eqb (among d is f) in
       rw f (omega (arith, few, low)))
 
-  by_way_masked : (spot : Spot) (i : Item) → IsAmong seen spot i → (d : Class)
+  by_way_masked : (spot : ItemSpot) (i : Item) → IsAmong seen spot i → (d : Class)
       → class_of spot i ≡ Some d → (w : Way) → way_of ways d ≡ w
       → ChangesBy w d (number_pairs seen d) i (masked_item ways seen spot i)
   by_way_masked spot i among d is Keep way = rw (is, way) refl
@@ -348,12 +351,12 @@ module _ (ways : Ways) (seen : Class → List ℕ)
             (partner spot d i among is),
       )
 
-  of_masked : (spot : Spot) (i : Item) → IsAmong seen spot i → (o : Option Class)
+  of_masked : (spot : ItemSpot) (i : Item) → IsAmong seen spot i → (o : Option Class)
       → class_of spot i ≡ o → ChangesOf ways (number_pairs seen) o i (masked_item ways seen spot i)
   of_masked spot i among None is = sym (unmasked ways seen spot i is)
   of_masked spot i among (Some d) is = by_way_masked spot i among d is (way_of ways d) refl
 
-  message_masked : (spot : Spot) (items : List Item) → ItemsAreAmong seen spot items
+  message_masked : (spot : ItemSpot) (items : List Item) → ItemsAreAmong seen spot items
       → ChangesItems ways (number_pairs seen) spot items (masked_items ways seen spot items)
   message_masked spot [] among = over
   message_masked spot (i ∷ items) among =
@@ -400,13 +403,13 @@ module _ (ways : Ways) (pairs : Class → Pairs ℕ) (agree : AreAgreeing pairs)
       rw same (partners_beside d (class_value i) (class_value j) by.1))
       (λ f. rw f none)
 
-  item_beside : (d : Class) → way_of ways d ≡ Number → (spot : Spot) (i j : Item)
+  item_beside : (d : Class) → way_of ways d ≡ Number → (spot : ItemSpot) (i j : Item)
       → ChangesItem ways pairs spot i j
       → Pairwise (In (pairs d)) (value_in d spot i) (value_in d spot j)
   item_beside d way spot i j h =
       rw (changed_class ways pairs spot i j h) (of_beside d way (class_of spot i) i j h)
 
-  items_beside : (d : Class) → way_of ways d ≡ Number → (spot : Spot) {m n : List Item}
+  items_beside : (d : Class) → way_of ways d ≡ Number → (spot : ItemSpot) {m n : List Item}
       → ChangesItems ways pairs spot m n
       → Pairwise (In (pairs d)) (values_in d spot m) (values_in d spot n)
   items_beside d way spot over = none
@@ -449,11 +452,11 @@ module _ (ways : Ways) (pairs : Class → Pairs ℕ) (agree : AreAgreeing pairs)
     of_one None i j h = h
     of_one (Some d) i j h = by_way_one d (way_of ways d) refl i j h
 
-    item_one : (spot : Spot) (i j : Item) → ChangesItem ways pairs spot i j
+    item_one : (spot : ItemSpot) (i j : Item) → ChangesItem ways pairs spot i j
         → masked_item ways first spot i ≡ masked_item ways second spot j
     item_one spot i j h = rw (changed_class ways pairs spot i j h) (of_one (class_of spot i) i j h)
 
-    message_one : (spot : Spot) {m n : List Item} → ChangesItems ways pairs spot m n
+    message_one : (spot : ItemSpot) {m n : List Item} → ChangesItems ways pairs spot m n
         → masked_items ways first spot m ≡ masked_items ways second spot n
     message_one spot over = refl
     message_one spot (along {i = i} {j = j} c p) =
@@ -475,19 +478,19 @@ module _ (ways : Ways) (pairs : Class → Pairs ℕ) (agree : AreAgreeing pairs)
 -- ---- what Same renames is masked alike
 
 module _ (ways : Ways) {ps vs : Pairs (List ℕ)} where
-  item_values : (d : Class) (spot : Spot) (i j : Item) → RenamesItem ps vs i j
+  item_values : (d : Class) (spot : ItemSpot) (i j : Item) → RenamesItem ps vs i j
       → value_in d spot i ≡ value_in d spot j
   item_values d spot i j (handle m) = refl
   item_values d spot i j r = refl
 
-  items_values : (d : Class) (spot : Spot) {m n : List Item} → Pairwise (RenamesItem ps vs) m n
+  items_values : (d : Class) (spot : ItemSpot) {m n : List Item} → Pairwise (RenamesItem ps vs) m n
       → values_in d spot m ≡ values_in d spot n
   items_values d spot none = refl
   items_values d spot (more {x = i} {y = j} r p) =
       rw (← renamed_spot spot i j r)
       (cc (item_values d spot i j r, items_values d (next_spot spot i) p))
 
-  message_values : (d : Class) (spot : Spot) {xs : Pairs ℕ} {m n : List Item} → StartsFree m
+  message_values : (d : Class) (spot : ItemSpot) {xs : Pairs ℕ} {m n : List Item} → StartsFree m
       → RenamesMessage ps vs xs m n → values_in d spot m ≡ values_in d spot n
   message_values d spot free (message {x = x} {y = y} b p) =
       rw (free.classless spot, free.moves_not spot x, free.moves_not spot y) (items_values d spot p)
@@ -503,7 +506,7 @@ module _ (ways : Ways) {ps vs : Pairs (List ℕ)} where
   entries_values d h (ends r) = entries_values d h.1 r
 
   module _ (seen : Class → List ℕ) where
-    item_renamed : (spot : Spot) (i j : Item) → RenamesItem ps vs i j
+    item_renamed : (spot : ItemSpot) (i j : Item) → RenamesItem ps vs i j
         → RenamesItem ps vs (masked_item ways seen spot i) (masked_item ways seen spot j)
     item_renamed spot i j (handle m) = handle m
     item_renamed spot i j (verifier m) = verifier m
@@ -511,7 +514,7 @@ module _ (ways : Ways) {ps vs : Pairs (List ℕ)} where
         plain (masked_item ways seen spot item)
         (plain_with item (substitute ways seen (class_of spot item) (class_value item)) f)
 
-    items_renamed : (spot : Spot) {m n : List Item} → Pairwise (RenamesItem ps vs) m n
+    items_renamed : (spot : ItemSpot) {m n : List Item} → Pairwise (RenamesItem ps vs) m n
         → Pairwise (RenamesItem ps vs) (masked_items ways seen spot m)
         (masked_items ways seen spot n)
     items_renamed spot none = none
@@ -519,7 +522,7 @@ module _ (ways : Ways) {ps vs : Pairs (List ℕ)} where
         more (item_renamed spot i j r)
         (rw (← renamed_spot spot i j r) (items_renamed (next_spot spot i) p))
 
-    message_renamed : (spot : Spot) {xs : Pairs ℕ} {m n : List Item} → StartsFree m
+    message_renamed : (spot : ItemSpot) {xs : Pairs ℕ} {m n : List Item} → StartsFree m
         → RenamesMessage ps vs xs m n
         → RenamesMessage ps vs xs (masked_items ways seen spot m) (masked_items ways seen spot n)
     message_renamed spot free (message {x = x} {y = y} b p) =
@@ -586,7 +589,7 @@ module _ (pairs : Class → Pairs ℕ) (agree : AreAgreeing pairs) where
   )
 
   pub from_agreeing : (ways others : Ways) (ps : Class → Pairs ℕ) (a b changed : List Entry)
-      → ((spot : Spot) (d : Class) (i j : Item) → IsAmong (values a) spot i
+      → ((spot : ItemSpot) (d : Class) (i j : Item) → IsAmong (values a) spot i
       → class_of spot i ≡ Some d → ChangesBy (way_of ways d) d (ps d) i j
       → ChangesBy (way_of others d) d (pairs d) i j)
       → Changes ways ps a changed → Same changed b → SameButValues others a b
@@ -625,7 +628,7 @@ module _ (ways : Ways) (keeps : KeepsAll ways) (pairs : Class → Pairs ℕ) whe
   stays_equal None i j h = h
   stays_equal (Some d) i j h = subst (λ w. ChangesBy w d (pairs d) i j) (keeps d) h
 
-  message_stays : (spot : Spot) {m n : List Item} → ChangesItems ways pairs spot m n → m ≡ n
+  message_stays : (spot : ItemSpot) {m n : List Item} → ChangesItems ways pairs spot m n → m ≡ n
   message_stays spot over = refl
   message_stays spot (along {i = i} {j = j} c p) =
       cc (stays_equal (class_of spot i) i j c, message_stays (next_spot spot i) p)

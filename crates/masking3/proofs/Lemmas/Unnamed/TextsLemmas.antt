@@ -1,5 +1,5 @@
 -- Masked texts, apart from the values that are masked.
-use Rattle.masking3.proofs.Common.{◌≡◌, ℕ, ◌+◌, ◌≤◌, List, [], ◌∷◌, length, map, refl, sym, ap, ◌∙◌, arith, ◌==◌, bytes_eq, Option, None, Some, Decides-eqb, Item, Opaque, Text, residue, names, by_test, Class, Spot, Way, Keep, Ways, class_of, class_value, KeepsAll, MasksAsMuch, RevealsNoMore, way_of, Machines, Raw, SillyNames, masked_item, masked_items, substitute, values_in, with_value, next_spot, emptied, less_by, text_size, and_parts, host_by, is_silly_name, silly_by, raw_by, text_by, with_text, zero_name, length-replicate, replicate, Rest}
+use Rattle.masking3.proofs.Common.{◌≡◌, ℕ, ◌+◌, ◌≤◌, List, [], ◌∷◌, length, map, refl, sym, ap, ◌∙◌, arith, ◌==◌, bytes_eq, Option, None, Some, Decides-eqb, Item, Opaque, Text, residue, names, by_test, Class, ItemSpot, Way, Keep, Ways, class_of, class_value, KeepsAll, MasksAsMuch, RevealsNoMore, way_of, Machines, Raw, SillyNames, masked_item, masked_items, substitute, values_in, with_value, next_spot, emptied, less_by, text_size, and_parts, host_by, is_silly_name, silly_by, raw_by, text_by, with_text, zero_name, length-replicate, replicate, Rest}
 use Rattle.masking3.proofs.Lemmas.Classes.SpotLemmas.{still_after}
 
 -- ---- an item and its masked text
@@ -15,7 +15,7 @@ module _ (ways : Ways) where
   by_text P same text raw (Rest name b) = raw name b
   by_text P same text raw i = same i
 
-  text_apart : (spot : Spot) (i : Item)
+  text_apart : (spot : ItemSpot) (i : Item)
       → (class_of spot (with_text ways i) ≡ class_of spot i)
       × (class_value (with_text ways i) ≡ class_value i)
       × (next_spot spot (with_text ways i) ≡ next_spot spot i)
@@ -33,12 +33,13 @@ module _ (ways : Ways) where
   )
   text_apart spot i = (refl, refl, refl)
 
-  pub text_spot : (spot : Spot) (i : Item) → next_spot spot (with_text ways i) ≡ next_spot spot i
+  pub text_spot : (spot : ItemSpot) (i : Item)
+      → next_spot spot (with_text ways i) ≡ next_spot spot i
   text_spot spot i = (text_apart spot i).2
 
   -- ---- values stay
 
-  pub texts_values : (d : Class) (spot : Spot) (l : List Item)
+  pub texts_values : (d : Class) (spot : ItemSpot) (l : List Item)
       → values_in d spot (map (with_text ways) l) ≡ values_in d spot l
   texts_values d spot [] = refl
   texts_values d spot (i ∷ l) =
@@ -55,14 +56,14 @@ module _ (ways : Ways) where
   text_with i (Some m) = refl
 
   module _ (others : Ways) (seen : Class → List ℕ) where
-    item_masked : (spot : Spot) (i : Item)
+    item_masked : (spot : ItemSpot) (i : Item)
         → masked_item others seen spot (with_text ways i)
         ≡ with_text ways (masked_item others seen spot i)
     item_masked spot i =
         rw ((text_apart spot i).0, (text_apart spot i).1)
         (text_with i (substitute others seen (class_of spot i) (class_value i)))
 
-    pub texts_masked : (spot : Spot) (l : List Item)
+    pub texts_masked : (spot : ItemSpot) (l : List Item)
         → masked_items others seen spot (map (with_text ways) l)
         ≡ map (with_text ways) (masked_items others seen spot l)
     texts_masked spot [] = refl

@@ -1,11 +1,11 @@
 -- Names of machines and masked texts, apart from the values that are masked.
-use Rattle.masking3.proofs.Common.{◌≡◌, ℕ, zero, suc, ◌-◌, true, false, List, [], ◌∷◌, map, refl, sym, ap, ◌∙◌, arith, bytes_eq, Option, None, Some, bytes_eq-Decides, Item, Word, Opaque, Text, head_names, names, Entry, Call, Reply, by_test, Class, Spot, InCall, InReply, Way, Keep, Ways, class_of, class_of_word, class_value, masked_entry, masked_item, masked_items, masked_values, substitute, value_in, values, values_in, values_in_entry, with_value, KeepsAll, MasksAsMuch, RevealsNoMore, way_of, Machines, with_text, after_first, emptied, host_by, less_by, named_by, named_entry, names_by, text_size, unnamed_credential, unnamed_items}
+use Rattle.masking3.proofs.Common.{◌≡◌, ℕ, zero, suc, ◌-◌, true, false, List, [], ◌∷◌, map, refl, sym, ap, ◌∙◌, arith, bytes_eq, Option, None, Some, bytes_eq-Decides, Item, Word, Opaque, Text, head_names, names, Entry, Call, Reply, by_test, Class, ItemSpot, InCall, InReply, Way, Keep, Ways, class_of, class_of_word, class_value, masked_entry, masked_item, masked_items, masked_values, substitute, value_in, values, values_in, values_in_entry, with_value, KeepsAll, MasksAsMuch, RevealsNoMore, way_of, Machines, with_text, after_first, emptied, host_by, less_by, named_by, named_entry, names_by, text_size, unnamed_credential, unnamed_items}
 use Rattle.masking3.proofs.Lemmas.Classes.ClassLemmas.{seen_alike}
 use Rattle.masking3.proofs.Lemmas.Unnamed.TextsLemmas.{same_size, text_absorbed, text_emptied, text_less, texts_absorbed, texts_kept, texts_masked, texts_values}
 
 -- ---- the length of a credential is of no class
 
-pub free_length : (spot : Spot) (name : List ℕ) → bytes_eq name head_names.cred_length ≡ true
+pub free_length : (spot : ItemSpot) (name : List ℕ) → bytes_eq name head_names.cred_length ≡ true
     → class_of_word spot name ≡ None
 unfolding names head_names
 free_length spot name t = rw ((bytes_eq-Decides name head_names.cred_length).0 t) refl

@@ -1,5 +1,5 @@
 -- Captures that are renamed, or whose values change, do so with masked names as well.
-use Rattle.masking3.proofs.Common.{◌≡◌, ⊎_elim, ℕ, zero, suc, List, map, refl, ap, subst, bytes_eq, Option, Item, Word, Opaque, Rest, Text, head_names, Entry, Pairs, by_test, Class, Spot, InCall, InReply, Way, Keep, Ways, class_of, next_spot, with_text, after_first, emptied, less_by, named_by, named_entry, names_by, text_size, unnamed_credential, way_of, AreAlike, words, ChangesOf, ChangesItem, ChangesItems, over, along, ChangesEntry, call, reply, IsPlain, RenamesItem, plain, Pairwise, none, more, RenamesMessage, message, Renames, ended, begins, calls, turns, replies, closes, ends, Same, Machines}
+use Rattle.masking3.proofs.Common.{◌≡◌, ⊎_elim, ℕ, zero, suc, List, map, refl, ap, subst, bytes_eq, Option, Item, Word, Opaque, Rest, Text, head_names, Entry, Pairs, by_test, Class, ItemSpot, InCall, InReply, Way, Keep, Ways, class_of, next_spot, with_text, after_first, emptied, less_by, named_by, named_entry, names_by, text_size, unnamed_credential, way_of, AreAlike, words, ChangesOf, ChangesItem, ChangesItems, over, along, ChangesEntry, call, reply, IsPlain, RenamesItem, plain, Pairwise, none, more, RenamesMessage, message, Renames, ended, begins, calls, turns, replies, closes, ends, Same, Machines}
 use Rattle.masking3.proofs.Lemmas.Masked.SameButLemmas.{changed_is, same_by_renaming}
 use Rattle.masking3.proofs.Lemmas.Unnamed.TextsLemmas.{by_text, text_spot}
 use Rattle.masking3.proofs.Lemmas.Unnamed.UnnamedLemmas.{IsNoLength, any_way, free_length, less_stays}
@@ -105,7 +105,7 @@ module _ (ways : Ways) (pairs : Class → Pairs ℕ) where
 
   -- an item that stays, as those that are alike do
   stays_changed : (f : Item → Item) (P : Item → Type 0) → ((i : Item) → P i → f i ≡ i)
-      → ((i j : Item) → AreAlike i j → P i → f j ≡ j) → (spot : Spot) (i j : Item) → P i
+      → ((i j : Item) → AreAlike i j → P i → f j ≡ j) → (spot : ItemSpot) (i j : Item) → P i
       → ChangesItem ways pairs spot i j → ChangesItem ways pairs spot (f i) (f j)
   stays_changed f P stays alike spot i j p h =
       let e = changed_to (λ i j. P i → f j ≡ j) stays alike ways pairs (class_of spot i) i j h p in
@@ -137,7 +137,7 @@ module _ (ways : Ways) (pairs : Class → Pairs ℕ) where
   after_changed n p = p
 
   module _ (by : Ways) where
-    text_changed : (spot : Spot) (i j : Item) → ChangesItem ways pairs spot i j
+    text_changed : (spot : ItemSpot) (i j : Item) → ChangesItem ways pairs spot i j
         → ChangesItem ways pairs spot (with_text by i) (with_text by j)
     text_changed spot (Opaque Text name b) j h = ap (with_text by) h
     text_changed spot (Rest name b) j h = ap (with_text by) h
@@ -145,7 +145,7 @@ module _ (ways : Ways) (pairs : Class → Pairs ℕ) where
         stays_changed (with_text by) (λ i. with_text by i ≡ i) (λ i e. e) (text_alike by) spot i j
         refl h
 
-    texts_changed : (spot : Spot) {l m : List Item} → ChangesItems ways pairs spot l m
+    texts_changed : (spot : ItemSpot) {l m : List Item} → ChangesItems ways pairs spot l m
         → ChangesItems ways pairs spot (map (with_text by) l) (map (with_text by) m)
     texts_changed spot over = over
     texts_changed spot (along {i = i} {j = j} c p) =

@@ -1,5 +1,5 @@
 -- What stands for the items of the messages before has their values and their handles.
-use Rattle.masking3.proofs.Common.{◌≡◌, ℕ, List, [], ◌∷◌, ◌++◌, refl, sym, ap, ap₂, ◌∙◌, append-nil, Option, None, Some, flat_map, flat_map-append, Item, Word, Hyper, Fixed, Entry, Call, Reply, items_of, Class, Spot, InCall, InReply, class_of, class_of_fixed, class_of_hyper, class_of_word, class_value, value_where, values, values_in, values_in_entry, next_spot, first_spot, handle_in, handles, handles_in, visited_entry, visited_item, visited_items, visited_value, values_so_far}
+use Rattle.masking3.proofs.Common.{◌≡◌, ℕ, List, [], ◌∷◌, ◌++◌, refl, sym, ap, ap₂, ◌∙◌, append-nil, Option, None, Some, flat_map, flat_map-append, Item, Word, Hyper, Fixed, Entry, Call, Reply, items_of, Class, ItemSpot, InCall, InReply, class_of, class_of_fixed, class_of_hyper, class_of_word, class_value, value_where, values, values_in, values_in_entry, next_spot, first_spot, handle_in, handles, handles_in, visited_entry, visited_item, visited_items, visited_value, values_so_far}
 use Rattle.masking3.proofs.Lemmas.Classes.ClassLemmas.{seen_alike}
 use Rattle.masking3.proofs.Lemmas.Classes.MessageSpotLemmas.{entry_side}
 
@@ -12,7 +12,7 @@ module _ (d : Class) where
   visited_one None (Hyper name n) = refl
   visited_one None i = refl
 
-  pub visited_values : (spot : Spot) (items : List Item)
+  pub visited_values : (spot : ItemSpot) (items : List Item)
       → flat_map (visited_value d) (visited_items spot items) ≡ values_in d spot items
   visited_values spot [] = refl
   visited_values spot (i ∷ items) =
@@ -72,14 +72,14 @@ without : (o : Option Class) (i : Item) → handle_in i ≡ [] → handle_in (vi
 without None i e f = f ∙ sym e
 without (Some d) i e f = sym e
 
-visited_handle : (spot : Spot) (i : Item)
+visited_handle : (spot : ItemSpot) (i : Item)
     → handle_in (visited_item (class_of spot i) i) ≡ handle_in i
 visited_handle spot (Word name n) = without (class_of_word spot name) (Word name n) refl refl
 visited_handle spot (Hyper name n) = without (class_of_hyper spot name) (Hyper name n) refl refl
 visited_handle spot (Fixed name b) = without (class_of_fixed name) (Fixed name b) refl refl
 visited_handle spot i = refl
 
-pub visited_handles : (spot : Spot) (items : List Item)
+pub visited_handles : (spot : ItemSpot) (items : List Item)
     → handles_in (visited_items spot items) ≡ handles_in items
 visited_handles spot [] = refl
 visited_handles spot (i ∷ items) =

@@ -1,8 +1,8 @@
 -- A message is masked item by item.
-use Rattle.masking3.proofs.Common.{HasMaskedUnderWay, ◌≡◌, ℕ, List, [], ◌∷◌, ◌++◌, length, map, refl, sym, ap, ap₂, ◌∙◌, subst, append_assoc, append-nil, arith, Option, None, Some, flat_map, flat_map-append, map-append, Item, Word, Hyper, zero_spelling, Side, Client, Entry, Begin, Call, Turn, Reply, Close, End, items_of, head_names, Spot, Ways, Class, class_of, class_value, masked_item, masked_items, substitute, value_in, value_where, values_in, with_value, with_text, HoldsAt, HoldsValues, position, with_one, handle_in, handles_in, member-append_right, BeginsOn, first_spot, next_spot, side_by, spot_after, Adds, Keeps, Gathers, HoldsHandles, after_messages, HoldsMasked, HasMemory, MaskRests, MaskStands, visited_items, visited_value, values_so_far}
+use Rattle.masking3.proofs.Common.{HasMaskedUnderWay, ◌≡◌, ℕ, List, [], ◌∷◌, ◌++◌, length, map, refl, sym, ap, ap₂, ◌∙◌, subst, append_assoc, append-nil, arith, Option, None, Some, flat_map, flat_map-append, map-append, Item, Word, Hyper, zero_spelling, Side, Client, Entry, Begin, Call, Turn, Reply, Close, End, items_of, head_names, ItemSpot, Ways, Class, class_of, class_value, masked_item, masked_items, substitute, value_in, value_where, values_in, with_value, with_text, HoldsAt, HoldsValues, position, with_one, handle_in, handles_in, member-append_right, BeginsOn, first_spot, next_spot, side_by, spot_after, Adds, Keeps, Gathers, HoldsHandles, after_messages, HoldsMasked, HasMemory, MaskRests, MaskStands, visited_items, visited_value, values_so_far}
 use Rattle.nfs3_types.specs.declared.values.handle.Handle as handles
 use Rattle.canon3.proofs.Lemmas.Numbers.HandleTableLemmas.{gathers_none}
-use Rattle.masking3.specs.declared.class_tables.ClassTables.{ClassTables}
+use Rattle.masking3.specs.declared.values.class_tables.ClassTables.{ClassTables}
 use Rattle.masking3.specs.declared.masking_writer.MaskingWriter.{MaskingWriter}
 use Rattle.std.proofs.lemmas.List.Sums.{fold-append}
 use Rattle.std.specs.Option.{unwrap_or}
@@ -53,7 +53,7 @@ after_messages-append front items more =
 
 module _ (side : Side) where
   -- where an item after these stands
-  abbrev spot_of_next : List Item → Spot
+  abbrev spot_of_next : List Item → ItemSpot
   spot_of_next items = spot_after (first_spot side) items
 
   -- the values so far with those of more items
@@ -152,7 +152,7 @@ module _ {P S H : Type 0} (ways : Ways) (w : MaskingWriter P S H) where
   heard front Close begun going rests = rested front going rests
   heard front End begun going rests = rested front going rests
 
-  abbrev pub with_parts : List handles.Handle → ClassTables S H → List ℕ → Spot
+  abbrev pub with_parts : List handles.Handle → ClassTables S H → List ℕ → ItemSpot
       → MaskingWriter P S H
   with_parts gathered classes bytes spot =
       record {
@@ -209,7 +209,7 @@ module _ {P S H : Type 0} (ways : Ways) (w : MaskingWriter P S H) where
   -- ---- more items
 
   module _ (gathered : List handles.Handle) (classes : ClassTables S H) (bytes : List ℕ)
-      (spot : Spot) where
+      (spot : ItemSpot) where
     abbrev later_writer : MaskingWriter P S H
     later_writer = with_parts gathered classes bytes spot
 
@@ -228,8 +228,8 @@ module _ {P S H : Type 0} (ways : Ways) (w : MaskingWriter P S H) where
     held_on front own items side h are tables gathers write =
         let texts : List Item → List Item = map (with_text ways) in
         let so_far : Class → List ℕ = values_so_far front side own in
-        let first : Spot = first_spot side in
-        let later : Spot = spot_of_next side own in
+        let first : ItemSpot = first_spot side in
+        let later : ItemSpot = spot_of_next side own in
         let seen : Class → List ℕ = grown side front own items in
         let before : List Item = masked_items ways so_far first own in
         let all : before ++ masked_items ways seen later items
@@ -269,7 +269,7 @@ module _ {P S H : Type 0} (ways : Ways) (w : MaskingWriter P S H) where
           ∙ after_messages-append u.front u.items items;
       begins = begins_more u.side u.items items u.begins;
       spot_is =
-          moved ∙ ap (λ (s : Spot). spot_after s items) u.spot_is
+          moved ∙ ap (λ (s : ItemSpot). spot_after s items) u.spot_is
           ∙ sym (fold-append next_spot (first_spot u.side) u.items items);
       holds = holds;
     }
@@ -302,11 +302,11 @@ module _ {P S H : Type 0} (ways : Ways) (w : MaskingWriter P S H) where
           let u = stands going in
           let h = u.holds in
           let so_far : Class → List ℕ = values_so_far u.front u.side u.items in
-          let later : Spot = spot_of_next u.side u.items in
+          let later : ItemSpot = spot_of_next u.side u.items in
           let held : Held so_far =
           subst (λ k. HoldsValues k w.classes.numbers.items so_far) (sym h.ways_are) h.tables in
           let class : own ≡ class_of later i =
-          found.0 ∙ ap (λ (s : Spot). class_of s i) u.spot_is in
+          found.0 ∙ ap (λ (s : ItemSpot). class_of s i) u.spot_is in
           let seen : Class → List ℕ = grown u.side u.front u.items (i ∷ []) in
           let now : with_one so_far own (class_value i) ≡ seen =
           seen_alike (with_one so_far own (class_value i)) seen
@@ -332,7 +332,7 @@ module _ {P S H : Type 0} (ways : Ways) (w : MaskingWriter P S H) where
 
   -- an item that may have a class, and has no handle
   pub adds_of_class : (own : Option Class) (n : ℕ) (classes : ClassTables S H) (bytes : List ℕ)
-      (spot : Spot) (i j : Item) → n ≡ class_value i → handles_in (i ∷ []) ≡ []
+      (spot : ItemSpot) (i j : Item) → n ≡ class_value i → handles_in (i ∷ []) ≡ []
       → classes.ways ≡ w.classes.ways → IsFound w.handles classes bytes spot own i
       → ((seen : Class → List ℕ) → HoldsValues w.classes.ways w.classes.numbers.items seen
       → HoldsValues classes.ways classes.numbers.items (with_one seen own n))
@@ -360,7 +360,7 @@ module _ {P S H : Type 0} (ways : Ways) (w : MaskingWriter P S H) where
 
   -- an item of no class
   abbrev pub IsClassless : Item → Type 0
-  IsClassless i = (spot : Spot) → class_of spot i ≡ None
+  IsClassless i = (spot : ItemSpot) → class_of spot i ≡ None
 
   adds_classless : (gathered : List handles.Handle) (bytes : List ℕ) (i : Item) → IsNoWord i
       → IsClassless i
@@ -391,12 +391,12 @@ module _ {P S H : Type 0} (ways : Ways) (w : MaskingWriter P S H) where
 
   -- ---- words that stay
 
-  held_more : (front own : List Item) (side : Side) (bytes : List ℕ) (spot : Spot)
+  held_more : (front own : List Item) (side : Side) (bytes : List ℕ) (spot : ItemSpot)
       (items : List Item) → AllStay ways items → HoldsMasked ways w front side own
       → Adds Spells w.writer bytes items
       → HoldsMasked ways (with_parts w.handles w.classes bytes spot) front side (own ++ items)
   held_more front own side bytes spot items kept h write =
-      let later : Spot = spot_of_next side own in
+      let later : ItemSpot = spot_of_next side own in
       held_on w.handles w.classes bytes spot front own items side h h.ways_are
       (λ d numbered.
       subst (HoldsAt w.classes.numbers.items (position d))
@@ -427,7 +427,7 @@ module _ {P S H : Type 0} (ways : Ways) (w : MaskingWriter P S H) where
     (free_stays ways head_names.mtype mtype_free _, tt),
   )
 
-  pub opens : (bytes : List ℕ) (spot : Spot) (s : MessageStart)
+  pub opens : (bytes : List ℕ) (spot : ItemSpot) (s : MessageStart)
       → spot ≡ first_spot (side_by s.is_reply) → OpensMessage Spells Spells w.writer bytes
       (start_items s)
       → OpensMessage (MaskRests ways) (MaskStands ways) w (with_parts w.handles w.classes bytes

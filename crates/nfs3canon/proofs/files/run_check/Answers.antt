@@ -9,8 +9,11 @@ returns-in-Ok g c =
     let is = c.close.ensures ∙ ap (λ n. reading_under n came.new.source) named in
     record {
       counts =
-          counts_read g.F.Input.Read.remaining (g.F.Files.holds c.args.files.now)
-          (reading_in c.close.result ∷ []) c.args.name.now c.in-Ok.opened.source came.new.source
+          counts_read g.F.Input.Read.remaining (record {
+            holds = g.F.Files.holds c.args.files.now;
+            readings = reading_in c.close.result ∷ [];
+            finished = (g.F.Files.finished c.args.files.now, g.F.Files.finished c.args.files.now);
+          }) c.args.name.now c.in-Ok.opened.source came.new.source
           unread came.result (ap (λ r. r ∷ []) is) came.ensures.read came.ensures.write
           came.ensures.concludes came.ensures.whole;
     }

@@ -11,8 +11,11 @@ returns g c =
     let other_is = c.close-2.ensures ∙ ap (λ n. reading_under n came.new.second) other_named in
     record {
       compares =
-          compares_read g.F.Input.Read.remaining (g.F.Files.holds c.args.files.now)
-          (reading_in c.close.result ∷ reading_in c.close-2.result ∷ []) c.args.first.now
+          compares_read g.F.Input.Read.remaining (record {
+            holds = g.F.Files.holds c.args.files.now;
+            readings = reading_in c.close.result ∷ reading_in c.close-2.result ∷ [];
+            finished = (g.F.Files.finished c.args.files.now, g.F.Files.finished c.args.files.now);
+          }) c.args.first.now
           c.args.second.now c.in-Ok.opened.source came.new.first c.in-Ok-open.other.source
           came.new.second unread other_unread came.result (ap₂ (λ r s. r ∷ s ∷ []) is other_is)
           came.ensures.read_first came.ensures.read_second came.ensures.write came.ensures.gave;

@@ -10,13 +10,17 @@ returns-in-Ok-form_written g c =
     record {
       lists =
           inl (
-            reading_in c.close.result,
+            it.output,
             refl,
-            ap (λ r. r.name) c.close.ensures ∙ named,
-            subst (λ r. IsByFailedRead r it.came) (sym c.close.ensures)
-                (it.ensures.read name unread.failures),
-            λ bytes may.
-                it.ensures.writes whole name bytes unread
-                (subst (λ r. MayContain whole r bytes) c.close.ensures may),
+            (
+              reading_in c.close.result,
+              refl,
+              ap (λ r. r.name) c.close.ensures ∙ named,
+              subst (λ r. IsByFailedRead r it.came) (sym c.close.ensures)
+                  (it.ensures.read name unread.failures),
+              λ bytes may.
+                  it.ensures.writes whole name bytes unread
+                  (subst (λ r. MayContain whole r bytes) c.close.ensures may),
+            ),
           );
     }

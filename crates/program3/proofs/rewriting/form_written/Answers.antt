@@ -1,6 +1,6 @@
 use Rattle.program3.proofs.Common.{ap, subst, sym, ◌∙◌, append_known, WritesAllCounted, reading_under}
 use Rattle.std.specs.Io.Buffered.{writer_buffer, writer_contents}
-use Rattle.program3.proofs.FilesLemmas.{append_none, failed_out, one_failed, prefix_of, written_all}
+use Rattle.program3.proofs.FilesLemmas.{append_none, failed_out, given_of, one_failed, prefix_of, written_all}
 use Rattle.program3.proofs.rewriting.form_written.Goals as goal
 
 -- The buffer held nothing.
@@ -10,7 +10,7 @@ returns-clause-writes g c whole name bytes unread may =
     let counts = g.J.Rewriting.counts in
     let contents = g.W.Write.contents in
     let came = c.rewrite-came in
-    let (given, gave, writes) = came.ensures.writes in
+    let (given, gave) = given_of counts form _ _ _ _ came.result came.ensures.writes in
     let prefix =
     prefix_of g.R.Read.remaining whole name c.args.source.now came.new.source unread given bytes
     gave may in
@@ -23,12 +23,12 @@ returns-clause-writes g c whole name bytes unread may =
     let all =
     subst
     (λ old.
-    WritesAllCounted counts form bytes old (writer_contents contents came.new.sink.device)
+    WritesAllCounted counts form bytes (old, writer_contents contents came.new.sink.device)
     came.result) held (came.ensures.whole bytes prefix) in
     let back =
     subst
     (λ buffer.
-    WritesAllCounted counts form bytes (contents c.args.output) (writer_contents contents buffer)
+    WritesAllCounted counts form bytes (contents c.args.output, writer_contents contents buffer)
     came.result) (sym c.into_inner.ensures) all in
     written_all counts form bytes (contents c.args.output)
     (writer_contents contents c.into_inner.result) (contents c.written_out.result.1) came.result

@@ -11,9 +11,9 @@ returns-in_ok-named-in-Ok-Ok-default-clause-keeps g c whole name bytes unread ma
     let written = g.F.Output.Write.contents it.file in
     keeps_whole counts form bytes (g.F.Files.name_of c.args.made.place)
     (g.F.Files.finished c.args.files.now) it.summary written (g.F.Files.finished c.named.new.files)
-    (subst (λ old. WritesAllCounted counts form bytes old written (Ok it.summary)) fresh
+    (subst (λ old. WritesAllCounted counts form bytes (old, written) (Ok it.summary)) fresh
     (subst
-    (WritesAllCounted counts form bytes (g.F.Output.Write.contents c.args.made.file) written)
+    (WritesAllCounted counts form bytes (g.F.Output.Write.contents c.args.made.file, written))
     it.field-0-0-is (it.ensures.writes whole name bytes unread may)))
     c.in_ok-named-in-Ok-Ok-default.ensures.ok
 
@@ -27,7 +27,7 @@ returns-in-Ok-Err-default-clause-keeps g c whole name bytes unread may fresh =
     keeps_none counts form bytes (g.F.Files.name_of c.args.made.place)
     (g.F.Files.finished c.args.files.now) it.error empty written
     (g.F.Files.finished c.args.files.now)
-    (subst (WritesAllCounted counts form bytes empty written) it.field-0-0-is
+    (subst (WritesAllCounted counts form bytes (empty, written)) it.field-0-0-is
     (it.ensures.writes whole name bytes unread may)) refl
 
 pub returns-in-Ok-Err-default-clause-read : goal.returns-in-Ok-Err-default-clause-read

@@ -14,17 +14,15 @@ returns-in-Ok g c =
             reading_in c.close.result,
             refl,
             ap (λ r. r.name) c.close.ensures ∙ it.opened.0,
-            (
-              subst (λ r. IsByFailedRead r came.result) (sym c.close.ensures)
-                  (came.ensures.read name it.opened.1.failures),
-              λ bytes may.
-                  subst
-                  (λ output.
-                  KeepsForm g.J.Rewriting.counts (g.J.Rewriting.form c.args.rewriting) output bytes
-                  (g.F.Files.finished c.args.files.now) (g.F.Files.finished came.new.files)
-                  came.result) it.made.1
-                  (came.ensures.keeps whole name bytes it.opened.1
-                  (subst (λ r. MayContain whole r bytes) c.close.ensures may) it.made.0),
-            ),
+            subst (λ r. IsByFailedRead r came.result) (sym c.close.ensures)
+                (came.ensures.read name it.opened.1.failures),
+            λ bytes may.
+                subst
+                (λ output.
+                KeepsForm g.J.Rewriting.counts (g.J.Rewriting.form c.args.rewriting) output bytes
+                (g.F.Files.finished c.args.files.now, g.F.Files.finished came.new.files)
+                came.result) it.made.1
+                (came.ensures.keeps whole name bytes it.opened.1
+                (subst (λ r. MayContain whole r bytes) c.close.ensures may) it.made.0),
           );
     }

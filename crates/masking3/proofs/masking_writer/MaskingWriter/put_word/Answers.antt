@@ -24,4 +24,4 @@ returns-clause-ok g c =
     ∙ ap (λ o. unwrap_or o c.read_u32-n.result) (c.in_ok-substitute.ensures.stands seen h)))
     (put_spells w.writer _ _ _
     (put_there _ c.args.at 4 c.args.run.now _ _ _ c.put_bytes.ensures.end
-    c.put_bytes.ensures.written c.pack_chunk.ensures refl))
+    c.put_bytes.ensures.written c.spelled_word.ensures refl))

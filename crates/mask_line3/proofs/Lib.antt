@@ -1,4 +1,0 @@
-mod ChangeLemmas
-mod GrammarLemmas
-pub mod Common
-pub mod LineLemmas

@@ -1,0 +1,111 @@
+//! The command line.
+
+ghost use Rattle.std.specs.Prelude.{◌≡◌, ◌∷◌, ℕ, IfErr, IfOk, List, map, string_bytes};
+ghost use Rattle.line3.specs.Asked.{IsUsage, without_end};
+ghost use Rattle.nfs3mask.specs.MaskLine.{AreMaskWordsRefused, AsksForMask, IsMaskLine};
+
+use crate::line::asked::MaskJob;
+use crate::line::change::changed;
+use crate::line::grammar::command;
+use line3::{LineFault, line_fault_of, usage, without_end};
+use std::alloc::{AllocError, Global};
+
+/// Returns the words of a command line, the program's name first, without the `--` that ends its options. A
+/// line that clap does not take, and a call for help, is answered by the text that clap writes.
+///
+/// # Errors
+///
+/// - `Usage` with that text.
+/// - `Memory` if memory ran out.
+pub fn taken(alloc: Global, words: Vec<String>) -> Result<Vec<String>, LineFault>
+    ensures taken { IfOk result (λ said.
+        map string_bytes said.items ≡ without_end 1 (map string_bytes words.items)) }
+    ensures refused { IfErr result (AreMaskWordsRefused (map string_bytes words.items)) }
+{
+    match tried(alloc, words.as_slice()) {
+        Ok(()) => Ok(without_end(words, 1)),
+        Err(fault) => Err(fault),
+    }
+}
+
+/// Returns an error if clap does not take the line.
+fn tried(alloc: Global, words: &[String]) -> Result<(), LineFault>
+    ensures { IfErr result (AreMaskWordsRefused (map string_bytes words.now)) }
+{
+    let command = match command(alloc) {
+        Ok(command) => command,
+        Err(_) => return Err(LineFault::Memory),
+    };
+    match command.try_get_matches_from(words) {
+        Ok(_matches) => Ok(()),
+        Err(error) => Err(line_fault_of(alloc, error)),
+    }
+}
+
+/// Returns the job that the words of a line ask for, the program's name first: the names of a capture and of
+/// an output, and words that change the usual mask. They are what `taken` returns.
+///
+/// # Errors
+///
+/// - `Usage` if the line has not this form. The text says so.
+/// - `SameName` if the output is the input.
+/// - `Memory` if memory ran out.
+pub fn mask_job<'a>(alloc: Global, words: &'a [String]) -> Result<MaskJob<'a>, LineFault>
+    ensures asked { (line : List (List ℕ)) → map string_bytes words.now ≡ without_end 1 line
+        → IfOk result (AsksForMask line) }
+    ensures refused { (line : List (List ℕ)) → map string_bytes words.now ≡ without_end 1 line
+        → IfErr result (AreMaskWordsRefused line) }
+{
+    match words {
+        [_, input, output, changes @ ..] => {
+            of_two_files(alloc, input.as_str(), output.as_str(), changes)
+        }
+        _ => Err(usage(alloc)),
+    }
+}
+
+/// Returns the job for the names of two files and words that change the mask.
+fn of_two_files<'a>(
+    alloc: Global,
+    input: &'a str,
+    output: &'a str,
+    changes: &[String],
+) -> Result<MaskJob<'a>, LineFault>
+    ensures asked { let said = map string_bytes changes.now in (line : List (List ℕ))
+        → IsMaskLine line (input.now ∷ output.now ∷ said) → IfOk result (AsksForMask line) }
+    ensures refused { let said = map string_bytes changes.now in (line : List (List ℕ))
+        → IsMaskLine line (input.now ∷ output.now ∷ said)
+        → IfErr result (AreMaskWordsRefused line) }
+{
+    match changed(changes) {
+        Ok(_) if input == output => Err(LineFault::SameName),
+        Ok(ways) => Ok(MaskJob {
+            input,
+            output,
+            ways,
+        }),
+        Err(word) => Err(unchanging(alloc, word)),
+    }
+}
+
+/// Returns the text for a word that changes no mask.
+fn unchanging(alloc: Global, word: &str) -> LineFault
+    ensures { IsUsage result }
+{
+    let text: Result<String, AllocError> = format!(in alloc;
+        "error: '{word}' is not CLASS=WAY
+
+  classes: times, stamps, machines, space, ids, fsids, cookies, cookieverfs,
+           createverfs, owners, wcc, sillynames, raw
+  ways: keep, zero, number
+
+Usage: nfs3mask <IN> <OUT> [CLASS=WAY]...
+
+For more information, try '--help'.
+"
+    );
+    match text {
+        Ok(text) => LineFault::Usage(text),
+        Err(_) => LineFault::Memory,
+    }
+}
