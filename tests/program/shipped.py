@@ -117,7 +117,7 @@ def recordings_through_the_launchers(clone: Clone) -> None:
 def a_changed_source(clone: Clone) -> None:
     """The program that comes with the repository does not stand for other sources: it is proved and built, which takes `rt`. Without that
     one line says so, and the status is none that an answer has."""
-    for name in ('crates/xdr3/src/lib.rt', 'crates/canon3/specs/Rank.antt', 'crates/line3/proofs/Lib.antt', 'crates.txt'):
+    for name in ('crates/xdr3/src/lib.rt', 'crates/canon3/specs/Renaming.antt', 'crates/line3/proofs/Lib.antt', 'crates.txt'):
         was = clone.read(name)
         clone.change(name)
         status, out, error = clone.command('./nfs3canon', 'check', 'examples/null.nfs3cap')

@@ -22,9 +22,10 @@ from tests.shared import classes
 from tests.shared.rows import rows_of
 from tests.shared.running import Answer, ended, program_named, tried, try_all, words_of
 from tests.sources import call_trees, command_lines, crate_pages, pages, tool_rooms
+from tests.sources.relations import nested, relations, with_many_arguments
 from tests.sources.rooms import (
     crowded_folders, in_the_wrong_room, long_lines, of_private_fields, of_several_meanings,
-    of_two_files, scans_without_values)
+    of_two_files, scans_without_values, types_of_two_crates)
 from tools.nfs3tools.comparison.values import classes as values
 from tools.tests.scripts import TOP, Tools, sums
 
@@ -233,6 +234,10 @@ def rooms_stand_apart(tools: Tools) -> None:
     tools.want('folders with too many files', crowded_folders(), [])
     tools.want('files of machinery with the name of another', of_two_files(), [])
     tools.want('scans without values', scans_without_values(), [])
+    tools.want('types of two crates', types_of_two_crates(), [])
+    tools.want('relations of a clause', sorted(relations(nested('IfOk r (λ n. A n (B n, c) ≡ if p n then d else e f)'))),
+               [('A', 2), ('B', 1), ('IfOk', 2), ('c', 0), ('d', 0), ('e', 1), ('p', 1)])
+    tools.want('relations with many arguments', with_many_arguments(), [])
 
 
 def rooms_of_the_tools(tools: Tools) -> None:
@@ -316,9 +321,8 @@ def what_is_not_proved(tools: Tools) -> None:
 
 
 def bugs_are_counted(tools: Tools) -> None:
-    """The page of each crate has the number of its must-fail edits; that of nfs3canon counts those of nfs3mask, too."""
+    """The page of each crate has the number of its must-fail edits."""
     counts = {path.parent.name: len(list(path.glob('*.edit'))) for path in (TOP / 'crates').glob('*/must-fail')}
-    counts['nfs3canon'] += counts.pop('nfs3mask')
     found = {crate: re.findall(r'must refuse the (\d+) bugs', text) for crate, text in promises().items()}
     tools.want('bugs', found, {crate: [str(count)] for crate, count in sorted(counts.items())})
 

@@ -6,7 +6,8 @@
 - no clause, no definition and no proof has a line over 100 columns;
 - no folder of crates/*/proofs has too many files;
 - no file of machinery has the name of another file of specs;
-- each file of src/scans has a file of src/values.
+- each file of src/scans has a file of src/values;
+- a type's name stands for one type, or for its scan and its value in one crate.
 """
 import collections
 import importlib.machinery
@@ -201,3 +202,19 @@ def scans_without_values() -> list[str]:
     found = [str(path.relative_to(TOP)) for path in sorted(TOP.glob('crates/*/src/scans/*.rt'))
              if (values := path.parent.parent / 'values').is_dir() and not (values / path.name).exists()]
     return sorted(set(found) ^ ONLY_SCANS)
+
+
+TYPE = re.compile(r'^(?:pub(?:\(crate\))? )?(?:struct|enum|trait|type) (\w+)', re.M)
+# An entry of a directory (RFC 1813, sections 3.3.16 and 3.3.17), and an entry of a capture.
+OF_TWO_CRATES = {'Entry'}
+
+
+def types_of_two_crates() -> list[str]:
+    """Returns the names of types that two crates define, with these crates."""
+    owners = collections.defaultdict[str, set[str]](set)
+    for crate in libraries():
+        for path in (TOP / 'crates' / crate / 'src').rglob('*.rt'):
+            for name in TYPE.findall(path.read_text()):
+                owners[name].add(crate)
+    twice = {name for name, crates in owners.items() if len(crates) > 1}
+    return ['%s: %s' % (name, ', '.join(sorted(owners[name]))) for name in sorted(twice ^ OF_TWO_CRATES)]
