@@ -1,6 +1,8 @@
 -- What clauses inside the crate and proofs name, and no reader of a public clause has to believe.
 pub mod Calls
 pub mod CountedCalls
+pub mod InPlace
+pub mod InPlaceInside
 pub mod Container
 pub mod EntriesHistory
 pub mod Pairing

@@ -1,23 +1,26 @@
 //! The container: connections of two streams, each cut into chunks, whose records are joined.
 
+pub(crate) mod in_place;
 pub(crate) mod kept_streams;
 pub(crate) mod packing;
 pub(crate) mod position;
 pub(crate) mod side_words;
 
 ghost use Rattle.std.specs.Prelude.{◌≡◌, ◌≢◌, ◌≤◌, ◌<◌, ◌+◌, length, take, Err, IfOk, IfErr, IfSome, OnErr, OnOk, None, Some};
-ghost use Rattle.capture3.specs.machinery.Container.{CanGoOn, ComesNext, ComesToFault, ShowsError, first_cursor, IsCutInRecord, Leaves, Reaches, RecallFails, Recalled, room_in, StepsTo, TakesPiece, unpacking_in};
+ghost use Rattle.capture3.specs.machinery.Container.{CanGoOn, ComesNext, ComesToFault, ShowsError, first_cursor, GoesBy, IsCutInRecord, Leaves, Reaches, RecallFails, Recalled, room_in, StepsTo, TakesPiece, unpacking_in};
 ghost use Rattle.record_mark.specs.Joining.{Between};
 ghost use Rattle.capture3.specs.machinery.Position.{AreEmpty, cost_of, IsEndSpot, IsOpenBody, most_things, room_of, StoredWith};
 ghost use Rattle.capture3.specs.machinery.ContainerMachine.{unpacking_start};
+ghost use Rattle.capture3.specs.machinery.InPlace.{IsCopied, LiesIn};
 ghost use Rattle.record_mark.specs.RecordMark.{max_body};
 ghost use Rattle.record_mark.specs.Taking.{IsRunning, IsWhole, body_of, joining_of, released, unbegun};
 
+use crate::container::in_place::InPlaceJoiner;
 use crate::container::kept_streams::Streams;
 use crate::container::position::spot::{Event, Spot, WordOf};
 use crate::container::position::{Position, Transition, file_fault};
 use crate::fault::{Error, Noted, Place, Side};
-use record_mark::{JoinError, Joiner, Step};
+use record_mark::{JoinError, Step};
 use std::alloc::Global;
 use xdr3::Reason;
 
@@ -32,7 +35,7 @@ pub(crate) struct Cursor {
 #[derive(Drop)]
 pub(crate) struct Container {
     pub(crate) position: Position,
-    pub(crate) joiner: Joiner,
+    pub(crate) joiner: InPlaceJoiner,
     /// The kept streams of the open connection. Empty outside a connection of version 2.
     pub(crate) streams: Streams,
     /// How far kept streams are checked. The position is after their side word 0 already.
@@ -49,19 +52,22 @@ impl Container {
     {
         Container {
             position: Position::start(),
-            joiner: Joiner::new(alloc),
+            joiner: InPlaceJoiner::new(alloc),
             streams: Streams::new(alloc),
             cursor: None,
         }
     }
 
-    /// Returns the body of the record that is whole.
-    pub(crate) fn body(&self) -> &[u8]
-        requires { IsWhole self.now.joiner.taking }
+    /// Returns the body of the record that is whole, which may lie in the piece that it was taken
+    /// from.
+    #[inline(always)]
+    pub(crate) fn body<'a>(&'a self, piece: &'a [u8]) -> &'a [u8]
+        requires whole { IsWhole self.now.joiner.taking }
+        requires lies { LiesIn self.now.joiner piece.now }
         ensures body { result.now ≡ body_of self.now.joiner.taking }
         ensures limit { length result.now ≤ max_body }
     {
-        self.joiner.body()
+        self.joiner.body(piece)
     }
 
     /// If a record is whole, makes room for the next one.
@@ -128,7 +134,7 @@ impl Container {
                     Err(Noted)
                 }
             },
-            None => match self.advance(piece) {
+            None => match self.advance(piece, error) {
                 Ok((count, Some(Event::Streams))) => match self.first_recalled() {
                     Ok(event) => Ok((count, Some(event))),
                     Err(found) => {
@@ -137,17 +143,14 @@ impl Container {
                     }
                 },
                 Ok((count, event)) => Ok((count, event)),
-                Err(found) => {
-                    *error = found;
-                    Err(Noted)
-                }
+                Err(Noted) => Err(Noted),
             },
         }
     }
 
-    /// Version 1: takes a whole record of one fragment from the start of `piece` and of the open chunk, and
-    /// returns how many bytes it has there, and its side. Returns `None` and takes nothing if no such record
-    /// is there, or if the joiner does not take it: `advance` takes any other bytes.
+    /// Version 1: takes a whole record of one fragment from the start of `piece` and of the open chunk, where
+    /// it stays, and returns how many bytes it has there, and its side. Returns `None` and takes nothing if no
+    /// such record is there, or if a record is begun: `advance` takes any other bytes.
     #[inline(always)]
     fn take_whole(&mut self, piece: &[u8]) -> Option<(usize, Side)>
         requires ready { CanGoOn None self.old.joiner.taking self.old }
@@ -157,6 +160,7 @@ impl Container {
         ensures reaches { IfSome result
             (λ r. Reaches self.old (take r.0 piece.now) (Some (Event.Record r.1)) self.new.position
             self.new) }
+        ensures lies { IfSome result (λ r. LiesIn self.new.joiner (take r.0 piece.now)) }
         ensures none { result ≡ None → self.new ≡ self.old }
 
         // What stays.
@@ -185,6 +189,7 @@ impl Container {
             (Recalled (first_cursor) self.old.position self.new.position self.old.streams.kept
             self.new.streams.kept self.new.joiner.taking self.new.cursor) }
         ensures joiner { IfOk result (λ event. Leaves (Some event) self.new.joiner.taking) }
+        ensures copied { OnOk result (IsCopied self.new.joiner) }
         ensures fault { IfErr result
             (RecallFails first_cursor self.old.position self.old.streams.kept) }
 
@@ -200,27 +205,32 @@ impl Container {
     }
 
     /// Takes bytes of `piece` until something is whole or the piece is used up, and returns how
-    /// many.
+    /// many. If it fails, it puts the error into `error`.
     #[inline(never)]
-    fn advance(&mut self, piece: &[u8]) -> Result<(usize, Option<Event>), Error>
+    fn advance(&mut self, piece: &[u8], error: &mut Error) -> Result<(usize, Option<Event>), Noted>
         requires ready { CanGoOn None self.old.joiner.taking self.old }
 
         // The bytes taken, and what is whole with them.
         ensures taken { IfOk result (TakesPiece piece.now) }
         ensures reaches { IfOk result
             (λ r. Reaches self.old (take r.0 piece.now) r.1 self.new.position self.new) }
-        ensures fault { IfErr result (ShowsError (unpacking_in self.old) piece.now) }
+        ensures copied { OnOk result (IsCopied self.new.joiner) }
+        ensures fault { OnErr result (ShowsError (unpacking_in self.old) piece.now error.new) }
 
         // What stays.
         ensures cursor { OnOk result (self.new.cursor ≡ self.old.cursor) }
     {
         let mut taken = 0;
         while taken < piece.len() {
-            let step = self.step(&piece[taken..])?;
-            taken += step.count;
-            self.position = step.position;
-            if step.event.is_some() {
-                return Ok((taken, step.event));
+            // Written out, since `?` takes more instructions for each step.
+            match self.step(&piece[taken..], error) {
+                Ok((count, event)) => {
+                    taken += count;
+                    if event.is_some() {
+                        return Ok((taken, event));
+                    }
+                }
+                Err(Noted) => return Err(Noted),
             }
         }
         Ok((taken, None))
@@ -240,54 +250,92 @@ impl Container {
         }
     }
 
-    /// Takes the bytes of `rest` that belong to the part of the capture that is open. The position
-    /// stays.
+    /// Takes the bytes of `rest` that belong to the part of the capture that is open, and returns how
+    /// many, and what is whole with them. If it fails, it puts the error into `error`.
     #[inline(always)]
-    fn step(&mut self, rest: &[u8]) -> Result<Transition, Error>
+    fn step(&mut self, rest: &[u8], error: &mut Error) -> Result<(usize, Option<Event>), Noted>
         requires some { 0 < length rest.now }
         requires ready { CanGoOn None self.old.joiner.taking self.old }
 
         ensures ok { IfOk result (StepsTo self.old self.new rest.now) }
-        ensures fault { IfErr result (ShowsError (unpacking_in self.old) rest.now) }
+        ensures fault { OnErr result (ShowsError (unpacking_in self.old) rest.now error.new) }
     {
         let position = self.position;
         match position.spot {
             Spot::Word(word, part) => match word {
                 WordOf::Length(side) => {
-                    position
+                    let step = position
                         .counts
-                        .take_word(WordOf::Length(side), part, self.open_body(), rest)
+                        .take_word(WordOf::Length(side), part, self.joiner.open_body(), rest);
+                    self.go(step, error)
                 }
-                _ => self.step_aside(rest),
+                _ => self.step_aside(rest, error),
             },
-            Spot::Chunk(side, left) => position.counts.join(&mut self.joiner, side, left, rest),
-            _ => self.step_aside(rest),
+            Spot::Chunk(side, left) => {
+                let step = position.counts.join(&mut self.joiner, side, left, rest);
+                self.go(step, error)
+            }
+            _ => self.step_aside(rest, error),
         }
     }
 
     /// Does the same at any part, out of the way of version 1's chunks.
     #[inline(never)]
-    fn step_aside(&mut self, rest: &[u8]) -> Result<Transition, Error>
+    fn step_aside(
+        &mut self,
+        rest: &[u8],
+        error: &mut Error,
+    ) -> Result<(usize, Option<Event>), Noted>
         requires some { 0 < length rest.now }
         requires ready { CanGoOn None self.old.joiner.taking self.old }
 
         ensures ok { IfOk result (StepsTo self.old self.new rest.now) }
-        ensures fault { IfErr result (ShowsError (unpacking_in self.old) rest.now) }
+        ensures fault { OnErr result (ShowsError (unpacking_in self.old) rest.now error.new) }
     {
         let position = self.position;
         match position.spot {
-            Spot::Magic => position.counts.take_magic(rest),
-            Spot::Digit => position.counts.take_digit(rest),
+            Spot::Magic => self.go(position.counts.take_magic(rest), error),
+            Spot::Digit => self.go(position.counts.take_digit(rest), error),
             Spot::Word(word, part) => {
-                position
+                let step = position
                     .counts
-                    .take_word(word, part, self.open_body(), rest)
+                    .take_word(word, part, self.joiner.open_body(), rest);
+                self.go(step, error)
             }
-            Spot::Chunk(side, left) => { position.counts.join(&mut self.joiner, side, left, rest) }
+            Spot::Chunk(side, left) => {
+                let step = position.counts.join(&mut self.joiner, side, left, rest);
+                self.go(step, error)
+            }
             Spot::SideChunk(side, left) => {
-                position.counts.gather(&mut self.streams, side, left, rest)
+                let step = position.counts.gather(&mut self.streams, side, left, rest);
+                self.go(step, error)
             }
-            Spot::Ended(_) => Err(file_fault(position.counts.at, Reason::AfterEnd)),
+            Spot::Ended(_) => {
+                *error = file_fault(position.counts.at, Reason::AfterEnd);
+                Err(Noted)
+            }
+        }
+    }
+
+    /// Goes to where a step leads, and returns how many bytes it takes, and what is whole with them. If
+    /// it failed, the error is put into `error`.
+    #[inline(always)]
+    fn go(
+        &mut self,
+        step: Result<Transition, Error>,
+        error: &mut Error,
+    ) -> Result<(usize, Option<Event>), Noted>
+        ensures { GoesBy step self.old self.new result error.new }
+    {
+        match step {
+            Ok(step) => {
+                self.position = step.position;
+                Ok((step.count, step.event))
+            }
+            Err(found) => {
+                *error = found;
+                Err(Noted)
+            }
         }
     }
 
@@ -323,6 +371,7 @@ impl Container {
             self.new.streams.kept
             self.new.joiner.taking self.new.cursor) }
         ensures joiner { IfOk result (λ event. Leaves (Some event) self.new.joiner.taking) }
+        ensures copied { OnOk result (IsCopied self.new.joiner) }
         ensures fault { IfErr result (RecallFails cursor self.old.position self.old.streams.kept) }
 
         // The container stays ready for the next bytes.
@@ -356,7 +405,7 @@ impl Container {
     fn recall_end(&mut self, side: Side) -> Result<Event, Error>
         requires running { IsRunning self.old.joiner.taking }
         ensures between { OnOk result (joining_of self.old.joiner.taking ≡ Between) }
-        ensures joiner { self.new.joiner.taking ≡ self.old.joiner.taking }
+        ensures joiner { self.new.joiner ≡ self.old.joiner }
         ensures client { side ≡ Side.Client → IfOk result
             (λ event. (event ≡ Event.Turn)
             × (self.new.position ≡ record self.old.position { records = 0 })
@@ -368,7 +417,7 @@ impl Container {
         ensures cut { IfErr result
             (IsCutInRecord self.old.position side (joining_of self.old.joiner.taking)) }
     {
-        if let Some(byte) = self.open_body() {
+        if let Some(byte) = self.joiner.open_body() {
             return Err(
                 self.position
                     .next_record_fault(side, byte, Reason::RecordCut),
@@ -388,18 +437,6 @@ impl Container {
                 self.streams.clear();
                 Ok(Event::Close)
             }
-        }
-    }
-
-    /// Returns how many bytes of the body have come if a record is open.
-    fn open_body(&self) -> Option<u32>
-        requires { IsRunning self.now.joiner.taking }
-        ensures { IsOpenBody result (joining_of self.now.joiner.taking) }
-    {
-        if self.joiner.is_between() {
-            None
-        } else {
-            Some(self.joiner.body().len() as u32)
         }
     }
 }

@@ -1,5 +1,8 @@
 -- Many bytes at once: those of a header, and those of a fragment.
-use Rattle.std.proofs.Common.{◌≡◌, ℕ, ◌+◌, ◌^◌, ◌<◌, ◌≤◌, List, [], ◌++◌, length, take, drop, refl, sym, subst, ap, ◌∙◌, append-nil, arith, length-append, length-take, length-drop, Bool, true, cond, lt-ltb, le-ltb, le-leb}
+use Rattle.std.proofs.Common.{◌≡◌, ℕ, ◌+◌, ◌^◌, ◌<◌, ◌≤◌, List, [], ◌++◌, length, take, drop, refl, sym, ap, ◌∙◌, append-nil, arith, length-append, length-take, length-drop, Bool, true, cond, lt-ltb, le-ltb, le-leb}
+use Rattle.std.specs.Prelude.{◌%◌, nat_le}
+use Rattle.std.proofs.lemmas.Bool.{leb-true}
+use Rattle.std.proofs.lemmas.List.{drop-take}
 use Rattle.record_mark.proofs.Common.{take-add, Ends, Runs, landed, after, IsWord, number, word_next, max_body, is_last, length_of, IsHeader, IsRecord, Header, TooLong, headed, expecting, join_next}
 use Rattle.byteorder.specs.Numbers.{length-bytes_high_first, big_number-reads_back}
 use Rattle.byteorder.specs.Endian.{big_bytes}
@@ -104,10 +107,19 @@ one_fragment header body len h size fits =
       fits = omega arith;
     }
 
+-- what the header of a last fragment says
+pub last_header : (piece : List ℕ) (word len : ℕ) → number (take 4 piece) ≡ word
+    → IsHeader (take 4 piece) true len → (2 ^ 31 ≤ word) × (word % (2 ^ 31) ≡ len)
+unfolding is_last length_of
+last_header piece word len is h = (
+  leb-true (2 ^ 31) word (ap (nat_le (2 ^ 31)) (sym is) ∙ h.top),
+  ap (λ n. n % (2 ^ 31)) (sym is) ∙ h.count,
+)
+
 -- a record that stands whole in one fragment
 pub whole_in_one : (piece : List ℕ) (word len : ℕ) → number (take 4 piece) ≡ word
     → word ≡ 2 ^ 31 + len → len ≤ max_body → 4 + len ≤ length piece
-    → IsRecord (take (4 + len) piece) (take len (drop 4 piece))
+    → IsRecord (take (4 + len) piece) (drop 4 (take (4 + len) piece))
 whole_in_one piece word len is top fits within =
     let four = length-take 4 piece in
     let rest = length-drop 4 piece in
@@ -118,5 +130,5 @@ whole_in_one piece word len is top fits within =
       top = ap is_last (is ∙ top) ∙ top_bit len;
       count = ap length_of (is ∙ top) ∙ other_bits len fits;
     } in
-    subst (λ (b : List ℕ). IsRecord b (take len (drop 4 piece))) (sym (take-add 4 len piece))
+    rw (drop-take 4 len piece, take-add 4 len piece)
     (one_fragment (take 4 piece) (take len (drop 4 piece)) len header (omega arith) fits)

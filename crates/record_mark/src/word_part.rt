@@ -35,7 +35,7 @@ impl WordPart {
     /// Takes bytes of `rest`, which has some, up to the word's end. Returns how many, and the part
     /// or the whole word that they make.
     #[inline(always)]
-    pub fn taken(self, rest: &[u8]) -> (usize, Word)
+    pub fn take(self, rest: &[u8]) -> (usize, Word)
         requires { 0 < length rest.now }
         ensures some { 0 < result.0 }
         ensures within { result.0 ≤ length rest.now }

@@ -1,6 +1,7 @@
 -- The container of both versions, and what of it a file tells.
 pub mod ContainerLemmas
 pub mod ContainerMachineLemmas
+pub mod InPlaceLemmas
 pub mod PositionLemmas
 pub mod KeptStreamsLemmas
 pub mod SidedChunksMachineLemmas

@@ -1,11 +1,12 @@
 -- What a container holds, as the machine has it.
-use Rattle.std.specs.Prelude.{◌≡◌, ◌≢◌, ◌⊎◌, ◌+◌, ◌-◌, ◌≤◌, ◌<◌, ℕ, Option, Some, None, List, [], length, take, drop}
+use Rattle.std.specs.Prelude.{◌≡◌, ◌≢◌, ◌⊎◌, ◌+◌, ◌-◌, ◌≤◌, ◌<◌, ℕ, Option, Some, None, Result, Ok, Err, List, [], length, take, drop}
 use Rattle.record_mark.specs.Joining.{Joining, Between, Whole, TooLong, join_next}
 use Rattle.xdr3.specs.declared.reason.Reason.TheVariants.{RecordCut, RecordTooLong}
 use Rattle.record_mark.specs.Machine.{Run, Runs, Stops, after}
 use Rattle.record_mark.specs.Taking.{Taking, IsRunning, IsWhole, body_of, joined_body, joining_of, released, unbegun}
 use Rattle.capture3.specs.declared.fault.Error.{Error}
 use Rattle.capture3.specs.declared.fault.Error.TheVariants as errors
+use Rattle.capture3.specs.declared.fault.Noted.{Noted}
 use Rattle.capture3.specs.declared.container.position.spot.Event.{Event}
 use Rattle.capture3.specs.declared.container.position.spot.Event.TheVariants.{Begin, Record, Turn, Close, Streams}
 use Rattle.capture3.specs.declared.container.Container.{Container}
@@ -17,7 +18,8 @@ use Rattle.capture3.specs.SidedChunks as sided
 use Rattle.capture3.specs.SidedChunks.{size}
 use Rattle.capture3.specs.declared.container.position.Position.{Position}
 use Rattle.capture3.specs.declared.container.position.Transition.{Transition}
-use Rattle.capture3.specs.machinery.Position.{AreEmpty, cost_of, IsBeforeMark, room_of, ShowsFault, StoredAt, StoredWith, TakesSome, unpacking_at}
+use Rattle.capture3.specs.machinery.InPlace.{IsCopied, LiesIn}
+use Rattle.capture3.specs.machinery.Position.{AreEmpty, cost_of, IsBeforeMark, room_of, ShowsFault, StoredAt, StoredWith, unpacking_at}
 use Rattle.capture3.specs.machinery.ContainerMachine.{Unpacking, Unpacked, Has, HasStreams, fault_in_record, unpack_next}
 
 -- with a record its body, and else no whole record
@@ -212,12 +214,22 @@ pub record ComesNext (old new : Container) (piece : List ℕ) (next : ℕ × Opt
   pub opened : next.1 ≢ Some Streams
   pub comes : Comes old new (take next.0 piece) next.1
   pub joiner : Leaves next.1 new.joiner.taking
+  pub lies : LiesIn new.joiner (take next.0 piece)
   pub ready : CanGoOn new.cursor (released new.joiner.taking) new
   pub room : room_in new + cost_of next.1 new.streams.kept ≤ room_in old
 
--- some bytes were taken, and what is whole with them; the position is returned, and not put yet
-pub record StepsTo (old new : Container) (rest : List ℕ) (step : Transition) : Type 0 where
-  pub taken : TakesSome rest step
-  pub reaches : Reaches old (take step.count rest) step.event step.position new
+-- some bytes were taken, and what is whole with them
+pub record StepsTo (old new : Container) (rest : List ℕ) (step : ℕ × Option Event) : Type 0 where
+  pub some : 0 < step.0
+  pub within : step.0 ≤ length rest
+  pub reaches : Reaches old (take step.0 rest) step.1 new.position new
+  pub copied : IsCopied new.joiner
   pub cursor : new.cursor ≡ old.cursor
-  pub position : new.position ≡ old.position
+
+-- the container is where a step leads, or the step's error is noted
+abbrev pub GoesBy : Result Transition Error → (old new : Container)
+    → Result (ℕ × Option Event) Noted → Error → Type 0
+GoesBy (Ok step) old new (Ok went) error = (went.0 ≡ step.count) × (went.1 ≡ step.event)
+    × (new ≡ record old { position = step.position })
+GoesBy (Err found) old new (Err noted) error = found ≡ error
+GoesBy _ old new _ error = ⊥

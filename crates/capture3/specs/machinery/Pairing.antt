@@ -18,6 +18,7 @@ use Rattle.capture3.specs.declared.container.position.spot.Event.TheVariants.{Be
 use Rattle.capture3.specs.declared.container.position.spot.Event.TheVariants as events
 use Rattle.capture3.specs.declared.container.Cursor.{Cursor}
 use Rattle.capture3.specs.Capture.{Two}
+use Rattle.capture3.specs.machinery.InPlace.{InPlaceState, LiesIn}
 use Rattle.capture3.specs.machinery.KeptStreams.{Recalls, ShowsFirst}
 use Rattle.capture3.specs.SidedChunks.{Streams}
 use Rattle.capture3.specs.declared.container.position.Position.{Position}
@@ -172,6 +173,12 @@ SpellsKind _ taking = Unit {0}
 abbrev pub SpellsLast : Option Kind → Taking → Type 0
 SpellsLast None taking = Unit {0}
 SpellsLast (Some kind) taking = SpellsKind kind taking
+
+-- The record of this message was copied, or lies in this piece; nothing is said of the other kinds.
+abbrev pub LiesLast : Option Kind → InPlaceState → List ℕ → Type 0
+LiesLast (Some (kinds.Call id)) joiner piece = LiesIn joiner piece
+LiesLast (Some (kinds.Reply id)) joiner piece = LiesIn joiner piece
+LiesLast _ joiner piece = Unit {0}
 
 -- The bytes lead to there, and the entry, if there is one, is passed to a visitor and has this
 -- number. A whole record stands until the next call.

@@ -35,7 +35,7 @@ impl Counts {
             2 => Side::Server,
             _ => return Err(file_fault(self.at, Reason::BadMark)),
         };
-        Ok(self.advanced(count, self.at + 4, Spot::before(WordOf::SideLength(side))))
+        Ok(self.after_bytes(count, self.at + 4, Spot::before(WordOf::SideLength(side))))
     }
 
     /// Returns the position after the side word 0. The next connection's word comes next in the
@@ -140,6 +140,6 @@ impl Counts {
         } else {
             Spot::SideChunk(side, left)
         };
-        self.advanced(count as usize, self.at, spot)
+        self.after_bytes(count as usize, self.at, spot)
     }
 }

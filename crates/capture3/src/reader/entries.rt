@@ -1,6 +1,6 @@
 //! The entries of a capture, read one by one.
 
-ghost use Rattle.std.specs.Prelude.{◌≡◌, ◌≢◌, ◌≤◌, ◌<◌, ◌+◌, ◌++◌, ◌∷◌, ℕ, List, [], length, vec_len, IsTrue, IsFalse, IsSome, IfErr, IfOk, IfSome, OnErr, OnOk, Err, Ok, None, Some};
+ghost use Rattle.std.specs.Prelude.{◌≡◌, ◌≢◌, ◌≤◌, ◌<◌, ◌+◌, ◌++◌, ◌∷◌, ℕ, List, [], length, slice_range, vec_len, IsTrue, IsFalse, IsSome, IfErr, IfOk, IfSome, OnErr, OnOk, Err, Ok, None, Some};
 ghost use Rattle.capture3.specs.Observed.{IsSpent, ReadGives};
 ghost use Rattle.record_mark.specs.Taking.{released};
 ghost use Rattle.capture3.specs.declared.reader.entries.ReaderStage.TheVariants as stages;
@@ -10,6 +10,7 @@ ghost use Rattle.capture3.specs.Device.{Counts};
 ghost use Rattle.capture3.specs.Entry as spec;
 ghost use Rattle.capture3.specs.Capture.{Two};
 ghost use Rattle.capture3.specs.machinery.Container.{CanGoOn};
+ghost use Rattle.capture3.specs.machinery.Pairing.{LiesLast};
 ghost use Rattle.capture3.specs.Laws.{most_bytes};
 
 use crate::device::DeviceFailed;
@@ -54,14 +55,17 @@ pub struct Entries<'r, R, S: BuildHasher + Drop> {
     // For the values of calls.
     alloc: Global,
     source: &'r mut R,
-    // The bytes from `start` to `end` are not judged yet.
+    // The bytes from `start` to `end` are not judged yet. Those from `before` to `start` were judged
+    // last, and a record may lie there that is lent.
     block: Vec<u8>,
+    before: usize,
     start: usize,
     end: usize,
     // How many bytes were judged.
     judged: u64,
     pairing: Pairing<CountedCalls<S>>,
     stage: ReaderStage,
+    ghost behind: { before ≤ start },
     ghost ordered: { start ≤ end },
     ghost within: { end ≤ vec_len block },
     ghost roomy: { 0 < vec_len block },
@@ -70,6 +74,8 @@ pub struct Entries<'r, R, S: BuildHasher + Drop> {
         pairing.container ∥₁ },
     ghost never_writes: { stage ≡ stages.Failed → pairing.error ≢ errors.Write },
     ghost unlent: { stage ≡ stages.Failed → pairing.last ≡ None },
+    ghost lies: { ∥ LiesLast pairing.last pairing.container.joiner
+        (slice_range block.items before start) ∥₁ },
 }
 
 impl<'r, R: Source, S: BuildHasher + Drop> Entries<'r, R, S> {
@@ -103,6 +109,7 @@ impl<'r, R: Source, S: BuildHasher + Drop> Entries<'r, R, S> {
             alloc,
             source,
             block,
+            before: 0,
             start: 0,
             end: 0,
             judged: 0,
@@ -236,6 +243,7 @@ impl<'r, R: Source, S: BuildHasher + Drop> Entries<'r, R, S> {
             let piece = &self.block[self.start..self.end];
             match self.pairing.next(piece, visitor) {
                 Ok(count) => {
+                    self.before = self.start;
                     self.start += count;
                     self.judged += count as u64;
                 }
@@ -295,7 +303,10 @@ impl<'r, R: Source, S: BuildHasher + Drop> Entries<'r, R, S> {
             → IfSome result (λ lent. number_lent lent ≡ number_after handed entry) }
     {
         match self.pairing.last {
-            Some(kind) => Some(self.pairing.lend(kind)),
+            Some(kind) => Some(
+                self.pairing
+                    .lend(kind, &self.block[self.before..self.start]),
+            ),
             None => None,
         }
     }
@@ -322,7 +333,8 @@ impl<'r, R: Source, S: BuildHasher + Drop> Entries<'r, R, S> {
         ensures more { IfOk result (FillsOrEnds R.observed self.new) }
 
         // What stays.
-        ensures stays { OnOk result ((self.new.pairing ≡ self.old.pairing)
+        ensures stays { OnOk result
+            ((self.new.pairing.container ≡ self.old.pairing.container)
             × (self.new.judged ≡ self.old.judged) × (self.new.stage ≡ ReaderStage.Reading)) }
 
         // Errors.
@@ -334,6 +346,9 @@ impl<'r, R: Source, S: BuildHasher + Drop> Entries<'r, R, S> {
         if !self.is_used_up() {
             return Ok(true);
         }
+        // The record of the last entry may lie in the block.
+        self.pairing.last = None;
+        self.before = 0;
         self.start = 0;
         self.end = 0;
         match read_block(self.source, &mut self.block) {
@@ -343,7 +358,6 @@ impl<'r, R: Source, S: BuildHasher + Drop> Entries<'r, R, S> {
             }
             Err(_) => {
                 self.pairing.error = Error::Read;
-                self.pairing.last = None;
                 self.stage = ReaderStage::Failed;
                 Err(Noted)
             }

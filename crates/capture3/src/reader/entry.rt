@@ -201,7 +201,7 @@ impl<'a> ReplyRef<'a> {
             (λ items. IsReply self.now.body.now (record { id = self.now.id; items = items }))
             visitor.old visitor.new) }
     {
-        match scan_reply(&self.answered(), self.body, visitor) {
+        match scan_reply(&self.its_call(), self.body, visitor) {
             Ok(_) => Ok(()),
             Err(GetError::Memory) => Err(AllocError),
             // The body was read as a message before.
@@ -210,7 +210,7 @@ impl<'a> ReplyRef<'a> {
     }
 
     /// Returns the call that it answers.
-    fn answered(&self) -> OneCall
+    fn its_call(&self) -> OneCall
         ensures id { result.call.id ≡ self.now.id }
         ensures xid { (items : List Item) → IsReply self.now.body.now
             (record { id = self.now.id; items = items }) → result.xid ≡ xid_in items }

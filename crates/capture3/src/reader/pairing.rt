@@ -4,8 +4,9 @@ ghost use Rattle.std.specs.Prelude.{is_some, ◌≡◌, ◌≢◌, ◌≤◌, �
 ghost use Rattle.record_mark.specs.Taking.{IsRunning, IsWhole, body_of, released, unbegun};
 ghost use Rattle.xdr3.specs.Item.{Item};
 ghost use Rattle.capture3.specs.machinery.Container.{CanGoOn, Leaves, room_in, TakesPiece};
+ghost use Rattle.capture3.specs.machinery.InPlace.{LiesIn};
 ghost use Rattle.capture3.specs.Entry as spec;
-ghost use Rattle.capture3.specs.machinery.Pairing.{CountsMessages, entry_cost, error_at, FailsFrom, GoesTo, HasCome, IsHeld, IsOfBytes, SpellsLast};
+ghost use Rattle.capture3.specs.machinery.Pairing.{CountsMessages, entry_cost, error_at, FailsFrom, GoesTo, HasCome, IsHeld, IsOfBytes, LiesLast, SpellsLast};
 ghost use Rattle.capture3.specs.Kept.{IsLent, kind_of};
 ghost use Rattle.capture3.specs.Numbering.{number_lent};
 ghost use Rattle.capture3.specs.machinery.Calls.{KnowsNone};
@@ -89,6 +90,8 @@ impl<C: CallTable + Drop> Pairing<C> {
             (λ count. GoesTo (Hears V.rests V.stands visitor.old visitor.new) self.new.last
             self.new.number self.new.container (C.known self.new.calls)
             (bytes ++ take count piece.now) entries) }
+        ensures lies { IfOk result
+            (λ count. LiesIn self.new.container.joiner (take count piece.now)) }
         ensures not_end { OnOk result (self.new.last ≢ Some Kind.End) }
         ensures unmoved { OnOk result (self.new.last ≡ None → visitor.new ≡ visitor.old) }
         ensures counted { OnOk result (CountsMessages self.new.last self.old.calls_taken
@@ -111,16 +114,17 @@ impl<C: CallTable + Drop> Pairing<C> {
             Ok(next) => next,
             Err(Noted) => return Err(Noted),
         };
+        let taken = &piece[..count];
         match event {
             Some(Event::Begin) => {
                 self.calls.clear();
                 self.last = Some(Kind::Begin);
             }
-            Some(Event::Record(Side::Client)) => match self.call(visitor) {
+            Some(Event::Record(Side::Client)) => match self.call(taken, visitor) {
                 Ok(()) => {}
                 Err(Noted) => return Err(Noted),
             },
-            Some(Event::Record(Side::Server)) => match self.reply(visitor) {
+            Some(Event::Record(Side::Server)) => match self.reply(taken, visitor) {
                 Ok(()) => {}
                 Err(Noted) => return Err(Noted),
             },
@@ -156,9 +160,11 @@ impl<C: CallTable + Drop> Pairing<C> {
         }
     }
 
-    /// Borrows the entry that `next` took last, which is of this kind.
-    pub(crate) fn lend(&self, kind: Kind) -> LentEntry<'_>
+    /// Borrows the entry that `next` took last, which is of this kind, with the bytes that `next`
+    /// took for it.
+    pub(crate) fn lend<'a>(&'a self, kind: Kind, piece: &'a [u8]) -> LentEntry<'a>
         requires last { self.now.last ≡ Some kind }
+        requires lies { LiesLast self.now.last self.now.container.joiner piece.now }
         ensures kind { kind_of result ≡ kind }
         ensures lent { (entry : spec.Entry) → IsHeld kind self.now.container.joiner.taking entry
             → IsLent result entry }
@@ -169,13 +175,13 @@ impl<C: CallTable + Drop> Pairing<C> {
             Kind::Call(id) => LentEntry::Call(CallRef {
                 id,
                 number: self.number,
-                body: self.container.body(),
+                body: self.container.body(piece),
             }),
             Kind::Turn => LentEntry::Turn,
             Kind::Reply(id) => LentEntry::Reply(ReplyRef {
                 id,
                 number: self.number,
-                body: self.container.body(),
+                body: self.container.body(piece),
             }),
             Kind::Close => LentEntry::Close,
             Kind::End => LentEntry::End,
@@ -192,15 +198,16 @@ impl<C: CallTable + Drop> Pairing<C> {
         self.container.end(size)
     }
 
-    /// Takes the call that is whole, which joins the calls of its connection.
-    fn call<V: MessageVisit>(&mut self, visitor: &mut V) -> Result<(), Noted>
-        requires { IsWhole self.old.container.joiner.taking }
+    /// Takes the call that is whole with this piece. It joins the calls of its connection.
+    fn call<V: MessageVisit>(&mut self, piece: &[u8], visitor: &mut V) -> Result<(), Noted>
+        requires whole { IsWhole self.old.container.joiner.taking }
+        requires lies { LiesIn self.old.container.joiner piece.now }
         ensures container { self.new.container ≡ self.old.container }
         ensures ok { OnOk result (TakesMessage C.known
             (Hears V.rests V.stands visitor.old visitor.new) Side.Client self.old self.new) }
         ensures err { OnErr result (RefusesMessage C.known Side.Client self.old self.new) }
     {
-        let call = match scan_call(self.container.body(), visitor) {
+        let call = match scan_call(self.container.body(piece), visitor) {
             Ok(call) => call,
             Err(error) => return Err(self.note(Side::Client, error)),
         };
@@ -216,15 +223,16 @@ impl<C: CallTable + Drop> Pairing<C> {
         }
     }
 
-    /// Takes the reply that is whole.
-    fn reply<V: MessageVisit>(&mut self, visitor: &mut V) -> Result<(), Noted>
-        requires { IsWhole self.old.container.joiner.taking }
+    /// Takes the reply that is whole with this piece.
+    fn reply<V: MessageVisit>(&mut self, piece: &[u8], visitor: &mut V) -> Result<(), Noted>
+        requires whole { IsWhole self.old.container.joiner.taking }
+        requires lies { LiesIn self.old.container.joiner piece.now }
         ensures container { self.new.container ≡ self.old.container }
         ensures ok { OnOk result (TakesMessage C.known
             (Hears V.rests V.stands visitor.old visitor.new) Side.Server self.old self.new) }
         ensures err { OnErr result (RefusesMessage C.known Side.Server self.old self.new) }
     {
-        match scan_reply(&self.calls, self.container.body(), visitor) {
+        match scan_reply(&self.calls, self.container.body(piece), visitor) {
             Ok(call) => {
                 self.number = call.number;
                 self.replies_taken = self.replies_taken.saturating_add(1);

@@ -40,9 +40,10 @@ pub fn parse(alloc: Global, bytes: &[u8]) -> Result<Vec<Entry>, Error>
     while taken < bytes.len() || pairing.is_recalling() {
         match pairing.next(&bytes[taken..], &mut Silent) {
             Ok(count) => {
+                let piece = &bytes[taken..taken + count];
                 taken += count;
                 if let Some(kind) = pairing.last {
-                    let entry = pairing.lend(kind).keep(alloc)?;
+                    let entry = pairing.lend(kind, piece).keep(alloc)?;
                     entries.push(entry)?;
                 }
             }

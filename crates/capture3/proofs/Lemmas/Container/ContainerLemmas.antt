@@ -1,9 +1,12 @@
 -- Containers, as the machine has them: chunks' bytes at once, and step after step.
+use Rattle.std.proofs.Common.{OnErr}
 use Rattle.std.proofs.Math.Seq.{take-add, take-take}
 use Rattle.capture3.proofs.Common.{RecordTooLong, Joining, Joined, Between, Whole, TooLong, join_next, landed, Next, Runs, Stops, after, Run, Taking, IsRunning, joining_of, body_of, Error, Side, Event, Streams, with_more, Spot, Version, after-append, counted_runs, counted_stops, Transition, CanGoOn, Container, Reaches, unpacking_in, unpacking_of, Arrives, ShowsError, Leaves, WordPart, bytes_so_far, fault_in_record, ◌≡◌, subst, [], false, is_some, take_all, ℕ, ◌+◌, ◌-◌, ◌≤◌, ◌≢◌, Cursor, Option, Some, None, Result, Ok, Err, IfOk, IfErr, List, length, take, drop, refl, sym, ap, ◌∙◌, arith, length-take, length-drop, ◌++◌, Record, Unpacking, Has, in_chunk, awaiting_side, Mixed, unpacking_with, record_joined, unpack_next, IsBeforeMark, unpacking_at, cost_of, IsOfContainer, StepsFrom, Moves, MovesFrom, ShowsFault, StoredAt, StoredWith, version_of}
 use Rattle.record_mark.specs.Taking.{released}
 use Rattle.capture3.specs.declared.container.position.spot.Event.TheVariants as events
-use Rattle.capture3.specs.machinery.Container.{Comes, ComesNext, Recalled, room_in, StepsTo}
+use Rattle.capture3.specs.machinery.Container.{Comes, ComesNext, GoesBy, Recalled, room_in, StepsTo}
+use Rattle.capture3.specs.declared.fault.Noted.{Noted}
+use Rattle.capture3.specs.machinery.InPlace.{IsCopied}
 use Rattle.capture3.specs.machinery.Position.{TakesSome}
 use Rattle.capture3.specs.machinery.PositionState.{standing_at}
 use Rattle.capture3.specs.declared.container.position.Position.TheInside.{Inside}
@@ -15,6 +18,7 @@ use Rattle.capture3.specs.declared.container.position.spot.Spot.TheVariants.{Chu
 use Rattle.capture3.specs.declared.container.position.spot.Spot.TheVariants as spots
 use Rattle.capture3.specs.declared.container.position.spot.WordOf.TheVariants as words
 use Rattle.capture3.specs.declared.container.position.spot.Version as declared
+use Rattle.capture3.proofs.Lemmas.Container.InPlaceLemmas.{copied_lies}
 use Rattle.capture3.proofs.Lemmas.Container.PositionLemmas.{at_spot}
 
 -- ---- one step of the container alone
@@ -85,14 +89,33 @@ module _ (c : Container) (inside : Inside) (spot : Spot) (bytes : List ℕ)
       step_shows c bytes r ready
       (rw (← (shown_at inside c.position spot shown is)) moves)
 
--- what a step leaves, of its parts
-pub steps_to : (old new : Container) (rest : List ℕ) (r : Result Transition Error)
-    → IfOk r (TakesSome rest)
-    → IfOk r (λ t. Reaches old (take t.count rest) t.event t.position new)
-    → new.cursor ≡ old.cursor → new.position ≡ old.position → IfOk r (StepsTo old new rest)
-steps_to old new rest (Ok t) taken reaches cursor position =
-    record { taken = taken; reaches = reaches; cursor = cursor; position = position }
-steps_to old new rest (Err error) taken reaches cursor position = tt
+-- what a step leaves that is gone
+pub steps_to : (old mid new : Container) (rest : List ℕ) (step : Result Transition Error)
+    (result : Result (ℕ × Option Event) Noted) (error : Error) → GoesBy step mid new result error
+    → IfOk step (TakesSome rest)
+    → IfOk step (λ t. Reaches old (take t.count rest) t.event t.position mid)
+    → IsCopied mid.joiner → mid.cursor ≡ old.cursor
+    → IfOk result (StepsTo old new rest)
+steps_to old mid new rest (Ok t) (Ok r) error (count, event, goes) taken reaches copied cursor =
+    record {
+      some = rw count taken.some;
+      within = rw count taken.within;
+      reaches = rw (goes, count, event) reaches;
+      copied = rw goes copied;
+      cursor = rw goes cursor;
+    }
+steps_to old mid new rest (Ok t) (Err noted) error goes taken reaches copied cursor = tt
+steps_to old mid new rest (Err found) (Ok r) error goes taken reaches copied cursor = absurd goes
+steps_to old mid new rest (Err found) (Err noted) error goes taken reaches copied cursor = tt
+
+pub step_stops : (from : Unpacking) (mid new : Container) (rest : List ℕ)
+    (step : Result Transition Error) (result : Result (ℕ × Option Event) Noted) (error : Error)
+    → GoesBy step mid new result error → IfErr step (ShowsError from rest)
+    → OnErr result (ShowsError from rest error)
+step_stops from mid new rest step (Ok r) error goes shows = tt
+step_stops from mid new rest (Ok t) (Err noted) error goes shows = absurd goes
+step_stops from mid new rest (Err found) (Err noted) error goes shows =
+    subst (ShowsError from rest) goes shows
 
 -- ---- what comes next of streams that were kept
 
@@ -108,10 +131,10 @@ pub recalled_next : (old new : Container) (piece : List ℕ) (n : ℕ) (cursor :
     (p : Position) (streams : Streams) (event : Event)
     → Recalled cursor p new.position streams new.streams.kept new.joiner.taking new.cursor event
     → n ≤ length piece → (old.cursor ≢ None → n ≡ 0) → Comes old new (take n piece) (Some event)
-    → Leaves (Some event) new.joiner.taking
+    → Leaves (Some event) new.joiner.taking → IsCopied new.joiner
     → CanGoOn new.cursor (released new.joiner.taking) new → room_in new + 1 ≤ room_in old
     → ComesNext old new piece (n, Some event)
-recalled_next old new piece n cursor p streams event r within none comes joiner ready room =
+recalled_next old new piece n cursor p streams event r within none comes joiner copied ready room =
     let one =
     recalled_one cursor p new.position streams new.streams.kept new.joiner.taking new.cursor event r
     in
@@ -125,6 +148,7 @@ recalled_next old new piece n cursor p streams event r within none comes joiner 
       opened = one.0;
       comes = comes;
       joiner = joiner;
+      lies = copied_lies new.joiner (take n piece) copied;
       ready = ready;
       room = omega (arith, room, one.1);
     }

@@ -1,6 +1,6 @@
 -- What a reader of entries makes of its histories, step by step.
 use Rattle.std.proofs.Common.{◌≡◌, ◌⊎◌, inl, inr, ℕ, ◌+◌, ◌-◌, ◌≤◌, ◌<◌, Option, Some, None, Ok, Err, IsSome, List, [], ◌∷◌, ◌++◌, length, take, drop, slice_range, refl, sym, ap, subst, ◌∙◌, append_assoc, append-nil, length-append, arith, take-append-drop, length-take, length-drop, vec_len}
-use Rattle.capture3.proofs.Common.{CanGoOn, common_steps, Pairing, CountedCalls, known_of, open_xids, ∥∥₁_elim, CaptureCut, AreBytes, Runs, Taking, Led, IsRunning, released, Known, Kind, Error, Spot, Container, Cursor, Two, max_connections, Entry, End, FirstFault, IsClean, begins, most_bytes, Parsing, parsed, emitted, AreFirstReached, AreWhole, Reached, parsing_at, Streams, file_fault, IsWellFormed, props, Observed, Gave, IsSpent, AreStored, IsReady, room_in, unpacking_of}
+use Rattle.capture3.proofs.Common.{CanGoOn, common_steps, known_of, open_xids, ∥∥₁_elim, CaptureCut, AreBytes, Runs, Taking, Led, IsRunning, released, Known, Kind, Error, Spot, Container, Cursor, Two, max_connections, Entry, End, FirstFault, IsClean, begins, most_bytes, Parsing, parsed, emitted, AreFirstReached, AreWhole, Reached, parsing_at, Streams, file_fault, IsWellFormed, props, Observed, Gave, IsSpent, AreStored, IsReady, room_in, unpacking_of}
 use Rattle.std.proofs.lemmas.List.{drop-take}
 use Rattle.capture3.specs.Progress.{AreCounted}
 use Rattle.capture3.specs.machinery.Pairing.{CountsMessages}
@@ -261,13 +261,6 @@ module _ {R S H : Type 0} {builds : BuildHasher.Ghosts S H} {hashes : Hasher.Gho
       → last_of e ≡ None → HoldsLast e handed
   none_last e handed none front entry ends kind is = absurd (cc)
 
-  same_last : (old new : Entries R S H builds hashes) (handed : List Entry)
-      → new.pairing ≡ old.pairing → HoldsLast old handed → HoldsLast new handed
-  same_last old new handed same h front entry ends kind is =
-      rw same
-      (h front entry ends kind
-      (ap (λ (c : Pairing (CountedCalls S H builds hashes)). c.last) (sym same) ∙ is))
-
   now_last : (e : Entries R S H builds hashes) (handed : List Entry) (came : Kind) (entry : Entry)
       → last_of e ≡ Some came → IsHeld came e.pairing.container.joiner.taking entry
       → HasNumber e.pairing.number (open_xids [] (handed ++ entry ∷ [])) entry
@@ -372,15 +365,22 @@ module _ {R S H : Type 0} {builds : BuildHasher.Ghosts S H} {hashes : Hasher.Gho
       HasCome e.pairing.container (known_of e.pairing.calls) b handed)
       (sym (all_judged e given handed empty r)) r.machine)
 
+  -- what stands between two entries, but for the last one
+  abbrev KeepsPairing : (old new : Entries R S H builds hashes) → Type 0
+  KeepsPairing old new = (new.pairing.container ≡ old.pairing.container)
+      × (new.pairing.calls ≡ old.pairing.calls)
+      × (new.pairing.calls_taken ≡ old.pairing.calls_taken)
+      × (new.pairing.replies_taken ≡ old.pairing.replies_taken)
+
   pub has_read : (old new : Entries R S H builds hashes) (given more : List ℕ) (handed : List Entry)
       → old.stage ≡ Reading → new.stage ≡ Reading → old.start ≡ old.end
-      → old.pairing.container.cursor ≡ None → new.pairing ≡ old.pairing
+      → old.pairing.container.cursor ≡ None → KeepsPairing old new → last_of new ≡ None
       → new.judged ≡ old.judged → unjudged new ≡ more → AreBytes more
       → length more ≤ vec_len new.block
       → Gave (observed old.source.now) (observed new.source.now) more
       → StandsFor observed old given handed
       → HasRead observed old new given handed
-  has_read old new given more handed is goes empty none same count block are within consumed
+  has_read old new given more handed is goes empty none same last count block are within consumed
       s =
       let r = reading_of old given handed is s in
       let at = machine_at old given handed empty none r in
@@ -397,19 +397,18 @@ module _ {R S H : Type 0} {builds : BuildHasher.Ghosts S H} {hashes : Hasher.Gho
             (omega (
               arith,
               room_before old given handed is s,
-              ap (λ (c : Pairing (CountedCalls S H builds hashes)). room_in c.container) same,
+              ap room_in same.0,
             ))
             (omega (arith, length-append given more, bounded, within))
             (λ of. omega
             (arith, length-append given more, most_of_one given more s.bytes clean of, within))
-            (same_last old new handed same s.holds)
+            (none_last new handed last)
             (record {
               judged = r.judged;
               split = split;
               counted = count ∙ r.counted;
-              machine =
-                  rw same r.machine;
-              messages = rw same r.messages;
+              machine = rw (same.0, same.1) r.machine;
+              messages = (same.2 ∙ r.messages.0, same.3 ∙ r.messages.1);
             });
       }
 

@@ -2,7 +2,6 @@
 use Rattle.capture3.proofs.Common.{◌≡◌, inl, inr, ap, subst, sym, refl, ℕ, Option, None, Some, Result, Ok, Err, IfSome, IsSome, List, [], ◌∷◌, ◌++◌, Error, Entry, Kind, Item}
 use Rattle.std.specs.declared.hash.BuildHasher as BuildHasher
 use Rattle.std.specs.declared.hash.Hasher as Hasher
-use Rattle.capture3.specs.declared.fault.Error.TheVariants as errors
 use Rattle.capture3.specs.declared.fault.Error.TheVariants.{Memory}
 use Rattle.capture3.specs.declared.reader.entries.Entries.{Entries}
 use Rattle.capture3.specs.declared.reader.entry.LentEntry.{LentEntry}

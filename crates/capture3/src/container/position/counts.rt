@@ -1,6 +1,6 @@
 //! How much of a capture was taken, and the steps from one part to the next.
 
-ghost use Rattle.std.specs.Prelude.{◌≡◌, ◌≤◌, ◌<◌, ◌+◌, ◌-◌, ◌^◌, length, take, Err, IfErr, IfOk, None, Some, if◌then◌else◌};
+ghost use Rattle.std.specs.Prelude.{◌≡◌, ◌≤◌, ◌<◌, ◌+◌, ◌-◌, ◌^◌, false, length, take, Err, IfErr, IfOk, None, Some, if◌then◌else◌};
 ghost use Rattle.capture3.specs.machinery.Position.{AreEmpty, IsOpenBody, IsSoundBefore, KeepsStreams, landed_at, Lands, MovesFrom, StepsFrom, StepsOver, StoredAt, StoredBefore, TakesRoom, TakesSome, unpacking_at, version_of, with_chunk, word_read};
 ghost use Rattle.capture3.specs.machinery.PositionState.{IsSoundPosition, standing_at};
 ghost use Rattle.capture3.specs.machinery.Container.{Leads, ShowsError, unpacking_of};
@@ -11,12 +11,13 @@ ghost use Rattle.capture3.specs.machinery.ContainerMachine as spec;
 ghost use Rattle.record_mark.specs.Joining.{Between, Joining};
 ghost use Rattle.record_mark.specs.Machine.{Stops};
 
+use crate::container::in_place::InPlaceJoiner;
 use crate::container::position::spot::{Event, Spot, Version, WordOf};
 use crate::container::position::{
     MAGIC, MAX_BYTES, MAX_CONNECTIONS, Position, Transition, file_fault,
 };
 use crate::fault::{Error, Fault, Place, Side};
-use record_mark::{JoinError, Joiner, Step, Word, WordPart};
+use record_mark::{JoinError, Step, Word, WordPart};
 use xdr3::Reason;
 
 /// How much of a capture was taken. The steps from one part to the next are methods of this type,
@@ -57,7 +58,7 @@ impl Counts {
             Spot::Magic
         };
         let at = self.at + count as u64;
-        Ok(self.advanced(count, at, spot))
+        Ok(self.after_bytes(count, at, spot))
     }
 
     /// Takes the magic's last byte.
@@ -86,7 +87,7 @@ impl Counts {
             → unpacking_at result.position streams joining ≡ spec.before_mark
             (version_of version) (self.at + 1) self.total self.connections self.records joining }
     {
-        self.advanced(1, self.at + 1, Spot::before(WordOf::Mark(version)))
+        self.after_bytes(1, self.at + 1, Spot::before(WordOf::Mark(version)))
     }
 
     /// Takes bytes of a word. `so_far` is how many bytes of the body have come if a record is open.
@@ -105,9 +106,9 @@ impl Counts {
         ensures machine { (joining : Joining) → IsOpenBody so_far joining
             → MovesFrom (standing_at self (Spot.Word word part)) joining rest.now result }
     {
-        let (count, taken) = part.taken(rest);
+        let (count, taken) = part.take(rest);
         match taken {
-            Word::Part(part) => Ok(self.advanced(count, self.at, Spot::Word(word, part))),
+            Word::Part(part) => Ok(self.after_bytes(count, self.at, Spot::Word(word, part))),
             Word::Whole(n) => self.after_word(word, n, so_far, count),
         }
     }
@@ -146,7 +147,7 @@ impl Counts {
             self.records joining n) streams joining result }
     {
         match n {
-            0 => Ok(self.advanced(count, self.at + 4, Spot::Ended(version))),
+            0 => Ok(self.after_bytes(count, self.at + 4, Spot::Ended(version))),
             1 if self.connections < MAX_CONNECTIONS => Ok(self.after_begin(version, count)),
             1 => Err(file_fault(self.at, Reason::TooManyConnections)),
             _ => Err(file_fault(self.at, Reason::BadMark)),
@@ -311,7 +312,7 @@ impl Counts {
             Spot::Chunk(side, left)
         };
         if !is_record {
-            return self.advanced(count as usize, self.at, spot);
+            return self.after_bytes(count as usize, self.at, spot);
         }
         Transition {
             count: count as usize,
@@ -330,7 +331,7 @@ impl Counts {
     #[inline(always)]
     pub(crate) fn join(
         self,
-        joiner: &mut Joiner,
+        joiner: &mut InPlaceJoiner,
         side: Side,
         left: u32,
         rest: &[u8],
@@ -346,6 +347,7 @@ impl Counts {
             → IfOk result (λ t. Leads (standing_at self (Spot.Chunk side left)) t.position
             (joiner.old.taking, joiner.new.taking) (streams, streams) (take t.count rest.now)
             t.event) }
+        ensures copied { joiner.new.lies ≡ false }
 
         // Errors.
         ensures fault { (streams : kept.Streams)
@@ -399,7 +401,7 @@ impl Counts {
 
     /// Returns the position after this many bytes, with this part open. Nothing is whole.
     #[inline(always)]
-    pub(crate) fn advanced(self, count: usize, at: u64, spot: Spot) -> Transition
+    pub(crate) fn after_bytes(self, count: usize, at: u64, spot: Spot) -> Transition
         requires { IsSoundPosition (standing_at (record self { at = at }) spot) }
         ensures { result ≡ record {
           count = count;

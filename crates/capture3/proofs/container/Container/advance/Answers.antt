@@ -1,11 +1,10 @@
 use Rattle.capture3.proofs.Common.{sym, ◌∙◌, arith, common_steps}
 use Rattle.capture3.proofs.Lemmas.Container.ContainerLemmas.{arrives_more, fails_more, goes_on_more, room_on, still_running, stored_on}
-use Rattle.capture3.proofs.Lemmas.Reader.PassedOn.{error_is}
 use Rattle.capture3.proofs.container.Container.advance.Goals as goal
 
 pub returns-then-is_some-clause-reaches : goal.returns-then-is_some-clause-reaches
 returns-then-is_some-clause-reaches c =
-    let reached = c.in_ok-step.ensures.ok.reaches in
+    let reached = c.in-Ok.ensures.ok.reaches in
     record {
       machine =
           arrives_more _ c.args.piece.now _ _ c.loop-taken.self.position _
@@ -17,26 +16,25 @@ returns-then-is_some-clause-reaches c =
 
 pub loop-taken-preserved : goal.loop-taken-preserved
 loop-taken-preserved c =
-    let reached = c.in_ok-step.ensures.ok.reaches in
+    let reached = c.in-Ok.ensures.ok.reaches in
     let none = sym c.is_some.ensures ∙ c.if-is_some.false in
     record {
-      within = grind (arith, common_steps, c.in_ok-step.ensures.ok.taken);
+      within = grind (arith, common_steps, c.in-Ok.ensures.ok.within);
       running =
-          still_running c.in_ok-step.step.event c.step.new.self.joiner.taking none reached.joiner;
+          still_running c.in-Ok.event c.step.new.self.joiner.taking none reached.joiner;
       machine =
           goes_on_more _ c.args.piece.now _ _ c.loop-taken.self.position _
-          c.loop-taken.self.joiner.taking _ _ _ c.in_ok-step.step.event none
+          c.loop-taken.self.joiner.taking _ _ _ c.in-Ok.event none
           c.loop-taken.invariant.machine reached.machine;
       room =
-          room_on c.in_ok-step.step.event _ _ _ none reached.room c.loop-taken.invariant.room;
-      cursor = c.in_ok-step.ensures.ok.cursor ∙ c.loop-taken.invariant.cursor;
+          room_on c.in-Ok.event _ _ _ none reached.room c.loop-taken.invariant.room;
+      cursor = c.in-Ok.ensures.ok.cursor ∙ c.loop-taken.invariant.cursor;
       stored =
-          stored_on c.in_ok-step.step.event _ c.step.new.self.streams.kept none reached.stored;
+          stored_on c.in-Ok.event _ c.step.new.self.streams.kept none reached.stored;
     }
 
-pub returns-in_err-step-clause-fault : goal.returns-in_err-step-clause-fault
-returns-in_err-step-clause-fault c =
-    rw (error_is _ _ c.from_residual.ensures)
-    (fails_more _ c.args.piece.now _ c.loop-taken.self.position c.loop-taken.self.joiner.taking _
-    c.in_err-step.field-0.0 c.loop-taken.invariant.within c.loop-taken.invariant.machine
-    c.in_err-step.ensures.fault)
+pub returns-in-Err-clause-fault : goal.returns-in-Err-clause-fault
+returns-in-Err-clause-fault c =
+    fails_more _ c.args.piece.now _ c.loop-taken.self.position c.loop-taken.self.joiner.taking _
+    c.step.new.error c.loop-taken.invariant.within c.loop-taken.invariant.machine
+    c.in-Err.ensures.fault

@@ -8,7 +8,7 @@ returns-in-Ok-clause-ok c =
     recalled_next c.args.self.now c.recall.new.self c.args.piece.now 0 c.in-Some.cursor _ _
     c.in-Ok.event recalled.recalled (omega arith) (λ some. refl)
     (NextKept c.in-Some.cursor c.in-Ok.event c.in-Some.is refl refl recalled.recalled)
-    recalled.joiner recalled.ready recalled.room
+    recalled.joiner recalled.copied recalled.ready recalled.room
 
 pub returns-in-Err-clause-fault : goal.returns-in-Err-clause-fault
 returns-in-Err-clause-fault c = InNextKept c.in-Some.cursor c.in-Some.is c.in-Err.ensures.fault
@@ -23,7 +23,7 @@ returns-in-Ok-first_recalled-clause-ok c =
     c.in-Ok-first_recalled.event recalled.recalled came.ensures.taken.within
     (λ some. absurd (some c.in-None.is))
     (FirstKept mid c.in-Ok-first_recalled.event c.in-None.is reaches.machine reaches.stored refl
-    recalled.recalled) recalled.joiner recalled.ready
+    recalled.recalled) recalled.joiner recalled.copied recalled.ready
     (omega (arith, recalled.room, reaches.room))
 
 pub returns-in-Err-first_recalled-clause-fault : goal.returns-in-Err-first_recalled-clause-fault

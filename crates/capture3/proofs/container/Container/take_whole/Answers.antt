@@ -23,7 +23,7 @@ returns-clause-reaches c =
           (standing_at position.counts (Chunk c.in-Chunk.side c.in-Chunk.left))
           c.take_chunk-taken.result.position streams c.in-Chunk.side c.in-Chunk.left
           c.in_ok-count.count c.min.result self.joiner.taking c.take_whole.new.self.taking
-          c.args.piece.now refl pushed.within.1 most (pushed.stops c.requires.ready.ready)
+          c.args.piece.now refl pushed.within.1 most pushed.stops
           (chunk.machine streams);
       joiner = pushed.whole;
       stored = rw chunk.event at (chunk.stored streams stored);

@@ -14,7 +14,8 @@ returns-in-Ok-clause-has_read g c given handed s =
     ∙ ap (take c.in-Ok.count) (with_items_is c.args.self.now.block bytes same) in
     let used_up = c.if-not-is_used_up.ensures.used_up refl in
     has_read g.R.Source.observed c.args.self.now _ given (take c.in-Ok.count bytes) handed
-    c.requires.reading c.requires.reading used_up.0 used_up.1 refl refl block
+    c.requires.reading c.requires.reading used_up.0 used_up.1 (refl, refl, refl, refl)
+    refl refl block
     (split_bytes bytes (take c.in-Ok.count bytes) (drop c.in-Ok.count bytes)
     (sym (take-append-drop c.in-Ok.count bytes)) c.read_block.ensures.fit).0
     (omega (arith, length-take c.in-Ok.count bytes, c.in-Ok.ensures.within, same))

@@ -5,6 +5,8 @@ use Rattle.capture3.proofs.Lemmas.Reader.EntriesLemmas.{answers_again, answers_e
 use Rattle.capture3.proofs.Lemmas.Reader.WholeFiles.{not_some}
 use Rattle.capture3.specs.machinery.Container.{room_in}
 use Rattle.capture3.specs.machinery.EntriesHistory.{entries_left_in}
+use Rattle.std.proofs.Common.{◌-◌}
+use Rattle.capture3.proofs.Lemmas.Reader.Lending.{lies_in_block}
 use Rattle.capture3.proofs.reader.entries.Entries.step.Goals as goal
 
 pub returns-in-Ok-clause-answers : goal.returns-in-Ok-clause-answers
@@ -114,7 +116,7 @@ loop-self-preserved g c =
     let none = not_some _ _ c.is_some.ensures c.if-is_some.false in
     let same : entries_left self ≡ entries_left c.loop-self.self =
     ap₂ entries_left_in (filled.stays.2 ∙ sym invariant.reading)
-    (ap (λ p. p.container) filled.stays.0) in
+    filled.stays.0 in
     let here : entries_left self ≡ room_in self.pairing.container + 1 =
     ap (λ stage. entries_left_in stage self.pairing.container) filled.stays.2 in
     let left : entries_left_in self.stage c.next.new.self.container
@@ -148,3 +150,11 @@ returns-in-Failed-clause-answers g c given handed s =
 pub returns-in-Over-clause-answers : goal.returns-in-Over-clause-answers
 returns-in-Over-clause-answers g c given handed s =
     answers_over g.R.Source.observed _ c.args.self.now given handed c.in-Over.is s
+
+pub invariant_of-self-clause-lies : goal.invariant_of-self-clause-lies
+invariant_of-self-clause-lies g c =
+    let self = c.refill.new.self in
+    ∣ lies_in_block c.next.new.self.last c.next.new.self.container.joiner self.block.items
+    self.start c.in-Ok-next.count (self.end - self.start)
+    (rw c.deref.ensures.value at c.in-Ok-next.ensures.taken.within)
+    (rw c.deref.ensures.value at c.in-Ok-next.ensures.lies) ∣₁

@@ -11,12 +11,12 @@ its_procedure false call = refl
 
 pub unreachable-requires : goal.unreachable-requires
 unreachable-requires g c =
-    let call = c.answered.result.call in
-    let calls = asking c.answered.result.xid call.id ∷ [] in
+    let call = c.its_call.result.call in
+    let calls = asking c.its_call.result.xid call.id ∷ [] in
     ∥∥₁_elim c.args.self.now.spells ⊥_prop
     (λ s.
-    reply_never_stops c.args.self.now.id c.args.self.now.body.now c.answered.result.xid call.id
-    c.in-Err-Stop.field-0-0 c.answered.ensures.id c.answered.ensures.xid s
+    reply_never_stops c.args.self.now.id c.args.self.now.body.now c.its_call.result.xid call.id
+    c.in-Err-Stop.field-0-0 c.its_call.ensures.id c.its_call.ensures.xid s
     (c.in-Err-Stop.ensures.err calls
-    (λ xid small. its_procedure (nat_eq c.answered.result.xid xid) call)
+    (λ xid small. its_procedure (nat_eq c.its_call.result.xid xid) call)
     c.in-Err-Stop.field-0-0 c.in-Err-Stop.field-0-is))

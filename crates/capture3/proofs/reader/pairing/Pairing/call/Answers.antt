@@ -13,7 +13,7 @@ returns-in-Ok-Some-clause-ok g c =
           λ bytes all m.
           call_goes g.V.MessageVisit.rests g.V.Visit.stands _ _ c.args.self.now.container
           (g.C.KnownCalls.known c.args.self.now.calls) _ bytes all c.in-Ok.call
-          c.in-Ok-Some.number c.requires m (rw c.body.ensures.body at c.in-Ok.ensures.ok)
+          c.in-Ok-Some.number c.requires.whole m (rw c.body.ensures.body at c.in-Ok.ensures.ok)
           (omega arith) admitted.0 (admitted.1 refl);
     }
 

@@ -11,7 +11,7 @@ returns-in-Ok-clause-ok g c =
       machine =
           λ bytes all m.
           reply_goes g.V.MessageVisit.rests g.V.Visit.stands _ _ c.args.self.now.container
-          (g.C.KnownCalls.known c.args.self.now.calls) bytes all c.in-Ok.call c.requires m
+          (g.C.KnownCalls.known c.args.self.now.calls) bytes all c.in-Ok.call c.requires.whole m
           (rw c.body.ensures.body at c.in-Ok.ensures.ok);
     }
 

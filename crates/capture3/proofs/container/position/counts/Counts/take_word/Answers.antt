@@ -7,17 +7,17 @@ use Rattle.capture3.proofs.container.position.counts.Counts.take_word.Goals as g
 
 pub returns-in-Part-clause-machine : goal.returns-in-Part-clause-machine
 returns-in-Part-clause-machine c joining body streams stored =
-    rw c.advanced.ensures (word_part c.args.self streams joining c.args.word c.args.part
-    c.in-Part.part c.args.rest.now _ (rw c.in-Part.is at c.taken-count.ensures.word))
+    rw c.after_bytes.ensures (word_part c.args.self streams joining c.args.word c.args.part
+    c.in-Part.part c.args.rest.now _ (rw c.in-Part.is at c.take-count.ensures.word))
 
 pub returns-in-Whole-clause-machine : goal.returns-in-Whole-clause-machine
 returns-in-Whole-clause-machine c joining body streams stored =
     lands_moves
     (unpacking_at (standing_at c.args.self (Word c.args.word c.args.part)) streams joining)
-    c.args.rest.now streams joining c.taken-count.result.0
-    (word_read c.args.word c.args.self streams joining c.in-Whole.n) _ c.taken-count.ensures.within
+    c.args.rest.now streams joining c.take-count.result.0
+    (word_read c.args.word c.args.self streams joining c.in-Whole.n) _ c.take-count.ensures.within
     (word_whole c.args.self streams joining c.args.word c.args.part c.args.rest.now _ c.in-Whole.n
-    (rw c.in-Whole.is at c.taken-count.ensures.word))
+    (rw c.in-Whole.is at c.take-count.ensures.word))
     c.after_word.ensures.count (c.after_word.ensures.machine streams joining stored body)
 
 pub returns-in-Whole-clause-steps : goal.returns-in-Whole-clause-steps

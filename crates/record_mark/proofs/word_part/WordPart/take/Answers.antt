@@ -1,5 +1,5 @@
 use Rattle.record_mark.proofs.Common.{◌≡◌, ◌++◌, take, sym, ap, ◌∙◌, arith, length-append, length-take, common_steps, to_be_bytes, w32, number}
-use Rattle.record_mark.proofs.word_part.WordPart.taken.Goals as goal
+use Rattle.record_mark.proofs.word_part.WordPart.take.Goals as goal
 
 pub returns-then-rest-ge4-clause-word : goal.returns-then-rest-ge4-clause-word
 unfolding number
