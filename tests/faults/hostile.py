@@ -216,6 +216,17 @@ def memory_of_one_connection(place: Place) -> None:
             place.want(' '.join(words), place.limited('-v %d' % limit, *words), (0, line, ''))
 
 
+def memory_of_a_long_line(place: Place) -> None:
+    """The text of a line is given back when its stream ends: one of 4 MB, and then 120,000 calls of another connection, take 9.5 MB at
+    most beside what the smallest capture takes. Both at once would take 11."""
+    long = [call(1, NFS, 3, 3, dirop(b'', bytes(1_000_000)))]
+    others = [call(number * 0x9e3779b1 % 2 ** 32, NFS, 3, 0) for number in range(120_000)]
+    place.write('a', messages.capture((long, []), (others, [])))
+    answer = place.limited('-v %d' % (place.least_memory() + 9_500), 'show', 'a')
+    place.want('show', answer == place.run('show', 'a'), True)
+    place.want('lines', (answer[0], answer[1].count('\n')), (0, 120_001))
+
+
 def streams_without_an_end(place: Place) -> None:
     """A connection of version 2 whose side word 0 does not come takes what memory there is, and no more."""
     place.write('good', GOOD)
@@ -959,8 +970,8 @@ TESTS: list[Test] = [
     handles_chosen_against_known_words,
     linear(xids, 1_000_000), linear(handles, 1_000_000), linear(empty_fragments, 2_000_000), linear(single_bytes, 2_000_000),
     linear_in_version_2(in_turns, 500_000), linear_in_version_2(bytes_in_turns, 2_000_000),
-    memory_that_is_refused, memory_that_is_refused_to_version_2, memory_of_one_connection, streams_without_an_end,
-    lengths_with_nothing_after_them, disks_that_are_full_in_the_middle, readers_that_go_away,
+    memory_that_is_refused, memory_that_is_refused_to_version_2, memory_of_one_connection, memory_of_a_long_line,
+    streams_without_an_end, lengths_with_nothing_after_them, disks_that_are_full_in_the_middle, readers_that_go_away,
     standard_error_that_nobody_reads, standard_files_that_are_closed, signals_in_the_middle,
     names_that_are_taken_in_the_middle, files_that_get_the_name_in_the_middle, runs_at_once, pipes_that_do_not_wait,
     names_of_the_most_bytes, folders_that_no_path_names,

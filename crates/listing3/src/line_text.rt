@@ -22,7 +22,10 @@ use std::marker::Model;
 use xdr3::room::{make_room, put_bytes};
 use xdr3::{PlainField, Visit};
 
-/// The text of a line or of a part of it: what was appended since `new` or `forget`. A call that
+/// How many bytes of memory a text keeps at most when it is released.
+const KEPT: usize = 65_536;
+
+/// The text of a line or of a part of it: what was appended since it was new or emptied. A call that
 /// fails appends nothing. As a visitor it appends ` name=value` for each item.
 #[derive(Drop)]
 pub(crate) struct LineText {
@@ -62,6 +65,18 @@ impl LineText {
         ensures { self.new ≡ [] }
     {
         self.end = 0;
+    }
+
+    /// Drops the text, and the memory too if that is large.
+    #[cold]
+    pub(crate) fn release(&mut self)
+        ensures { self.new ≡ [] }
+    {
+        self.end = 0;
+        if self.room.len() > KEPT {
+            self.room.clear();
+            self.room.shrink_to_fit();
+        }
     }
 
     /// If something else failed, drops the text after its first `before` bytes.

@@ -188,7 +188,8 @@ impl<H: Gathering + Drop> LineWriter<H> {
         }
     }
 
-    /// Writes the line of an entry that is a message with this body, and whose items were visited.
+    /// Writes the line of an entry that is a message with this body, and whose items were visited. Any
+    /// other entry begins or ends streams, and has the memory of a long line given back.
     fn write_entry<W: Sink>(
         &mut self,
         progress: Progress,
@@ -210,7 +211,10 @@ impl<H: Gathering + Drop> LineWriter<H> {
         match kind {
             Kind::Call(id) => self.write_line(progress, sink, "client", id, body),
             Kind::Reply(id) => self.write_line(progress, sink, "server", id, body),
-            Kind::Begin | Kind::Turn | Kind::Close | Kind::End => Ok(()),
+            Kind::Begin | Kind::Turn | Kind::Close | Kind::End => {
+                self.items.text.release();
+                Ok(())
+            }
         }
     }
 }
