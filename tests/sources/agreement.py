@@ -207,8 +207,8 @@ def believed(tools: Tools, *words: str) -> Answer:
 def what_is_believed(tools: Tools) -> None:
     """docs/PROOFS.md has the counts of dev/believed, which prints each definition once."""
     rows = re.findall(r'^\| `(\w+::\w+)` \| \d+ \| [\d,]+ \| \d+ \|$', (TOP / 'docs/PROOFS.md').read_text(), re.M)
-    tools.want('calls', rows, ['nfs3canon::answered', 'canon3::check', 'canon3::canon', 'canon3::same', 'listing3::show', 'masking3::mask',
-                               'packing3::Packing', 'nfs3mask::answered'])
+    tools.want('calls', rows, ['nfs3canon::answer_line', 'canon3::check', 'canon3::canon', 'canon3::same', 'listing3::show', 'masking3::mask',
+                               'packing3::Packing', 'nfs3mask::answer_line'])
     counted = believed(tools, '--count', *rows)
     tools.want('counts', (counted[0], counted[1] in (TOP / 'docs/PROOFS.md').read_text(), counted[2]), (0, True, ''))
     for name, row in zip(rows, counted[1].splitlines()):

@@ -36,5 +36,6 @@ numbered hs vs xs (End ∷ es) = End ∷ numbered hs vs xs es
 abbrev pub canonical : List Entry → List Entry
 canonical es = numbered (handles es) (verifiers es) [] es
 
+-- the bytes of the canonical form
 abbrev pub canonical_bytes : List Entry → List ℕ
 canonical_bytes es = bytes_of (canonical es)

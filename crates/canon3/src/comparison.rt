@@ -286,7 +286,7 @@ impl<S: BuildHasher + Drop> Comparison<S> {
         match second.visit(&mut self.second) {
             Ok(Some(other)) => Ok(self.compare(before, entry, other)?.map(Finding::Parted)),
             Ok(None) => Ok(Some(Finding::Ended)),
-            Err(error) => refused(error),
+            Err(error) => finding_at_error(error),
         }
     }
 
@@ -358,7 +358,7 @@ fn place_after(before: Progress, kind: Kind, other: Kind) -> Place
 
 /// Returns what an error of the second capture leads to: a refusal waits until the first capture is
 /// read to its end.
-fn refused(error: Error) -> Result<Option<Finding>, SameError>
+fn finding_at_error(error: Error) -> Result<Option<Finding>, SameError>
     ensures { result ≡ met_second error }
 {
     match error {

@@ -1,6 +1,7 @@
 -- What the words of a command line ask for.
 use Rattle.std.specs.Prelude.{◌≡◌, ◌≢◌, ◌==◌, Bool, true, false, ◌<◌, ◌%◌, ◌⊎◌, List, [], ◌∷◌, ℕ, zero, suc, Contains, codes, if◌then◌else◌, length, map, string_bytes}
 use Rattle.std.specs.Str.{bytes_eq}
+use Rattle.clap.specs.Words.{App, takes}
 use Rattle.line3.specs.declared.asked.Job.{Job}
 use Rattle.line3.specs.declared.asked.Job.TheVariants as jobs
 use Rattle.line3.specs.declared.asked.LineFault.{LineFault}
@@ -110,3 +111,7 @@ abbrev pub IsUsage : LineFault → Type 0
 IsUsage (Usage _) = Unit
 IsUsage Memory = Unit
 IsUsage _ = ⊥
+
+-- Clap refuses the line: a usage, or that memory ran out, and no usage of a line that it takes.
+abbrev pub IsRefusedBy : App → List (List ℕ) → LineFault → Type 0
+IsRefusedBy app words fault = IsUsage fault × (takes app words ≡ true → fault ≡ Memory)

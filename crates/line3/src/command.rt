@@ -1,11 +1,12 @@
 //! The command line.
 
 ghost use Rattle.std.specs.Prelude.{◌≡◌, ◌≤◌, ◌∷◌, ℕ, List, [], IfErr, IfOk, codes, length, map, string_bytes};
-ghost use Rattle.clap.specs.Words.{kind_of};
-ghost use Rattle.line3.specs.Asked.{AreRefused, Asks, IsLine, IsUsage, without_end};
+ghost use Rattle.clap.specs.Words.{app_of, kind_of};
+ghost use Rattle.line3.specs.Asked.{AreRefused, Asks, IsLine, IsRefusedBy, IsUsage, without_end};
 
 use crate::asked::{Job, LineFault};
 use crate::grammar::command;
+use clap::Command;
 use clap::error::ErrorKind;
 use std::alloc::{AllocError, Global};
 
@@ -15,25 +16,31 @@ const NO_FORM: &str = "error: the line has none of the forms of the program\n";
 
 /// Returns the words of a command line, the program's name first, without the `--` that ends its options. A
 /// line that clap does not take, and a call for help, is answered by the text that clap writes.
-pub fn taken(alloc: Global, words: Vec<String>) -> Result<Vec<String>, LineFault>
+pub fn take_words(alloc: Global, words: Vec<String>) -> Result<Vec<String>, LineFault>
     ensures taken { IfOk result (λ said.
         map string_bytes said.items ≡ without_end 2 (map string_bytes words.items)) }
     ensures refused { IfErr result (AreRefused (map string_bytes words.items)) }
-{
-    match tried(alloc, words.as_slice()) {
-        Ok(()) => Ok(without_end(words, 2)),
-        Err(fault) => Err(fault),
-    }
-}
-
-/// Returns an error if clap does not take the line.
-fn tried(alloc: Global, words: &[String]) -> Result<(), LineFault>
-    ensures { IfErr result (AreRefused (map string_bytes words.now)) }
 {
     let command = match command(alloc) {
         Ok(command) => command,
         Err(_) => return Err(LineFault::Memory),
     };
+    match try_words(alloc, command, words.as_slice()) {
+        Ok(()) => Ok(without_end(words, 2)),
+        Err(fault) => Err(fault),
+    }
+}
+
+/// Returns an error if clap does not take these words as a line of `command`: the text that clap writes, or
+/// that memory ran out.
+pub fn try_words<'a>(
+    alloc: Global,
+    command: Command<'a>,
+    words: &'a [String],
+) -> Result<(), LineFault>
+    ensures refused { IfErr result
+        (IsRefusedBy (app_of command.entry) (map string_bytes words.entry.now)) }
+{
     match command.try_get_matches_from(words) {
         Ok(_matches) => Ok(()),
         Err(error) => Err(line_fault_of(alloc, error)),
@@ -55,7 +62,7 @@ pub fn without_end(mut words: Vec<String>, first: usize) -> Vec<String>
 }
 
 /// Returns the fault of a line that clap does not take: the text that clap writes, or that memory ran out.
-pub fn line_fault_of(alloc: Global, error: clap::Error) -> LineFault
+fn line_fault_of(alloc: Global, error: clap::Error) -> LineFault
     ensures usage { IsUsage result }
     ensures memory { kind_of error ≡ ErrorKind.OutOfMemory → result ≡ LineFault.Memory }
 {
@@ -69,7 +76,8 @@ pub fn line_fault_of(alloc: Global, error: clap::Error) -> LineFault
     }
 }
 
-/// Returns the job that the words of a line ask for, the program's name first. They are what `taken` returns.
+/// Returns the job that the words of a line ask for, the program's name first. They are what `take_words`
+/// returns.
 pub fn job<'a>(alloc: Global, words: &'a [String]) -> Result<Job<'a>, LineFault>
     ensures asked { (line : List (List ℕ)) → map string_bytes words.now ≡ without_end 2 line
         → IfOk result (Asks line) }

@@ -7,5 +7,5 @@ mod command;
 mod grammar;
 
 pub use asked::{Job, LineFault};
-pub use command::{job, line_fault_of, taken, usage, without_end};
+pub use command::{job, take_words, try_words, usage, without_end};
 pub use grammar::file;

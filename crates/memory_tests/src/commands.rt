@@ -3,7 +3,7 @@
 use crate::samples::{COMMIT, MIXED, hashers};
 use canon3::{MemSink, Sink, Summary, Verdict, canon, check, same};
 use capture3::{Error, MemSource};
-use line3::{Job, LineFault, job, taken};
+use line3::{Job, LineFault, job, take_words};
 use listing3::show;
 use packing3::Packing;
 use std::alloc::Global;
@@ -89,7 +89,7 @@ fn a_canonical_form_of_version_2_is_written(rt: HostRuntime) {
     );
 }
 
-fn listed(rt: &HostRuntime, capture: &[u8], mut sink: MemSink) -> Run {
+fn list_capture(rt: &HostRuntime, capture: &[u8], mut sink: MemSink) -> Run {
     let mut source = MemSource::new(capture, 50, 0);
     (show(rt.alloc(), hashers(), &mut source, &mut sink), sink)
 }
@@ -104,8 +104,8 @@ fn a_listing_is_written(rt: HostRuntime) {
     };
     agree(
         &rt,
-        &listed(&rt, &COMMIT, first),
-        &listed(&rt, &COMMIT, second),
+        &list_capture(&rt, &COMMIT, first),
+        &list_capture(&rt, &COMMIT, second),
     );
 }
 
@@ -119,8 +119,8 @@ fn a_listing_of_version_2_is_written(rt: HostRuntime) {
     };
     agree(
         &rt,
-        &listed(&rt, &MIXED, first),
-        &listed(&rt, &COMMIT, second),
+        &list_capture(&rt, &MIXED, first),
+        &list_capture(&rt, &COMMIT, second),
     );
 }
 
@@ -181,7 +181,7 @@ fn a_line_is_read(rt: HostRuntime) -> Result<(), Fail> {
             return Ok(());
         }
     }
-    let said = match taken(rt.alloc(), words) {
+    let said = match take_words(rt.alloc(), words) {
         Ok(said) => said,
         Err(fault) => {
             assert!(rt; matches!(fault, LineFault::Memory));

@@ -26,7 +26,7 @@ fn hashers() -> MaskHashers<BuildHasherDefault<FoldHasher>> {
     }
 }
 
-fn masked(rt: &HostRuntime, mut sink: MemSink) -> Run {
+fn mask_readdir(rt: &HostRuntime, mut sink: MemSink) -> Run {
     let mut source = MemSource::new(&READDIR, 50, 0);
     let came = mask(rt.alloc(), hashers(), Ways::usual(), &mut source, &mut sink);
     (came, sink)
@@ -40,5 +40,5 @@ fn a_masked_form_is_written(rt: HostRuntime) {
     ) else {
         return;
     };
-    agree(&rt, &masked(&rt, first), &masked(&rt, second));
+    agree(&rt, &mask_readdir(&rt, first), &mask_readdir(&rt, second));
 }

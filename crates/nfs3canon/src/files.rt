@@ -9,7 +9,7 @@ ghost use Rattle.nfs3canon.specs.Files.{ComparesFiles, CountsFile};
 
 use canon3::{SameError, Which, check, same};
 use capture3::{Error, Hashers};
-use program3::{Files, OpenError, Outcome, Readings, uncounted, unopened};
+use program3::{Files, OpenError, Outcome, Readings, counting_failure, open_failure};
 use std::alloc::Global;
 use std::hash::BuildHasher;
 
@@ -32,7 +32,7 @@ pub fn run_check<F: Files, S: BuildHasher + Drop>(
             (Outcome::Counted(came), Readings::OfOne(opened.close()))
         }
         Err(error) => {
-            let outcome = uncounted(alloc, name, OpenError::from(error));
+            let outcome = counting_failure(alloc, name, OpenError::from(error));
             (outcome, Readings::Nothing)
         }
     }
@@ -56,14 +56,14 @@ pub fn run_same<F: Files, S: BuildHasher + Drop>(
     let mut opened = match files.open(first) {
         Ok(opened) => opened,
         Err(error) => {
-            let outcome = uncompared(alloc, Which::First, first, OpenError::from(error));
+            let outcome = comparison_failure(alloc, Which::First, first, OpenError::from(error));
             return (outcome, Readings::Nothing);
         }
     };
     let mut other = match files.open(second) {
         Ok(other) => other,
         Err(error) => {
-            let outcome = uncompared(alloc, Which::Second, second, OpenError::from(error));
+            let outcome = comparison_failure(alloc, Which::Second, second, OpenError::from(error));
             return (outcome, Readings::Nothing);
         }
     };
@@ -81,7 +81,7 @@ pub fn run_same<F: Files, S: BuildHasher + Drop>(
 }
 
 /// If memory ran out for the name of one of two captures, that one is told.
-fn uncompared(alloc: Global, which: Which, name: &str, error: OpenError) -> Outcome
+fn comparison_failure(alloc: Global, which: Which, name: &str, error: OpenError) -> Outcome
     ensures { ReportsUnopened name.now error
         (Compared (Err (record { which = which; error = errors.Memory }))) result }
 {
@@ -89,5 +89,5 @@ fn uncompared(alloc: Global, which: Which, name: &str, error: OpenError) -> Outc
         which,
         error: Error::Memory,
     };
-    unopened(alloc, name, error, Outcome::Compared(Err(out_of_memory)))
+    open_failure(alloc, name, error, Outcome::Compared(Err(out_of_memory)))
 }

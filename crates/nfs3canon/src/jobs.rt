@@ -14,7 +14,7 @@ use crate::listing::run_show;
 use crate::packing::run_pack;
 use canon3::{SameError, Which};
 use capture3::{Error, Hashers};
-use line3::{Job, LineFault, job, taken};
+use line3::{Job, LineFault, job, take_words};
 use program3::{Ended, Files, Outcome, Readings, run_rewriting};
 use std::alloc::Global;
 use std::hash::BuildHasher;
@@ -37,7 +37,7 @@ pub struct Answer<W: Drop> {
 }
 
 /// Does what the words of a command line ask for. `hashers` is `None` if the system gave no random bytes.
-pub fn answered<F: Files, S: BuildHasher + Drop, W: Write + Drop>(
+pub fn answer_line<F: Files, S: BuildHasher + Drop, W: Write + Drop>(
     alloc: Global,
     hashers: Option<JobHashers<S>>,
     files: &mut F,
@@ -54,33 +54,29 @@ pub fn answered<F: Files, S: BuildHasher + Drop, W: Write + Drop>(
       stdout = record { contents = W.contents; before = stdout; after = result.stdout };
     }) (map string_bytes words.items) result.ended.outcome }
 {
-    let said = match taken(alloc, words) {
+    let said = match take_words(alloc, words) {
         Ok(said) => said,
-        Err(fault) => return refused(stdout, fault),
+        Err(fault) => return refusal(stdout, fault),
     };
     match job(alloc, said.as_slice()) {
-        Ok(job) => done(alloc, hashers, files, stdout, job),
-        Err(fault) => refused(stdout, fault),
+        Ok(job) => answer_job(alloc, hashers, files, stdout, job),
+        Err(fault) => refusal(stdout, fault),
     }
 }
 
 /// The answer of a command line that is refused.
-fn refused<W: Drop>(stdout: W, fault: LineFault) -> Answer<W>
+fn refusal<W: Drop>(stdout: W, fault: LineFault) -> Answer<W>
     ensures { result ≡ record {
       ended = record { outcome = outcomes.Line fault; is_aside = false };
       stdout = Some stdout;
       readings = Nothing;
     } }
 {
-    quiet(
-        Ended::printing(Outcome::Line(fault)),
-        stdout,
-        Readings::Nothing,
-    )
+    quiet(Ended::of(Outcome::Line(fault)), stdout, Readings::Nothing)
 }
 
 /// Does a job, with hashers if the system gave random bytes.
-fn done<F: Files, S: BuildHasher + Drop, W: Write + Drop>(
+fn answer_job<F: Files, S: BuildHasher + Drop, W: Write + Drop>(
     alloc: Global,
     hashers: Option<JobHashers<S>>,
     files: &mut F,
@@ -100,14 +96,14 @@ fn done<F: Files, S: BuildHasher + Drop, W: Write + Drop>(
 {
     let hashers = match hashers {
         Some(hashers) => hashers,
-        None => return done_without(alloc, files, stdout, job),
+        None => return answer_without_hashers(alloc, files, stdout, job),
     };
     match job {
         Job::Check(name) => {
             let (outcome, readings) = run_check(alloc, hashers.first, files, name);
-            quiet(Ended::printing(outcome), stdout, readings)
+            quiet(Ended::of(outcome), stdout, readings)
         }
-        Job::Show(name) => shown(alloc, hashers.first, files, stdout, name),
+        Job::Show(name) => answer_show(alloc, hashers.first, files, stdout, name),
         Job::Canon(input, output) => {
             let form = Canonical {
                 hashers: hashers.first,
@@ -124,7 +120,7 @@ fn done<F: Files, S: BuildHasher + Drop, W: Write + Drop>(
                 first,
                 second,
             );
-            quiet(Ended::printing(outcome), stdout, readings)
+            quiet(Ended::of(outcome), stdout, readings)
         }
         Job::Pack(output, streams) => {
             let (ended, readings) = run_pack(alloc, files, output, streams);
@@ -134,7 +130,7 @@ fn done<F: Files, S: BuildHasher + Drop, W: Write + Drop>(
 }
 
 /// Does a job without hashers. A command that hashes reads nothing then.
-fn done_without<F: Files, W: Write + Drop>(
+fn answer_without_hashers<F: Files, W: Write + Drop>(
     alloc: Global,
     files: &mut F,
     stdout: W,
@@ -164,7 +160,7 @@ fn done_without<F: Files, W: Write + Drop>(
             return quiet(ended, stdout, readings);
         }
     };
-    quiet(Ended::printing(outcome), stdout, Readings::Nothing)
+    quiet(Ended::of(outcome), stdout, Readings::Nothing)
 }
 
 /// The answer of a job that wrote nothing to standard output.
@@ -178,7 +174,7 @@ fn quiet<W: Drop>(ended: Ended, stdout: W, readings: Readings) -> Answer<W>
     }
 }
 
-fn shown<F: Files, S: BuildHasher + Drop, W: Write + Drop>(
+fn answer_show<F: Files, S: BuildHasher + Drop, W: Write + Drop>(
     alloc: Global,
     hashers: Hashers<S>,
     files: &F,
@@ -194,7 +190,7 @@ fn shown<F: Files, S: BuildHasher + Drop, W: Write + Drop>(
 {
     let listed = run_show(alloc, hashers, files, name, stdout);
     Answer {
-        ended: Ended::printing(listed.outcome),
+        ended: Ended::of(listed.outcome),
         stdout: listed.output,
         readings: listed.readings,
     }

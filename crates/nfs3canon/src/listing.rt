@@ -9,7 +9,7 @@ ghost use Rattle.nfs3canon.specs.Files.{ListsFile};
 
 use crate::forms::Listing;
 use capture3::{Error, Hashers};
-use program3::{Files, OpenError, Outcome, Readings, form_written, unopened};
+use program3::{Files, OpenError, Outcome, Readings, open_failure, write_form};
 use std::alloc::Global;
 use std::hash::BuildHasher;
 use std::io::Write;
@@ -42,13 +42,13 @@ pub fn run_show<F: Files, W: Write + Drop, S: BuildHasher + Drop>(
         Ok(opened) => opened,
         Err(error) => {
             return Listed {
-                outcome: unlisted(alloc, name, OpenError::from(error)),
+                outcome: listing_failure(alloc, name, OpenError::from(error)),
                 output: Some(output),
                 readings: Readings::Nothing,
             };
         }
     };
-    match form_written(alloc, Listing { hashers }, &mut opened.source, output) {
+    match write_form(alloc, Listing { hashers }, &mut opened.source, output) {
         Ok((came, output)) => Listed {
             outcome: Outcome::Listed(came),
             output: Some(output),
@@ -62,8 +62,8 @@ pub fn run_show<F: Files, W: Write + Drop, S: BuildHasher + Drop>(
     }
 }
 
-fn unlisted(alloc: Global, name: &str, error: OpenError) -> Outcome
+fn listing_failure(alloc: Global, name: &str, error: OpenError) -> Outcome
     ensures { ReportsUnopened name.now error (outcomes.Listed (Err errors.Memory)) result }
 {
-    unopened(alloc, name, error, Outcome::Listed(Err(Error::Memory)))
+    open_failure(alloc, name, error, Outcome::Listed(Err(Error::Memory)))
 }

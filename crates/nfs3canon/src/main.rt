@@ -17,7 +17,7 @@ ghost use Rattle.program3.specs.Systems.{finished_of};
 ghost use Rattle.nfs3canon.specs.Answers.{AnswersLine};
 
 use canon3::Traced;
-use jobs::{Answer, JobHashers, answered};
+use jobs::{Answer, JobHashers, answer_line};
 use program3::{Ended, Outcome, SecretHasher, System, hashers, print_ended, words};
 use std::io;
 use std::io::Stdout;
@@ -54,12 +54,12 @@ fn run<'a>(rt: &'a HostRuntime, words: Vec<String>) -> (Answer<Traced<Stdout>>, 
 {
     let mut files = System::new(rt);
     let stdout = Traced::new(rt.stdout());
-    let answer = answered(rt.alloc(), job_hashers(rt).ok(), &mut files, stdout, words);
+    let answer = answer_line(rt.alloc(), job_hashers(rt).ok(), &mut files, stdout, words);
     (answer, files)
 }
 
 /// Closes the files. Without standard output one of them may have its number, and would get the line.
-fn files_closed<W: Drop>(ran: (Answer<W>, System<'_>)) -> Ended {
+fn close_files<W: Drop>(ran: (Answer<W>, System<'_>)) -> Ended {
     let (answer, _files) = ran;
     answer.ended
 }
@@ -67,7 +67,7 @@ fn files_closed<W: Drop>(ran: (Answer<W>, System<'_>)) -> Ended {
 fn main(rt: HostRuntime) -> ExitCode {
     let words = match words(&rt) {
         Ok(words) => words,
-        Err(fault) => return print_ended(&rt, &Ended::printing(Outcome::Line(fault))),
+        Err(fault) => return print_ended(&rt, &Ended::of(Outcome::Line(fault))),
     };
-    print_ended(&rt, &files_closed(run(&rt, words)))
+    print_ended(&rt, &close_files(run(&rt, words)))
 }

@@ -8,7 +8,7 @@ ghost use Rattle.nfs3canon.specs.machinery.Packing.{StopsPacking, WritesStreams}
 use canon3::ToWrite;
 use capture3::Error;
 use packing3::Packing;
-use program3::{Closed, Ended, Files, Made, Outcome, Readings, named};
+use program3::{Closed, Ended, Files, Made, Outcome, Readings, finish_file};
 use std::alloc::Global;
 
 /// Packs the streams of these names, pair by pair, into a capture of another name. The output is made first,
@@ -26,17 +26,17 @@ pub fn run_pack<F: Files>(
     }) output.now (map string_bytes streams.now) result.0.outcome }
 {
     let mut closed = Vec::new(alloc);
-    let ended = match files.made_apart(output, streams) {
+    let ended = match files.make_apart(output, streams) {
         Ok(made) => Ended {
             is_aside: files.is_standard_output(&made.place),
-            outcome: packing_kept(alloc, files, made, streams, &mut closed),
+            outcome: keep_packing(alloc, files, made, streams, &mut closed),
         },
-        Err(outcome) => Ended::printing(outcome),
+        Err(outcome) => Ended::of(outcome),
     };
     (ended, Readings::OfMany(closed))
 }
 
-fn packing_kept<F: Files>(
+fn keep_packing<F: Files>(
     alloc: Global,
     files: &mut F,
     made: Made<F::Output, F::Place>,
@@ -52,8 +52,8 @@ fn packing_kept<F: Files>(
         }) (F.name_of made.place) (map string_bytes streams.now) result }
 {
     let Made { file, place } = made;
-    match streams_packed(alloc, files, file, &place, streams, closed) {
-        Ok(file) => Outcome::Packed(named(files, file, place)),
+    match pack_streams(alloc, files, file, &place, streams, closed) {
+        Ok(file) => Outcome::Packed(finish_file(files, file, place)),
         Err(outcome) => {
             files.remove(place);
             outcome
@@ -61,7 +61,7 @@ fn packing_kept<F: Files>(
     }
 }
 
-fn streams_packed<F: Files>(
+fn pack_streams<F: Files>(
     alloc: Global,
     files: &F,
     file: F::Output,
@@ -81,8 +81,8 @@ fn streams_packed<F: Files>(
         Err((error, _)) => return Err(Outcome::Packed(Err(error))),
     };
     for index in 0..streams.len() / 2 {
-        let mut client = files.opened_apart(place, streams[2 * index].as_str())?;
-        let mut server = files.opened_apart(place, streams[2 * index + 1].as_str())?;
+        let mut client = files.open_apart(place, streams[2 * index].as_str())?;
+        let mut server = files.open_apart(place, streams[2 * index + 1].as_str())?;
         let added = packing.add(&mut client.source, &mut server.source);
         if closed.push(client.close()).is_err() || closed.push(server.close()).is_err() {
             return Err(Outcome::Packed(Err(Error::Memory)));

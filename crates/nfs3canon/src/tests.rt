@@ -3,12 +3,12 @@
 ghost use Rattle.std.specs.Prelude.{◌≡◌, ◌∷◌, List, [], IfErr, IfOk};
 
 use crate::forms::Canonical;
-use crate::jobs::{JobHashers, answered};
+use crate::jobs::{JobHashers, answer_line};
 use crate::{files, listing, packing};
 use canon3::{MessageCounts, Summary, Verdict};
 use capture3::{Error, Fault, Place};
 use program3::{
-    Files, Made, OpenError, Opened, Outcome, hashers, run_rewriting, uncounted, unopened,
+    Files, Made, OpenError, Opened, Outcome, counting_failure, hashers, open_failure, run_rewriting,
 };
 use std::alloc::Global;
 use std::io;
@@ -73,16 +73,16 @@ impl<'a> Files for MemFiles<'a> {
         Ok(Opened::new(name, self.bytes))
     }
 
-    fn both_opened(
+    fn open_both(
         &self,
         input: &str,
         output: &str,
     ) -> Result<(Opened<&'a [u8]>, Made<Vec<u8>, String>), Outcome> {
         if self.failing == Some(Call::Open) {
-            return Err(uncounted(self.alloc, input, OpenError::Unopened));
+            return Err(counting_failure(self.alloc, input, OpenError::Unopened));
         }
         if self.failing == Some(Call::Make) {
-            return Err(uncounted(self.alloc, output, OpenError::Unopened));
+            return Err(counting_failure(self.alloc, output, OpenError::Unopened));
         }
         match String::from_str(self.alloc, output) {
             Ok(place) => Ok((
@@ -96,14 +96,14 @@ impl<'a> Files for MemFiles<'a> {
         }
     }
 
-    fn made_apart(
+    fn make_apart(
         &self,
         output: &str,
         _streams: &[String],
     ) -> Result<Made<Vec<u8>, String>, Outcome> {
         let out_of_memory = Outcome::Packed(Err(Error::Memory));
         if self.failing == Some(Call::Make) {
-            return Err(unopened(self.alloc, output, OpenError::Unopened, out_of_memory));
+            return Err(open_failure(self.alloc, output, OpenError::Unopened, out_of_memory));
         }
         match String::from_str(self.alloc, output) {
             Ok(place) => Ok(Made {
@@ -114,10 +114,10 @@ impl<'a> Files for MemFiles<'a> {
         }
     }
 
-    fn opened_apart(&self, _place: &String, stream: &str) -> Result<Opened<&'a [u8]>, Outcome> {
+    fn open_apart(&self, _place: &String, stream: &str) -> Result<Opened<&'a [u8]>, Outcome> {
         if self.failing == Some(Call::Open) {
             let out_of_memory = Outcome::Packed(Err(Error::Memory));
-            return Err(unopened(self.alloc, stream, OpenError::Unopened, out_of_memory));
+            return Err(open_failure(self.alloc, stream, OpenError::Unopened, out_of_memory));
         }
         Ok(Opened::new(stream, self.bytes))
     }
@@ -184,7 +184,7 @@ fn canonical(rt: &HostRuntime, files: &mut MemFiles<'_>) -> Result<Outcome, Fail
 }
 
 // What came of it if a call fails, and how many files are finished.
-fn failing(rt: &HostRuntime, call: Call) -> Result<(Outcome, usize), Fail> {
+fn failure_at(rt: &HostRuntime, call: Call) -> Result<(Outcome, usize), Fail> {
     let mut files = MemFiles::new(rt.alloc(), &NULL, Some(call));
     let outcome = canonical(rt, &mut files)?;
     Ok((outcome, files.finished.len()))
@@ -206,14 +206,14 @@ fn a_form_is_finished_under_the_name_of_the_output(rt: HostRuntime) -> Result<()
 
 #[test]
 fn no_file_is_finished_after_a_failure(rt: HostRuntime) -> Result<(), Fail> {
-    let (outcome, finished) = failing(&rt, Call::Open)?;
+    let (outcome, finished) = failure_at(&rt, Call::Open)?;
     assert!(rt; matches!(&outcome, Outcome::Unopened(name) if name.as_str() == "in"));
     assert_eq!(rt; finished, 0);
-    let (outcome, finished) = failing(&rt, Call::Make)?;
+    let (outcome, finished) = failure_at(&rt, Call::Make)?;
     assert!(rt; matches!(&outcome, Outcome::Unopened(name) if name.as_str() == "out"));
     assert_eq!(rt; finished, 0);
     for call in [Call::MakeSafe, Call::GiveName] {
-        let (outcome, finished) = failing(&rt, call)?;
+        let (outcome, finished) = failure_at(&rt, call)?;
         assert!(rt; matches!(&outcome, Outcome::Counted(Err(Error::Write))));
         assert_eq!(rt; finished, 0);
     }
@@ -256,10 +256,8 @@ fn a_line_is_answered(rt: HostRuntime) -> Result<(), Fail> {
         first: hashers(&rt)?,
         second: hashers(&rt)?,
     });
-    let answered = answered(rt.alloc(), hashers, &mut files, lines, words);
-    assert!(rt;
-        matches!(&answered.ended.outcome, Outcome::Counted(Ok(counts)) if *counts == COUNTS)
-    );
+    let answer = answer_line(rt.alloc(), hashers, &mut files, lines, words);
+    assert!(rt; matches!(&answer.ended.outcome, Outcome::Counted(Ok(counts)) if *counts == COUNTS));
     Ok(())
 }
 
@@ -298,7 +296,7 @@ fn a_file_that_is_not_opened_has_no_lines(rt: HostRuntime) -> Result<(), Fail> {
 }
 
 // The streams of one connection are twice the same bytes.
-fn packed(rt: &HostRuntime, files: &mut MemFiles<'_>) -> Result<Outcome, Fail> {
+fn pack(rt: &HostRuntime, files: &mut MemFiles<'_>) -> Result<Outcome, Fail> {
     let streams = [
         String::from_str(rt.alloc(), "client")?,
         String::from_str(rt.alloc(), "server")?,
@@ -310,7 +308,7 @@ fn packed(rt: &HostRuntime, files: &mut MemFiles<'_>) -> Result<Outcome, Fail> {
 #[test]
 fn streams_are_packed(rt: HostRuntime) -> Result<(), Fail> {
     let mut files = MemFiles::new(rt.alloc(), b"abc", None);
-    let outcome = packed(&rt, &mut files)?;
+    let outcome = pack(&rt, &mut files)?;
     assert!(rt; matches!(&outcome, Outcome::Packed(Ok(()))));
     assert_eq!(rt; files.finished.len(), 1);
     assert_eq!(rt; files.finished[0].place.as_str(), "out");
@@ -323,7 +321,7 @@ fn streams_are_packed(rt: HostRuntime) -> Result<(), Fail> {
 fn nothing_is_packed_after_a_failure(rt: HostRuntime) -> Result<(), Fail> {
     for call in [Call::Open, Call::Make, Call::MakeSafe, Call::GiveName] {
         let mut files = MemFiles::new(rt.alloc(), b"abc", Some(call));
-        let outcome = packed(&rt, &mut files)?;
+        let outcome = pack(&rt, &mut files)?;
         assert!(rt; !matches!(&outcome, Outcome::Packed(Ok(()))));
         assert!(rt; files.finished.is_empty());
     }

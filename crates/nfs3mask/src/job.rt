@@ -12,7 +12,7 @@ ghost use Rattle.nfs3mask.specs.declared.line.asked.MaskJob.{MaskJob};
 
 use crate::line::asked::MaskJob;
 use crate::line::change::ways_text;
-use crate::line::command::{mask_job, taken};
+use crate::line::command::{mask_job, take_words};
 use canon3::{Sink, Summary};
 use capture3::{Error, Source};
 use line3::LineFault;
@@ -56,7 +56,7 @@ pub struct MaskAnswer {
 }
 
 /// Does what the words of a command line ask for. `hashers` is `None` if the system gave no random bytes.
-pub fn answered<F: Files, S: BuildHasher + Copy + Drop>(
+pub fn answer_line<F: Files, S: BuildHasher + Copy + Drop>(
     alloc: Global,
     hashers: Option<MaskHashers<S>>,
     files: &mut F,
@@ -68,14 +68,14 @@ pub fn answered<F: Files, S: BuildHasher + Copy + Drop>(
       finished = (F.finished files.old, F.finished files.new);
     }) (is_some hashers) (map string_bytes words.items) result.ended.outcome }
 {
-    match taken(alloc, words) {
-        Ok(said) => said_answered(alloc, hashers, files, said.as_slice()),
-        Err(fault) => refused(fault),
+    match take_words(alloc, words) {
+        Ok(said) => answer_said(alloc, hashers, files, said.as_slice()),
+        Err(fault) => refusal(fault),
     }
 }
 
 /// Does what the words of a line without a `--` ask for.
-fn said_answered<F: Files, S: BuildHasher + Copy + Drop>(
+fn answer_said<F: Files, S: BuildHasher + Copy + Drop>(
     alloc: Global,
     hashers: Option<MaskHashers<S>>,
     files: &mut F,
@@ -89,23 +89,23 @@ fn said_answered<F: Files, S: BuildHasher + Copy + Drop>(
         }) (is_some hashers) line result.ended.outcome }
 {
     match mask_job(alloc, words) {
-        Ok(job) => done(alloc, hashers, files, job),
-        Err(fault) => refused(fault),
+        Ok(job) => answer_job(alloc, hashers, files, job),
+        Err(fault) => refusal(fault),
     }
 }
 
 /// The answer of a command line that is refused.
-fn refused(fault: LineFault) -> MaskAnswer
+fn refusal(fault: LineFault) -> MaskAnswer
     ensures outcome { result.ended.outcome ≡ outcomes.Line fault }
     ensures readings { result.readings ≡ Nothing }
 {
     MaskAnswer {
-        ended: Ended::printing(Outcome::Line(fault)),
+        ended: Ended::of(Outcome::Line(fault)),
         readings: Readings::Nothing,
     }
 }
 
-fn done<F: Files, S: BuildHasher + Copy + Drop>(
+fn answer_job<F: Files, S: BuildHasher + Copy + Drop>(
     alloc: Global,
     hashers: Option<MaskHashers<S>>,
     files: &mut F,
@@ -120,7 +120,7 @@ fn done<F: Files, S: BuildHasher + Copy + Drop>(
     let (ended, readings) = match hashers {
         Some(hashers) => run_mask(alloc, hashers, files, job),
         None => (
-            Ended::printing(Outcome::Counted(Err(Error::Read))),
+            Ended::of(Outcome::Counted(Err(Error::Read))),
             Readings::Nothing,
         ),
     };
@@ -143,7 +143,7 @@ fn run_mask<F: Files, S: BuildHasher + Copy + Drop>(
 {
     let ways = job.ways;
     let Ok(words) = ways_text(alloc, ways) else {
-        let ended = Ended::printing(Outcome::Counted(Err(Error::Memory)));
+        let ended = Ended::of(Outcome::Counted(Err(Error::Memory)));
         return (ended, Readings::Nothing);
     };
     let form = MaskedForm { hashers, ways };

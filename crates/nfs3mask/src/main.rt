@@ -11,7 +11,7 @@ ghost use Rattle.program3.specs.Systems.{finished_of};
 ghost use Rattle.nfs3mask.specs.Masking.{AnswersMaskLine};
 
 use hashers::mask_hashers;
-use job::{MaskAnswer, answered};
+use job::{MaskAnswer, answer_line};
 use program3::{Ended, Outcome, System, print_ended, words};
 use std::process::ExitCode;
 
@@ -24,12 +24,12 @@ fn run<'a>(rt: &'a HostRuntime, words: Vec<String>) -> (MaskAnswer, System<'a>)
     }) has_keys (map string_bytes words.items) result.0.ended.outcome }
 {
     let mut files = System::new(rt);
-    let answer = answered(rt.alloc(), mask_hashers(rt).ok(), &mut files, words);
+    let answer = answer_line(rt.alloc(), mask_hashers(rt).ok(), &mut files, words);
     (answer, files)
 }
 
 /// Closes the files. Without standard output one of them may have its number, and would get the line.
-fn files_closed(ran: (MaskAnswer, System<'_>)) -> Ended {
+fn close_files(ran: (MaskAnswer, System<'_>)) -> Ended {
     let (answer, _files) = ran;
     answer.ended
 }
@@ -37,7 +37,7 @@ fn files_closed(ran: (MaskAnswer, System<'_>)) -> Ended {
 fn main(rt: HostRuntime) -> ExitCode {
     let words = match words(&rt) {
         Ok(words) => words,
-        Err(fault) => return print_ended(&rt, &Ended::printing(Outcome::Line(fault))),
+        Err(fault) => return print_ended(&rt, &Ended::of(Outcome::Line(fault))),
     };
-    print_ended(&rt, &files_closed(run(&rt, words)))
+    print_ended(&rt, &close_files(run(&rt, words)))
 }

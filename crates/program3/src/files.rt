@@ -56,7 +56,7 @@ pub trait Files {
     /// - `Outcome::Unopened` with the name of the file that cannot be opened or made.
     /// - `Outcome::Line(LineFault::SameName)` if the output is the input, also under another name.
     /// - `Outcome::Counted(Err(Error::Memory))` if memory ran out.
-    fn both_opened(
+    fn open_both(
         &self,
         input: &str,
         output: &str,
@@ -75,7 +75,7 @@ pub trait Files {
     ///   which the system does not say what it is.
     /// - `Outcome::Line(LineFault::SameName)` if the output is a stream, also under another name.
     /// - `Outcome::Packed(Err(Error::Memory))` if memory ran out.
-    fn made_apart(
+    fn make_apart(
         &self,
         output: &str,
         streams: &[String],
@@ -90,11 +90,7 @@ pub trait Files {
     /// - `Outcome::Unopened` with the name if it cannot be opened.
     /// - `Outcome::Line(LineFault::SameName)` if it is what is written.
     /// - `Outcome::Packed(Err(Error::Memory))` if memory ran out.
-    fn opened_apart(
-        &self,
-        place: &Self::Place,
-        stream: &str,
-    ) -> Result<Opened<Self::Input>, Outcome>
+    fn open_apart(&self, place: &Self::Place, stream: &str) -> Result<Opened<Self::Input>, Outcome>
         ensures opened { IfOk result
             (IsOpened Self.Input.remaining (holds self.now) stream.now) }
         ensures failed { IfErr result (FailsToOpenStream stream.now) };

@@ -34,8 +34,8 @@ pub struct Ended {
 }
 
 impl Ended {
-    /// The end of a job that has written no file to standard output.
-    pub fn printing(outcome: Outcome) -> Ended
+    /// The end of a job with this outcome that has written no file to standard output.
+    pub fn of(outcome: Outcome) -> Ended
         ensures { result ≡ record { outcome = outcome; is_aside = false } }
     {
         Ended {

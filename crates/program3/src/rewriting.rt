@@ -11,7 +11,7 @@ ghost use Rattle.program3.specs.Readings.{IsByFailedRead, IsUnread, MayContain, 
 
 use crate::files::{Files, Made};
 use crate::outcome::{Ended, Outcome};
-use crate::output::writing::{WRITTEN_AT_ONCE, written_out};
+use crate::output::writing::{WRITTEN_AT_ONCE, write_out};
 use crate::reading::Readings;
 use canon3::{Sink, Summary, ToWrite};
 use capture3::{Error, FromRead, Source};
@@ -61,21 +61,21 @@ pub fn run_rewriting<F: Files, J: Rewriting<Counts = Summary> + Drop>(
       finished = (F.finished files.old, F.finished files.new);
     }) (input.now, output.now) result.0.outcome }
 {
-    match files.both_opened(input, output) {
+    match files.open_both(input, output) {
         Ok((mut opened, made)) => {
             let is_aside = files.is_standard_output(&made.place);
-            let came = kept(alloc, rewriting, files, &mut opened.source, made);
+            let came = keep_form(alloc, rewriting, files, &mut opened.source, made);
             let ended = Ended {
                 is_aside,
                 outcome: Outcome::Counted(came),
             };
             (ended, Readings::OfOne(opened.close()))
         }
-        Err(outcome) => (Ended::printing(outcome), Readings::Nothing),
+        Err(outcome) => (Ended::of(outcome), Readings::Nothing),
     }
 }
 
-fn kept<F: Files, J: Rewriting<Counts = Summary> + Drop>(
+fn keep_form<F: Files, J: Rewriting<Counts = Summary> + Drop>(
     alloc: Global,
     rewriting: J,
     files: &mut F,
@@ -92,9 +92,9 @@ fn kept<F: Files, J: Rewriting<Counts = Summary> + Drop>(
         → IsByFailedRead (reading_under name source.new) result }
 {
     let Made { file, place } = made;
-    match form_written(alloc, rewriting, source, file) {
+    match write_form(alloc, rewriting, source, file) {
         Ok((Ok(summary), file)) => {
-            named(files, file, place)?;
+            finish_file(files, file, place)?;
             Ok(summary)
         }
         Ok((Err(error), _file)) => {
@@ -115,7 +115,7 @@ fn kept<F: Files, J: Rewriting<Counts = Summary> + Drop>(
 /// It is removed, and what has the name is unchanged.
 /// - `Write` if its bytes cannot be made safe, or it cannot have the name.
 /// - `Memory` if memory ran out.
-pub fn named<F: Files>(files: &mut F, file: F::Output, place: F::Place) -> Result<(), Error>
+pub fn finish_file<F: Files>(files: &mut F, file: F::Output, place: F::Place) -> Result<(), Error>
     ensures ok { OnOk result
         (F.finished files.new
         ≡ record { name = F.name_of place; bytes = F.Output.contents file }
@@ -138,7 +138,7 @@ pub fn named<F: Files>(files: &mut F, file: F::Output, place: F::Place) -> Resul
 /// # Errors
 ///
 /// If memory ran out before anything was read.
-pub fn form_written<R: Read, W: Write + Drop, J: Rewriting + Drop>(
+pub fn write_form<R: Read, W: Write + Drop, J: Rewriting + Drop>(
     alloc: Global,
     rewriting: J,
     source: &mut FromRead<R>,
@@ -158,5 +158,5 @@ pub fn form_written<R: Read, W: Write + Drop, J: Rewriting + Drop>(
     };
     let mut sink = ToWrite::new(buffer);
     let came = rewriting.rewrite(alloc, source, &mut sink);
-    Ok(written_out(came, sink.into_inner()))
+    Ok(write_out(came, sink.into_inner()))
 }

@@ -8,7 +8,7 @@ ghost use Rattle.program3.specs.declared.outcome.Outcome.TheVariants.{Packed};
 ghost use Rattle.program3.specs.Systems.{IsMade, finished_of};
 
 use crate::files::{Files, Made};
-use crate::input::opening::{OpenError, opened, uncounted, unopened};
+use crate::input::opening::{OpenError, counting_failure, open_failure, open_file};
 use crate::input::retried::Retried;
 use crate::outcome::Outcome;
 use crate::output::destination::Destination;
@@ -62,7 +62,7 @@ impl<'a> System<'a> {
         if destination.is_regular(read) {
             return Ok(None);
         }
-        let mut spared = printed_to(self.rt.alloc(), own)?;
+        let mut spared = standard_output_ids(self.rt.alloc(), own)?;
         add_id(&mut spared, FileIdentity::of(read))?;
         let made = OutputPlace::make(self.rt, output, &destination, spared)?;
         if made.place.is_regular(read) {
@@ -109,25 +109,25 @@ impl Files for System<'_> {
         Ok(Opened::new(name, Retried { reader }))
     }
 
-    fn both_opened(
+    fn open_both(
         &self,
         input: &str,
         output: &str,
     ) -> Result<(Opened<Retried<File>>, Made<Traced<File>, OutputPlace>), Outcome> {
         let alloc = self.rt.alloc();
         let own = StandardOutput::new(self.rt);
-        let (reader, read) = match opened(self.rt, input) {
+        let (reader, read) = match open_file(self.rt, input) {
             Ok(opened) => opened,
-            Err(error) => return Err(uncounted(alloc, input, error)),
+            Err(error) => return Err(counting_failure(alloc, input, error)),
         };
         match self.make_output(output, own, &read) {
             Ok(Some(made)) => Ok((Opened::new(input, Retried { reader }), made)),
             Ok(None) => Err(Outcome::Line(LineFault::SameName)),
-            Err(error) => Err(uncounted(alloc, output, error)),
+            Err(error) => Err(counting_failure(alloc, output, error)),
         }
     }
 
-    fn made_apart(
+    fn make_apart(
         &self,
         output: &str,
         streams: &[String],
@@ -135,33 +135,33 @@ impl Files for System<'_> {
         let alloc = self.rt.alloc();
         let own = match StandardOutput::new(self.rt) {
             Ok(own) => own,
-            Err(error) => return Err(unpacked(alloc, output, OpenError::from(error))),
+            Err(error) => return Err(packing_failure(alloc, output, OpenError::from(error))),
         };
         let destination = match Destination::of(self.rt, output, own) {
             Ok(destination) => destination,
-            Err(error) => return Err(unpacked(alloc, output, OpenError::from(error))),
+            Err(error) => return Err(packing_failure(alloc, output, OpenError::from(error))),
         };
-        let mut spared = match printed_to(alloc, own) {
+        let mut spared = match standard_output_ids(alloc, own) {
             Ok(spared) => spared,
-            Err(error) => return Err(unpacked(alloc, output, OpenError::from(error))),
+            Err(error) => return Err(packing_failure(alloc, output, OpenError::from(error))),
         };
         all_stand_apart(self.rt, &destination, streams, &mut spared)?;
         match OutputPlace::make(self.rt, output, &destination, spared) {
             Ok(made) => Ok(made),
-            Err(error) => Err(unpacked(alloc, output, error)),
+            Err(error) => Err(packing_failure(alloc, output, error)),
         }
     }
 
     // The part may have got the number of a standard input that is closed.
-    fn opened_apart(
+    fn open_apart(
         &self,
         place: &OutputPlace,
         stream: &str,
     ) -> Result<Opened<Retried<File>>, Outcome> {
-        match opened(self.rt, stream) {
+        match open_file(self.rt, stream) {
             Ok((_, data)) if place.is_regular(&data) => Err(Outcome::Line(LineFault::SameName)),
             Ok((reader, _)) => Ok(Opened::new(stream, Retried { reader })),
-            Err(error) => Err(unpacked(self.rt.alloc(), stream, error)),
+            Err(error) => Err(packing_failure(self.rt.alloc(), stream, error)),
         }
     }
 
@@ -194,7 +194,10 @@ impl Files for System<'_> {
 }
 
 /// The file to which the program prints, if there is one.
-fn printed_to(alloc: Global, own: StandardOutput) -> Result<Vec<FileIdentity>, AllocError> {
+fn standard_output_ids(
+    alloc: Global,
+    own: StandardOutput,
+) -> Result<Vec<FileIdentity>, AllocError> {
     let mut ids = Vec::new(alloc);
     if let Some(id) = own.id() {
         add_id(&mut ids, id)?;
@@ -242,12 +245,12 @@ fn stands_apart(
             Err(_) => Err(Outcome::Packed(Err(Error::Memory))),
         },
         Ok(None) => Ok(()),
-        Err(error) => Err(unpacked(rt.alloc(), stream, OpenError::from(error))),
+        Err(error) => Err(packing_failure(rt.alloc(), stream, OpenError::from(error))),
     }
 }
 
-fn unpacked(alloc: Global, name: &str, error: OpenError) -> Outcome
+fn packing_failure(alloc: Global, name: &str, error: OpenError) -> Outcome
     ensures { ReportsUnopened name.now error (Packed (Err errors.Memory)) result }
 {
-    unopened(alloc, name, error, Outcome::Packed(Err(Error::Memory)))
+    open_failure(alloc, name, error, Outcome::Packed(Err(Error::Memory)))
 }

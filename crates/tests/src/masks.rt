@@ -74,7 +74,7 @@ fn hashers() -> MaskHashers<BuildHasherDefault<FoldHasher>> {
     }
 }
 
-fn masked(
+fn mask_bytes(
     rt: &HostRuntime,
     ways: Ways,
     bytes: &[u8],
@@ -117,7 +117,10 @@ fn the_usual_ways(rt: HostRuntime) -> Result<(), Fail> {
     };
     let bytes = capture(rt.alloc(), FIRST)?;
     let form = capture(rt.alloc(), form)?;
-    assert_eq!(rt; masked(&rt, Ways::usual(), &bytes, &mut sink), Ok(summary));
+    assert_eq!(rt;
+        mask_bytes(&rt, Ways::usual(), &bytes, &mut sink),
+        Ok(summary)
+    );
     assert_eq!(rt; sink.bytes(), form.as_slice());
     assert_eq!(rt; sink.flushed().len(), form.len());
     Ok(())
@@ -127,7 +130,10 @@ fn the_usual_ways(rt: HostRuntime) -> Result<(), Fail> {
 fn no_ways(rt: HostRuntime) -> Result<(), Fail> {
     let mut sink = MemSink::new(rt.alloc(), 999, 9, 0)?;
     let bytes = capture(rt.alloc(), FIRST)?;
-    assert_eq!(rt; masked(&rt, Ways::none(), &bytes, &mut sink).is_ok(), true);
+    assert_eq!(rt;
+        mask_bytes(&rt, Ways::none(), &bytes, &mut sink).is_ok(),
+        true
+    );
     assert_eq!(rt; sink.bytes(), bytes.as_slice());
     Ok(())
 }
@@ -138,7 +144,7 @@ fn numbered_times(rt: HostRuntime) -> Result<(), Fail> {
     let form = Run { time: 1, ..FIRST };
     let mut sink = MemSink::new(rt.alloc(), 999, 9, 0)?;
     let bytes = capture(rt.alloc(), FIRST)?;
-    assert_eq!(rt; masked(&rt, ways, &bytes, &mut sink).is_ok(), true);
+    assert_eq!(rt; mask_bytes(&rt, ways, &bytes, &mut sink).is_ok(), true);
     assert_eq!(rt; sink.bytes(), capture(rt.alloc(), form)?.as_slice());
     Ok(())
 }
@@ -163,7 +169,7 @@ fn lists_of_groups(rt: HostRuntime) -> Result<(), Fail> {
     ] {
         let ways = Ways::none().with(Class::Owners, owners);
         let mut sink = MemSink::new(rt.alloc(), 999, 9, 0)?;
-        assert_eq!(rt; masked(&rt, ways, &bytes, &mut sink).is_ok(), true);
+        assert_eq!(rt; mask_bytes(&rt, ways, &bytes, &mut sink).is_ok(), true);
         assert_eq!(rt; sink.bytes(), null_by(rt.alloc(), form)?.as_slice());
     }
     Ok(())
@@ -190,7 +196,7 @@ fn sizes_of_files_and_directories(rt: HostRuntime) -> Result<(), Fail> {
         let bytes = capture_of(rt.alloc(), FIRST, attributes_of(kind, 3, 4096))?;
         let form = capture_of(rt.alloc(), FIRST, attributes_of(kind, links, size))?;
         let mut sink = MemSink::new(rt.alloc(), 999, 9, 0)?;
-        assert_eq!(rt; masked(&rt, ways, &bytes, &mut sink).is_ok(), true);
+        assert_eq!(rt; mask_bytes(&rt, ways, &bytes, &mut sink).is_ok(), true);
         assert_eq!(rt; sink.bytes(), form.as_slice());
     }
     Ok(())
@@ -235,7 +241,7 @@ fn names_of_removed_files(rt: HostRuntime) -> Result<(), Fail> {
     for (way, form) in [(Way::Keep, SILLY), (Way::Zero, ZEROS), (Way::Number, ZEROS)] {
         let ways = Ways::none().with(Class::SillyNames, way);
         let mut sink = MemSink::new(rt.alloc(), 999, 9, 0)?;
-        assert_eq!(rt; masked(&rt, ways, &bytes, &mut sink).is_ok(), true);
+        assert_eq!(rt; mask_bytes(&rt, ways, &bytes, &mut sink).is_ok(), true);
         assert_eq!(rt; sink.bytes(), removal(rt.alloc(), &form)?.as_slice());
     }
     Ok(())
@@ -264,7 +270,7 @@ fn names_of_hosts(rt: HostRuntime) -> Result<(), Fail> {
     ] {
         let ways = Ways::none().with(Class::Machines, way);
         let mut sink = MemSink::new(rt.alloc(), 999, 9, 0)?;
-        assert_eq!(rt; masked(&rt, ways, &bytes, &mut sink).is_ok(), true);
+        assert_eq!(rt; mask_bytes(&rt, ways, &bytes, &mut sink).is_ok(), true);
         assert_eq!(rt; sink.bytes(), form.as_slice());
     }
     Ok(())
@@ -275,7 +281,7 @@ fn a_sink_without_room(rt: HostRuntime) -> Result<(), Fail> {
     let mut sink = MemSink::new(rt.alloc(), 50, 9, 0)?;
     let bytes = capture(rt.alloc(), FIRST)?;
     assert_eq!(rt;
-        masked(&rt, Ways::usual(), &bytes, &mut sink),
+        mask_bytes(&rt, Ways::usual(), &bytes, &mut sink),
         Err(Error::Write)
     );
     assert_eq!(rt; sink.bytes().len(), 50);

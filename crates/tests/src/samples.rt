@@ -117,7 +117,7 @@ pub(crate) fn mount(proc_no: u32) -> ProcId {
 }
 
 /// The words' bytes.
-pub(crate) fn spelled(alloc: Global, words: &[u32]) -> Result<Vec<u8>, AllocError> {
+pub(crate) fn spell(alloc: Global, words: &[u32]) -> Result<Vec<u8>, AllocError> {
     let mut bytes = Vec::new(alloc);
     push_words(&mut bytes, words)?;
     Ok(bytes)

@@ -130,7 +130,7 @@ impl<S: BuildHasher + Drop> MessageWriter<S> {
 
     /// Returns the first bytes of what was put into `room`.
     #[inline(always)]
-    pub(crate) fn composed(&self, len: usize) -> &[u8]
+    pub(crate) fn first_bytes(&self, len: usize) -> &[u8]
         requires { len ≤ vec_len self.now.room }
         ensures { result.now ≡ take len self.now.room.items }
     {

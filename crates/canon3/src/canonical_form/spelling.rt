@@ -115,7 +115,7 @@ fn have_same_bytes<S: BuildHasher + Drop>(
     let Ok(other_len) = other.compose(other_body) else {
         return Err(out_of_memory_in(Which::Second));
     };
-    Ok(writer.composed(len) == other.composed(other_len))
+    Ok(writer.first_bytes(len) == other.first_bytes(other_len))
 }
 
 /// Writes what an entry is written as. After an error a prefix of it was written.
@@ -147,7 +147,7 @@ pub(crate) fn write_spelling<W: Sink, S: BuildHasher + Drop>(
             let Ok((len, rest)) = message_writer.compose_chunk(body) else {
                 return Err(Error::Memory);
             };
-            write_both(sink, message_writer.composed(len), rest)
+            write_both(sink, message_writer.first_bytes(len), rest)
         }
     }
 }

@@ -98,7 +98,7 @@ impl Class {
     }
 
     /// Returns the class of this name.
-    pub fn named(name: &str) -> Option<Class>
+    pub fn by_name(name: &str) -> Option<Class>
         ensures { MatchOption result ((class : Class) → name.now ≢ (row class).name)
             (λ class. name.now ≡ (row class).name) }
     {

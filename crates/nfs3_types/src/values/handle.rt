@@ -42,7 +42,7 @@ impl Handle {
         ensures { handle_bytes result ≡ bytes.now }
     {
         Handle {
-            bytes: padded(bytes),
+            bytes: padded_bytes(bytes),
             len: bytes.len() as u8,
         }
     }
@@ -66,7 +66,7 @@ impl Handle {
 /// Returns the bytes, which are at most 64, with zeros behind. A copy of a known length takes few
 /// instructions, and two that overlap make any length.
 #[inline(always)]
-fn padded(bytes: &[u8]) -> [u8; 64]
+fn padded_bytes(bytes: &[u8]) -> [u8; 64]
     requires { length bytes.now ≤ 64 }
     ensures { take (length bytes.now) result ≡ bytes.now }
 {

@@ -16,13 +16,13 @@ pub(crate) fn change(word: &str) -> Option<Change>
 {
     let (class, way) = word.split_once('=')?;
     Some(Change {
-        class: Class::named(class)?,
+        class: Class::by_name(class)?,
         way: way_named(way)?,
     })
 }
 
 /// Returns the usual ways, changed by these words one after another, or the first word that changes none.
-pub(crate) fn changed<'a>(words: &'a [String]) -> Result<Ways, &'a str>
+pub(crate) fn changed_ways<'a>(words: &'a [String]) -> Result<Ways, &'a str>
     ensures ok { IfOk result (AreChanges (map string_bytes words.now)) }
     ensures err { IfErr result (λ word. (changes : List Change)
         → map string_bytes words.now ≢ map change_word changes) }

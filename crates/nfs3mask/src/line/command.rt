@@ -5,9 +5,9 @@ ghost use Rattle.line3.specs.Asked.{IsUsage, without_end};
 ghost use Rattle.nfs3mask.specs.MaskLine.{AreMaskWordsRefused, AsksForMask, IsMaskLine};
 
 use crate::line::asked::MaskJob;
-use crate::line::change::changed;
+use crate::line::change::changed_ways;
 use crate::line::grammar::command;
-use line3::{LineFault, line_fault_of, usage, without_end};
+use line3::{LineFault, try_words, usage, without_end};
 use std::alloc::{AllocError, Global};
 
 /// Returns the words of a command line, the program's name first, without the `--` that ends its options. A
@@ -17,33 +17,23 @@ use std::alloc::{AllocError, Global};
 ///
 /// - `Usage` with that text.
 /// - `Memory` if memory ran out.
-pub fn taken(alloc: Global, words: Vec<String>) -> Result<Vec<String>, LineFault>
+pub fn take_words(alloc: Global, words: Vec<String>) -> Result<Vec<String>, LineFault>
     ensures taken { IfOk result (λ said.
         map string_bytes said.items ≡ without_end 1 (map string_bytes words.items)) }
     ensures refused { IfErr result (AreMaskWordsRefused (map string_bytes words.items)) }
-{
-    match tried(alloc, words.as_slice()) {
-        Ok(()) => Ok(without_end(words, 1)),
-        Err(fault) => Err(fault),
-    }
-}
-
-/// Returns an error if clap does not take the line.
-fn tried(alloc: Global, words: &[String]) -> Result<(), LineFault>
-    ensures { IfErr result (AreMaskWordsRefused (map string_bytes words.now)) }
 {
     let command = match command(alloc) {
         Ok(command) => command,
         Err(_) => return Err(LineFault::Memory),
     };
-    match command.try_get_matches_from(words) {
-        Ok(_matches) => Ok(()),
-        Err(error) => Err(line_fault_of(alloc, error)),
+    match try_words(alloc, command, words.as_slice()) {
+        Ok(()) => Ok(without_end(words, 1)),
+        Err(fault) => Err(fault),
     }
 }
 
 /// Returns the job that the words of a line ask for, the program's name first: the names of a capture and of
-/// an output, and words that change the usual mask. They are what `taken` returns.
+/// an output, and words that change the usual mask. They are what `take_words` returns.
 ///
 /// # Errors
 ///
@@ -77,19 +67,19 @@ fn of_two_files<'a>(
         → IsMaskLine line (input.now ∷ output.now ∷ said)
         → IfErr result (AreMaskWordsRefused line) }
 {
-    match changed(changes) {
+    match changed_ways(changes) {
         Ok(_) if input == output => Err(LineFault::SameName),
         Ok(ways) => Ok(MaskJob {
             input,
             output,
             ways,
         }),
-        Err(word) => Err(unchanging(alloc, word)),
+        Err(word) => Err(change_fault(alloc, word)),
     }
 }
 
 /// Returns the text for a word that changes no mask.
-fn unchanging(alloc: Global, word: &str) -> LineFault
+fn change_fault(alloc: Global, word: &str) -> LineFault
     ensures { IsUsage result }
 {
     let text: Result<String, AllocError> = format!(in alloc;

@@ -47,7 +47,7 @@ impl From<io::Error> for OpenError {
 
 /// Returns the outcome if the file of this name cannot be opened or made: `Outcome::Unopened` with the name.
 /// If memory ran out, also for a copy of the name, it is `out_of_memory`.
-pub fn unopened(alloc: Global, name: &str, error: OpenError, out_of_memory: Outcome) -> Outcome
+pub fn open_failure(alloc: Global, name: &str, error: OpenError, out_of_memory: Outcome) -> Outcome
     ensures { ReportsUnopened name.now error out_of_memory result }
 {
     match error {
@@ -59,11 +59,11 @@ pub fn unopened(alloc: Global, name: &str, error: OpenError, out_of_memory: Outc
     }
 }
 
-/// Does so for a command that counts what it reads.
-pub fn uncounted(alloc: Global, name: &str, error: OpenError) -> Outcome
+/// Returns the outcome for a command that counts what it reads, if a file cannot be opened or made.
+pub fn counting_failure(alloc: Global, name: &str, error: OpenError) -> Outcome
     ensures { ReportsUnopened name.now error (Counted (Err Error.Memory)) result }
 {
-    unopened(alloc, name, error, Outcome::Counted(Err(Error::Memory)))
+    open_failure(alloc, name, error, Outcome::Counted(Err(Error::Memory)))
 }
 
 /// Opens a file to be read, and returns it with what the system says of it.
@@ -72,7 +72,7 @@ pub fn uncounted(alloc: Global, name: &str, error: OpenError) -> Outcome
 ///
 /// - `Unopened` if it cannot be opened, or the system does not say which file it is.
 /// - `Memory` if memory ran out.
-pub fn opened(rt: &HostRuntime, name: &str) -> Result<(File, Metadata), OpenError> {
+pub fn open_file(rt: &HostRuntime, name: &str) -> Result<(File, Metadata), OpenError> {
     let file = fs::open(rt, name)?;
     let data = file.metadata()?;
     Ok((file, data))

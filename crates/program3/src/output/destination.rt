@@ -33,7 +33,7 @@ impl Destination {
     pub fn of(rt: &HostRuntime, name: &str, own: StandardOutput) -> io::Result<Destination> {
         for _ in 0..MOST_LOOKS {
             if let Some(found) = if_there(fs::metadata(rt, name))? {
-                return Ok(Destination::found(found, own));
+                return Ok(Destination::of_existing(found, own));
             }
             if is_unused(rt, name)? {
                 return Ok(Destination::New);
@@ -42,7 +42,7 @@ impl Destination {
         Err(io::Error::from(ErrorKind::NotFound))
     }
 
-    fn found(found: Metadata, own: StandardOutput) -> Destination {
+    fn of_existing(found: Metadata, own: StandardOutput) -> Destination {
         let id = FileIdentity::of(&found);
         if found.is_file() && !own.is(id) {
             return Destination::Replaced(found);

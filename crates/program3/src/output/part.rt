@@ -42,7 +42,7 @@ impl PartFile {
         name: &str,
         spared: &[FileIdentity],
     ) -> Result<(PartFile, File), OpenError> {
-        let (path, replaced) = Standing::found(rt, name, spared)?;
+        let (path, replaced) = Standing::open(rt, name, spared)?;
         PartFile::make(rt, path, Some(replaced))
     }
 

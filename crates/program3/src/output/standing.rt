@@ -36,7 +36,7 @@ impl Standing {
     /// - `Unopened` if it cannot be opened, is read-only or one of `spared`, or if the path leads to another
     ///   file: the text of a link in `/proc` to a removed file is no path of that file.
     /// - `Memory` if memory ran out.
-    pub fn found(
+    pub fn open(
         rt: &HostRuntime,
         name: &str,
         spared: &[FileIdentity],
@@ -50,8 +50,8 @@ impl Standing {
             if !may_be_replaced(&data) || spared.contains(&id) {
                 return Err(OpenError::Unopened);
             }
-            let path = followed(rt, name)?;
-            if let Some(standing) = Standing::opened(rt, path.as_str(), id)? {
+            let path = follow_links(rt, name)?;
+            if let Some(standing) = Standing::open_if_same(rt, path.as_str(), id)? {
                 return Ok((path, standing));
             }
         }
@@ -59,7 +59,7 @@ impl Standing {
     }
 
     /// Opens the file of this path if it is the one that was found.
-    fn opened(
+    fn open_if_same(
         rt: &HostRuntime,
         path: &str,
         found: FileIdentity,
@@ -123,9 +123,9 @@ fn begins_capture(begin: &[u8]) -> bool
     begin == BEGIN.as_slice()
 }
 
-/// The name at the end of the links to which a name leads. The folder's own name is taken as it is given,
-/// so it may be long, and need not be text.
-fn followed(rt: &HostRuntime, name: &str) -> Result<String, OpenError> {
+/// Follows the links to which a name leads, and returns the name at their end. The folder's own name is
+/// taken as it is given, so it may be long, and need not be text.
+fn follow_links(rt: &HostRuntime, name: &str) -> Result<String, OpenError> {
     let mut path = String::from_str(rt.alloc(), name)?;
     for _ in 0..=MOST_LINKS {
         if !fs::symlink_metadata(rt, path.as_str())?.is_symlink() {

@@ -16,7 +16,7 @@ pub const WRITTEN_AT_ONCE: usize = 65_536;
 /// # Errors
 ///
 /// The error of `came`, or `Write` if the rest cannot be written.
-pub fn written_out<C: Drop, W: Write + Drop>(
+pub fn write_out<C: Drop, W: Write + Drop>(
     came: Result<C, Error>,
     mut buffer: BufWriter<W>,
 ) -> (Result<C, Error>, W)

@@ -45,7 +45,7 @@ pub fn report_ended<O: Write, E: Write>(
         })
         result }
 {
-    let Ok(report) = reported(alloc, ended) else {
+    let Ok(report) = end_report(alloc, ended) else {
         return Exit {
             status: OUTSIDE,
             is_reported: true,
@@ -65,7 +65,7 @@ pub fn report_ended<O: Write, E: Write>(
     }
 }
 
-fn reported(alloc: Global, ended: &Ended) -> Result<Report, AllocError>
+fn end_report(alloc: Global, ended: &Ended) -> Result<Report, AllocError>
     ensures { IfOk result (IsReport ended.now.is_aside ended.now.outcome) }
 {
     let report = report(alloc, &ended.outcome)?;

@@ -25,19 +25,19 @@ pub fn report(alloc: Global, outcome: &Outcome) -> Result<Report, AllocError>
     ensures { IfOk result (PrintsOutcome outcome.now) }
 {
     match outcome {
-        Outcome::Counted(Ok(summary)) => printed(alloc, 0, counts(alloc, summary)?),
-        Outcome::Counted(Err(error)) => failed(alloc, "", error),
+        Outcome::Counted(Ok(summary)) => output_report(alloc, 0, counts(alloc, summary)?),
+        Outcome::Counted(Err(error)) => failure_report(alloc, "", error),
         Outcome::Masked(summary, mask) => {
-            printed(alloc, 0, counts_and_mask(alloc, summary, mask.as_str())?)
+            output_report(alloc, 0, counts_and_mask(alloc, summary, mask.as_str())?)
         }
-        Outcome::Listed(Ok(_)) => printed(alloc, 0, String::new(alloc)),
-        Outcome::Listed(Err(error)) => failed(alloc, "", error),
-        Outcome::Compared(Ok(verdict)) => compared(alloc, verdict),
-        Outcome::Compared(Err(error)) => failed(alloc, prefix(error.which), &error.error),
-        Outcome::Packed(Ok(())) => printed(alloc, 0, String::new(alloc)),
-        Outcome::Packed(Err(error)) => failed(alloc, "", error),
-        Outcome::Unopened(name) => unopened(alloc, name.as_str()),
-        Outcome::Line(fault) => line_refused(alloc, fault),
+        Outcome::Listed(Ok(_)) => output_report(alloc, 0, String::new(alloc)),
+        Outcome::Listed(Err(error)) => failure_report(alloc, "", error),
+        Outcome::Compared(Ok(verdict)) => verdict_report(alloc, verdict),
+        Outcome::Compared(Err(error)) => failure_report(alloc, prefix(error.which), &error.error),
+        Outcome::Packed(Ok(())) => output_report(alloc, 0, String::new(alloc)),
+        Outcome::Packed(Err(error)) => failure_report(alloc, "", error),
+        Outcome::Unopened(name) => open_failure_report(alloc, name.as_str()),
+        Outcome::Line(fault) => line_fault_report(alloc, fault),
     }
 }
 
@@ -60,7 +60,7 @@ pub fn on_standard_error(alloc: Global, report: Report) -> Result<Report, AllocE
 }
 
 /// A report with a text on standard output.
-fn printed(alloc: Global, status: u8, out: String) -> Result<Report, AllocError>
+fn output_report(alloc: Global, status: u8, out: String) -> Result<Report, AllocError>
     ensures { IfOk result (Prints status (string_bytes out) []) }
 {
     Ok(Report {
@@ -71,7 +71,7 @@ fn printed(alloc: Global, status: u8, out: String) -> Result<Report, AllocError>
 }
 
 /// A report with a text on standard error.
-fn refused(alloc: Global, status: u8, err: String) -> Result<Report, AllocError>
+fn error_report(alloc: Global, status: u8, err: String) -> Result<Report, AllocError>
     ensures { IfOk result (Prints status [] (string_bytes err)) }
 {
     Ok(Report {
@@ -81,16 +81,16 @@ fn refused(alloc: Global, status: u8, err: String) -> Result<Report, AllocError>
     })
 }
 
-fn compared(alloc: Global, verdict: &Verdict) -> Result<Report, AllocError>
+fn verdict_report(alloc: Global, verdict: &Verdict) -> Result<Report, AllocError>
     ensures { IfOk result (PrintsVerdict verdict.now) }
 {
     match verdict {
-        Verdict::Same => printed(alloc, 0, String::from_str(alloc, "same\n")?),
-        Verdict::Differ(place) => printed(alloc, 1, differing(alloc, *place)?),
+        Verdict::Same => output_report(alloc, 0, String::from_str(alloc, "same\n")?),
+        Verdict::Differ(place) => output_report(alloc, 1, difference(alloc, *place)?),
     }
 }
 
-fn differing(alloc: Global, place: Place) -> Result<String, AllocError>
+fn difference(alloc: Global, place: Place) -> Result<String, AllocError>
     ensures { IfOk result (λ line. string_bytes line ≡ differing_at place) }
 {
     match place {
@@ -117,24 +117,24 @@ fn prefix(which: Which) -> &'static str
     }
 }
 
-fn line_refused(alloc: Global, fault: &LineFault) -> Result<Report, AllocError>
+fn line_fault_report(alloc: Global, fault: &LineFault) -> Result<Report, AllocError>
     ensures { IfOk result (PrintsLineFault fault.now) }
 {
     let text = match fault {
-        LineFault::Usage(text) => ended(text)?,
+        LineFault::Usage(text) => with_newline(text)?,
         LineFault::Odd => String::from_str(alloc, "streams come in pairs\n")?,
         LineFault::SameName => String::from_str(alloc, "output names an input\n")?,
         LineFault::NotText => String::from_str(alloc, "a word of the line is not UTF-8\n")?,
-        LineFault::Memory => return failed(alloc, "", &Error::Memory),
+        LineFault::Memory => return failure_report(alloc, "", &Error::Memory),
     };
-    refused(alloc, 4, text)
+    error_report(alloc, 4, text)
 }
 
-fn failed(alloc: Global, prefix: &str, error: &Error) -> Result<Report, AllocError>
+fn failure_report(alloc: Global, prefix: &str, error: &Error) -> Result<Report, AllocError>
     ensures { IfOk result (Prints (status_of error.now) [] (prefix.now ++ error_line error.now)) }
 {
     let line = failure(alloc, error)?;
-    refused(alloc, status(error), format!(in alloc; "{prefix}{line}")?)
+    error_report(alloc, status(error), format!(in alloc; "{prefix}{line}")?)
 }
 
 fn status(error: &Error) -> u8
@@ -208,7 +208,7 @@ fn side_name(side: Side) -> &'static str
 }
 
 /// The text with one newline at its end.
-fn ended(text: &String) -> Result<String, AllocError>
+fn with_newline(text: &String) -> Result<String, AllocError>
     ensures { IfOk result (λ line. string_bytes line ≡ ended_of (string_bytes text.now)) }
 {
     let mut line = text.clone()?;
@@ -219,7 +219,7 @@ fn ended(text: &String) -> Result<String, AllocError>
 }
 
 /// The name of a file may hold what a terminal would obey, so it is escaped.
-fn unopened(alloc: Global, name: &str) -> Result<Report, AllocError>
+fn open_failure_report(alloc: Global, name: &str) -> Result<Report, AllocError>
     ensures { IfOk result (Prints 3 [] (unopened_of name.now)) }
 {
     let mut err = Vec::new(alloc);

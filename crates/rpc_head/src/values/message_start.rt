@@ -16,7 +16,7 @@ pub struct MessageStart {
     pub is_reply: bool,
 }
 
-/// Returns what follows the xid in a message's body.
+/// Returns what follows the xid in a message's body (RFC 5531, section 9).
 pub fn after_xid(body: &[u8]) -> &[u8]
     ensures { result.now ≡ drop 4 body.now }
 {

@@ -32,7 +32,13 @@ fn due_within(size: usize) -> &'static [&'static str] {
 }
 
 /// Just these entries come before the refusal, in blocks of several sizes.
-fn refused(rt: &impl Abort, alloc: Global, file: &[u8], due: &[&'static str], wanted: Error) {
+fn expect_refusal(
+    rt: &impl Abort,
+    alloc: Global,
+    file: &[u8],
+    due: &[&'static str],
+    wanted: Error,
+) {
     for block in [1, 5, 65_536] {
         let (names, error) = read_names(rt, alloc, &mut MemSource::new(file, block, 0));
         assert_same!(rt; (wanted, names.as_slice()), (wanted, due));
@@ -66,7 +72,7 @@ fn a_shorter_prefix_is_cut(rt: HostRuntime) {
     for file in [&CLIENT_FIRST, &SERVER_FIRST] {
         for size in 0..108 {
             let cut = file_fault(size, Reason::CaptureCut);
-            refused(&rt, rt.alloc(), &file[..size], due_within(size), cut);
+            expect_refusal(&rt, rt.alloc(), &file[..size], due_within(size), cut);
         }
     }
 }
@@ -117,7 +123,7 @@ fn a_record_is_judged_at_the_side_word(rt: HostRuntime) {
             &NAMES[..1]
         };
         let cut = file_fault(size, Reason::CaptureCut);
-        refused(
+        expect_refusal(
             &rt,
             rt.alloc(),
             &file[..size],
@@ -126,7 +132,7 @@ fn a_record_is_judged_at_the_side_word(rt: HostRuntime) {
         );
     }
     file[103] = 3;
-    refused(
+    expect_refusal(
         &rt,
         rt.alloc(),
         &file,
@@ -141,7 +147,7 @@ fn faults_of_both_streams(rt: HostRuntime) {
     let mut file = SERVER_FIRST;
     // the last bytes of the mtypes: the reply's stands in the chunk that comes first
     file[31] = 3;
-    refused(
+    expect_refusal(
         &rt,
         rt.alloc(),
         &file,
@@ -149,7 +155,7 @@ fn faults_of_both_streams(rt: HostRuntime) {
         record_fault(Side::Server, 1, 4, Reason::BadEnum),
     );
     file[67] = 2;
-    refused(
+    expect_refusal(
         &rt,
         rt.alloc(),
         &file,
@@ -180,13 +186,13 @@ fn ends_too_early(
         of_one_side(alloc, word, b"\0\0\0\x08\0\0\0\x04\0\0\0\x01"),
     );
     let cut = record_fault(side, 1, 4, Reason::RecordCut);
-    refused(rt, alloc, &in_body, due, cut);
+    expect_refusal(rt, alloc, &in_body, due, cut);
     let in_header = ok(rt, of_one_side(alloc, word, b"\0\0\0\x02\x80\0"));
     let cut = record_fault(side, 1, 0, Reason::RecordCut);
-    refused(rt, alloc, &in_header, due, cut);
+    expect_refusal(rt, alloc, &in_header, due, cut);
     let long = ok(rt, of_one_side(alloc, word, b"\0\0\0\x05\x81\0\0\x01\0"));
     let too_long = record_fault(side, 1, 0, Reason::RecordTooLong);
-    refused(rt, alloc, &long, due, too_long)
+    expect_refusal(rt, alloc, &long, due, too_long)
 }
 
 #[test]
@@ -207,7 +213,7 @@ fn messages_come_before_a_stream_that_ends_too_early(rt: HostRuntime) {
     ok(&rt, file.extend_from_slice(&CLIENT));
     ok(&rt, file.extend_from_slice(&NULL[12..60]));
     ok(&rt, file.extend_from_slice(&[0; 8]));
-    refused(
+    expect_refusal(
         &rt,
         rt.alloc(),
         &file,
@@ -219,7 +225,7 @@ fn messages_come_before_a_stream_that_ends_too_early(rt: HostRuntime) {
 #[test]
 fn words_of_the_container(rt: HostRuntime) {
     let side = b"NFS3CAP2\0\0\0\x01\0\0\0\x03";
-    refused(
+    expect_refusal(
         &rt,
         rt.alloc(),
         side,
@@ -227,7 +233,7 @@ fn words_of_the_container(rt: HostRuntime) {
         file_fault(12, Reason::BadMark),
     );
     let length = b"NFS3CAP2\0\0\0\x01\0\0\0\x01\0\0\0\0";
-    refused(
+    expect_refusal(
         &rt,
         rt.alloc(),
         length,
@@ -235,7 +241,7 @@ fn words_of_the_container(rt: HostRuntime) {
         file_fault(16, Reason::BadMark),
     );
     let many = b"NFS3CAP2\0\0\0\x01\0\0\0\x02\x40\0\0\x01";
-    refused(
+    expect_refusal(
         &rt,
         rt.alloc(),
         many,
@@ -243,21 +249,21 @@ fn words_of_the_container(rt: HostRuntime) {
         file_fault(16, Reason::TooManyBytes),
     );
     let after = b"NFS3CAP2\0\0\0\0\0";
-    refused(
+    expect_refusal(
         &rt,
         rt.alloc(),
         after,
         &[],
         file_fault(12, Reason::AfterEnd),
     );
-    refused(
+    expect_refusal(
         &rt,
         rt.alloc(),
         b"NFS3CAP2",
         &[],
         file_fault(8, Reason::CaptureCut),
     );
-    refused(
+    expect_refusal(
         &rt,
         rt.alloc(),
         b"NFS3CAP3",

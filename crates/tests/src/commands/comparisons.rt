@@ -8,7 +8,7 @@ use capture3::{Error, MemSource, Side};
 use std::alloc::{AllocError, Global};
 
 /// Each is read byte by byte, and the read of the second with this number fails.
-fn compared(alloc: Global, first: &[u8], second: &[u8], fail: u64) -> Result<Verdict, SameError> {
+fn compare(alloc: Global, first: &[u8], second: &[u8], fail: u64) -> Result<Verdict, SameError> {
     same(
         alloc,
         hashers(),
@@ -28,7 +28,7 @@ fn runs(alloc: Global) -> Result<(Vec<u8>, Vec<u8>), AllocError> {
 #[test]
 fn runs_that_are_the_same(rt: HostRuntime) {
     let (first, second) = ok(&rt, runs(rt.alloc()));
-    assert_same!(rt; compared(rt.alloc(), &first, &second, 0), Ok(Verdict::Same));
+    assert_same!(rt; compare(rt.alloc(), &first, &second, 0), Ok(Verdict::Same));
 }
 
 /// The count of the second's COMMIT, which ends its call at byte 80 of the file, is another.
@@ -38,7 +38,7 @@ fn runs_that_part(rt: HostRuntime) {
     assert_holds!(rt; second.len() == 144);
     second[79] = 1;
     assert_same!(rt;
-        compared(rt.alloc(), &first, &second, 0),
+        compare(rt.alloc(), &first, &second, 0),
         Ok(Verdict::Differ(record(1, Side::Client, 1, 0)))
     );
 }
@@ -50,7 +50,7 @@ fn a_failed_read_of_the_second(rt: HostRuntime) {
     assert_holds!(rt; first.len() == 144);
     first[27] = 2;
     assert_same!(rt;
-        compared(rt.alloc(), &first, &second, 1),
+        compare(rt.alloc(), &first, &second, 1),
         Err(SameError {
             which: Which::Second,
             error: Error::Read

@@ -50,7 +50,12 @@ fn lines(alloc: Global) -> Result<Vec<u8>, AllocError> {
 }
 
 // In blocks of 7 bytes, where the read with this number fails.
-fn listed(rt: &HostRuntime, file: &[u8], fail: u64, sink: &mut MemSink) -> Result<Summary, Error> {
+fn list_capture(
+    rt: &HostRuntime,
+    file: &[u8],
+    fail: u64,
+    sink: &mut MemSink,
+) -> Result<Summary, Error> {
     show(
         rt.alloc(),
         hashers(),
@@ -69,7 +74,7 @@ fn lines_of_two_connections(rt: HostRuntime) {
         replies: 1,
         handles: 1,
     };
-    assert_same!(rt; listed(&rt, &bytes, 0, &mut sink), Ok(summary));
+    assert_same!(rt; list_capture(&rt, &bytes, 0, &mut sink), Ok(summary));
     assert_same!(rt; sink.bytes(), ok(&rt, lines(rt.alloc())).as_slice());
 }
 
@@ -105,7 +110,7 @@ fn the_lines_before_a_fault(rt: HostRuntime) {
     bytes.truncate(150);
     let mut sink = ok(&rt, MemSink::new(rt.alloc(), 999, 9, 0));
     assert_same!(rt;
-        listed(&rt, &bytes, 0, &mut sink),
+        list_capture(&rt, &bytes, 0, &mut sink),
         Err(file_fault(150, Reason::CaptureCut))
     );
     let mut text = ok(&rt, lines(rt.alloc()));
@@ -118,7 +123,7 @@ fn the_lines_before_a_fault(rt: HostRuntime) {
 fn the_lines_before_a_failed_read(rt: HostRuntime) {
     let bytes = capture(&rt, rt.alloc());
     let mut sink = ok(&rt, MemSink::new(rt.alloc(), 999, 9, 0));
-    assert_same!(rt; listed(&rt, &bytes, 11, &mut sink), Err(Error::Read));
+    assert_same!(rt; list_capture(&rt, &bytes, 11, &mut sink), Err(Error::Read));
     let mut text = ok(&rt, lines(rt.alloc()));
     text.truncate(LINES[0].len() + LINES[1].len());
     assert_same!(rt; sink.bytes(), text.as_slice());
@@ -128,7 +133,7 @@ fn the_lines_before_a_failed_read(rt: HostRuntime) {
 fn a_front_where_room_is_wanting(rt: HostRuntime) {
     let bytes = capture(&rt, rt.alloc());
     let mut sink = ok(&rt, MemSink::new(rt.alloc(), 200, 9, 0));
-    assert_same!(rt; listed(&rt, &bytes, 0, &mut sink), Err(Error::Write));
+    assert_same!(rt; list_capture(&rt, &bytes, 0, &mut sink), Err(Error::Write));
     let mut text = ok(&rt, lines(rt.alloc()));
     text.truncate(200);
     assert_same!(rt; sink.bytes(), text.as_slice());
@@ -139,6 +144,6 @@ fn a_front_where_room_is_wanting(rt: HostRuntime) {
 fn a_failed_flush(rt: HostRuntime) {
     let bytes = capture(&rt, rt.alloc());
     let mut sink = ok(&rt, MemSink::new(rt.alloc(), 999, 999, 7));
-    assert_same!(rt; listed(&rt, &bytes, 0, &mut sink), Err(Error::Write));
+    assert_same!(rt; list_capture(&rt, &bytes, 0, &mut sink), Err(Error::Write));
     assert_same!(rt; sink.bytes(), ok(&rt, lines(rt.alloc())).as_slice());
 }

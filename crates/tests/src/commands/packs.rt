@@ -109,7 +109,7 @@ fn is_over(
 }
 
 #[test]
-fn finished(rt: HostRuntime) {
+fn a_finished_packing_is_over(rt: HostRuntime) {
     let mut packing = packing(&rt, rt.alloc(), 999, 0);
     ok(&rt, add(&mut packing, client_stream(), server_stream(), 9));
     ok(&rt, packing.finish());
@@ -133,7 +133,7 @@ fn a_read_fails_at_each_call(rt: HostRuntime) {
 }
 
 // One pair, and the end.
-fn packed(packing: &mut Packing<MemSink>) -> Result<(), Error> {
+fn pack_pair(packing: &mut Packing<MemSink>) -> Result<(), Error> {
     add(packing, client_stream(), server_stream(), 99)?;
     packing.finish()
 }
@@ -145,7 +145,7 @@ fn a_write_fails_at_each_call(rt: HostRuntime) {
     let written = [8, 12, 16, 60, 64, 68, 96, 100, 104];
     for (fail, wanted) in written.iter().enumerate() {
         let mut packing = packing(&rt, rt.alloc(), 999, fail as u64 + 2);
-        assert_same!(rt; packed(&mut packing), Err(Error::Write));
+        assert_same!(rt; pack_pair(&mut packing), Err(Error::Write));
         assert_same!(rt; packing.sink().bytes().len(), *wanted);
         is_over(&rt, rt.alloc(), &mut packing, Err(Error::Write));
     }

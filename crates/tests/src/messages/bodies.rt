@@ -8,7 +8,7 @@ use std::process::Abort;
 // Bytes that are written before a body.
 const FRONT: &[u8; 4] = b">>> ";
 
-fn written(rt: &impl Abort, alloc: Global, patches: &Patches, body: &[u8]) -> Vec<u8> {
+fn write_body(rt: &impl Abort, alloc: Global, patches: &Patches, body: &[u8]) -> Vec<u8> {
     let mut room = ok(rt, FRONT.to_vec(alloc));
     let at = room.len();
     let end = ok(rt, patches.write(body, &mut room, at));
@@ -19,15 +19,15 @@ fn written(rt: &impl Abort, alloc: Global, patches: &Patches, body: &[u8]) -> Ve
 #[test]
 fn a_body_is_written_with_its_replacements(rt: HostRuntime) {
     let mut patches = Patches::new(rt.alloc());
-    assert_same!(rt; written(&rt, rt.alloc(), &patches, b"").as_slice(), FRONT.as_slice());
+    assert_same!(rt; write_body(&rt, rt.alloc(), &patches, b"").as_slice(), FRONT.as_slice());
     patches.keep(6);
     ok(&rt, patches.replace(3, b"two.....", 3));
     ok(&rt, patches.replace(1, b"  and   ", 6));
     patches.keep(5);
-    assert_same!(rt; written(&rt, rt.alloc(), &patches, b"first one three").as_slice(), b">>> first two  and three".as_slice());
+    assert_same!(rt; write_body(&rt, rt.alloc(), &patches, b"first one three").as_slice(), b">>> first two  and three".as_slice());
     patches.clear();
     patches.keep(2);
-    assert_same!(rt; written(&rt, rt.alloc(), &patches, b"ab").as_slice(), b">>> ab".as_slice());
+    assert_same!(rt; write_body(&rt, rt.alloc(), &patches, b"ab").as_slice(), b">>> ab".as_slice());
 }
 
 #[test]

@@ -2,7 +2,7 @@
 
 use crate::asserts::{assert_holds, assert_same, ok};
 use crate::messages::parts::value_in;
-use crate::samples::{nfs, push_words, spelled};
+use crate::samples::{nfs, push_words, spell};
 use rpc_head::{
     Accept, CallHead, Cred, Deny, ReplyHead, Start, Verf, after_xid, scan_call_head,
     scan_reply_head, start,
@@ -14,7 +14,7 @@ use xdr3::{Input, Walk, Writer};
 /// `client` after the length `name`, user 0 and group 0. The credential's body starts at byte 32, the
 /// machine name's length at 36, the count of groups, the first of `rest`, at 56.
 fn sys_call(alloc: Global, length: u32, name: u32, rest: &[u32]) -> Result<Vec<u8>, AllocError> {
-    let mut bytes = spelled(alloc, &[5, 0, 2, 100_003, 3, 0, 1, length, 1, name])?;
+    let mut bytes = spell(alloc, &[5, 0, 2, 100_003, 3, 0, 1, length, 1, name])?;
     push_words(&mut bytes, &[0x636c_6965, 0x6e74_0000, 0, 0])?;
     push_words(&mut bytes, rest)?;
     Ok(bytes)
@@ -24,7 +24,7 @@ fn sys_call(alloc: Global, length: u32, name: u32, rest: &[u32]) -> Result<Vec<u
 fn starts(rt: HostRuntime) {
     let alloc = rt.alloc();
     for (mtype, is_reply) in [(0, false), (1, true)] {
-        let body = ok(&rt, spelled(alloc, &[0xdead_beef, mtype]));
+        let body = ok(&rt, spell(alloc, &[0xdead_beef, mtype]));
         assert_holds!(rt; body.len() == 8);
         let mut input = Input::new(body.as_slice());
         assert_same!(rt;
@@ -86,7 +86,7 @@ fn replies_that_are_read(rt: HostRuntime) {
         (&[1, 1, 14], None, Some(Deny::AuthError(14))),
     ];
     for (words, accept, deny) in rows {
-        let body = ok(&rt, spelled(alloc, words));
+        let body = ok(&rt, spell(alloc, words));
         assert_holds!(rt; body.len() <= 24);
         let head: ReplyHead = value_in(alloc, &body).expect(&rt, "refused");
         match head {
@@ -127,7 +127,7 @@ fn replies_heads_are_told(rt: HostRuntime) {
         (&[1, 1, 14], false),
     ];
     for (words, follow) in rows {
-        let body = ok(&rt, spelled(rt.alloc(), words));
+        let body = ok(&rt, spell(rt.alloc(), words));
         assert_holds!(rt; body.len() <= 24);
         let mut input = Input::new(&body);
         let mut writer = Writer::new(rt.alloc());

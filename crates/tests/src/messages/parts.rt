@@ -4,7 +4,7 @@ ghost use Rattle.std.specs.Prelude.{◌≤◌, IfOk, length};
 ghost use Rattle.xdr3.specs.Visit.{AreWithinLimit, body_limit};
 
 use crate::asserts::{assert_holds, assert_same, ok, some};
-use crate::samples::spelled;
+use crate::samples::spell;
 use nfs3_types::mount3::MountOk;
 use nfs3_types::{Fattr, FileKind, Handle, PostOpAttr, PostOpFh, Sattr, Time, TimeHow, Void, Wcc};
 use std::alloc::Global;
@@ -50,7 +50,7 @@ fn fault_in<'a, T: Xdr<'a> + Drop>(alloc: Global, body: &'a [u8]) -> Option<Stop
 #[test]
 fn attributes_are_read(rt: HostRuntime) {
     let alloc = rt.alloc();
-    let body = ok(&rt, spelled(alloc, &DIRECTORY));
+    let body = ok(&rt, spell(alloc, &DIRECTORY));
     assert_holds!(rt; body.len() == 84);
     let attributes: Fattr = ok(&rt, value_in(alloc, &body));
     let expected = Fattr {
@@ -75,7 +75,7 @@ fn attributes_are_read(rt: HostRuntime) {
     for (kind, accepted) in [(0, false), (1, true), (7, true), (8, false)] {
         let mut words = DIRECTORY;
         words[0] = kind;
-        let body = ok(&rt, spelled(alloc, &words));
+        let body = ok(&rt, spell(alloc, &words));
         assert_holds!(rt; body.len() == 84);
         let is_accepted = fault_in::<Fattr>(alloc, &body).is_none();
         assert_same!(rt; (kind, is_accepted), (kind, accepted));
@@ -95,7 +95,7 @@ const NOTHING_SET: Sattr = Sattr {
 /// Each row's words are these attributes, and are written again as they were.
 fn settable_are_read(rt: &impl Abort, alloc: Global, rows: &[(&[u32], Sattr)]) {
     for (words, expected) in rows {
-        let body = ok(rt, spelled(alloc, words));
+        let body = ok(rt, spell(alloc, words));
         assert_holds!(rt; body.len() <= 32);
         let read: Sattr = ok(rt, value_in(alloc, &body));
         assert_same!(rt; read, *expected);
@@ -135,8 +135,8 @@ fn settable_numbers_are_read(rt: HostRuntime) {
 #[test]
 fn handles_are_written_with_zero_padding(rt: HostRuntime) {
     let alloc = rt.alloc();
-    let body = ok(&rt, spelled(alloc, &[1, 2, 0xabcd_ffff]));
-    let zero = ok(&rt, spelled(alloc, &[1, 2, 0xabcd_0000]));
+    let body = ok(&rt, spell(alloc, &[1, 2, 0xabcd_ffff]));
+    let zero = ok(&rt, spell(alloc, &[1, 2, 0xabcd_0000]));
     assert_holds!(rt; body.len() == 12);
     let told: PostOpFh = ok(&rt, value_in(alloc, &body));
     assert_same!(rt; told.handle, Handle::new(&[0xab, 0xcd]));
@@ -147,7 +147,7 @@ fn handles_are_written_with_zero_padding(rt: HostRuntime) {
 #[test]
 fn told_parts_are_refused(rt: HostRuntime) {
     let alloc = rt.alloc();
-    let body = ok(&rt, spelled(alloc, &[0, 2]));
+    let body = ok(&rt, spell(alloc, &[0, 2]));
     assert_holds!(rt; body.len() == 8);
     let stop = |at, reason| Some(Stop { at, reason });
     assert_same!(rt;
@@ -188,13 +188,13 @@ fn handles_are_read(rt: HostRuntime) {
         (4, 3, 0, Reason::Short),
     ];
     for (length, len, at, reason) in rows {
-        let mut body = ok(&rt, spelled(alloc, &[length]));
+        let mut body = ok(&rt, spell(alloc, &[length]));
         ok(&rt, body.extend_from_slice(&[7; 65]));
         body.truncate(len);
         assert_holds!(rt; body.len() <= 69);
         assert_same!(rt; fault_in::<Handle>(alloc, &body), stop(at, reason));
     }
-    let mut body = ok(&rt, spelled(alloc, &[64]));
+    let mut body = ok(&rt, spell(alloc, &[64]));
     ok(&rt, body.extend_from_slice(&[7; 64]));
     assert_holds!(rt; body.len() == 68);
     let read: Handle = ok(&rt, value_in(alloc, &body));
@@ -204,7 +204,7 @@ fn handles_are_read(rt: HostRuntime) {
 #[test]
 fn a_mount_is_read(rt: HostRuntime) {
     let alloc = rt.alloc();
-    let body = ok(&rt, spelled(alloc, &[8, 0x0102_0304, 0x0506_0708, 2, 1, 0]));
+    let body = ok(&rt, spell(alloc, &[8, 0x0102_0304, 0x0506_0708, 2, 1, 0]));
     assert_holds!(rt; body.len() == 24);
     let mount: MountOk = ok(&rt, value_in(alloc, &body));
     assert_same!(rt;

@@ -1,6 +1,6 @@
 //! Command lines of nfs3canon, and what is made of them.
 
-use line3::{Job, LineFault, job, taken};
+use line3::{Job, LineFault, job, take_words};
 use std::alloc::{AllocError, Global};
 use std::test::Fail;
 
@@ -41,13 +41,13 @@ const LINES: [(&str, &str); 30] = [
 #[test]
 fn command_lines(rt: HostRuntime) -> Result<(), Fail> {
     for (line, wanted) in LINES {
-        assert_eq!(rt; told(rt.alloc(), line)?, wanted, "{line}");
+        assert_eq!(rt; answer_to(rt.alloc(), line)?, wanted, "{line}");
     }
     Ok(())
 }
 
-fn told(alloc: Global, line: &str) -> Result<&'static str, Fail> {
-    let said = match taken(alloc, words_of(alloc, line)?) {
+fn answer_to(alloc: Global, line: &str) -> Result<&'static str, Fail> {
+    let said = match take_words(alloc, words_of(alloc, line)?) {
         Ok(said) => said,
         Err(fault) => return Ok(name_of_fault(&fault)),
     };

@@ -185,7 +185,7 @@ fn lines_that_are_refused(rt: HostRuntime) -> Result<(), Fail> {
 /// Where standard output has the bytes of the capture, all is on standard error.
 #[test]
 fn a_report_aside(rt: HostRuntime) -> Result<(), Fail> {
-    let ended = Ended::printing(Outcome::Counted(Ok(summary())));
+    let ended = Ended::of(Outcome::Counted(Ok(summary())));
     assert!(rt; !ended.is_aside);
     let report = on_standard_error(rt.alloc(), report(rt.alloc(), &ended.outcome)?)?;
     assert_eq!(rt; report.status, 0);

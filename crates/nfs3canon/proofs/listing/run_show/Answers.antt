@@ -1,9 +1,9 @@
 use Rattle.nfs3canon.proofs.Common.{◌∙◌, ap, inl, refl, subst, sym, IsByFailedRead, MayContain, reading_in}
 use Rattle.nfs3canon.proofs.listing.run_show.Goals as goal
 
-pub returns-in-Ok-form_written : goal.returns-in-Ok-form_written
-returns-in-Ok-form_written g c =
-    let it = c.in-Ok-form_written in
+pub returns-in-Ok-write_form : goal.returns-in-Ok-write_form
+returns-in-Ok-write_form g c =
+    let it = c.in-Ok-write_form in
     let (named, unread) = c.in-Ok.ensures.opened in
     let name = c.in-Ok.opened.name.bytes in
     let whole = g.F.Files.holds c.args.files.now c.args.name.now in

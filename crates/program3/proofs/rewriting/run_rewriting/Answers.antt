@@ -5,7 +5,7 @@ use Rattle.program3.proofs.rewriting.run_rewriting.Goals as goal
 pub returns-in-Ok : goal.returns-in-Ok
 returns-in-Ok g c =
     let it = c.in-Ok.ensures in
-    let came = c.kept-came in
+    let came = c.keep_form-came in
     let name = c.in-Ok.opened.name.bytes in
     let whole = g.F.Files.holds c.args.files.now c.args.input.now in
     record {

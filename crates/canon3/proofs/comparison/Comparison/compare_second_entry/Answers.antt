@@ -26,7 +26,7 @@ returns-in-Ok-None-clause-meets g c source start a b e of order passed few so_fa
 pub returns-in-Err-clause-meets : goal.returns-in-Err-clause-meets
 returns-in-Err-clause-meets g c source start a b e of order passed few so_far h =
     let ends = rw c.in-Err.is at c.visit.follows.holds-at-none in
-    rw c.refused.ensures
+    rw c.finding_at_error.ensures
     (refused_meets source _ (with_second c.args.self.now c.visit.new.visitor) a b e c.in-Err.error
     (gave_error (start, g.B.Source.observed (source_of c.visit.follows.lender-at-none)) b
     c.in-Err.error (hands _ _ _ _ h (ends.answers h.given b h.stands))))
