@@ -22,22 +22,22 @@ from tests.shared.running import command_of, ended, try_all, words_of
 
 # The most instructions, in millions.
 LIMITS = {
-    'check small': 6.95,
-    'canon small': 9.7,
-    'show small': 15.5,
-    'same small': 17.25,
-    'check mixed': 5.35,
-    'canon mixed': 12.8,
-    'show mixed': 16.55,
-    'same mixed': 12.7,
+    'check small': 6.35,
+    'canon small': 9.35,
+    'show small': 15.05,
+    'same small': 16.5,
+    'check mixed': 5.25,
+    'canon mixed': 12.75,
+    'show mixed': 16.45,
+    'same mixed': 12.6,
     'pack small': 0.39,
-    'nfs3mask small': 12.95,
-    'nfs3mask mixed': 15.1,
-    'check recorded': 3.6,
-    'canon recorded': 7.0,
-    'show recorded': 12.85,
-    'same recorded': 8.85,
-    'nfs3mask recorded': 8.15,
+    'nfs3mask small': 12.3,
+    'nfs3mask mixed': 15.0,
+    'check recorded': 3.4,
+    'canon recorded': 6.65,
+    'show recorded': 12.65,
+    'same recorded': 8.6,
+    'nfs3mask recorded': 7.9,
 }
 MIXES = {'small': (make.SMALL, 1), 'mixed': (make.MIXED, 4), 'recorded': (make.RECORDED, 2)}
 
