@@ -1,6 +1,6 @@
 //! File handles (RFC 1813, section 2.5).
 
-ghost use Rattle.std.specs.Prelude.{◌≡◌, ◌≤◌, ◌<◌, ◌↔◌, [], ◌∷◌, IfSome, IsNone, IsTrue, Some, bytes_eq, length, refl, take};
+ghost use Rattle.std.specs.Prelude.{◌≡◌, ◌≤◌, ◌<◌, ◌-◌, ◌↔◌, [], ◌∷◌, IfSome, IsNone, IsTrue, Some, bytes_eq, drop, length, refl, replicate, take};
 ghost use Rattle.std.proofs.Common.{rules};
 ghost use Rattle.std.specs.Cmp.{on_equiv, on_per, on_po, on_total, partial_equiv_from_equiv};
 ghost use Rattle.std.specs.Cmp.Lexicographic.{nat_list_cmp_total, nat_list_eq_equiv, slice_cmp, texts_po, texts_ties};
@@ -19,6 +19,7 @@ pub struct Handle {
     bytes: [u8; 64],
     len: u8,
     ghost in_range: { len ≤ 64 },
+    ghost padded: { drop len bytes ≡ replicate (64 - len) 0 },
 }
 
 impl Handle {
@@ -68,7 +69,8 @@ impl Handle {
 #[inline(always)]
 fn padded_bytes(bytes: &[u8]) -> [u8; 64]
     requires { length bytes.now ≤ 64 }
-    ensures { take (length bytes.now) result ≡ bytes.now }
+    ensures bytes { take (length bytes.now) result ≡ bytes.now }
+    ensures padded { drop (length bytes.now) result ≡ replicate (64 - length bytes.now) 0 }
 {
     let mut held = [0; 64];
     let len = bytes.len();
@@ -88,8 +90,9 @@ impl PartialEq for Handle {
 
     ghost laws = { on_per handle_bytes (partial_equiv_from_equiv nat_list_eq_equiv) };
 
+    // All 64 bytes, since their number is constant, and those behind the handle are zeros.
     fn eq(&self, other: &Handle) -> bool {
-        self.as_slice() == other.as_slice()
+        self.len == other.len && self.bytes == other.bytes
     }
 }
 
