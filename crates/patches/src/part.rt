@@ -46,8 +46,9 @@ pub(crate) fn put_part(room: &mut [u8], at: usize, body: &[u8], part: &Part) -> 
     ensures len { length room.new ≡ length room.old }
 {
     let end = put_bytes(room, at, front(body, part.keeps));
-    // All eight, since their number is constant.
-    put_bytes(room, end, &part.bytes);
+    // All eight, since their number is constant, from a place that cannot overlap the room.
+    let bytes = part.bytes;
+    put_bytes(room, end, &bytes);
     end + part.len.min(MOST)
 }
 

@@ -56,7 +56,7 @@ impl Patches {
         ensures { (body more form : List ℕ) → Makes self.old body form → length more ≡ count
             → length (body ++ more) < 2 ^ 64 → Makes self.new (body ++ more) (form ++ more) }
     {
-        self.kept = self.kept.saturating_add(count);
+        self.kept = self.kept.wrapping_add(count);
     }
 
     /// Notes that the next `skipped` bytes are replaced by the first `len` of these.

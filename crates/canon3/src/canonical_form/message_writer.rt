@@ -1,12 +1,13 @@
 //! The writer of the canonical form, one message at a time.
 
-ghost use Rattle.std.specs.Prelude.{◌≡◌, ◌≢◌, ◌≤◌, ◌++◌, ◌∷◌, ℕ, List, [], bytes_eq, drop, length, min, take, true, vec_len, IfOk, IsTrue, OnErr, OnOk};
+ghost use Rattle.std.specs.Prelude.{◌≡◌, ◌≢◌, ◌≤◌, ◌++◌, ◌∷◌, ℕ, List, [], bytes_eq, drop, length, min, replicate, take, true, vec_len, IfOk, IsTrue, OnErr, OnOk};
 ghost use Rattle.xdr3.specs.Item.{Handle as HandleKind, Item, Kind, Opaque, Word, WriteVerf, residue, word_bytes};
 ghost use Rattle.xdr3.specs.Visit.{Adds, body_limit};
 ghost use Rattle.canon3.specs.Bytes.{chunk_bytes, record_bytes};
 ghost use Rattle.canon3.specs.HandleTable.{HoldsHandles};
 ghost use Rattle.canon3.specs.machinery.MessageWriter.{Before, HoldsBefore, IsGoing, WriterRests, WriterStands, message_of, items_of_writer, values_of};
 ghost use Rattle.capture3.specs.Rank.{number_limit, rank};
+ghost use Rattle.patches.specs.Patches.{Makes};
 ghost use Rattle.canon3.specs.Renaming.{IsPlain};
 
 use crate::numbers::Numbers;
@@ -223,6 +224,7 @@ impl<S: BuildHasher + Drop> MessageWriter<S> {
 
     /// Notes that opaque data of `len` bytes stays, and that its residual bytes become zeros. A
     /// visitor does not see what they are.
+    #[inline(always)]
     fn note_run(&mut self, len: usize) -> Result<(), AllocError>
         requires { len ≤ body_limit }
         ensures { (kind : Kind) (name bytes : List ℕ) → IsPlain (Opaque kind name bytes)
@@ -232,11 +234,23 @@ impl<S: BuildHasher + Drop> MessageWriter<S> {
         self.patches.keep(4 + len);
         match residue(len) {
             0 => Ok(()),
-            count => self.patches.replace(count, &[0; 8], count),
+            count => self.clear_residue(count),
         }
     }
 
+    /// Notes that the next `count` bytes become zeros.
+    #[inline(never)]
+    fn clear_residue(&mut self, count: usize) -> Result<(), AllocError>
+        ensures ok { (body gone form : List ℕ) → Makes self.old.patches body form
+            → length gone ≡ count → OnOk result
+            (Makes self.new.patches (body ++ gone) (form ++ take count (replicate 8 0))) }
+        ensures others { self.new ≡ record self.old { patches = self.new.patches } }
+    {
+        self.patches.replace(count, &[0; 8], count)
+    }
+
     /// Says nothing more of the tables after an error.
+    #[inline(always)]
     fn fail_for_good(&mut self, noted: Result<(), AllocError>) -> Result<(), AllocError>
         ensures result { result ≡ noted }
         ensures ok { OnOk noted (self.new ≡ self.old) }
@@ -289,11 +303,14 @@ impl<S: BuildHasher + Drop> Visit for MessageWriter<S> {
         self.fail_for_good(noted)
     }
 
+    // Inlined, since most data has no residual bytes: an empty verifier is one addition and a test.
+    #[inline(always)]
     fn var(&mut self, _name: &'static str, bytes: &[u8]) -> Result<(), AllocError> {
         let noted = self.note_run(bytes.len());
         self.fail_for_good(noted)
     }
 
+    #[inline(always)]
     fn text(&mut self, _name: &'static str, bytes: &[u8]) -> Result<(), AllocError> {
         let noted = self.note_run(bytes.len());
         self.fail_for_good(noted)

@@ -1,4 +1,5 @@
-use Rattle.std.proofs.Common.{◌≡◌, ◌+◌, ◌++◌, ℕ, arith, subst, sym, length-append}
+use Rattle.std.proofs.Common.{◌≡◌, ◌<◌, ◌+◌, ◌++◌, ◌%◌, ◌^◌, ℕ, arith, subst, sym, length-append}
+use Rattle.std.proofs.Math.Nat.{mod-eq_of_lt}
 use Rattle.patches.specs.Patches.{Makes, Noted, noted_of}
 use Rattle.patches.proofs.PatchesLemmas.{makes-kept}
 use Rattle.patches.proofs.patches.Patches.keep.Goals as goal
@@ -6,9 +7,10 @@ use Rattle.patches.proofs.patches.Patches.keep.Goals as goal
 pub returns : goal.returns
 returns c body more form makes l few =
     let was = subst (λ (noted : Noted). Makes noted body form) (sym c.self.view_is) makes in
-    let sum : c.saturating_add-self-inside.result ≡ c.self.inside.kept + c.args.count =
-    omega (arith, was.covers, l, few, length-append body more, c.saturating_add-self-inside.ensures)
-    in
+    let fits : c.self.inside.kept + c.args.count < 2 ^ 64 =
+    omega (arith, was.covers, l, few, length-append body more) in
+    let sum : (c.self.inside.kept + c.args.count) % 2 ^ 64 ≡ c.self.inside.kept + c.args.count =
+    mod-eq_of_lt fits in
     subst (λ (kept : ℕ). Makes (record (noted_of c.self.inside) { kept = kept }) (body ++ more)
     (form ++ more)) (sym sum)
     (makes-kept (noted_of c.self.inside) c.args.count body more form was l)
