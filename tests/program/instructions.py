@@ -22,22 +22,22 @@ from tests.shared.running import command_of, ended, try_all, words_of
 
 # The most instructions, in millions.
 LIMITS = {
-    'check small': 6.35,
-    'canon small': 9.35,
+    'check small': 6.3,
+    'canon small': 8.95,
     'show small': 15.05,
-    'same small': 16.5,
+    'same small': 15.8,
     'check mixed': 5.25,
-    'canon mixed': 12.75,
+    'canon mixed': 12.7,
     'show mixed': 16.45,
-    'same mixed': 12.6,
+    'same mixed': 12.5,
     'pack small': 0.39,
-    'nfs3mask small': 12.3,
+    'nfs3mask small': 12.2,
     'nfs3mask mixed': 15.0,
-    'check recorded': 3.4,
-    'canon recorded': 6.65,
+    'check recorded': 3.37,
+    'canon recorded': 6.5,
     'show recorded': 12.65,
-    'same recorded': 8.6,
-    'nfs3mask recorded': 7.9,
+    'same recorded': 8.35,
+    'nfs3mask recorded': 7.85,
 }
 MIXES = {'small': (make.SMALL, 1), 'mixed': (make.MIXED, 4), 'recorded': (make.RECORDED, 2)}
 
