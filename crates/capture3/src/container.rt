@@ -172,10 +172,7 @@ impl Container {
         };
         let front = &piece[..piece.len().min(left as usize)];
         let count = self.joiner.take_whole(front)?;
-        // Read again after the joiner's writes, so that the counts that stay are not written back.
-        let position = self.position;
-        let taken = position.counts.take_chunk(side, left, count as u32, true);
-        self.position = taken.position;
+        self.position.pass_record(side, left, count as u32);
         Some((count, side))
     }
 

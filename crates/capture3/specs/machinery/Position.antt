@@ -8,6 +8,7 @@ use Rattle.capture3.specs.machinery.ContainerMachine as unpacking
 use Rattle.capture3.specs.declared.container.position.TheConstants.{MAGIC}
 use Rattle.capture3.specs.declared.fault.Error.{Error}
 use Rattle.capture3.specs.declared.fault.Error.TheVariants.{Refused}
+use Rattle.capture3.specs.declared.fault.Side.{Side}
 use Rattle.capture3.specs.declared.fault.Side.TheVariants as sides
 use Rattle.capture3.specs.declared.container.position.spot.Event.{Event}
 use Rattle.capture3.specs.declared.container.position.spot.Event.TheVariants.{Record, Streams}
@@ -188,6 +189,16 @@ TakesRoom before taken = (streams : sided.Streams) → StoredAt before.spot befo
 abbrev pub KeepsStreams : Position → Transition → Type 0
 KeepsStreams before taken = (streams : sided.Streams) → StoredAt before.spot before.total streams
     → StoredWith taken.event taken.position streams
+
+-- a record became whole with so many bytes of an open chunk
+pub record PassesRecord (before after : Position) (side : Side) (left count : ℕ) : Type 0 where
+  pub machine : (streams : sided.Streams) (joining : Joining)
+      → unpacking_at after streams joining ≡ unpacking.in_chunk before.at before.total
+      before.connections (before.records + 1) side (left - count) joining
+  pub room : TakesRoom before
+      (record { count = count; position = after; event = Some (Record side) })
+  pub stored : KeepsStreams before
+      (record { count = count; position = after; event = Some (Record side) })
 
 -- a step of the container, with which no record becomes whole
 pub record StepsFrom (before : Position) (taken : Transition) : Type 0 where

@@ -3,9 +3,9 @@
 pub(crate) mod counts;
 pub(crate) mod spot;
 
-ghost use Rattle.std.specs.Prelude.{◌≡◌, ◌<◌, ◌+◌, []};
+ghost use Rattle.std.specs.Prelude.{◌≡◌, ◌≤◌, ◌<◌, ◌+◌, []};
 ghost use Rattle.capture3.specs.Capture.{Two};
-ghost use Rattle.capture3.specs.machinery.Position.{IsBeforeMark, most_things, room_of, unpacking_at};
+ghost use Rattle.capture3.specs.machinery.Position.{IsBeforeMark, PassesRecord, most_things, room_of, unpacking_at};
 ghost use Rattle.capture3.specs.SidedChunks.{gathered};
 ghost use Rattle.capture3.specs.machinery.ContainerMachine as spec;
 ghost use Rattle.record_mark.specs.Joining.{Between};
@@ -69,6 +69,44 @@ impl Position {
             },
             spot: Spot::Magic,
         }
+    }
+
+    /// Version 1: goes behind a record that ends this many bytes further in the open chunk.
+    #[inline(always)]
+    pub(crate) fn pass_record(&mut self, side: Side, left: u32, count: u32)
+        requires here { self.old.spot ≡ Spot.Chunk side left }
+        requires some { 0 < count }
+        requires within { count ≤ left }
+        ensures { PassesRecord self.old self.new side left count }
+    {
+        // Apart, so that inside a chunk only what changes is written.
+        if count < left {
+            self.pass(side, left, count);
+        } else {
+            self.pass_last_of_chunk(side, left);
+        }
+    }
+
+    /// Does so wherever the record ends.
+    #[inline(always)]
+    fn pass(&mut self, side: Side, left: u32, count: u32)
+        requires here { self.old.spot ≡ Spot.Chunk side left }
+        requires some { 0 < count }
+        requires within { count ≤ left }
+        ensures { PassesRecord self.old self.new side left count }
+    {
+        let taken = self.counts.take_chunk(side, left, count, true);
+        *self = taken.position;
+    }
+
+    /// Does so if the chunk ends with the record.
+    #[inline(never)]
+    fn pass_last_of_chunk(&mut self, side: Side, left: u32)
+        requires here { self.old.spot ≡ Spot.Chunk side left }
+        requires some { 0 < left }
+        ensures { PassesRecord self.old self.new side left left }
+    {
+        self.pass(side, left, left);
     }
 
     /// Version 2: returns the same position with one more whole record of the stream that is
