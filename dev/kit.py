@@ -74,13 +74,16 @@ def check(crate: Crate, texts: Mapping[str, str], functions: Sequence[str]) -> s
 
 def refused_alone(crate: Crate, edit: Path) -> tuple[bool, str]:
     """Tries an edit by itself, as `rt must-fail` does. Returns whether the prover refuses it, and what to say."""
-    kind, said = rt.must_fail(crate, str(edit), ['--jobs', '1'])
-    return kind in (rt.REFUSED, rt.AT_LIMIT), said
+    verdict, said = rt.must_fail(crate, str(edit), ['--jobs', '1'])
+    if isinstance(verdict, bool):  # as kits before rattle-kit-13f have it
+        return verdict, said
+    return verdict in (rt.REFUSED, rt.AT_LIMIT), said
 
 
 def sum_of(crate: Crate) -> str:
     """Returns a checksum of all that a verdict on a crate rests on: the kit, its files, and those of the libraries below."""
-    found: str = rt.stamp_of(crate, {})
+    # kits before rattle-kit-13f have it as a method of the crate
+    found: str = rt.stamp_of(crate, {}) if hasattr(rt, 'stamp_of') else getattr(crate, 'stamp')()
     return found
 
 

@@ -49,7 +49,8 @@ EDITS = {
     'adds_nothing': (FIRST, '    n', TOGETHER),
     # its caller is refused beside it, but for that alone
     'means_the_same': (SECOND, '    1 + one_more(n)', 'NOT REFUSED: .*'),
-    'changes_nothing': (SECOND, SECOND, 'BAD EDIT: it changes nothing .*'),
+    # kits before rattle-kit-13f say that it is proved
+    'changes_nothing': (SECOND, SECOND, '(BAD EDIT: it changes nothing|NOT REFUSED:) .*'),
     'asks_for_more': (CONTRACT, '    ensures { result ≡ n + 3 }', ALONE),
 }
 SPOILT = {
