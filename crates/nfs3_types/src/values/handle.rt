@@ -1,6 +1,6 @@
 //! File handles (RFC 1813, section 2.5).
 
-ghost use Rattle.std.specs.Prelude.{◌≡◌, ◌≤◌, ◌<◌, ◌-◌, ◌↔◌, [], ◌∷◌, IfSome, IsNone, IsTrue, Some, bytes_eq, drop, length, refl, replicate, take};
+ghost use Rattle.std.specs.Prelude.{◌≡◌, ◌≤◌, ◌<◌, ◌-◌, ◌*◌, ◌↔◌, [], ◌∷◌, IfSome, IsNone, IsTrue, Some, bytes_eq, drop, length, refl, replicate, take};
 ghost use Rattle.std.proofs.Common.{rules};
 ghost use Rattle.std.specs.Cmp.{on_equiv, on_per, on_po, on_total, partial_equiv_from_equiv};
 ghost use Rattle.std.specs.Cmp.Lexicographic.{nat_list_cmp_total, nat_list_eq_equiv, slice_cmp, texts_po, texts_ties};
@@ -64,22 +64,39 @@ impl Handle {
     }
 }
 
-/// Returns the bytes, which are at most 64, with zeros behind. A copy of a known length takes few
-/// instructions, and two that overlap make any length.
+/// Returns the bytes, which are at most 64, with zeros behind. Two copies of a known length take
+/// fewer instructions than one of any.
 #[inline(always)]
 fn padded_bytes(bytes: &[u8]) -> [u8; 64]
     requires { length bytes.now ≤ 64 }
     ensures bytes { take (length bytes.now) result ≡ bytes.now }
     ensures padded { drop (length bytes.now) result ≡ replicate (64 - length bytes.now) 0 }
 {
+    let len = bytes.len();
+    if len > 32 {
+        both_ends(bytes, 32)
+    } else if len >= 16 {
+        both_ends(bytes, 16)
+    } else {
+        let mut few = [0; 64];
+        few[..len].copy_from_slice(bytes);
+        few
+    }
+}
+
+/// Does so for `size` to twice `size` bytes. It copies the first and the last `size` of them.
+#[inline(always)]
+fn both_ends(bytes: &[u8], size: usize) -> [u8; 64]
+    requires long { size ≤ length bytes.now }
+    requires covered { length bytes.now ≤ 2 * size }
+    requires short { length bytes.now ≤ 64 }
+    ensures bytes { take (length bytes.now) result ≡ bytes.now }
+    ensures padded { drop (length bytes.now) result ≡ replicate (64 - length bytes.now) 0 }
+{
     let mut held = [0; 64];
     let len = bytes.len();
-    if len < 32 {
-        held[..len].copy_from_slice(bytes);
-    } else {
-        held[..32].copy_from_slice(&bytes[..32]);
-        held[len - 32..len].copy_from_slice(&bytes[len - 32..]);
-    }
+    held[..size].copy_from_slice(&bytes[..size]);
+    held[len - size..len].copy_from_slice(&bytes[len - size..]);
     held
 }
 
