@@ -23,7 +23,7 @@ pub(crate) fn put_quoted(room: &mut Vec<u8>, at: usize, bytes: &[u8]) -> Result<
     ensures kept { take at room.new.items ≡ take at room.old.items }
     ensures len { vec_len room.old ≤ vec_len room.new }
 {
-    if (PIECE..=2 * PIECE).contains(&bytes.len()) && are_all_plain(bytes) {
+    if (PIECE..=2 * PIECE).contains(&bytes.len()) && are_ends_plain(bytes, PIECE) {
         make_room(room, at, 2 * PIECE + 2)?;
         return Ok(put_plain(room, at, bytes));
     }
@@ -63,14 +63,15 @@ fn put_plain(room: &mut [u8], at: usize, bytes: &[u8]) -> usize
     put_bytes(room, end, b"\"")
 }
 
-/// Returns `true` only if all bytes of one or two pieces stand for themselves. The pieces may overlap.
+/// Returns `true` only if the first and the last `size` bytes stand for themselves, which may
+/// overlap, and are all that there are.
 #[inline(always)]
-fn are_all_plain(bytes: &[u8]) -> bool
-    requires least { PIECE ≤ length bytes.now }
-    requires most { length bytes.now ≤ 2 * PIECE }
+fn are_ends_plain(bytes: &[u8], size: usize) -> bool
+    requires least { size ≤ length bytes.now }
+    requires most { length bytes.now ≤ 2 * size }
     ensures { result ≡ true → flat_map quoted_byte bytes.now ≡ bytes.now }
 {
-    are_plain(&bytes[..PIECE]) && are_plain(&bytes[bytes.len() - PIECE..])
+    are_plain(&bytes[..size]) && are_plain(&bytes[bytes.len() - size..])
 }
 
 /// Writes the text of the bytes between quotation marks. Most pieces stand for themselves.
@@ -83,18 +84,20 @@ fn put_piece(room: &mut [u8], at: usize, bytes: &[u8]) -> usize
     if bytes.len() == PIECE && are_plain(bytes) {
         return put_bytes(room, at, &block::<PIECE>(bytes));
     }
+    if (4..PIECE).contains(&bytes.len()) && are_ends_plain(bytes, 4) {
+        return put_short(room, at, bytes);
+    }
     put_inside(room, at, bytes)
 }
 
-/// Returns `true` only if all bytes of a piece stand for themselves. Because it goes through all of
-/// them, the compiler tests them at once.
+/// Returns `true` only if all bytes stand for themselves. Because it goes through all of them, the
+/// compiler tests a constant number of them at once.
 #[inline(always)]
 fn are_plain(bytes: &[u8]) -> bool
-    requires { length bytes.now ≡ PIECE }
     ensures { result ≡ true → flat_map quoted_byte bytes.now ≡ bytes.now }
 {
     let mut plain = true;
-    for i in 0..PIECE {
+    for i in 0..bytes.len() {
         plain &= is_plain(bytes[i]);
     }
     plain
