@@ -93,7 +93,8 @@ impl Container {
     }
 
     /// Returns what is whole next, and how many bytes of `piece` were taken for it: none if it is
-    /// of kept streams, and all of them if nothing is whole. If it fails, it puts the error into `error`.
+    /// of kept streams. If nothing is whole yet, some bytes were taken. If it fails, it puts the
+    /// error into `error`.
     #[inline(always)]
     pub(crate) fn next(
         &mut self,
@@ -101,6 +102,7 @@ impl Container {
         error: &mut Error,
     ) -> Result<(usize, Option<Event>), Noted>
         requires ready { CanGoOn self.old.cursor self.old.joiner.taking self.old }
+        requires some { self.old.cursor ≡ None → 0 < length piece.now }
 
         ensures ok { IfOk result (ComesNext self.old self.new piece.now) }
         ensures fault { OnErr result (ComesToFault self.old piece.now error.new) }
@@ -114,13 +116,32 @@ impl Container {
         }
     }
 
-    /// Does the same where no whole record of one fragment is at hand.
+    /// Does the same where no whole record of one fragment is at hand. A chunk's length word is
+    /// tried first, since one may come before each record.
     #[inline(never)]
     fn next_aside(
         &mut self,
         piece: &[u8],
         error: &mut Error,
     ) -> Result<(usize, Option<Event>), Noted>
+        requires ready { CanGoOn self.old.cursor self.old.joiner.taking self.old }
+        requires some { self.old.cursor ≡ None → 0 < length piece.now }
+
+        ensures ok { IfOk result (ComesNext self.old self.new piece.now) }
+        ensures fault { OnErr result (ComesToFault self.old piece.now error.new) }
+    {
+        match self.cursor {
+            Some(_) => self.next_far(piece, error),
+            None => match self.take_length(piece) {
+                Some(next) => Ok(next),
+                None => self.next_far(piece, error),
+            },
+        }
+    }
+
+    /// Does the same anywhere.
+    #[inline(never)]
+    fn next_far(&mut self, piece: &[u8], error: &mut Error) -> Result<(usize, Option<Event>), Noted>
         requires ready { CanGoOn self.old.cursor self.old.joiner.taking self.old }
 
         ensures ok { IfOk result (ComesNext self.old self.new piece.now) }
@@ -150,7 +171,7 @@ impl Container {
 
     /// Version 1: takes a whole record of one fragment from the start of `piece` and of the open chunk, where
     /// it stays, and returns how many bytes it has there, and its side. Returns `None` and takes nothing if no
-    /// such record is there, or if a record is begun: `advance` takes any other bytes.
+    /// such record is there, or if a record is begun: `next_aside` takes any other bytes.
     #[inline(always)]
     fn take_whole(&mut self, piece: &[u8]) -> Option<(usize, Side)>
         requires ready { CanGoOn None self.old.joiner.taking self.old }
@@ -311,6 +332,32 @@ impl Container {
                 *error = file_fault(position.counts.at, Reason::AfterEnd);
                 Err(Noted)
             }
+        }
+    }
+
+    /// Version 1: takes the bytes of `rest` that belong to the open length word, as `step` does.
+    /// Returns `None` and takes nothing if another part is open, or if the word is refused.
+    #[inline(always)]
+    fn take_length(&mut self, rest: &[u8]) -> Option<(usize, Option<Event>)>
+        requires some { 0 < length rest.now }
+        requires ready { CanGoOn None self.old.joiner.taking self.old }
+
+        ensures steps { IfSome result (StepsTo self.old self.new rest.now) }
+        ensures file { IfSome result (λ step. step.1 ≢ Some Event.Streams) }
+        ensures none { result ≡ None → self.new ≡ self.old }
+    {
+        let open = self.position;
+        let Spot::Word(WordOf::Length(side), part) = open.spot else {
+            return None;
+        };
+        let so_far = self.joiner.open_body();
+        let word = WordOf::Length(side);
+        match open.counts.take_word(word, part, so_far, rest) {
+            Ok(step) if step.event != Some(Event::Streams) => {
+                self.position = step.position;
+                Some((step.count, step.event))
+            }
+            _ => None,
         }
     }
 

@@ -101,11 +101,10 @@ Reaches old bytes event position new =
     Leads old.position position (old.joiner.taking, new.joiner.taking)
     (old.streams.kept, new.streams.kept) bytes event
 
--- how many bytes of a piece were taken: all of them if nothing is whole, and then some
+-- how many bytes of a piece were taken: some if nothing is whole
 pub record TakesPiece {X : Type 0} (piece : List ℕ) (taken : ℕ × Option X) : Type 0 where
   pub within : taken.0 ≤ length piece
   pub some : 0 < length piece → taken.1 ≡ None → 0 < taken.0
-  pub more : taken.1 ≡ None → taken.0 ≡ length piece
 
 -- How many things of whole streams can become whole after so many bytes of this side's: a record
 -- for each byte that is left, and the ends of the streams.

@@ -65,9 +65,9 @@ impl<C: CallTable + Drop> Pairing<C> {
         }
     }
 
-    /// Takes bytes of `piece` up to the next entry, or all of them, and returns how many: none if
-    /// the next entry is of kept streams. The items of a message are passed to the visitor, and its
-    /// record stays until the next call. After an error the contents of the visitor are
+    /// Takes bytes of `piece` for the next entry, and returns how many: none if that is of kept
+    /// streams. They may be too few for one. The items of a message are passed to the visitor, and
+    /// its record stays until the next call. After an error the contents of the visitor are
     /// unspecified.
     #[inline(always)]
     pub(crate) fn next<V: MessageVisit>(
@@ -77,6 +77,7 @@ impl<C: CallTable + Drop> Pairing<C> {
     ) -> Result<usize, Noted>
         requires ready { CanGoOn self.old.container.cursor
             (released self.old.container.joiner.taking) self.old.container }
+        requires some { self.old.container.cursor ≡ None → 0 < length piece.now }
 
         // How many bytes were taken.
         ensures taken { IfOk result (λ count. TakesPiece piece.now (count, self.new.last)) }

@@ -142,7 +142,6 @@ recalled_next old new piece n cursor p streams event r within none comes joiner 
       taken = record {
         within = within;
         some = λ some is. absurd (cc);
-        more = λ is. absurd (cc);
       };
       recalling = λ some. (none some, λ is. absurd (cc));
       opened = one.0;

@@ -1,6 +1,6 @@
 use Rattle.capture3.specs.Entries.{failure_in}
 use Rattle.capture3.specs.MessageVisit.{Hears}
-use Rattle.capture3.proofs.Common.{ap, ap₂, arith, entries_left, refl, sym, End, ◌≡◌, ◌∙◌, ◌+◌}
+use Rattle.capture3.proofs.Common.{ap, ap₂, arith, drop, entries_left, length-drop, length-take, refl, sym, End, ◌≡◌, ◌∙◌, ◌+◌}
 use Rattle.capture3.proofs.Lemmas.Reader.EntriesLemmas.{answers_again, answers_error, answers_kind, answers_over, can_go_on, end_on, judged_piece, none_on, piece_failed, read_on, too_long, turned}
 use Rattle.capture3.proofs.Lemmas.Reader.WholeFiles.{not_some}
 use Rattle.capture3.specs.machinery.Container.{room_in}
@@ -59,6 +59,16 @@ next-requires g c =
       ready =
           can_go_on self.pairing.container.cursor _ self.pairing.container
           (self.ready c.in-Ok-true.ensures.stays.2);
+      some =
+          λ none. omega (
+            arith,
+            length-take (self.end - self.start)
+                (drop self.start c.deref.result.now),
+            length-drop self.start c.deref.result.now,
+            c.deref.ensures.len,
+            self.within,
+            c.in-Ok-true.ensures.more.some c.in-Ok-true.field-0-test none,
+          );
     }
 
 pub returns-in-Err-next-clause-answers : goal.returns-in-Err-next-clause-answers

@@ -1,6 +1,6 @@
 use Rattle.capture3.proofs.Common.{FirstKept, InFirstKept, InNextKept, NextKept, arith, refl}
 use Rattle.capture3.proofs.Lemmas.Container.ContainerLemmas.{recalled_next}
-use Rattle.capture3.proofs.container.Container.next_aside.Goals as goal
+use Rattle.capture3.proofs.container.Container.next_far.Goals as goal
 
 pub returns-in-Ok-clause-ok : goal.returns-in-Ok-clause-ok
 returns-in-Ok-clause-ok c =
