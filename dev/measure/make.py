@@ -7,6 +7,8 @@
     make.py small MEGABYTES OUT GETATTR, LOOKUP and ACCESS alone
     make.py recorded MEGABYTES OUT
                                 calls in the proportions and sizes of a recorded Linux client, with 400 files
+    make.py plain MEGABYTES OUT the same of a short recording without data: 53 handles, connections of 15 calls, and
+                                two chunks in each
     make.py interleaved MEGABYTES OUT
                                 the messages of `mixed` in version 2, each a chunk, in the order in which they are sent
     make.py xids OUT            one connection of 1,000,000 NULL calls with different xids, and their replies
@@ -24,10 +26,10 @@ from typing import BinaryIO, NamedTuple, TypeVar
 sys.path.insert(0, str(pathlib.Path(__file__).resolve().parents[2]))
 from examples.messages import (
     CLIENT, DIR, NFS, NFSACL, NFS_PROCEDURES, REG, SERVER, UNSTABLE, auth_sys, call, dirop, entries, entry, entryplus, fattr, fh,
-    hyper, ok, opaque, post_op_attr, record, success, version_1, version_2, wcc, word)
+    hyper, ok, opaque, optional, post_op_attr, record, sattr, success, version_1, version_2, wcc, word)
 
 LONGEST_BODY = 16_777_216
-CALLS = 2_000               # in a connection
+CALLS = 2_000               # in a connection, if nothing else is said
 LATEST = 16                 # how many calls later a reply may come
 MOST_MEGABYTES = 1_000      # a capture's streams may have 1,073,741,824 bytes
 
@@ -50,6 +52,7 @@ class Mix(NamedTuple):
     folders: int = 100
     least: int = 32 * 1_024  # of the bytes that are read or written at once
     most: int = 64 * 1_024
+    calls: int = CALLS       # in a connection
 
 
 class Exchange(NamedTuple):
@@ -94,7 +97,9 @@ class Server:
         match exchange.procedure:
             case 'GETATTR':
                 return this
-            case 'LOOKUP':
+            case 'SETATTR':
+                return this + sattr(mode=0o644) + optional(None)
+            case 'LOOKUP' | 'REMOVE':
                 return dirop(self.handles[exchange.file % self.folders], name(exchange.file))
             case 'ACCESS':
                 return this + word(0x1f)
@@ -122,6 +127,8 @@ class Server:
                 return ok(known, word(exchange.size), word(0), opaque(self.content(exchange)))
             case 'WRITE':
                 return ok(self.changes[file], word(exchange.size), word(UNSTABLE), WRITE_VERIFIER)
+            case 'SETATTR' | 'REMOVE':
+                return ok(self.changes[file])
             case 'COMMIT':
                 return ok(self.changes[file], WRITE_VERIFIER)
             case 'READDIRPLUS':
@@ -140,16 +147,18 @@ MIXED = Mix({'GETATTR': 26, 'LOOKUP': 20, 'ACCESS': 20, 'READ': 18, 'WRITE': 9, 
 SMALL = Mix({'GETATTR': 40, 'LOOKUP': 35, 'ACCESS': 25})
 RECORDED = Mix({'GETATTR': 54, 'LOOKUP': 26, 'ACCESS': 2, 'READ': 9, 'WRITE': 7, 'COMMIT': 1, 'READDIRPLUS': 1},
                files=400, folders=20, least=4 * KIB, most=12 * KIB)
+PLAIN = Mix({'GETATTR': 12, 'SETATTR': 32, 'LOOKUP': 20, 'ACCESS': 7, 'REMOVE': 25, 'READDIRPLUS': 4},
+            files=53, folders=5, calls=15)
 
 # About how many bytes a call and its reply have, without data.
-BYTES = {'GETATTR': 260, 'LOOKUP': 390, 'ACCESS': 260, 'READ': 280, 'WRITE': 310, 'COMMIT': 300, 'READDIRPLUS': 8_000}
+BYTES = {'GETATTR': 260, 'SETATTR': 310, 'LOOKUP': 390, 'ACCESS': 260, 'REMOVE': 330, 'READ': 280, 'WRITE': 310, 'COMMIT': 300, 'READDIRPLUS': 8_000}
 
 
 def exchanges(chance: random.Random, mix: Mix, room: int) -> tuple[list[Exchange], int]:
     """Returns a connection's exchanges, and about how many bytes they have. They end when the room is used up."""
     first_xid = chance.getrandbits(31)
     taken, used = list[Exchange](), 0
-    for procedure in chance.choices(list(mix.shares), list(mix.shares.values()), k=CALLS):
+    for procedure in chance.choices(list(mix.shares), list(mix.shares.values()), k=mix.calls):
         size = chance.randrange(mix.least, mix.most + 1) if procedure in ('READ', 'WRITE') else 0
         taken.append(Exchange(first_xid + len(taken), procedure, chance.randrange(mix.folders, mix.files), size))
         used += BYTES[procedure] + size
@@ -179,6 +188,15 @@ def conversations(mix: Mix, megabytes: int) -> Iterator[Sides]:
 
 def write_connections(out: BinaryIO, mix: Mix, megabytes: int) -> None:
     out.writelines(version_1(conversations(mix, megabytes)))
+
+
+def write_streams(out: BinaryIO, mix: Mix, megabytes: int) -> None:
+    """Writes each stream as one chunk."""
+    out.writelines(version_1((joined(calls), joined(replies)) for calls, replies in conversations(mix, megabytes)))
+
+
+def joined(chunks: Iterable[bytes]) -> list[bytes]:
+    return [opaque(b''.join(chunk[4:] for chunk in chunks))]
 
 
 def write_interleaved(out: BinaryIO, mix: Mix, megabytes: int) -> None:
@@ -224,7 +242,7 @@ def megabytes(text: str) -> int:
 WHOLE: dict[str, Callable[[BinaryIO], None]] = {'readdir': write_readdir, 'long': write_long, 'xids': write_xids}
 SIZED: dict[str, tuple[Callable[[BinaryIO, Mix, int], None], Mix]] = {
     'mixed': (write_connections, MIXED), 'small': (write_connections, SMALL), 'recorded': (write_connections, RECORDED),
-    'interleaved': (write_interleaved, MIXED)}
+    'plain': (write_streams, PLAIN), 'interleaved': (write_interleaved, MIXED)}
 
 
 def main() -> None:

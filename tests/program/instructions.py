@@ -22,31 +22,37 @@ from tests.shared.running import command_of, ended, try_all, words_of
 
 # The most instructions, in millions.
 LIMITS = {
-    'check small': 6.3,
-    'canon small': 8.95,
-    'show small': 15.05,
-    'same small': 15.8,
-    'check mixed': 5.25,
-    'canon mixed': 12.7,
-    'show mixed': 16.45,
-    'same mixed': 12.5,
+    'check small': 4.6,
+    'canon small': 7.2,
+    'show small': 13.4,
+    'same small': 12.3,
+    'check mixed': 4.05,
+    'canon mixed': 11.35,
+    'show mixed': 15.2,
+    'same mixed': 10.0,
     'pack small': 0.39,
-    'nfs3mask small': 12.2,
-    'nfs3mask mixed': 15.0,
-    'check recorded': 3.37,
-    'canon recorded': 6.5,
-    'show recorded': 12.65,
-    'same recorded': 8.35,
-    'nfs3mask recorded': 7.85,
+    'nfs3mask small': 10.5,
+    'nfs3mask mixed': 13.7,
+    'check recorded': 1.83,
+    'canon recorded': 4.95,
+    'show recorded': 11.15,
+    'same recorded': 5.25,
+    'nfs3mask recorded': 6.3,
+    'check plain': 2.04,
+    'canon plain': 3.46,
+    'show plain': 7.3,
+    'same plain': 5.62,
+    'nfs3mask plain': 5.82,
 }
-MIXES = {'small': (make.SMALL, 1), 'mixed': (make.MIXED, 4), 'recorded': (make.RECORDED, 2)}
+MEGABYTES = {'small': 1, 'mixed': 4, 'recorded': 2, 'plain': 1}
 
 
 def make_inputs(folder: pathlib.Path) -> None:
     """Writes each capture, and the streams of the first connection of `small`."""
-    for name, (mix, megabytes) in MIXES.items():
+    for name, megabytes in MEGABYTES.items():
+        write, mix = make.SIZED[name]
         with open(folder / name, 'wb') as out:
-            make.write_connections(out, mix, megabytes)
+            write(out, mix, megabytes)
     calls, replies = next(iter(make.conversations(make.SMALL, 1)))
     for name, chunks in (('client', calls), ('server', replies)):
         (folder / name).write_bytes(b''.join(chunk[4:] for chunk in chunks))
