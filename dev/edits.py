@@ -118,13 +118,25 @@ def named(functions: set[str], reasons: dict[str, str]) -> str:
 
 
 def tried(crate: kit.Crate, one: Round) -> dict[Path, Outcome]:
-    """Tries a round, and alone what it does not refuse."""
+    """Tries a round, and alone what it does not refuse. If one edit is no code, the check says nothing of any function."""
     functions = sorted(set().union(*one.functions.values()))
-    reasons = own_reasons(kit.check(crate, one.texts, functions))
+    said = kit.check(crate, one.texts, functions)
+    if len(one.functions) > 1 and not LINE.search(said):
+        return tried_by_halves(crate, list(one.functions))
+    reasons = own_reasons(said)
     found = {}
     for edit, names in one.functions.items():
         why = named(names, reasons)
         found[edit] = Outcome(True, f'refused in {", ".join(sorted(names))}: {why[:120]}') if why else tried_alone(crate, edit)
+    return found
+
+
+def tried_by_halves(crate: kit.Crate, edits: list[Path]) -> dict[Path, Outcome]:
+    """Tries the two halves of a round, so that an edit that is no code is soon alone. A try alone takes minutes in some crates."""
+    found = {}
+    for half in (edits[:len(edits) // 2], edits[len(edits) // 2:]):
+        for one in rounds_of(crate, half)[0]:
+            found.update(tried(crate, one))
     return found
 
 

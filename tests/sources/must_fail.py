@@ -54,7 +54,7 @@ EDITS = {
     'asks_for_more': (CONTRACT, '    ensures { result ≡ n + 3 }', ALONE),
 }
 SPOILT = {
-    'adds_two': (FIRST, '    n + 2', ALONE),
+    'adds_two': (FIRST, '    n + 2', TOGETHER),
     'is_no_code': (SECOND, '    one_more(n) +', 'BAD EDIT: it did not reach the prover.*'),
 }
 # Places in a file, and the function whose body each is in.
@@ -118,7 +118,7 @@ def edits_of_each_kind(runs: Runs) -> None:
 
 
 def an_edit_that_is_no_code(runs: Runs) -> None:
-    """It spoils the check that it shares, so the others are tried alone."""
+    """It spoils the check that it shares, so the others are tried in halves without it."""
     are_told(runs, SPOILT)
 
 
