@@ -1,17 +1,25 @@
 //! A replacement, and what stays before it.
 
 ghost use Rattle.std.specs.Prelude.{◌≡◌, ◌≤◌, ◌+◌, ◌++◌, IsTrue, drop, length, take};
-ghost use Rattle.patches.specs.Patches.{replacement};
+ghost use Rattle.patches.specs.Patches.{kept_of, replacement, with_zeros};
 
 use xdr3::room::put_bytes;
 
 /// How many bytes a replacement has at most.
 pub(crate) const MOST: usize = 8;
 
-/// So many bytes stay, and so many that follow them are replaced by the first `len` of these.
+/// So many bytes stay, but for `zeros` of them from `zeros_at` on, which become zeros.
+#[derive(Clone, Copy)]
+pub(crate) struct Run {
+    pub(crate) len: usize,
+    pub(crate) zeros_at: usize,
+    pub(crate) zeros: usize,
+}
+
+/// A run stays, and so many bytes that follow it are replaced by the first `len` of these.
 #[derive(Clone, Copy)]
 pub(crate) struct Part {
-    pub(crate) keeps: usize,
+    pub(crate) run: Run,
     pub(crate) skips: usize,
     pub(crate) len: usize,
     pub(crate) bytes: [u8; MOST],
@@ -25,41 +33,117 @@ pub(crate) fn front(bytes: &[u8], count: usize) -> &[u8]
     &bytes[..count.min(bytes.len())]
 }
 
+/// Returns what follows the first `at` bytes and `count` others.
+#[inline(always)]
+fn behind(bytes: &[u8], at: usize, count: usize) -> &[u8]
+    ensures { result.now ≡ drop count (drop at bytes.now) }
+{
+    let rest = &bytes[at.min(bytes.len())..];
+    &rest[count.min(rest.len())..]
+}
+
 /// Returns the bytes of a body that follow a part.
 #[inline(always)]
 pub(crate) fn after<'a>(body: &'a [u8], part: &Part) -> &'a [u8]
-    ensures { result.now ≡ drop part.now.skips (drop part.now.keeps body.now) }
+    ensures { result.now ≡ drop part.now.skips (drop part.now.run.len body.now) }
 {
-    let rest = &body[part.keeps.min(body.len())..];
-    &rest[part.skips.min(rest.len())..]
+    behind(body, part.run.len, part.skips)
+}
+
+/// Overwrites `count` bytes from `at` on with zeros, as far as there are so many. A loop would be a
+/// call; the residual bytes of XDR are at most three (RFC 4506, section 3).
+#[inline(always)]
+fn put_zeros(bytes: &mut [u8], at: usize, count: usize)
+    ensures { bytes.new ≡ with_zeros at count bytes.old }
+{
+    if at.saturating_add(count) > bytes.len() {
+        return fill_with_zeros(bytes, at, count);
+    }
+    match count {
+        1 => bytes[at..at + 1].copy_from_slice(&[0]),
+        2 => bytes[at..at + 2].copy_from_slice(&[0; 2]),
+        3 => bytes[at..at + 3].copy_from_slice(&[0; 3]),
+        _ => fill_with_zeros(bytes, at, count),
+    }
+}
+
+/// Does the same for any number.
+#[inline(never)]
+fn fill_with_zeros(bytes: &mut [u8], at: usize, count: usize)
+    ensures { bytes.new ≡ with_zeros at count bytes.old }
+{
+    let end = at.saturating_add(count).min(bytes.len());
+    for i in at..end {
+        bytes[i] = 0;
+    }
+}
+
+/// Writes what a run makes of the front of a body, and returns the position after it.
+#[inline(always)]
+pub(crate) fn put_run(room: &mut [u8], at: usize, body: &[u8], run: &Run) -> usize
+    requires { at + length (take run.now.len body.now) ≤ length room.old }
+    ensures end { result ≡ at + length (take run.now.len body.now) }
+    ensures written { take result room.new ≡ take at room.old ++ kept_of run.now body.now }
+    ensures kept { take at room.new ≡ take at room.old }
+    ensures len { length room.new ≡ length room.old }
+{
+    let end = put_bytes(room, at, front(body, run.len));
+    if run.zeros > 0 {
+        put_zeros(&mut room[at..end], run.zeros_at, run.zeros);
+    }
+    end
 }
 
 /// Writes what a part makes of the front of a body, and returns the position after it.
 #[inline(always)]
 pub(crate) fn put_part(room: &mut [u8], at: usize, body: &[u8], part: &Part) -> usize
-    requires { at + (length (take part.now.keeps body.now) + 8) ≤ length room.old }
+    requires { at + (length (take part.now.run.len body.now) + 8) ≤ length room.old }
     ensures from { at ≤ result }
-    ensures within { result ≤ at + (length (take part.now.keeps body.now) + 8) }
+    ensures within { result ≤ at + (length (take part.now.run.len body.now) + 8) }
     ensures written { take result room.new
-        ≡ take at room.old ++ (take part.now.keeps body.now ++ replacement part.now) }
+        ≡ take at room.old ++ (kept_of part.now.run body.now ++ replacement part.now) }
     ensures kept { take at room.new ≡ take at room.old }
     ensures len { length room.new ≡ length room.old }
 {
-    let end = put_bytes(room, at, front(body, part.keeps));
+    let end = put_run(room, at, body, &part.run);
     // All eight, since their number is constant, from a place that cannot overlap the room.
     let bytes = part.bytes;
     put_bytes(room, end, &bytes);
     end + part.len.min(MOST)
 }
 
-/// Returns whether two parts make the same bytes of the fronts of two bodies.
+/// Returns `true` only if two runs make the same bytes of the fronts of two bodies. The bytes that
+/// become zeros are mostly the same as well, so they are compared with those around them first.
+#[inline(always)]
+pub(crate) fn is_run_alike(body: &[u8], run: &Run, other: &[u8], other_run: &Run) -> bool
+    ensures { IsTrue result → kept_of run.now body.now ≡ kept_of other_run.now other.now }
+{
+    let kept = front(body, run.len);
+    let other_kept = front(other, other_run.len);
+    run.zeros_at == other_run.zeros_at
+        && run.zeros == other_run.zeros
+        && (kept == other_kept || is_alike_beside(kept, other_kept, run.zeros_at, run.zeros))
+}
+
+/// Returns whether two slices have as many bytes, and the same but for `count` from `at` on.
+#[inline(never)]
+fn is_alike_beside(bytes: &[u8], other: &[u8], at: usize, count: usize) -> bool
+    ensures { IsTrue result → with_zeros at count bytes.now ≡ with_zeros at count other.now }
+{
+    if bytes.len() != other.len() {
+        return false;
+    }
+    front(bytes, at) == front(other, at) && behind(bytes, at, count) == behind(other, at, count)
+}
+
+/// Returns `true` only if two parts make the same bytes of the fronts of two bodies.
 #[inline(always)]
 pub(crate) fn is_alike(body: &[u8], part: &Part, other: &[u8], other_part: &Part) -> bool
     ensures kept { IsTrue result
-        → take part.now.keeps body.now ≡ take other_part.now.keeps other.now }
+        → kept_of part.now.run body.now ≡ kept_of other_part.now.run other.now }
     ensures replaced { IsTrue result → replacement part.now ≡ replacement other_part.now }
 {
     part.len == other_part.len
         && part.bytes == other_part.bytes
-        && front(body, part.keeps) == front(other, other_part.keeps)
+        && is_run_alike(body, &part.run, other, &other_part.run)
 }

@@ -1,10 +1,10 @@
 //! Replacements in a body of bytes, noted before the body is at hand.
 
-ghost use Rattle.std.specs.Prelude.{◌≡◌, ◌≤◌, ◌<◌, ◌+◌, ◌-◌, ◌*◌, ◌^◌, ◌++◌, ℕ, List, [], IfOk, IsTrue, OnErr, OnOk, drop, length, min, take, vec_capacity, vec_len};
+ghost use Rattle.std.specs.Prelude.{◌≡◌, ◌≢◌, ◌≤◌, ◌<◌, ◌+◌, ◌-◌, ◌*◌, ◌^◌, ◌++◌, ℕ, List, [], IfOk, IsTrue, OnErr, OnOk, drop, length, min, replicate, take, vec_capacity, vec_len};
 ghost use Rattle.patches.specs.Patches.{patched, replacement, Makes};
 ghost use Rattle.patches.specs.machinery.Room.{kept_by};
 
-use crate::part::{MOST, Part, after, front, is_alike, put_part};
+use crate::part::{MOST, Part, Run, after, front, is_alike, is_run_alike, put_part, put_run};
 use std::alloc::{AllocError, Global};
 use std::marker::Model;
 use xdr3::room::{make_room, put_bytes};
@@ -13,13 +13,20 @@ use xdr3::room::{make_room, put_bytes};
 /// the last replacement.
 const LONG: usize = 16_384;
 
+/// A run of no bytes.
+const NOTHING: Run = Run {
+    len: 0,
+    zeros_at: 0,
+    zeros: 0,
+};
+
 /// Which bytes of a body stay and which are replaced. They are noted from the body's front to its
 /// end, before the body is at hand.
 #[derive(Drop)]
 pub struct Patches {
     parts: Vec<Part>,
-    // How many bytes stay after the last part.
-    kept: usize,
+    // What stays after the last part.
+    run: Run,
 }
 
 impl Model for Patches {
@@ -37,7 +44,7 @@ impl Patches {
     {
         Patches {
             parts: Vec::new(alloc),
-            kept: 0,
+            run: NOTHING,
         }
     }
 
@@ -46,7 +53,7 @@ impl Patches {
         ensures { Makes self.new [] [] }
     {
         self.parts.clear();
-        self.kept = 0;
+        self.run = NOTHING;
     }
 
     /// Notes that the next `count` bytes stay. What is noted of a body of 2^64 bytes or more means
@@ -56,7 +63,48 @@ impl Patches {
         ensures { (body more form : List ℕ) → Makes self.old body form → length more ≡ count
             → length (body ++ more) < 2 ^ 64 → Makes self.new (body ++ more) (form ++ more) }
     {
-        self.kept = self.kept.wrapping_add(count);
+        self.run.len = self.run.len.wrapping_add(count);
+    }
+
+    /// Notes that the next `count` bytes become zeros. What is noted of a body of 2^64 bytes or
+    /// more means nothing.
+    ///
+    /// # Errors
+    ///
+    /// As those of `replace`. It needs no memory for the first zeros after a replacement.
+    #[inline(always)]
+    pub fn zero(&mut self, count: usize) -> Result<(), AllocError>
+        requires { count ≤ 8 }
+        ensures ok { OnOk result ((body gone form : List ℕ) → Makes self.old body form
+            → length gone ≡ count → length (body ++ gone) < 2 ^ 64
+            → Makes self.new (body ++ gone) (form ++ replicate count 0)) }
+        ensures err { OnErr result
+            ((self.new.parts ≡ self.old.parts) × (self.new.run ≡ self.old.run)) }
+        ensures short { OnErr result (self.old.capacity ≤ length self.old.parts) }
+    {
+        if self.run.zeros > 0 {
+            return self.replace_by_zeros(count);
+        }
+        self.run = Run {
+            len: self.run.len.wrapping_add(count),
+            zeros_at: self.run.len,
+            zeros: count,
+        };
+        Ok(())
+    }
+
+    /// Does the same by a replacement.
+    #[inline(never)]
+    fn replace_by_zeros(&mut self, count: usize) -> Result<(), AllocError>
+        requires { count ≤ 8 }
+        ensures ok { OnOk result ((body gone form : List ℕ) → Makes self.old body form
+            → length gone ≡ count → length (body ++ gone) < 2 ^ 64
+            → Makes self.new (body ++ gone) (form ++ replicate count 0)) }
+        ensures err { OnErr result
+            ((self.new.parts ≡ self.old.parts) × (self.new.run ≡ self.old.run)) }
+        ensures short { OnErr result (self.old.capacity ≤ length self.old.parts) }
+    {
+        self.replace(count, &[0; MOST], count)
     }
 
     /// Notes that the next `skipped` bytes are replaced by the first `len` of these.
@@ -67,20 +115,20 @@ impl Patches {
     /// then.
     #[inline(always)]
     pub fn replace(&mut self, skipped: usize, bytes: &[u8; 8], len: usize) -> Result<(), AllocError>
-        ensures ok { (body gone form : List ℕ) → Makes self.old body form
+        ensures ok { OnOk result ((body gone form : List ℕ) → Makes self.old body form
             → length gone ≡ skipped
-            → OnOk result (Makes self.new (body ++ gone) (form ++ take len bytes.now)) }
+            → Makes self.new (body ++ gone) (form ++ take len bytes.now)) }
         ensures err { OnErr result
-            ((self.new.parts ≡ self.old.parts) × (self.new.kept ≡ self.old.kept)) }
+            ((self.new.parts ≡ self.old.parts) × (self.new.run ≡ self.old.run)) }
         ensures short { OnErr result (self.old.capacity ≤ length self.old.parts) }
     {
         self.parts.push(Part {
-            keeps: self.kept,
+            run: self.run,
             skips: skipped,
             len,
             bytes: *bytes,
         })?;
-        self.kept = 0;
+        self.run = NOTHING;
         Ok(())
     }
 
@@ -116,9 +164,9 @@ impl Patches {
         put_bytes(room, end, rest)
     }
 
-    /// Writes the patched body into a buffer at `at`, but for the bytes that stay after the last
-    /// replacement. Returns the position after what was written, and those bytes. The buffer is
-    /// made longer if it is too short for what is written; what follows the position means nothing.
+    /// Writes the patched body into a buffer at `at`, but for bytes at the end that stay as they
+    /// are. Returns the position after what was written, and those bytes. The buffer is made longer
+    /// if it is too short for what is written; what follows the position means nothing.
     ///
     /// # Errors
     ///
@@ -144,26 +192,32 @@ impl Patches {
         Ok(self.put(body, room, at))
     }
 
-    /// Returns how many bytes of a body stay before the last replacement, or more if it is short.
+    /// Returns how many bytes of a body `put` writes beside the replacements, or more if the body
+    /// is short.
     fn most_before_last(&self, body: usize) -> usize
         ensures most { result ≤ body }
         ensures enough { min (kept_by self.now.parts) body ≤ result }
+        ensures last { self.now.run.zeros ≢ 0 → result ≡ body }
     {
-        if body < LONG {
+        if body < LONG || self.run.zeros > 0 {
             return body;
         }
         let mut front = 0usize;
         for part in &self.parts {
-            front = front.saturating_add(part.keeps);
+            front = front.saturating_add(part.run.len);
         }
         front.min(body)
     }
 
-    /// Writes the patched body at `at`, but for the bytes that stay after the last replacement.
-    /// Returns the position after what was written, and those bytes.
+    /// Writes the patched body at `at`, but for the bytes that stay after the last replacement if
+    /// none of them becomes a zero. Returns the position after what was written, and those bytes.
+    #[inline(always)]
     fn put<'b>(&self, body: &'b [u8], room: &mut [u8], at: usize) -> (usize, &'b [u8])
-        requires { at + (min (kept_by self.now.parts) (length body.now) + 8 * length self.now.parts)
+        requires parts { at
+            + (min (kept_by self.now.parts) (length body.now) + 8 * length self.now.parts)
             ≤ length room.old }
+        requires last { self.now.run.zeros ≢ 0
+            → at + (length body.now + 8 * length self.now.parts) ≤ length room.old }
         ensures within { result.0 ≤ length room.new }
         ensures most { result.0 + length result.1.now
             ≤ at + (length body.now + 8 * length self.now.parts) }
@@ -179,12 +233,15 @@ impl Patches {
             end = put_part(room, end, rest, part);
             rest = after(rest, part);
         }
-        (end, front(rest, self.kept))
+        if self.run.zeros > 0 {
+            return (put_run(room, end, rest, &self.run), &[]);
+        }
+        (end, front(rest, self.run.len))
     }
 
     /// Returns `true` only if both patched bodies have the same bytes. It compares what lies in the
     /// bodies, and builds nothing. It returns `false` for equal ones too if they are not noted in
-    /// the same parts.
+    /// the same parts, or not the same of their bytes become zeros.
     pub fn are_alike(&self, body: &[u8], other: &Patches, other_body: &[u8]) -> bool
         ensures { IsTrue result → patched self.now body.now ≡ patched other.now other_body.now }
     {
@@ -202,7 +259,7 @@ impl Patches {
             rest = after(rest, &part);
             other_rest = after(other_rest, &other_part);
         }
-        front(rest, self.kept) == front(other_rest, other.kept)
+        is_run_alike(rest, &self.run, other_rest, &other.run)
     }
 }
 

@@ -7,7 +7,6 @@ ghost use Rattle.canon3.specs.Bytes.{chunk_bytes, record_bytes};
 ghost use Rattle.canon3.specs.HandleTable.{HoldsHandles};
 ghost use Rattle.canon3.specs.machinery.MessageWriter.{Before, HoldsBefore, IsGoing, WriterRests, WriterStands, message_of, items_of_writer, values_of};
 ghost use Rattle.capture3.specs.Rank.{number_limit, rank};
-ghost use Rattle.patches.specs.Patches.{Makes};
 ghost use Rattle.canon3.specs.Renaming.{IsPlain};
 
 use crate::numbers::Numbers;
@@ -234,19 +233,8 @@ impl<S: BuildHasher + Drop> MessageWriter<S> {
         self.patches.keep(4 + len);
         match residue(len) {
             0 => Ok(()),
-            count => self.clear_residue(count),
+            count => self.patches.zero(count),
         }
-    }
-
-    /// Notes that the next `count` bytes become zeros.
-    #[inline(never)]
-    fn clear_residue(&mut self, count: usize) -> Result<(), AllocError>
-        ensures ok { (body gone form : List ℕ) → Makes self.old.patches body form
-            → length gone ≡ count → OnOk result
-            (Makes self.new.patches (body ++ gone) (form ++ take count (replicate 8 0))) }
-        ensures others { self.new ≡ record self.old { patches = self.new.patches } }
-    {
-        self.patches.replace(count, &[0; 8], count)
     }
 
     /// Says nothing more of the tables after an error.
@@ -273,6 +261,9 @@ fn append(room: &mut Vec<u8>, at: usize, bytes: &[u8]) -> Result<usize, AllocErr
     ensures written { IfOk result (λ end. take end room.new.items
         ≡ take at room.old.items ++ bytes.now) }
 {
+    if bytes.is_empty() {
+        return Ok(at);
+    }
     make_room(room, at, bytes.len())?;
     Ok(put_bytes(room, at, bytes))
 }

@@ -31,6 +31,24 @@ fn a_body_is_written_with_its_replacements(rt: HostRuntime) {
 }
 
 #[test]
+fn residual_bytes_become_zeros(rt: HostRuntime) {
+    let mut patches = Patches::new(rt.alloc());
+    patches.keep(3);
+    ok(&rt, patches.zero(1));
+    patches.keep(2);
+    ok(&rt, patches.zero(2));
+    ok(&rt, patches.replace(3, b"two.....", 3));
+    patches.keep(1);
+    ok(&rt, patches.zero(3));
+    assert_same!(rt; write_body(&rt, rt.alloc(), &patches, b"abc-de--one3---").as_slice(), b">>> abc\0de\0\0two3\0\0\0".as_slice());
+    let mut room = ok(&rt, FRONT.to_vec(rt.alloc()));
+    let at = room.len();
+    let (end, rest) = ok(&rt, patches.write_front(b"abc-de--one3---", &mut room, at));
+    assert_same!(rt; room.get(..end), Some(b">>> abc\0de\0\0two3\0\0\0".as_slice()));
+    assert_same!(rt; rest, b"".as_slice());
+}
+
+#[test]
 fn the_end_of_a_body_is_returned(rt: HostRuntime) {
     let mut patches = Patches::new(rt.alloc());
     patches.keep(6);
@@ -57,4 +75,12 @@ fn alike_bodies_make_the_same_bytes(rt: HostRuntime) {
     ok(&rt, others.replace(2, b"xie     ", 3));
     others.keep(2);
     assert_same!(rt; patches.are_alike(b"1ab", &others, b"77ab"), false);
+    patches.clear();
+    patches.keep(3);
+    ok(&rt, patches.zero(1));
+    others.clear();
+    others.keep(2);
+    ok(&rt, others.zero(2));
+    assert_same!(rt; patches.are_alike(b"abc-", &patches, b"abc-"), true);
+    assert_same!(rt; patches.are_alike(b"abc-", &others, b"abc-"), false);
 }

@@ -1,6 +1,6 @@
 -- What stays and what is replaced of the spellings of items.
-use Rattle.canon3.proofs.Common.{◌≡◌, ℕ, ◌+◌, ◌^◌, ◌<◌, List, [], ◌∷◌, ◌++◌, length, replicate, take, drop, refl, sym, ap, ◌∙◌, subst, arith, length-append, append-nil, append_assoc, Result, Ok, Err, flat_map-append, PlainField, run_items, run_size, OnOk, Makes, Noted, IsNotedAs}
-use Rattle.std.proofs.lemmas.List.{nil_from_length, take-replicate}
+use Rattle.canon3.proofs.Common.{◌≡◌, ℕ, ◌+◌, ◌^◌, ◌<◌, List, [], ◌∷◌, ◌++◌, length, replicate, drop, refl, sym, ap, ◌∙◌, subst, arith, length-append, append-nil, append_assoc, flat_map-append, PlainField, run_items, run_size, Makes, Noted, IsNotedAs}
+use Rattle.std.proofs.lemmas.List.{nil_from_length}
 use Rattle.xdr3.specs.declared.plain.PlainField.TheVariants as fields
 use Rattle.xdr3.specs.Item.{Item, Word, Hyper, Fixed, WriteVerf, Opaque, Rest, Kind, Handle, SpellsItem, Spells, residue, word_bytes, zero_spelling_of, zero_spelling}
 use Rattle.xdr3.proofs.Lemmas.Reading.Items.{Spells-single, Spells-split}
@@ -16,6 +16,12 @@ abbrev pub ReplacesRun : (old new : Noted) → (skipped : ℕ) → (put : List �
 ReplacesRun old new skipped put = (body gone form : List ℕ) → Makes old body form
     → length gone ≡ skipped → Makes new (body ++ gone) (form ++ put)
 
+-- the next bytes become zeros
+abbrev pub ClearsRun : (old new : Noted) → (count : ℕ) → Type 0
+ClearsRun old new count =
+    (body gone form : List ℕ) → Makes old body form → length gone ≡ count
+    → length (body ++ gone) < 2 ^ 64 → Makes new (body ++ gone) (form ++ replicate count 0)
+
 -- the spellings of items are their zero spelling alone, of this many bytes
 abbrev pub AreFixed : List Item → (count : ℕ) → Type 0
 AreFixed items count =
@@ -29,13 +35,6 @@ Notes old new items others =
 
 pub noted_none : (noted : Noted) → Makes noted [] [] → IsNotedAs noted [] []
 noted_none noted makes body none few = rw none makes
-
--- a replacement that was noted
-pub replaced : {T E : Type 0} (r : Result T E) (old new : Noted) (skipped : ℕ) (put : List ℕ)
-    → ((body gone form : List ℕ) → Makes old body form → length gone ≡ skipped
-    → OnOk r (Makes new (body ++ gone) (form ++ put))) → OnOk r (ReplacesRun old new skipped put)
-replaced (Ok x) old new skipped put h = h
-replaced (Err e) old new skipped put h = tt
 
 module _ (old new : Noted) where
   pub notes_kept : (items : List Item) (count : ℕ) → AreFixed items count → KeepsRun old new count
@@ -109,15 +108,12 @@ pub opaque_size : (kind : Kind) (name bytes spelling : List ℕ)
     → length spelling ≡ 4 + (length bytes + residue (length bytes))
 opaque_size kind name bytes spelling s = omega (arith, ap length s.5, s.3, length-append bytes s.0)
 
-pub zeros_put : (n : ℕ) → take {A = ℕ} (residue n) (replicate 8 0) ≡ replicate (residue n) 0
-zeros_put n = take-replicate (residue n) 8 0 (omega arith)
-
 -- the residual bytes become zeros
 pub notes_padded : (old mid new : Noted) (kind : Kind) (name bytes : List ℕ)
     → KeepsRun old mid (4 + length bytes)
-    → ReplacesRun mid new (residue (length bytes)) (take (residue (length bytes)) (replicate 8 0))
+    → ClearsRun mid new (residue (length bytes))
     → Notes old new (Opaque kind name bytes ∷ []) (Opaque kind name bytes ∷ [])
-notes_padded old mid new kind name bytes keeps replaces l m noted body spells few =
+notes_padded old mid new kind name bytes keeps clears l m noted body spells few =
     let i = Opaque kind name bytes in
     let (a, b, front, back, split) = Spells-split l (i ∷ []) body spells in
     let (residual, short, fit, count, fits, is) = Spells-single i b back in
@@ -130,15 +126,12 @@ notes_padded old mid new kind name bytes keeps replaces l m noted body spells fe
     let kept =
     keeps a run (zero_spelling m) (noted a front (omega (arith, first, length-append a run)))
     (length-append (word_bytes (length bytes)) bytes) first in
-    let form : (zero_spelling m ++ run) ++ take {A = ℕ} (residue (length bytes)) (replicate 8 0)
+    let form : (zero_spelling m ++ run) ++ replicate (residue (length bytes)) 0
     ≡ zero_spelling (m ++ i ∷ []) =
-    rw (zeros_put (length bytes), flat_map-append zero_spelling_of m (i ∷ [])) (simp (
-      append_assoc,
-      append-nil,
-    )) in
+    rw (flat_map-append zero_spelling_of m (i ∷ [])) (simp (append_assoc, append-nil)) in
     subst (λ (k : List ℕ). Makes new k (zero_spelling (m ++ i ∷ []))) (sym whole)
     (subst (Makes new ((a ++ run) ++ residual)) form
-    (replaces (a ++ run) residual (zero_spelling m ++ run) kept count))
+    (clears (a ++ run) residual (zero_spelling m ++ run) kept count all))
 
 -- ---- numbers in place of values
 

@@ -1,5 +1,5 @@
 -- Each visit adds its item to the message, and notes what it becomes with numbers.
-use Rattle.canon3.proofs.Common.{◌≡◌, ◌≢◌, ℕ, ◌+◌, ◌<◌, ◌≤◌, ◌^◌, List, [], ◌∷◌, ◌++◌, drop, take, replicate, length, length-append, append_assoc, append-nil, refl, sym, ap, ap₂, ◌∙◌, subst, arith, min, Result, Ok, Err, Bool, true, Decides, AllByRecursion, flat_map, flat_map-append, Decides-eqb, bytes_eq-Decides, PlainField, run_items, run_size, Adds, MessageWriter, numbered_item, items_after, HoldsHandles, here, number_limit, rank, HoldsDistinct, handle_in, verifier_in, handles_in, verifiers_in, bytes_eq, OnOk, ◌==◌, big_bytes, Noted, IsPlain}
+use Rattle.canon3.proofs.Common.{◌≡◌, ◌≢◌, ℕ, ◌+◌, ◌<◌, ◌≤◌, ◌^◌, List, [], ◌∷◌, ◌++◌, drop, length, length-append, append_assoc, append-nil, refl, sym, ap, ap₂, ◌∙◌, subst, arith, min, Result, Ok, Err, Bool, true, Decides, AllByRecursion, flat_map, flat_map-append, Decides-eqb, bytes_eq-Decides, PlainField, run_items, run_size, Adds, MessageWriter, numbered_item, items_after, HoldsHandles, here, number_limit, rank, HoldsDistinct, handle_in, verifier_in, handles_in, verifiers_in, bytes_eq, OnOk, ◌==◌, big_bytes, Noted, IsPlain}
 use Rattle.std.proofs.lemmas.List.{nil_from_length}
 use Rattle.xdr3.specs.declared.plain.PlainField.TheVariants as fields
 use Rattle.xdr3.specs.View.{word_of}
@@ -13,7 +13,7 @@ use Rattle.canon3.specs.machinery.MessageWriter.{AreFew, Before, IsNotedAs, IsNo
 use Rattle.canon3.proofs.Lemmas.Canonical.CanonicalStreamLemmas.{items_after-push}
 use Rattle.canon3.proofs.Lemmas.Canonical.OneFormLemmas.{plain_handle, plain_verifier, plain_numbered}
 use Rattle.canon3.proofs.Lemmas.Numbers.RankLemmas.{member-append_right, rank-le-length}
-use Rattle.canon3.proofs.Lemmas.Writing.Noting.{KeepsRun, Notes, ReplacesRun, bytes_fixed, hyper_fixed, noted_none, notes_handle, notes_kept, notes_padded, notes_verifier, plain_fixed, rest_fixed, run_fixed, word_fixed}
+use Rattle.canon3.proofs.Lemmas.Writing.Noting.{ClearsRun, KeepsRun, Notes, ReplacesRun, bytes_fixed, hyper_fixed, noted_none, notes_handle, notes_kept, notes_padded, notes_verifier, plain_fixed, rest_fixed, run_fixed, word_fixed}
 
 pub is_none : (l : List ℕ) (b : Bool) → b ≡ (length l == 0) → b ≡ true → l ≡ []
 is_none l b e t = nil_from_length l ((Decides-eqb (length l) 0).0 (sym e ∙ t))
@@ -196,14 +196,13 @@ module _ {S H : Type 0} (n : MessageWriter S H) (noted : Noted) where
   pub adds_padded_run : (mid : Noted) (kind : Kind) (name bytes : List ℕ) (len count : ℕ)
       → IsPlain (Opaque kind name bytes) → length bytes ≡ len → count ≡ residue len
       → KeepsRun n.patches mid (4 + len)
-      → ReplacesRun mid noted count (take count (replicate 8 0))
+      → ClearsRun mid noted count
       → Adds WriterStands n with_patches (Opaque kind name bytes ∷ [])
-  adds_padded_run mid kind name bytes len count plain size is keeps replaces =
+  adds_padded_run mid kind name bytes len count plain size is keeps clears =
       adds_plain (Opaque kind name bytes) plain
       (notes_padded n.patches mid noted kind name bytes
-      (subst (λ k. KeepsRun n.patches mid (4 + k)) (sym size) keeps) (subst
-      (λ k. ReplacesRun mid noted k (take k (replicate 8 0))) (is ∙ ap residue (sym size))
-      replaces))
+      (subst (λ k. KeepsRun n.patches mid (4 + k)) (sym size) keeps)
+      (subst (ClearsRun mid noted) (is ∙ ap residue (sym size)) clears))
 
   -- the empty handle stays
   pub adds_empty_handle : (name handle : List ℕ) → handle ≡ [] → KeepsRun n.patches noted 4

@@ -1,9 +1,8 @@
-use Rattle.std.proofs.Common.{IsTrue, ◌≡◌, ◌+◌, ◌<◌, ◌≤◌, List, length, get_or, take, drop, arith, rules, ap, refl, sym, ◌∙◌}
+use Rattle.std.proofs.Common.{◌≡◌, ◌+◌, ◌<◌, ◌≤◌, List, length, get_or, drop, arith, ap, refl, sym, ◌∙◌}
 use Rattle.patches.specs.declared.part.Part.{Part}
-use Rattle.patches.specs.Patches.{patched_by, Noted}
+use Rattle.patches.specs.Patches.{kept_of, patched_by, Noted}
 use Rattle.patches.proofs.PatchesLemmas.{alike-step, patched-over}
 use Rattle.patches.proofs.patches.Patches.are_alike.Goals as goal
-use Rattle.patches.proofs.patches.Patches.are_alike.Goals.{After-eq}
 
 parts_of : {a b : Noted} → a ≡ b → a.parts ≡ b.parts
 parts_of e = ap (λ (n : Noted). n.parts) e
@@ -34,19 +33,16 @@ loop-i-preserved c same =
     let other_is : q ≡ get_or c.args.other.now.parts c.loop-i.i q =
     c.index-in-loop-i.ensures ∙ ap (λ (ps : List Part). get_or ps c.loop-i.i q) others in
     let rest =
-    ap (patched_by (drop (c.loop-i.i + 1) c.args.self.now.parts) c.args.self.now.kept)
+    ap (patched_by (drop (c.loop-i.i + 1) c.args.self.now.parts) c.args.self.now.run)
     (sym c.after-rest.ensures)
     ∙ (same
-    ∙ ap (patched_by (drop (c.loop-i.i + 1) c.args.other.now.parts) c.args.other.now.kept)
+    ∙ ap (patched_by (drop (c.loop-i.i + 1) c.args.other.now.parts) c.args.other.now.run)
     c.after-other_rest.ensures) in
     c.loop-i.invariant
-    (alike-step c.args.self.now.parts c.args.other.now.parts c.loop-i.i c.args.self.now.kept
-    c.args.other.now.kept c.loop-i.rest.now c.loop-i.other_rest.now p q within is other_within
+    (alike-step c.args.self.now.parts c.args.other.now.parts c.loop-i.i c.args.self.now.run
+    c.args.other.now.run c.loop-i.rest.now c.loop-i.other_rest.now p q within is other_within
     other_is
     (c.if-not-is_alike.ensures.kept refl) (c.if-not-is_alike.ensures.replaced refl) rest)
-
-same_lists_of : (c : After-eq) → IsTrue c.eq.result → c.front.result.now ≡ c.front-2.result.now
-same_lists_of c is = search rules
 
 pub returns : goal.returns
 returns c is =
@@ -67,13 +63,10 @@ returns c is =
       c.other.inside.parts.ok.0,
       ap length others,
     ) in
-    let kept : take c.self.inside.kept c.loop-i.rest.now
-    ≡ take c.other.inside.kept c.loop-i.other_rest.now =
-    sym c.front.ensures ∙ (same_lists_of c is ∙ c.front-2.ensures) in
     c.loop-i.invariant
-    (patched-over c.args.self.now.parts c.loop-i.i c.args.self.now.kept c.loop-i.rest.now over
-    ∙ (ap (λ (n : Noted). take n.kept c.loop-i.rest.now) (sym c.self.view_is)
-    ∙ (kept
-    ∙ (ap (λ (n : Noted). take n.kept c.loop-i.other_rest.now) c.other.view_is
-    ∙ sym (patched-over c.args.other.now.parts c.loop-i.i c.args.other.now.kept
+    (patched-over c.args.self.now.parts c.loop-i.i c.args.self.now.run c.loop-i.rest.now over
+    ∙ (ap (λ (n : Noted). kept_of n.run c.loop-i.rest.now) (sym c.self.view_is)
+    ∙ (c.is_run_alike.ensures is
+    ∙ (ap (λ (n : Noted). kept_of n.run c.loop-i.other_rest.now) c.other.view_is
+    ∙ sym (patched-over c.args.other.now.parts c.loop-i.i c.args.other.now.run
     c.loop-i.other_rest.now other_over)))))

@@ -1,4 +1,4 @@
-use Rattle.std.proofs.Common.{◌≡◌, ◌<◌, ◌+◌, ◌++◌, ◌%◌, ◌^◌, ℕ, arith, subst, sym, length-append}
+use Rattle.std.proofs.Common.{◌<◌, ◌+◌, ◌++◌, ◌^◌, ℕ, arith, subst, sym, length-append}
 use Rattle.std.proofs.Math.Nat.{mod-eq_of_lt}
 use Rattle.patches.specs.Patches.{Makes, Noted, noted_of}
 use Rattle.patches.proofs.PatchesLemmas.{makes-kept}
@@ -7,10 +7,10 @@ use Rattle.patches.proofs.patches.Patches.keep.Goals as goal
 pub returns : goal.returns
 returns c body more form makes l few =
     let was = subst (λ (noted : Noted). Makes noted body form) (sym c.self.view_is) makes in
-    let fits : c.self.inside.kept + c.args.count < 2 ^ 64 =
+    let len = c.self.inside.run.len in
+    let fits : len + c.args.count < 2 ^ 64 =
     omega (arith, was.covers, l, few, length-append body more) in
-    let sum : (c.self.inside.kept + c.args.count) % 2 ^ 64 ≡ c.self.inside.kept + c.args.count =
-    mod-eq_of_lt fits in
-    subst (λ (kept : ℕ). Makes (record (noted_of c.self.inside) { kept = kept }) (body ++ more)
-    (form ++ more)) (sym sum)
+    subst (λ (n : ℕ). Makes (record (noted_of c.self.inside)
+    { run = record c.self.inside.run { len = n } }) (body ++ more) (form ++ more))
+    (sym (mod-eq_of_lt fits))
     (makes-kept (noted_of c.self.inside) c.args.count body more form was l)

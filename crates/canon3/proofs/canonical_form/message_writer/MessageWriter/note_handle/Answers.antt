@@ -1,5 +1,5 @@
 use Rattle.canon3.proofs.Common.{ℕ, ◌+◌, ap, length, subst, take, on_ok_weaker}
-use Rattle.canon3.proofs.Lemmas.Writing.Noting.{ReplacesRun, replaced}
+use Rattle.canon3.proofs.Lemmas.Writing.Noting.{ReplacesRun}
 use Rattle.canon3.proofs.Lemmas.Writing.Visiting.{adds_handle}
 use Rattle.canon3.proofs.canonical_form.message_writer.MessageWriter.note_handle.Goals as goal
 
@@ -16,6 +16,5 @@ returns g c =
           (ap (take 8) c.spelled_number.ensures)
           (subst (λ n. ReplacesRun c.args.self.now.patches c.replace.new.self n put)
           (ap size c.residue.ensures) replaces) name)
-          (replaced c.replace.result c.args.self.now.patches c.replace.new.self
-          (size c.residue.result) put c.replace.ensures.ok);
+          c.replace.ensures.ok;
     }

@@ -1,5 +1,4 @@
 use Rattle.canon3.proofs.Common.{◌∙◌, ap, take, on_ok_weaker, big_bytes}
-use Rattle.canon3.proofs.Lemmas.Writing.Noting.{replaced}
 use Rattle.canon3.proofs.Lemmas.Writing.Visiting.{adds_verifier}
 use Rattle.canon3.proofs.canonical_form.message_writer.MessageWriter.note_verifier.Goals as goal
 
@@ -14,6 +13,5 @@ returns g c =
           c.in_ok-number.ensures.given
           (ap (take 8) (c.spelled_hyper.ensures ∙ ap (λ n. big_bytes 8 n) c.from.ensures))
           replaces name)
-          (replaced c.replace.result c.args.self.now.patches c.replace.new.self 8 put
-          c.replace.ensures.ok);
+          c.replace.ensures.ok;
     }
