@@ -66,7 +66,8 @@ zeros-alike at count bytes others size front back =
     sym (drop-drop count at bytes) ∙ (back ∙ drop-drop count at others) in
     let zeros : List ℕ → List ℕ = λ (b : List ℕ). replicate (min count (length b - at)) 0 in
     ap₂ (λ (a b : List ℕ). a ++ (zeros bytes ++ b)) front rest
-    ∙ ap (λ (n : ℕ). take at others ++ (replicate (min count (n - at)) 0 ++ drop (at + count) others))
+    ∙ ap (λ (n : ℕ).
+    take at others ++ (replicate (min count (n - at)) 0 ++ drop (at + count) others))
     size
 
 -- bytes after all zeros
@@ -78,7 +79,8 @@ zeros-append at count bytes more within =
     let front = take-append-le at bytes more (omega (arith, within)) in
     let back = drop-append-le (at + count) bytes more within in
     let zeros = replicate (min count (length bytes - at)) 0 in
-    ap₂ (λ (b : List ℕ) (n : ℕ). b ++ (replicate n 0 ++ drop (at + count) (bytes ++ more))) front few
+    ap₂ (λ (b : List ℕ) (n : ℕ). b ++ (replicate n 0 ++ drop (at + count) (bytes ++ more))) front
+    few
     ∙ (ap (λ (b : List ℕ). take at bytes ++ (zeros ++ b)) back
     ∙ (ap (λ (b : List ℕ). take at bytes ++ b)
     (sym (append_assoc zeros (drop (at + count) bytes) more))
@@ -92,7 +94,8 @@ zeros-last bytes gone count l =
     omega (arith, l, length-append bytes gone) in
     let over : length (bytes ++ gone) ≤ length bytes + count =
     omega (arith, l, length-append bytes gone) in
-    ap₂ (λ (b : List ℕ) (n : ℕ). b ++ (replicate n 0 ++ drop (length bytes + count) (bytes ++ gone)))
+    ap₂ (λ (b : List ℕ) (n : ℕ).
+    b ++ (replicate n 0 ++ drop (length bytes + count) (bytes ++ gone)))
     (take_at bytes gone (length bytes) refl) all
     ∙ (ap (λ (b : List ℕ). bytes ++ (replicate count 0 ++ b)) (drop_all _ (bytes ++ gone) over)
     ∙ ap (λ (b : List ℕ). bytes ++ b) (append-nil (replicate count 0)))
@@ -134,7 +137,8 @@ patched-tail (part ∷ parts) last new body more put goes l =
     let rest = drop part.skips (drop part.run.len body) in
     let left = rest_length part body (covered_by parts + last.len) (omega (arith, l)) in
     let same = rest_append part body more (covered_by parts + last.len) (omega (arith, l)) in
-    let next = ap (patched_by parts new) same ∙ patched-tail parts last new rest more put goes left in
+    let next =
+    ap (patched_by parts new) same ∙ patched-tail parts last new rest more put goes left in
     let front = kept-front part.run body more (omega (arith, l)) in
     ap₂ (λ (a b : List ℕ). a ++ (replacement part ++ b)) front next
     ∙ (ap (λ (b : List ℕ). kept_of part.run body ++ b)
@@ -268,7 +272,8 @@ patched-more parts i last body p l e =
 -- two parts that make the same bytes, before what is the same after them
 pub alike-step : (parts others : List Part) (i : ℕ) (last other_last : Run) (body other : List ℕ)
     (p q : Part) → i < length parts → p ≡ get_or parts i p → i < length others
-    → q ≡ get_or others i q → kept_of p.run body ≡ kept_of q.run other → replacement p ≡ replacement q
+    → q ≡ get_or others i q → kept_of p.run body ≡ kept_of q.run other
+    → replacement p ≡ replacement q
     → patched_by (drop (i + 1) parts) last (drop p.skips (drop p.run.len body))
     ≡ patched_by (drop (i + 1) others) other_last (drop q.skips (drop q.run.len other))
     → patched_by (drop i parts) last body ≡ patched_by (drop i others) other_last other
@@ -290,8 +295,10 @@ alike-step parts others i last other_last body other p q l e m f same_kept same_
     ∙ sym (patched-more others i other_last other q m f))))
 
 -- a part that was written after others
-pub written-step : (parts : List Part) (i : ℕ) (last : Run) (body before now all : List ℕ) (p : Part)
-    → i < length parts → p ≡ get_or parts i p → now ≡ before ++ (kept_of p.run body ++ replacement p)
+pub written-step : (parts : List Part) (i : ℕ) (last : Run) (body before now all : List ℕ)
+    (p : Part)
+    → i < length parts → p ≡ get_or parts i p
+    → now ≡ before ++ (kept_of p.run body ++ replacement p)
     → before ++ patched_by (drop i parts) last body ≡ all
     → now ++ patched_by (drop (i + 1) parts) last (drop p.skips (drop p.run.len body)) ≡ all
 written-step parts i last body before now all p l e w is =

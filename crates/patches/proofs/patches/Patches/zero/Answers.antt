@@ -13,4 +13,5 @@ returns-clause-ok c body gone form makes l few =
     subst (λ (n : ℕ). Makes (record (noted_of c.self.inside)
     { run = record { len = n; zeros_at = len; zeros = c.args.count } }) (body ++ gone)
     (form ++ replicate c.args.count 0)) (sym (mod-eq_of_lt fits))
-    (makes-zeros (noted_of c.self.inside) c.args.count body gone form was (omega (arith, c.if-self-gt0.false)) l)
+    (makes-zeros (noted_of c.self.inside) c.args.count body gone form was
+    (omega (arith, c.if-self-gt0.false)) l)
