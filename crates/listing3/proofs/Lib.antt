@@ -10,3 +10,4 @@ pub mod Texts
 pub mod Telling
 pub mod HalvesLemmas
 pub mod Runs
+pub mod LabelsLemmas

@@ -1,0 +1,12 @@
+use Rattle.listing3.proofs.Common.{◌≡◌, ◌++◌, encode_lower, chunks_rest, opening}
+use Rattle.listing3.proofs.Lines.LongLines.{PutUpTo}
+use Rattle.listing3.proofs.line_writer.long_line.write_hex.Given as goal
+
+abbrev pub invariant-loop-part : goal.invariant-loop-part
+invariant-loop-part g l = record {
+  next : (goal.iterator-loop-part g).can_next l.part-iterator;
+  finite : (goal.iterator-loop-part g).is_finite l.part-iterator;
+  put : PutUpTo (g.W.Sink.written l.fn.sink, l.fn.waiting) (g.W.Sink.written l.sink, l.waiting)
+      (opening l.fn.name ++ encode_lower l.fn.bytes) (encode_lower (chunks_rest l.part-iterator));
+  count : g.W.Sink.failures l.sink ≡ g.W.Sink.failures l.fn.sink;
+}

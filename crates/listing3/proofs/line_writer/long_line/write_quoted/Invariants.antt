@@ -1,0 +1,13 @@
+use Rattle.listing3.proofs.Common.{◌≡◌, [], ◌∷◌, ◌++◌, flat_map, quoted, quoted_byte, chunks_rest, opening}
+use Rattle.listing3.proofs.Lines.LongLines.{PutUpTo}
+use Rattle.listing3.proofs.line_writer.long_line.write_quoted.Given as goal
+
+abbrev pub invariant-loop-part : goal.invariant-loop-part
+invariant-loop-part g l = record {
+  next : (goal.iterator-loop-part g).can_next l.part-iterator;
+  finite : (goal.iterator-loop-part g).is_finite l.part-iterator;
+  put : PutUpTo (g.W.Sink.written l.fn.sink, l.fn.waiting) (g.W.Sink.written l.sink, l.waiting)
+      (opening l.fn.name ++ quoted l.fn.bytes)
+      (flat_map quoted_byte (chunks_rest l.part-iterator) ++ 34 ∷ []);
+  count : g.W.Sink.failures l.sink ≡ g.W.Sink.failures l.fn.sink;
+}
