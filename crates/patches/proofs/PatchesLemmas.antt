@@ -1,7 +1,6 @@
 -- Bodies with replacements, as more of them is noted.
-use Rattle.std.proofs.Common.{◌≡◌, ℕ, ◌+◌, ◌-◌, ◌<◌, ◌≤◌, List, [], ◌∷◌, ◌++◌, length, min, get_or, replicate, take, drop, ap, ap₂, refl, sym, ◌∙◌, arith, length-append, length-drop, length-take, slice_set, take-append-drop}
-use Rattle.std.proofs.lemmas.List.{append_assoc, drop-drop, drop_all, drop_min, length-replicate, drop_more, take-take, set_at, take_at, take_min, append-nil, drop-append-le, take-append-le, take_all}
-use Rattle.std.proofs.lemmas.Grind.{replicate_next}
+use Rattle.std.proofs.Common.{◌≡◌, ℕ, ◌+◌, ◌<◌, ◌≤◌, List, [], ◌∷◌, ◌++◌, length, min, get_or, replicate, take, drop, ap, ap₂, sym, ◌∙◌, arith, rules, length-append, length-drop, length-take, take-append-drop}
+use Rattle.std.proofs.lemmas.List.{append_assoc, drop-drop, drop_all, drop_more, take-take, take_at, take_min, append-nil, drop-append-le, take-append-le, take_all}
 use Rattle.std.proofs.Math.Seq.{take-append-add}
 use Rattle.patches.specs.declared.part.Part.{Part}
 use Rattle.patches.specs.Patches.{covered_by, kept_of, patched_by, replacement, with_zeros, Makes, Noted}
@@ -9,95 +8,25 @@ use Rattle.patches.specs.machinery.Room.{kept_by}
 
 -- ---- zeros
 
-pub no_zeros : (at : ℕ) (bytes : List ℕ) → with_zeros at 0 bytes ≡ bytes
-no_zeros at bytes =
-    let none : min 0 (length bytes - at) ≡ 0 = omega arith in
-    let here : at + 0 ≡ at = omega arith in
-    ap₂ (λ (n k : ℕ). take at bytes ++ (replicate n 0 ++ drop k bytes)) none here
-    ∙ take-append-drop at bytes
-
--- one zero more
-pub zeros-more : (at n : ℕ) (bytes : List ℕ) → at + n < length bytes
-    → slice_set (with_zeros at n bytes) (at + n) 0 ≡ with_zeros at (n + 1) bytes
-zeros-more at n bytes within =
-    let front = take at bytes ++ replicate n 0 in
-    let rest = drop (at + n + 1) bytes in
-    let few : min n (length bytes - at) ≡ n = omega (arith, within) in
-    let more : min (n + 1) (length bytes - at) ≡ n + 1 = omega (arith, within) in
-    let next : at + (n + 1) ≡ at + n + 1 = omega arith in
-    let size : length front ≡ at + n =
-    omega (
-      arith,
-      within,
-      length-append (take at bytes) (replicate n 0),
-      length-take at bytes,
-      length-replicate {A = ℕ} n 0,
-    ) in
-    let was : with_zeros at n bytes ≡ front ++ get_or bytes (at + n) 0 ∷ rest =
-    ap₂ (λ (k : ℕ) (b : List ℕ). take at bytes ++ (replicate k 0 ++ b)) few
-    (drop_more bytes (at + n) 0 within)
-    ∙ sym (append_assoc (take at bytes) (replicate n 0) (get_or bytes (at + n) 0 ∷ rest)) in
-    let is : with_zeros at (n + 1) bytes ≡ front ++ 0 ∷ rest =
-    ap₂ (λ (k j : ℕ). take at bytes ++ (replicate k 0 ++ drop j bytes)) more next
-    ∙ (ap (λ (z : List ℕ). take at bytes ++ (z ++ rest)) (replicate_next n 0)
-    ∙ (ap (λ (z : List ℕ). take at bytes ++ z) (append_assoc (replicate n 0) (0 ∷ []) rest)
-    ∙ sym (append_assoc (take at bytes) (replicate n 0) (0 ∷ rest)))) in
-    ap (λ (b : List ℕ). slice_set b (at + n) 0) was
-    ∙ (set_at front (get_or bytes (at + n) 0) rest 0 (at + n) size ∙ sym is)
-
--- no more zeros than there are bytes
-pub zeros-all : (at n count : ℕ) (bytes : List ℕ)
-    → min (at + n) (length bytes) ≡ min (at + count) (length bytes)
-    → with_zeros at n bytes ≡ with_zeros at count bytes
-zeros-all at n count bytes same =
-    let few : min n (length bytes - at) ≡ min count (length bytes - at) = omega (arith, same) in
-    let rest : drop (at + n) bytes ≡ drop (at + count) bytes =
-    sym (drop_min (at + n) bytes)
-    ∙ (ap (λ (k : ℕ). drop k bytes) same ∙ drop_min (at + count) bytes) in
-    ap₂ (λ (k : ℕ) (b : List ℕ). take at bytes ++ (replicate k 0 ++ b)) few rest
+no_zeros : (at : ℕ) (bytes : List ℕ) → with_zeros at 0 bytes ≡ bytes
+no_zeros at bytes = search (rules, take-append-drop)
 
 -- the bytes beside zeros are the same
 pub zeros-alike : (at count : ℕ) (bytes others : List ℕ) → length bytes ≡ length others
     → take at bytes ≡ take at others → drop count (drop at bytes) ≡ drop count (drop at others)
     → with_zeros at count bytes ≡ with_zeros at count others
-zeros-alike at count bytes others size front back =
-    let rest : drop (at + count) bytes ≡ drop (at + count) others =
-    sym (drop-drop count at bytes) ∙ (back ∙ drop-drop count at others) in
-    let zeros : List ℕ → List ℕ = λ (b : List ℕ). replicate (min count (length b - at)) 0 in
-    ap₂ (λ (a b : List ℕ). a ++ (zeros bytes ++ b)) front rest
-    ∙ ap (λ (n : ℕ).
-    take at others ++ (replicate (min count (n - at)) 0 ++ drop (at + count) others))
-    size
+zeros-alike at count bytes others size front back = search (rules, size, front, back, drop-drop)
 
 -- bytes after all zeros
 zeros-append : (at count : ℕ) (bytes more : List ℕ) → at + count ≤ length bytes
     → with_zeros at count (bytes ++ more) ≡ with_zeros at count bytes ++ more
 zeros-append at count bytes more within =
-    let few : min count (length (bytes ++ more) - at) ≡ min count (length bytes - at) =
-    omega (arith, within, length-append bytes more) in
-    let front = take-append-le at bytes more (omega (arith, within)) in
-    let back = drop-append-le (at + count) bytes more within in
-    let zeros = replicate (min count (length bytes - at)) 0 in
-    ap₂ (λ (b : List ℕ) (n : ℕ). b ++ (replicate n 0 ++ drop (at + count) (bytes ++ more))) front
-    few
-    ∙ (ap (λ (b : List ℕ). take at bytes ++ (zeros ++ b)) back
-    ∙ (ap (λ (b : List ℕ). take at bytes ++ b)
-    (sym (append_assoc zeros (drop (at + count) bytes) more))
-    ∙ sym (append_assoc (take at bytes) (zeros ++ drop (at + count) bytes) more)))
+    search (rules, within, take-append-le, drop-append-le, append_assoc, length-append)
 
 -- zeros in place of all bytes from a position on
 zeros-last : (bytes gone : List ℕ) (count : ℕ) → length gone ≡ count
     → with_zeros (length bytes) count (bytes ++ gone) ≡ bytes ++ replicate count 0
-zeros-last bytes gone count l =
-    let all : min count (length (bytes ++ gone) - length bytes) ≡ count =
-    omega (arith, l, length-append bytes gone) in
-    let over : length (bytes ++ gone) ≤ length bytes + count =
-    omega (arith, l, length-append bytes gone) in
-    ap₂ (λ (b : List ℕ) (n : ℕ).
-    b ++ (replicate n 0 ++ drop (length bytes + count) (bytes ++ gone)))
-    (take_at bytes gone (length bytes) refl) all
-    ∙ (ap (λ (b : List ℕ). bytes ++ (replicate count 0 ++ b)) (drop_all _ (bytes ++ gone) over)
-    ∙ ap (λ (b : List ℕ). bytes ++ b) (append-nil (replicate count 0)))
+zeros-last bytes gone count l = search (rules, l, take_at, drop_all, append-nil, length-append)
 
 -- ---- what is noted
 
@@ -119,12 +48,7 @@ rest_append : (part : Part) (body more : List ℕ) (n : ℕ)
     → length body ≡ part.keeps + (part.skips + n)
     → drop part.skips (drop part.keeps (body ++ more))
     ≡ drop part.skips (drop part.keeps body) ++ more
-rest_append part body more n l =
-    let some : part.keeps ≤ length body = omega (arith, l) in
-    let left = length-drop part.keeps body in
-    let others : part.skips ≤ length (drop part.keeps body) = omega (arith, l, left) in
-    ap (drop part.skips) (drop-append-le part.keeps body more some)
-    ∙ drop-append-le part.skips (drop part.keeps body) more others
+rest_append part body more n l = search (rules, l, length-drop, drop-append-le)
 
 -- what is noted after all of a body
 patched-tail : (parts added : List Part) (last new : Part) (body more put : List ℕ)
@@ -151,6 +75,7 @@ covered-append : (parts added : List Part)
 covered-append [] added = omega arith
 covered-append (part ∷ parts) added = omega (arith, covered-append parts added)
 
+-- more of a body, of which nothing was noted before
 makes-more : (noted new : Noted) (added : List Part) (body more form put : List ℕ)
     → Makes noted body form → new.parts ≡ noted.parts ++ added
     → ((b : List ℕ) → length b ≡ noted.last.keeps
@@ -221,14 +146,13 @@ makes-zeros noted count body gone form m none l =
     (λ b size. kept-zeros noted.last count gone b none l size) (omega (arith, l)) (omega arith)
 
 -- no bytes
-abbrev nothing : Part
-nothing =
-    record { keeps = 0; zeros_at = 0; zeros = 0; len = 0; skips = 0; bytes = replicate 8 0 }
+abbrev emptied : Part → Part
+emptied part = record part { keeps = 0; zeros_at = 0; zeros = 0 }
 
 -- bytes that are replaced
-replaced : (part : Part) (gone b : List ℕ) → length b ≡ part.keeps
-    → patched_by (part ∷ []) nothing (b ++ gone) ≡ kept_of part b ++ replacement part
-replaced part gone b l =
+replaced : (part last : Part) (gone b : List ℕ) → length b ≡ part.keeps
+    → patched_by (part ∷ []) (emptied last) (b ++ gone) ≡ kept_of part b ++ replacement part
+replaced part last gone b l =
     ap₂ (λ (a b : List ℕ). a ++ (replacement part ++ b))
     (kept-front part b gone (omega (arith, l))) (no_zeros 0 [])
     ∙ ap (λ (r : List ℕ). kept_of part b ++ r) (append-nil (replacement part))
@@ -237,12 +161,12 @@ pub makes-replaced : (noted new : Noted) (skips len : ℕ) (bytes body gone form
     → Makes noted body form
     → new.parts
     ≡ noted.parts ++ record noted.last { skips = skips; len = len; bytes = bytes } ∷ []
-    → new.last ≡ nothing → length gone ≡ skips → Makes new (body ++ gone) (form ++ take len bytes)
+    → new.last ≡ emptied noted.last → length gone ≡ skips → Makes new (body ++ gone) (form ++ take len bytes)
 makes-replaced noted new skips len bytes body gone form m e none l =
     let part : Part = record noted.last { skips = skips; len = len; bytes = bytes } in
     makes-more noted new (part ∷ []) body gone form (take len bytes) m e
     (λ b size.
-    ap (λ (p : Part). patched_by (part ∷ []) p (b ++ gone)) none ∙ replaced part gone b size)
+    ap (λ (p : Part). patched_by (part ∷ []) p (b ++ gone)) none ∙ replaced part noted.last gone b size)
     (omega (arith, l, ap (λ (p : Part). p.keeps) none))
     (omega (arith, ap (λ (p : Part). p.zeros_at + p.zeros) none, ap (λ (p : Part). p.keeps) none))
 
@@ -267,20 +191,9 @@ pub alike-step : (parts others : List Part) (i : ℕ) (last other_last : Part) (
     → patched_by (drop i parts) last body ≡ patched_by (drop i others) other_last other
 alike-step parts others i last other_last body other p q l e m f same_kept same_replaced same_rest =
     patched-more parts i last body p l e
-    ∙ (ap (λ (b : List ℕ). kept_of p body ++ (replacement p ++ b)) same_rest
-    ∙ (ap
-    (λ (b : List ℕ).
-    kept_of p body
-    ++ (b
-    ++ patched_by (drop (i + 1) others) other_last (drop q.skips (drop q.keeps other))))
-    same_replaced
-    ∙ (ap
-    (λ (b : List ℕ).
-    b
-    ++ (replacement q
-    ++ patched_by (drop (i + 1) others) other_last (drop q.skips (drop q.keeps other))))
-    same_kept
-    ∙ sym (patched-more others i other_last other q m f))))
+    ∙ (ap₂ (λ (a b : List ℕ). a ++ b) same_kept
+    (ap₂ (λ (a b : List ℕ). a ++ b) same_replaced same_rest)
+    ∙ sym (patched-more others i other_last other q m f))
 
 -- a part that was written after others
 pub written-step : (parts : List Part) (i : ℕ) (last : Part) (body before now all : List ℕ)
@@ -290,12 +203,7 @@ pub written-step : (parts : List Part) (i : ℕ) (last : Part) (body before now 
     → before ++ patched_by (drop i parts) last body ≡ all
     → now ++ patched_by (drop (i + 1) parts) last (drop p.skips (drop p.keeps body)) ≡ all
 written-step parts i last body before now all p l e w is =
-    let rest = patched_by (drop (i + 1) parts) last (drop p.skips (drop p.keeps body)) in
-    ap (λ (b : List ℕ). b ++ rest) w
-    ∙ (append_assoc before (kept_of p body ++ replacement p) rest
-    ∙ (ap (λ (b : List ℕ). before ++ b) (append_assoc (kept_of p body) (replacement p) rest
-    ∙ sym (patched-more parts i last body p l e))
-    ∙ is))
+    search (rules, w, is, patched-more parts i last body p l e, append_assoc)
 
 pub patched-over : (parts : List Part) (i : ℕ) (last : Part) (body : List ℕ) → length parts ≤ i
     → patched_by (drop i parts) last body ≡ kept_of last body

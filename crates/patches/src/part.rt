@@ -8,9 +8,9 @@ use xdr3::room::put_bytes;
 /// How many bytes a replacement has at most.
 pub(crate) const MOST: usize = 8;
 
-/// So many bytes stay, but for `zeros` of them from `zeros_at` on, which become zeros. So many that
-/// follow are replaced by the first `len` of these. A body may have very many parts, so a count of
-/// at most eight has no `usize`: a part has 40 bytes.
+/// Of the next bytes `keeps` stay, but `zeros` of these become zeros, from `zeros_at` on. Then
+/// `skips` are replaced by the first `len` of `bytes`. `zeros` and `len` are at most eight, and a
+/// body may have very many parts: as `u32` they make a part 40 bytes long, without padding.
 #[derive(Clone, Copy)]
 pub(crate) struct Part {
     pub(crate) keeps: usize,
@@ -19,6 +19,18 @@ pub(crate) struct Part {
     pub(crate) len: u32,
     pub(crate) skips: usize,
     pub(crate) bytes: [u8; MOST],
+}
+
+impl Part {
+    /// Makes what stays no bytes. What replaces others is as it was.
+    #[inline(always)]
+    pub(crate) fn reset(&mut self)
+        ensures { self.new ≡ record self.old { keeps = 0; zeros_at = 0; zeros = 0 } }
+    {
+        self.keeps = 0;
+        self.zeros_at = 0;
+        self.zeros = 0;
+    }
 }
 
 /// Returns the first `count` bytes, or all if there are fewer.
@@ -68,10 +80,9 @@ fn put_zeros(bytes: &mut [u8], at: usize, count: usize)
 fn fill_with_zeros(bytes: &mut [u8], at: usize, count: usize)
     ensures { bytes.new ≡ with_zeros at count bytes.old }
 {
+    let start = at.min(bytes.len());
     let end = at.saturating_add(count).min(bytes.len());
-    for i in at..end {
-        bytes[i] = 0;
-    }
+    bytes[start..end].fill(0);
 }
 
 /// Writes what stays of the front of a body before a replacement, and returns the position after

@@ -13,7 +13,7 @@ use xdr3::room::{make_room, put_bytes};
 /// the last replacement.
 const LONG: usize = 16_384;
 
-/// Of no bytes.
+/// What stays of no bytes.
 const NOTHING: Part = Part {
     keeps: 0,
     zeros_at: 0,
@@ -28,7 +28,7 @@ const NOTHING: Part = Part {
 #[derive(Drop)]
 pub struct Patches {
     parts: Vec<Part>,
-    // What stays after these, with no replacement yet.
+    // What stays after the last replacement. None follows yet.
     last: Part,
 }
 
@@ -56,15 +56,16 @@ impl Patches {
         ensures { Makes self.new [] [] }
     {
         self.parts.clear();
-        self.last = NOTHING;
+        self.last.reset();
     }
 
     /// Notes that the next `count` bytes stay. What is noted of a body of 2^64 bytes or more means
     /// nothing.
     #[inline(always)]
     pub fn keep(&mut self, count: usize)
-        ensures { (body more form : List ℕ) → Makes self.old body form → length more ≡ count
+        ensures makes { (body more form : List ℕ) → Makes self.old body form → length more ≡ count
             → length (body ++ more) < 2 ^ 64 → Makes self.new (body ++ more) (form ++ more) }
+        ensures zeros { self.new.last.zeros ≡ self.old.last.zeros }
     {
         self.last.keeps = self.last.keeps.wrapping_add(count);
     }
@@ -74,7 +75,8 @@ impl Patches {
     ///
     /// # Errors
     ///
-    /// As those of `replace`. It needs no memory for the first zeros after a replacement.
+    /// As those of `replace`, but none for the first zeros of a body or after a replacement, which
+    /// need no memory.
     #[inline(always)]
     pub fn zero(&mut self, count: usize) -> Result<(), AllocError>
         requires { count ≤ 8 }
@@ -121,6 +123,7 @@ impl Patches {
         ensures ok { OnOk result ((body gone form : List ℕ) → Makes self.old body form
             → length gone ≡ skipped
             → Makes self.new (body ++ gone) (form ++ take len bytes.now)) }
+        ensures zeros { OnOk result (self.new.last.zeros ≡ 0) }
         ensures err { OnErr result
             ((self.new.parts ≡ self.old.parts) × (self.new.last ≡ self.old.last)) }
         ensures short { OnErr result (self.old.capacity ≤ length self.old.parts) }
@@ -128,12 +131,14 @@ impl Patches {
         self.add(skipped, bytes, len.min(MOST) as u32)
     }
 
-    /// Does the same. Callers that know how small `len` is need no test.
+    /// Does the same. The length is narrow already: `replace_by_zeros` knows that it is small, and
+    /// needs no test.
     #[inline(always)]
     fn add(&mut self, skipped: usize, bytes: &[u8; 8], len: u32) -> Result<(), AllocError>
         ensures ok { OnOk result ((body gone form : List ℕ) → Makes self.old body form
             → length gone ≡ skipped
             → Makes self.new (body ++ gone) (form ++ take len bytes.now)) }
+        ensures zeros { OnOk result (self.new.last.zeros ≡ 0) }
         ensures err { OnErr result
             ((self.new.parts ≡ self.old.parts) × (self.new.last ≡ self.old.last)) }
         ensures short { OnErr result (self.old.capacity ≤ length self.old.parts) }
@@ -144,7 +149,7 @@ impl Patches {
             bytes: *bytes,
             ..self.last
         })?;
-        self.last = NOTHING;
+        self.last.reset();
         Ok(())
     }
 

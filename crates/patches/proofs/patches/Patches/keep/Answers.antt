@@ -4,8 +4,8 @@ use Rattle.patches.specs.Patches.{Makes, Noted, noted_of}
 use Rattle.patches.proofs.PatchesLemmas.{makes-kept}
 use Rattle.patches.proofs.patches.Patches.keep.Goals as goal
 
-pub returns : goal.returns
-returns c body more form makes l few =
+pub returns-clause-makes : goal.returns-clause-makes
+returns-clause-makes c body more form makes l few =
     let was = subst (λ (noted : Noted). Makes noted body form) (sym c.self.view_is) makes in
     let len = c.self.inside.last.keeps in
     let fits : len + c.args.count < 2 ^ 64 =
