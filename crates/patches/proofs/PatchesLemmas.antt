@@ -161,12 +161,14 @@ pub makes-replaced : (noted new : Noted) (skips len : ℕ) (bytes body gone form
     → Makes noted body form
     → new.parts
     ≡ noted.parts ++ record noted.last { skips = skips; len = len; bytes = bytes } ∷ []
-    → new.last ≡ emptied noted.last → length gone ≡ skips → Makes new (body ++ gone) (form ++ take len bytes)
+    → new.last ≡ emptied noted.last → length gone ≡ skips
+    → Makes new (body ++ gone) (form ++ take len bytes)
 makes-replaced noted new skips len bytes body gone form m e none l =
     let part : Part = record noted.last { skips = skips; len = len; bytes = bytes } in
     makes-more noted new (part ∷ []) body gone form (take len bytes) m e
     (λ b size.
-    ap (λ (p : Part). patched_by (part ∷ []) p (b ++ gone)) none ∙ replaced part noted.last gone b size)
+    ap (λ (p : Part). patched_by (part ∷ []) p (b ++ gone)) none
+    ∙ replaced part noted.last gone b size)
     (omega (arith, l, ap (λ (p : Part). p.keeps) none))
     (omega (arith, ap (λ (p : Part). p.zeros_at + p.zeros) none, ap (λ (p : Part). p.keeps) none))
 
