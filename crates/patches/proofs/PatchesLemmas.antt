@@ -1,315 +1,213 @@
 -- Bodies with replacements, as more of them is noted.
-use Rattle.std.proofs.Common.{◌≡◌, ℕ, ◌+◌, ◌-◌, ◌<◌, ◌≤◌, List, [], ◌∷◌, ◌++◌, length, min, get_or, replicate, take, drop, ap, ap₂, refl, sym, ◌∙◌, arith, length-append, length-drop, length-take, slice_set, take-append-drop}
-use Rattle.std.proofs.lemmas.List.{append_assoc, drop-drop, drop_all, drop_min, length-replicate, drop_more, take-take, set_at, take_at, take_min, append-nil, drop-append-le, take-append-le, take_all}
-use Rattle.std.proofs.lemmas.Grind.{replicate_next}
+use Rattle.std.proofs.Common.{◌≡◌, ℕ, ◌+◌, ◌<◌, ◌≤◌, List, [], ◌∷◌, ◌++◌, length, min, get_or, replicate, take, drop, ap, ap₂, sym, ◌∙◌, arith, rules, length-append, length-drop, length-take, take-append-drop}
+use Rattle.std.proofs.lemmas.List.{append_assoc, drop-drop, drop_all, drop_more, take-take, take_at, take_min, append-nil, drop-append-le, take-append-le, take_all}
 use Rattle.std.proofs.Math.Seq.{take-append-add}
 use Rattle.patches.specs.declared.part.Part.{Part}
-use Rattle.patches.specs.declared.part.Run.{Run}
 use Rattle.patches.specs.Patches.{covered_by, kept_of, patched_by, replacement, with_zeros, Makes, Noted}
 use Rattle.patches.specs.machinery.Room.{kept_by}
 
 -- ---- zeros
 
-pub no_zeros : (at : ℕ) (bytes : List ℕ) → with_zeros at 0 bytes ≡ bytes
-no_zeros at bytes =
-    let none : min 0 (length bytes - at) ≡ 0 = omega arith in
-    let here : at + 0 ≡ at = omega arith in
-    ap₂ (λ (n k : ℕ). take at bytes ++ (replicate n 0 ++ drop k bytes)) none here
-    ∙ take-append-drop at bytes
-
--- one zero more
-pub zeros-more : (at n : ℕ) (bytes : List ℕ) → at + n < length bytes
-    → slice_set (with_zeros at n bytes) (at + n) 0 ≡ with_zeros at (n + 1) bytes
-zeros-more at n bytes within =
-    let front = take at bytes ++ replicate n 0 in
-    let rest = drop (at + n + 1) bytes in
-    let few : min n (length bytes - at) ≡ n = omega (arith, within) in
-    let more : min (n + 1) (length bytes - at) ≡ n + 1 = omega (arith, within) in
-    let next : at + (n + 1) ≡ at + n + 1 = omega arith in
-    let size : length front ≡ at + n =
-    omega (
-      arith,
-      within,
-      length-append (take at bytes) (replicate n 0),
-      length-take at bytes,
-      length-replicate {A = ℕ} n 0,
-    ) in
-    let was : with_zeros at n bytes ≡ front ++ get_or bytes (at + n) 0 ∷ rest =
-    ap₂ (λ (k : ℕ) (b : List ℕ). take at bytes ++ (replicate k 0 ++ b)) few
-    (drop_more bytes (at + n) 0 within)
-    ∙ sym (append_assoc (take at bytes) (replicate n 0) (get_or bytes (at + n) 0 ∷ rest)) in
-    let is : with_zeros at (n + 1) bytes ≡ front ++ 0 ∷ rest =
-    ap₂ (λ (k j : ℕ). take at bytes ++ (replicate k 0 ++ drop j bytes)) more next
-    ∙ (ap (λ (z : List ℕ). take at bytes ++ (z ++ rest)) (replicate_next n 0)
-    ∙ (ap (λ (z : List ℕ). take at bytes ++ z) (append_assoc (replicate n 0) (0 ∷ []) rest)
-    ∙ sym (append_assoc (take at bytes) (replicate n 0) (0 ∷ rest)))) in
-    ap (λ (b : List ℕ). slice_set b (at + n) 0) was
-    ∙ (set_at front (get_or bytes (at + n) 0) rest 0 (at + n) size ∙ sym is)
-
--- no more zeros than there are bytes
-pub zeros-all : (at n count : ℕ) (bytes : List ℕ)
-    → min (at + n) (length bytes) ≡ min (at + count) (length bytes)
-    → with_zeros at n bytes ≡ with_zeros at count bytes
-zeros-all at n count bytes same =
-    let few : min n (length bytes - at) ≡ min count (length bytes - at) = omega (arith, same) in
-    let rest : drop (at + n) bytes ≡ drop (at + count) bytes =
-    sym (drop_min (at + n) bytes)
-    ∙ (ap (λ (k : ℕ). drop k bytes) same ∙ drop_min (at + count) bytes) in
-    ap₂ (λ (k : ℕ) (b : List ℕ). take at bytes ++ (replicate k 0 ++ b)) few rest
+no_zeros : (at : ℕ) (bytes : List ℕ) → with_zeros at 0 bytes ≡ bytes
+no_zeros at bytes = search (rules, take-append-drop)
 
 -- the bytes beside zeros are the same
 pub zeros-alike : (at count : ℕ) (bytes others : List ℕ) → length bytes ≡ length others
     → take at bytes ≡ take at others → drop count (drop at bytes) ≡ drop count (drop at others)
     → with_zeros at count bytes ≡ with_zeros at count others
-zeros-alike at count bytes others size front back =
-    let rest : drop (at + count) bytes ≡ drop (at + count) others =
-    sym (drop-drop count at bytes) ∙ (back ∙ drop-drop count at others) in
-    let zeros : List ℕ → List ℕ = λ (b : List ℕ). replicate (min count (length b - at)) 0 in
-    ap₂ (λ (a b : List ℕ). a ++ (zeros bytes ++ b)) front rest
-    ∙ ap (λ (n : ℕ).
-    take at others ++ (replicate (min count (n - at)) 0 ++ drop (at + count) others))
-    size
+zeros-alike at count bytes others size front back = search (rules, size, front, back, drop-drop)
 
 -- bytes after all zeros
 zeros-append : (at count : ℕ) (bytes more : List ℕ) → at + count ≤ length bytes
     → with_zeros at count (bytes ++ more) ≡ with_zeros at count bytes ++ more
 zeros-append at count bytes more within =
-    let few : min count (length (bytes ++ more) - at) ≡ min count (length bytes - at) =
-    omega (arith, within, length-append bytes more) in
-    let front = take-append-le at bytes more (omega (arith, within)) in
-    let back = drop-append-le (at + count) bytes more within in
-    let zeros = replicate (min count (length bytes - at)) 0 in
-    ap₂ (λ (b : List ℕ) (n : ℕ). b ++ (replicate n 0 ++ drop (at + count) (bytes ++ more))) front
-    few
-    ∙ (ap (λ (b : List ℕ). take at bytes ++ (zeros ++ b)) back
-    ∙ (ap (λ (b : List ℕ). take at bytes ++ b)
-    (sym (append_assoc zeros (drop (at + count) bytes) more))
-    ∙ sym (append_assoc (take at bytes) (zeros ++ drop (at + count) bytes) more)))
+    search (rules, within, take-append-le, drop-append-le, append_assoc, length-append)
 
 -- zeros in place of all bytes from a position on
 zeros-last : (bytes gone : List ℕ) (count : ℕ) → length gone ≡ count
     → with_zeros (length bytes) count (bytes ++ gone) ≡ bytes ++ replicate count 0
-zeros-last bytes gone count l =
-    let all : min count (length (bytes ++ gone) - length bytes) ≡ count =
-    omega (arith, l, length-append bytes gone) in
-    let over : length (bytes ++ gone) ≤ length bytes + count =
-    omega (arith, l, length-append bytes gone) in
-    ap₂ (λ (b : List ℕ) (n : ℕ).
-    b ++ (replicate n 0 ++ drop (length bytes + count) (bytes ++ gone)))
-    (take_at bytes gone (length bytes) refl) all
-    ∙ (ap (λ (b : List ℕ). bytes ++ (replicate count 0 ++ b)) (drop_all _ (bytes ++ gone) over)
-    ∙ ap (λ (b : List ℕ). bytes ++ b) (append-nil (replicate count 0)))
+zeros-last bytes gone count l = search (rules, l, take_at, drop_all, append-nil, length-append)
 
 -- ---- what is noted
 
-kept-front : (run : Run) (body more : List ℕ) → run.len ≤ length body
-    → kept_of run (body ++ more) ≡ kept_of run body
-kept-front run body more some =
-    ap (with_zeros run.zeros_at run.zeros) (take-append-le run.len body more some)
+kept-front : (part : Part) (body more : List ℕ) → part.keeps ≤ length body
+    → kept_of part (body ++ more) ≡ kept_of part body
+kept-front part body more some =
+    ap (with_zeros part.zeros_at part.zeros) (take-append-le part.keeps body more some)
 
 -- what is left of a body after a part, at least as long as what the other parts are of
 rest_length : (part : Part) (body : List ℕ) (n : ℕ)
-    → length body ≡ part.run.len + (part.skips + n)
-    → length (drop part.skips (drop part.run.len body)) ≡ n
+    → length body ≡ part.keeps + (part.skips + n)
+    → length (drop part.skips (drop part.keeps body)) ≡ n
 rest_length part body n l =
-    let one = length-drop part.skips (drop part.run.len body) in
-    let other = length-drop part.run.len body in
+    let one = length-drop part.skips (drop part.keeps body) in
+    let other = length-drop part.keeps body in
     omega (arith, one, other, l)
 
 rest_append : (part : Part) (body more : List ℕ) (n : ℕ)
-    → length body ≡ part.run.len + (part.skips + n)
-    → drop part.skips (drop part.run.len (body ++ more))
-    ≡ drop part.skips (drop part.run.len body) ++ more
-rest_append part body more n l =
-    let some : part.run.len ≤ length body = omega (arith, l) in
-    let left = length-drop part.run.len body in
-    let others : part.skips ≤ length (drop part.run.len body) = omega (arith, l, left) in
-    ap (drop part.skips) (drop-append-le part.run.len body more some)
-    ∙ drop-append-le part.skips (drop part.run.len body) more others
+    → length body ≡ part.keeps + (part.skips + n)
+    → drop part.skips (drop part.keeps (body ++ more))
+    ≡ drop part.skips (drop part.keeps body) ++ more
+rest_append part body more n l = search (rules, l, length-drop, drop-append-le)
 
--- bytes that are noted after all of a body
-patched-tail : (parts : List Part) (last new : Run) (body more put : List ℕ)
-    → ((b : List ℕ) → length b ≡ last.len → kept_of new (b ++ more) ≡ kept_of last b ++ put)
-    → length body ≡ covered_by parts + last.len
-    → patched_by parts new (body ++ more) ≡ patched_by parts last body ++ put
-patched-tail [] last new body more put goes l = goes body (omega (arith, l))
-patched-tail (part ∷ parts) last new body more put goes l =
-    let rest = drop part.skips (drop part.run.len body) in
-    let left = rest_length part body (covered_by parts + last.len) (omega (arith, l)) in
-    let same = rest_append part body more (covered_by parts + last.len) (omega (arith, l)) in
+-- what is noted after all of a body
+patched-tail : (parts added : List Part) (last new : Part) (body more put : List ℕ)
+    → ((b : List ℕ) → length b ≡ last.keeps
+    → patched_by added new (b ++ more) ≡ kept_of last b ++ put)
+    → length body ≡ covered_by parts + last.keeps
+    → patched_by (parts ++ added) new (body ++ more) ≡ patched_by parts last body ++ put
+patched-tail [] added last new body more put goes l = goes body (omega (arith, l))
+patched-tail (part ∷ parts) added last new body more put goes l =
+    let rest = drop part.skips (drop part.keeps body) in
+    let left = rest_length part body (covered_by parts + last.keeps) (omega (arith, l)) in
+    let same = rest_append part body more (covered_by parts + last.keeps) (omega (arith, l)) in
     let next =
-    ap (patched_by parts new) same ∙ patched-tail parts last new rest more put goes left in
-    let front = kept-front part.run body more (omega (arith, l)) in
+    ap (patched_by (parts ++ added) new) same
+    ∙ patched-tail parts added last new rest more put goes left in
+    let front = kept-front part body more (omega (arith, l)) in
     ap₂ (λ (a b : List ℕ). a ++ (replacement part ++ b)) front next
-    ∙ (ap (λ (b : List ℕ). kept_of part.run body ++ b)
+    ∙ (ap (λ (b : List ℕ). kept_of part body ++ b)
     (sym (append_assoc (replacement part) (patched_by parts last rest) put))
-    ∙ sym (append_assoc (kept_of part.run body) (replacement part ++ patched_by parts last rest)
-    put))
+    ∙ sym (append_assoc (kept_of part body) (replacement part ++ patched_by parts last rest) put))
 
--- a run of no bytes
-abbrev nothing : Run
-nothing = record { len = 0; zeros_at = 0; zeros = 0 }
+covered-append : (parts added : List Part)
+    → covered_by (parts ++ added) ≡ covered_by parts + covered_by added
+covered-append [] added = omega arith
+covered-append (part ∷ parts) added = omega (arith, covered-append parts added)
 
--- bytes that are replaced after all of a body
-patched-replaced : (parts : List Part) (part : Part) (body gone : List ℕ)
-    → length body ≡ covered_by parts + part.run.len → length gone ≡ part.skips
-    → patched_by (parts ++ part ∷ []) nothing (body ++ gone)
-    ≡ patched_by parts part.run body ++ replacement part
-patched-replaced [] part body gone l m =
-    ap₂ (λ (a b : List ℕ). a ++ (replacement part ++ b))
-    (kept-front part.run body gone (omega (arith, l))) (no_zeros 0 [])
-    ∙ ap (λ (b : List ℕ). kept_of part.run body ++ b) (append-nil (replacement part))
-patched-replaced (first ∷ parts) part body gone l m =
-    let rest = drop first.skips (drop first.run.len body) in
-    let left = rest_length first body (covered_by parts + part.run.len) (omega (arith, l)) in
-    let same = rest_append first body gone (covered_by parts + part.run.len) (omega (arith, l)) in
-    let next =
-    ap (patched_by (parts ++ part ∷ []) nothing) same ∙ patched-replaced parts part rest gone left m
-    in
-    let front = kept-front first.run body gone (omega (arith, l)) in
-    ap₂ (λ (a b : List ℕ). a ++ (replacement first ++ b)) front next
-    ∙ (ap (λ (b : List ℕ). kept_of first.run body ++ b)
-    (sym (append_assoc (replacement first) (patched_by parts part.run rest) (replacement part)))
-    ∙ sym (append_assoc (kept_of first.run body)
-    (replacement first ++ patched_by parts part.run rest) (replacement part)))
-
-pub covered-append : (parts : List Part) (part : Part)
-    → covered_by (parts ++ part ∷ []) ≡ covered_by parts + (part.run.len + part.skips)
-covered-append [] part = omega arith
-covered-append (first ∷ parts) part = omega (arith, covered-append parts part)
-
--- bytes that stay
-kept-more-bytes : (last : Run) (more b : List ℕ) → last.zeros_at + last.zeros ≤ last.len
-    → length b ≡ last.len
-    → kept_of (record last { len = last.len + length more }) (b ++ more) ≡ kept_of last b ++ more
-kept-more-bytes last more b within l =
-    ap (with_zeros last.zeros_at last.zeros)
-    (take_all (last.len + length more) (b ++ more) (omega (arith, l, length-append b more)))
-    ∙ (zeros-append last.zeros_at last.zeros b more (omega (arith, within, l))
-    ∙ ap (λ (k : List ℕ). with_zeros last.zeros_at last.zeros k ++ more)
-    (sym (take_all last.len b (omega (arith, l)))))
-
--- bytes that become zeros, and are the first that do
-kept-zeros : (last : Run) (count : ℕ) (gone b : List ℕ) → last.zeros ≡ 0 → length gone ≡ count
-    → length b ≡ last.len
-    → kept_of (record { len = last.len + count; zeros_at = last.len; zeros = count }) (b ++ gone)
-    ≡ kept_of last b ++ replicate count 0
-kept-zeros last count gone b none few l =
-    ap (with_zeros last.len count)
-    (take_all (last.len + count) (b ++ gone) (omega (arith, l, few, length-append b gone)))
-    ∙ (ap (λ (n : ℕ). with_zeros n count (b ++ gone)) (sym l)
-    ∙ (zeros-last b gone count few
-    ∙ ap (λ (k : List ℕ). k ++ replicate count 0) (sym (
-    ap₂ (with_zeros last.zeros_at) none (take_all last.len b (omega (arith, l)))
-    ∙ no_zeros last.zeros_at b))))
-
-pub makes-kept : (noted : Noted) (count : ℕ) (body more form : List ℕ) → Makes noted body form
-    → length more ≡ count
-    → Makes (record noted { run = record noted.run { len = noted.run.len + count } })
-    (body ++ more) (form ++ more)
-makes-kept noted count body more form m l = record {
-  covers = omega (arith, m.covers, l, length-append body more);
-  within = omega (arith, m.within);
-  makes =
-      ap
-      (λ (n : ℕ).
-      patched_by noted.parts (record noted.run { len = noted.run.len + n }) (body ++ more)) (sym l)
-      ∙ (patched-tail noted.parts noted.run (record noted.run { len = noted.run.len + length more })
-      body more more (λ b. kept-more-bytes noted.run more b m.within) m.covers
-      ∙ ap (λ (b : List ℕ). b ++ more) m.makes);
-}
-
-pub makes-zeros : (noted : Noted) (count : ℕ) (body gone form : List ℕ) → Makes noted body form
-    → noted.run.zeros ≡ 0 → length gone ≡ count
-    → Makes (record noted
-    { run = record { len = noted.run.len + count; zeros_at = noted.run.len; zeros = count } })
-    (body ++ gone) (form ++ replicate count 0)
-makes-zeros noted count body gone form m none l = record {
-  covers = omega (arith, m.covers, l, length-append body gone);
-  within = omega arith;
-  makes =
-      patched-tail noted.parts noted.run _ body gone (replicate count 0)
-      (λ b. kept-zeros noted.run count gone b none l) m.covers
-      ∙ ap (λ (b : List ℕ). b ++ replicate count 0) m.makes;
-}
-
-pub makes-replaced : (noted new : Noted) (part : Part) (body gone form : List ℕ)
-    → Makes noted body form → new.parts ≡ noted.parts ++ part ∷ [] → new.run ≡ nothing
-    → part.run ≡ noted.run → length gone ≡ part.skips
-    → Makes new (body ++ gone) (form ++ replacement part)
-makes-replaced noted new part body gone form m e none k l = record {
+-- more of a body, of which nothing was noted before
+makes-more : (noted new : Noted) (added : List Part) (body more form put : List ℕ)
+    → Makes noted body form → new.parts ≡ noted.parts ++ added
+    → ((b : List ℕ) → length b ≡ noted.last.keeps
+    → patched_by added new.last (b ++ more) ≡ kept_of noted.last b ++ put)
+    → noted.last.keeps + length more ≡ covered_by added + new.last.keeps
+    → new.last.zeros_at + new.last.zeros ≤ new.last.keeps
+    → Makes new (body ++ more) (form ++ put)
+makes-more noted new added body more form put m e goes size within = record {
   covers =
       omega (
         arith,
         m.covers,
-        ap (λ (r : Run). r.len) k,
-        l,
-        length-append body gone,
-        covered-append noted.parts part,
+        size,
+        length-append body more,
+        covered-append noted.parts added,
         ap covered_by e,
-        ap (λ (r : Run). r.len) none,
       );
-  within = omega (arith, ap (λ (r : Run). r.zeros_at + r.zeros) none, ap (λ (r : Run). r.len) none);
+  within = within;
   makes =
-      ap₂ (λ (ps : List Part) (r : Run). patched_by ps r (body ++ gone)) e none
-      ∙ (patched-replaced noted.parts part body gone
-      (m.covers ∙ ap (λ (r : Run). covered_by noted.parts + r.len) (sym k)) l
-      ∙ ap (λ (b : List ℕ). b ++ replacement part)
-      (ap (λ (r : Run). patched_by noted.parts r body) k ∙ m.makes));
+      ap (λ (ps : List Part). patched_by ps new.last (body ++ more)) e
+      ∙ (patched-tail noted.parts added noted.last new.last body more put goes m.covers
+      ∙ ap (λ (b : List ℕ). b ++ put) m.makes);
 }
 
+-- bytes that stay
+kept-more-bytes : (last : Part) (count : ℕ) (more b : List ℕ)
+    → last.zeros_at + last.zeros ≤ last.keeps → length more ≡ count → length b ≡ last.keeps
+    → kept_of (record last { keeps = last.keeps + count }) (b ++ more) ≡ kept_of last b ++ more
+kept-more-bytes last count more b within m l =
+    ap (with_zeros last.zeros_at last.zeros)
+    (take_all (last.keeps + count) (b ++ more) (omega (arith, l, m, length-append b more)))
+    ∙ (zeros-append last.zeros_at last.zeros b more (omega (arith, within, l))
+    ∙ ap (λ (k : List ℕ). with_zeros last.zeros_at last.zeros k ++ more)
+    (sym (take_all last.keeps b (omega (arith, l)))))
+
+pub makes-kept : (noted : Noted) (count : ℕ) (body more form : List ℕ) → Makes noted body form
+    → length more ≡ count
+    → Makes (record noted { last = record noted.last { keeps = noted.last.keeps + count } })
+    (body ++ more) (form ++ more)
+makes-kept noted count body more form m l =
+    makes-more noted _ [] body more form more m (sym (append-nil noted.parts))
+    (λ b size. kept-more-bytes noted.last count more b m.within l size) (omega (arith, l))
+    (omega (arith, m.within))
+
+-- bytes that become zeros, and are the first that do
+kept-zeros : (last : Part) (count : ℕ) (gone b : List ℕ) → last.zeros ≡ 0 → length gone ≡ count
+    → length b ≡ last.keeps
+    → kept_of (record last { keeps = last.keeps + count; zeros_at = last.keeps; zeros = count })
+    (b ++ gone) ≡ kept_of last b ++ replicate count 0
+kept-zeros last count gone b none few l =
+    ap (with_zeros last.keeps count)
+    (take_all (last.keeps + count) (b ++ gone) (omega (arith, l, few, length-append b gone)))
+    ∙ (ap (λ (n : ℕ). with_zeros n count (b ++ gone)) (sym l)
+    ∙ (zeros-last b gone count few
+    ∙ ap (λ (k : List ℕ). k ++ replicate count 0) (sym (
+    ap₂ (with_zeros last.zeros_at) none (take_all last.keeps b (omega (arith, l)))
+    ∙ no_zeros last.zeros_at b))))
+
+pub makes-zeros : (noted : Noted) (count : ℕ) (body gone form : List ℕ) → Makes noted body form
+    → noted.last.zeros ≡ 0 → length gone ≡ count
+    → Makes (record noted {
+      last = record noted.last
+          { keeps = noted.last.keeps + count; zeros_at = noted.last.keeps; zeros = count };
+    })
+    (body ++ gone) (form ++ replicate count 0)
+makes-zeros noted count body gone form m none l =
+    makes-more noted _ [] body gone form (replicate count 0) m (sym (append-nil noted.parts))
+    (λ b size. kept-zeros noted.last count gone b none l size) (omega (arith, l)) (omega arith)
+
+-- no bytes
+abbrev emptied : Part → Part
+emptied part = record part { keeps = 0; zeros_at = 0; zeros = 0 }
+
+-- bytes that are replaced
+replaced : (part last : Part) (gone b : List ℕ) → length b ≡ part.keeps
+    → patched_by (part ∷ []) (emptied last) (b ++ gone) ≡ kept_of part b ++ replacement part
+replaced part last gone b l =
+    ap₂ (λ (a b : List ℕ). a ++ (replacement part ++ b))
+    (kept-front part b gone (omega (arith, l))) (no_zeros 0 [])
+    ∙ ap (λ (r : List ℕ). kept_of part b ++ r) (append-nil (replacement part))
+
+pub makes-replaced : (noted new : Noted) (skips len : ℕ) (bytes body gone form : List ℕ)
+    → Makes noted body form
+    → new.parts
+    ≡ noted.parts ++ record noted.last { skips = skips; len = len; bytes = bytes } ∷ []
+    → new.last ≡ emptied noted.last → length gone ≡ skips
+    → Makes new (body ++ gone) (form ++ take len bytes)
+makes-replaced noted new skips len bytes body gone form m e none l =
+    let part : Part = record noted.last { skips = skips; len = len; bytes = bytes } in
+    makes-more noted new (part ∷ []) body gone form (take len bytes) m e
+    (λ b size.
+    ap (λ (p : Part). patched_by (part ∷ []) p (b ++ gone)) none
+    ∙ replaced part noted.last gone b size)
+    (omega (arith, l, ap (λ (p : Part). p.keeps) none))
+    (omega (arith, ap (λ (p : Part). p.zeros_at + p.zeros) none, ap (λ (p : Part). p.keeps) none))
+
 -- a part that is written or compared, of those from an index on
-pub patched-more : (parts : List Part) (i : ℕ) (last : Run) (body : List ℕ) (p : Part)
+pub patched-more : (parts : List Part) (i : ℕ) (last : Part) (body : List ℕ) (p : Part)
     → i < length parts → p ≡ get_or parts i p
     → patched_by (drop i parts) last body
-    ≡ kept_of p.run body
+    ≡ kept_of p body
     ++ (replacement p
-    ++ patched_by (drop (i + 1) parts) last (drop p.skips (drop p.run.len body)))
+    ++ patched_by (drop (i + 1) parts) last (drop p.skips (drop p.keeps body)))
 patched-more parts i last body p l e =
     ap (λ (ps : List Part). patched_by ps last body) (drop_more parts i p l)
     ∙ ap (λ (q : Part). patched_by (q ∷ drop (i + 1) parts) last body) (sym e)
 
 -- two parts that make the same bytes, before what is the same after them
-pub alike-step : (parts others : List Part) (i : ℕ) (last other_last : Run) (body other : List ℕ)
+pub alike-step : (parts others : List Part) (i : ℕ) (last other_last : Part) (body other : List ℕ)
     (p q : Part) → i < length parts → p ≡ get_or parts i p → i < length others
-    → q ≡ get_or others i q → kept_of p.run body ≡ kept_of q.run other
+    → q ≡ get_or others i q → kept_of p body ≡ kept_of q other
     → replacement p ≡ replacement q
-    → patched_by (drop (i + 1) parts) last (drop p.skips (drop p.run.len body))
-    ≡ patched_by (drop (i + 1) others) other_last (drop q.skips (drop q.run.len other))
+    → patched_by (drop (i + 1) parts) last (drop p.skips (drop p.keeps body))
+    ≡ patched_by (drop (i + 1) others) other_last (drop q.skips (drop q.keeps other))
     → patched_by (drop i parts) last body ≡ patched_by (drop i others) other_last other
 alike-step parts others i last other_last body other p q l e m f same_kept same_replaced same_rest =
     patched-more parts i last body p l e
-    ∙ (ap (λ (b : List ℕ). kept_of p.run body ++ (replacement p ++ b)) same_rest
-    ∙ (ap
-    (λ (b : List ℕ).
-    kept_of p.run body
-    ++ (b
-    ++ patched_by (drop (i + 1) others) other_last (drop q.skips (drop q.run.len other))))
-    same_replaced
-    ∙ (ap
-    (λ (b : List ℕ).
-    b
-    ++ (replacement q
-    ++ patched_by (drop (i + 1) others) other_last (drop q.skips (drop q.run.len other))))
-    same_kept
-    ∙ sym (patched-more others i other_last other q m f))))
+    ∙ (ap₂ (λ (a b : List ℕ). a ++ b) same_kept
+    (ap₂ (λ (a b : List ℕ). a ++ b) same_replaced same_rest)
+    ∙ sym (patched-more others i other_last other q m f))
 
 -- a part that was written after others
-pub written-step : (parts : List Part) (i : ℕ) (last : Run) (body before now all : List ℕ)
+pub written-step : (parts : List Part) (i : ℕ) (last : Part) (body before now all : List ℕ)
     (p : Part)
     → i < length parts → p ≡ get_or parts i p
-    → now ≡ before ++ (kept_of p.run body ++ replacement p)
+    → now ≡ before ++ (kept_of p body ++ replacement p)
     → before ++ patched_by (drop i parts) last body ≡ all
-    → now ++ patched_by (drop (i + 1) parts) last (drop p.skips (drop p.run.len body)) ≡ all
+    → now ++ patched_by (drop (i + 1) parts) last (drop p.skips (drop p.keeps body)) ≡ all
 written-step parts i last body before now all p l e w is =
-    let rest = patched_by (drop (i + 1) parts) last (drop p.skips (drop p.run.len body)) in
-    ap (λ (b : List ℕ). b ++ rest) w
-    ∙ (append_assoc before (kept_of p.run body ++ replacement p) rest
-    ∙ (ap (λ (b : List ℕ). before ++ b) (append_assoc (kept_of p.run body) (replacement p) rest
-    ∙ sym (patched-more parts i last body p l e))
-    ∙ is))
+    search (rules, w, is, patched-more parts i last body p l e, append_assoc)
 
-pub patched-over : (parts : List Part) (i : ℕ) (last : Run) (body : List ℕ) → length parts ≤ i
+pub patched-over : (parts : List Part) (i : ℕ) (last : Part) (body : List ℕ) → length parts ≤ i
     → patched_by (drop i parts) last body ≡ kept_of last body
 patched-over parts i last body l =
     ap (λ (ps : List Part). patched_by ps last body) (drop_all i parts l)
@@ -333,28 +231,28 @@ kept_below m n xs ys l e = sym (take-take m n xs l) ∙ (ap (take m) e ∙ take-
 
 -- a part needs no more of a buffer than was left for it
 pub room-step : (body : List ℕ) (p : Part)
-    → length (take p.run.len body) + length (drop p.skips (drop p.run.len body)) ≤ length body
+    → length (take p.keeps body) + length (drop p.skips (drop p.keeps body)) ≤ length body
 room-step body p =
-    let front = length-take p.run.len body in
-    let rest = length-drop p.run.len body in
-    let last = length-drop p.skips (drop p.run.len body) in
+    let front = length-take p.keeps body in
+    let rest = length-drop p.keeps body in
+    let last = length-drop p.skips (drop p.keeps body) in
     omega (arith, front, rest, last)
 
 -- what the parts from an index on keep
 pub kept-more : (parts : List Part) (i : ℕ) (p : Part) → i < length parts → p ≡ get_or parts i p
-    → kept_by (drop i parts) ≡ p.run.len + kept_by (drop (i + 1) parts)
+    → kept_by (drop i parts) ≡ p.keeps + kept_by (drop (i + 1) parts)
 kept-more parts i p l e =
     ap kept_by (drop_more parts i p l)
-    ∙ ap (λ (q : Part). q.run.len + kept_by (drop (i + 1) parts)) (sym e)
+    ∙ ap (λ (q : Part). q.keeps + kept_by (drop (i + 1) parts)) (sym e)
 
 -- the same as `room-step` where the bytes that are left after all parts are not written
 pub front-step : (parts : List Part) (i : ℕ) (body : List ℕ) (p : Part) → i < length parts
     → p ≡ get_or parts i p
-    → length (take p.run.len body)
-    + min (kept_by (drop (i + 1) parts)) (length (drop p.skips (drop p.run.len body)))
+    → length (take p.keeps body)
+    + min (kept_by (drop (i + 1) parts)) (length (drop p.skips (drop p.keeps body)))
     ≤ min (kept_by (drop i parts)) (length body)
 front-step parts i body p l e =
-    let front = length-take p.run.len body in
-    let rest = length-drop p.run.len body in
-    let last = length-drop p.skips (drop p.run.len body) in
+    let front = length-take p.keeps body in
+    let rest = length-drop p.keeps body in
+    let last = length-drop p.skips (drop p.keeps body) in
     omega (arith, front, rest, last, kept-more parts i p l e)

@@ -8,21 +8,29 @@ use xdr3::room::put_bytes;
 /// How many bytes a replacement has at most.
 pub(crate) const MOST: usize = 8;
 
-/// So many bytes stay, but for `zeros` of them from `zeros_at` on, which become zeros.
-#[derive(Clone, Copy)]
-pub(crate) struct Run {
-    pub(crate) len: usize,
-    pub(crate) zeros_at: usize,
-    pub(crate) zeros: usize,
-}
-
-/// A run stays, and so many bytes that follow it are replaced by the first `len` of these.
+/// Of the next bytes `keeps` stay, but `zeros` of these become zeros, from `zeros_at` on. Then
+/// `skips` are replaced by the first `len` of `bytes`. `zeros` and `len` are at most eight, and a
+/// body may have very many parts: as `u32` they make a part 40 bytes long, without padding.
 #[derive(Clone, Copy)]
 pub(crate) struct Part {
-    pub(crate) run: Run,
+    pub(crate) keeps: usize,
+    pub(crate) zeros_at: usize,
+    pub(crate) zeros: u32,
+    pub(crate) len: u32,
     pub(crate) skips: usize,
-    pub(crate) len: usize,
     pub(crate) bytes: [u8; MOST],
+}
+
+impl Part {
+    /// Makes what stays no bytes. What replaces others is as it was.
+    #[inline(always)]
+    pub(crate) fn reset(&mut self)
+        ensures { self.new ≡ record self.old { keeps = 0; zeros_at = 0; zeros = 0 } }
+    {
+        self.keeps = 0;
+        self.zeros_at = 0;
+        self.zeros = 0;
+    }
 }
 
 /// Returns the first `count` bytes, or all if there are fewer.
@@ -45,9 +53,9 @@ fn behind(bytes: &[u8], at: usize, count: usize) -> &[u8]
 /// Returns the bytes of a body that follow a part.
 #[inline(always)]
 pub(crate) fn after<'a>(body: &'a [u8], part: &Part) -> &'a [u8]
-    ensures { result.now ≡ drop part.now.skips (drop part.now.run.len body.now) }
+    ensures { result.now ≡ drop part.now.skips (drop part.now.keeps body.now) }
 {
-    behind(body, part.run.len, part.skips)
+    behind(body, part.keeps, part.skips)
 }
 
 /// Overwrites `count` bytes from `at` on with zeros, as far as there are so many. A loop would be a
@@ -72,24 +80,27 @@ fn put_zeros(bytes: &mut [u8], at: usize, count: usize)
 fn fill_with_zeros(bytes: &mut [u8], at: usize, count: usize)
     ensures { bytes.new ≡ with_zeros at count bytes.old }
 {
+    let start = at.min(bytes.len());
     let end = at.saturating_add(count).min(bytes.len());
-    for i in at..end {
-        bytes[i] = 0;
-    }
+    bytes[start..end].fill(0);
 }
 
-/// Writes what a run makes of the front of a body, and returns the position after it.
+/// Writes what stays of the front of a body before a replacement, and returns the position after
+/// it.
 #[inline(always)]
-pub(crate) fn put_run(room: &mut [u8], at: usize, body: &[u8], run: &Run) -> usize
-    requires { at + length (take run.now.len body.now) ≤ length room.old }
-    ensures end { result ≡ at + length (take run.now.len body.now) }
-    ensures written { take result room.new ≡ take at room.old ++ kept_of run.now body.now }
+pub(crate) fn put_kept(room: &mut [u8], at: usize, body: &[u8], part: &Part) -> usize
+    requires { at + length (take part.now.keeps body.now) ≤ length room.old }
+    ensures end { result ≡ at + length (take part.now.keeps body.now) }
+    ensures written { take result room.new ≡ take at room.old ++ kept_of part.now body.now }
     ensures kept { take at room.new ≡ take at room.old }
     ensures len { length room.new ≡ length room.old }
 {
-    let end = put_bytes(room, at, front(body, run.len));
-    if run.zeros > 0 {
-        put_zeros(&mut room[at..end], run.zeros_at, run.zeros);
+    let kept = front(body, part.keeps);
+    let end = at + kept.len();
+    let room = &mut room[at..end];
+    room.copy_from_slice(kept);
+    if part.zeros > 0 {
+        put_zeros(room, part.zeros_at, part.zeros as usize);
     }
     end
 }
@@ -97,32 +108,33 @@ pub(crate) fn put_run(room: &mut [u8], at: usize, body: &[u8], run: &Run) -> usi
 /// Writes what a part makes of the front of a body, and returns the position after it.
 #[inline(always)]
 pub(crate) fn put_part(room: &mut [u8], at: usize, body: &[u8], part: &Part) -> usize
-    requires { at + (length (take part.now.run.len body.now) + 8) ≤ length room.old }
+    requires { at + (length (take part.now.keeps body.now) + 8) ≤ length room.old }
     ensures from { at ≤ result }
-    ensures within { result ≤ at + (length (take part.now.run.len body.now) + 8) }
+    ensures within { result ≤ at + (length (take part.now.keeps body.now) + 8) }
     ensures written { take result room.new
-        ≡ take at room.old ++ (kept_of part.now.run body.now ++ replacement part.now) }
+        ≡ take at room.old ++ (kept_of part.now body.now ++ replacement part.now) }
     ensures kept { take at room.new ≡ take at room.old }
     ensures len { length room.new ≡ length room.old }
 {
-    let end = put_run(room, at, body, &part.run);
+    let end = put_kept(room, at, body, part);
     // All eight, since their number is constant, from a place that cannot overlap the room.
     let bytes = part.bytes;
     put_bytes(room, end, &bytes);
-    end + part.len.min(MOST)
+    end + (part.len as usize).min(MOST)
 }
 
-/// Returns `true` only if two runs make the same bytes of the fronts of two bodies. The bytes that
-/// become zeros are mostly the same as well, so they are compared with those around them first.
+/// Returns `true` only if the same bytes stay of the fronts of two bodies. The bytes that become
+/// zeros are mostly the same as well, so they are compared with those around them first.
 #[inline(always)]
-pub(crate) fn is_run_alike(body: &[u8], run: &Run, other: &[u8], other_run: &Run) -> bool
-    ensures { IsTrue result → kept_of run.now body.now ≡ kept_of other_run.now other.now }
+pub(crate) fn is_kept_alike(body: &[u8], part: &Part, other: &[u8], other_part: &Part) -> bool
+    ensures { IsTrue result → kept_of part.now body.now ≡ kept_of other_part.now other.now }
 {
-    let kept = front(body, run.len);
-    let other_kept = front(other, other_run.len);
-    run.zeros_at == other_run.zeros_at
-        && run.zeros == other_run.zeros
-        && (kept == other_kept || is_alike_beside(kept, other_kept, run.zeros_at, run.zeros))
+    let kept = front(body, part.keeps);
+    let other_kept = front(other, other_part.keeps);
+    part.zeros_at == other_part.zeros_at
+        && part.zeros == other_part.zeros
+        && (kept == other_kept
+            || is_alike_beside(kept, other_kept, part.zeros_at, part.zeros as usize))
 }
 
 /// Returns whether two slices have as many bytes, and the same but for `count` from `at` on.
@@ -140,10 +152,10 @@ fn is_alike_beside(bytes: &[u8], other: &[u8], at: usize, count: usize) -> bool
 #[inline(always)]
 pub(crate) fn is_alike(body: &[u8], part: &Part, other: &[u8], other_part: &Part) -> bool
     ensures kept { IsTrue result
-        → kept_of part.now.run body.now ≡ kept_of other_part.now.run other.now }
+        → kept_of part.now body.now ≡ kept_of other_part.now other.now }
     ensures replaced { IsTrue result → replacement part.now ≡ replacement other_part.now }
 {
     part.len == other_part.len
         && part.bytes == other_part.bytes
-        && is_run_alike(body, &part.run, other, &other_part.run)
+        && is_kept_alike(body, part, other, other_part)
 }

@@ -1,10 +1,10 @@
 //! Replacements in a body of bytes, noted before the body is at hand.
 
-ghost use Rattle.std.specs.Prelude.{◌≡◌, ◌≢◌, ◌≤◌, ◌<◌, ◌+◌, ◌-◌, ◌*◌, ◌^◌, ◌++◌, ℕ, List, [], IfOk, IsTrue, OnErr, OnOk, drop, length, min, replicate, take, vec_capacity, vec_len};
+ghost use Rattle.std.specs.Prelude.{◌≡◌, ◌≢◌, ◌≤◌, ◌<◌, ◌+◌, ◌-◌, ◌*◌, ◌^◌, ◌++◌, ℕ, List, [], IfOk, IsOk, IsTrue, OnErr, OnOk, drop, length, min, replicate, take, vec_capacity, vec_len};
 ghost use Rattle.patches.specs.Patches.{patched, replacement, Makes};
 ghost use Rattle.patches.specs.machinery.Room.{kept_by};
 
-use crate::part::{MOST, Part, Run, after, front, is_alike, is_run_alike, put_part, put_run};
+use crate::part::{MOST, Part, after, front, is_alike, is_kept_alike, put_kept, put_part};
 use std::alloc::{AllocError, Global};
 use std::marker::Model;
 use xdr3::room::{make_room, put_bytes};
@@ -13,11 +13,14 @@ use xdr3::room::{make_room, put_bytes};
 /// the last replacement.
 const LONG: usize = 16_384;
 
-/// A run of no bytes.
-const NOTHING: Run = Run {
-    len: 0,
+/// What stays of no bytes.
+const NOTHING: Part = Part {
+    keeps: 0,
     zeros_at: 0,
     zeros: 0,
+    len: 0,
+    skips: 0,
+    bytes: [0; MOST],
 };
 
 /// Which bytes of a body stay and which are replaced. They are noted from the body's front to its
@@ -25,8 +28,8 @@ const NOTHING: Run = Run {
 #[derive(Drop)]
 pub struct Patches {
     parts: Vec<Part>,
-    // What stays after the last part.
-    run: Run,
+    // What stays after the last replacement. None follows yet.
+    last: Part,
 }
 
 impl Model for Patches {
@@ -44,7 +47,7 @@ impl Patches {
     {
         Patches {
             parts: Vec::new(alloc),
-            run: NOTHING,
+            last: NOTHING,
         }
     }
 
@@ -53,17 +56,18 @@ impl Patches {
         ensures { Makes self.new [] [] }
     {
         self.parts.clear();
-        self.run = NOTHING;
+        self.last.reset();
     }
 
     /// Notes that the next `count` bytes stay. What is noted of a body of 2^64 bytes or more means
     /// nothing.
     #[inline(always)]
     pub fn keep(&mut self, count: usize)
-        ensures { (body more form : List ℕ) → Makes self.old body form → length more ≡ count
+        ensures makes { (body more form : List ℕ) → Makes self.old body form → length more ≡ count
             → length (body ++ more) < 2 ^ 64 → Makes self.new (body ++ more) (form ++ more) }
+        ensures zeros { self.new.last.zeros ≡ self.old.last.zeros }
     {
-        self.run.len = self.run.len.wrapping_add(count);
+        self.last.keeps = self.last.keeps.wrapping_add(count);
     }
 
     /// Notes that the next `count` bytes become zeros. What is noted of a body of 2^64 bytes or
@@ -71,25 +75,26 @@ impl Patches {
     ///
     /// # Errors
     ///
-    /// As those of `replace`. It needs no memory for the first zeros after a replacement.
+    /// As those of `replace`, but none for the first zeros of a body or after a replacement, which
+    /// need no memory.
     #[inline(always)]
     pub fn zero(&mut self, count: usize) -> Result<(), AllocError>
         requires { count ≤ 8 }
         ensures ok { OnOk result ((body gone form : List ℕ) → Makes self.old body form
             → length gone ≡ count → length (body ++ gone) < 2 ^ 64
             → Makes self.new (body ++ gone) (form ++ replicate count 0)) }
+        ensures first { self.old.last.zeros ≡ 0 → IsOk result }
         ensures err { OnErr result
-            ((self.new.parts ≡ self.old.parts) × (self.new.run ≡ self.old.run)) }
+            ((self.new.parts ≡ self.old.parts) × (self.new.last ≡ self.old.last)) }
         ensures short { OnErr result (self.old.capacity ≤ length self.old.parts) }
     {
-        if self.run.zeros > 0 {
+        if self.last.zeros > 0 {
             return self.replace_by_zeros(count);
         }
-        self.run = Run {
-            len: self.run.len.wrapping_add(count),
-            zeros_at: self.run.len,
-            zeros: count,
-        };
+        let at = self.last.keeps;
+        self.last.zeros_at = at;
+        self.last.zeros = count as u32;
+        self.last.keeps = at.wrapping_add(count);
         Ok(())
     }
 
@@ -101,10 +106,10 @@ impl Patches {
             → length gone ≡ count → length (body ++ gone) < 2 ^ 64
             → Makes self.new (body ++ gone) (form ++ replicate count 0)) }
         ensures err { OnErr result
-            ((self.new.parts ≡ self.old.parts) × (self.new.run ≡ self.old.run)) }
+            ((self.new.parts ≡ self.old.parts) × (self.new.last ≡ self.old.last)) }
         ensures short { OnErr result (self.old.capacity ≤ length self.old.parts) }
     {
-        self.replace(count, &[0; MOST], count)
+        self.add(count, &[0; MOST], count as u32)
     }
 
     /// Notes that the next `skipped` bytes are replaced by the first `len` of these.
@@ -118,17 +123,33 @@ impl Patches {
         ensures ok { OnOk result ((body gone form : List ℕ) → Makes self.old body form
             → length gone ≡ skipped
             → Makes self.new (body ++ gone) (form ++ take len bytes.now)) }
+        ensures zeros { OnOk result (self.new.last.zeros ≡ 0) }
         ensures err { OnErr result
-            ((self.new.parts ≡ self.old.parts) × (self.new.run ≡ self.old.run)) }
+            ((self.new.parts ≡ self.old.parts) × (self.new.last ≡ self.old.last)) }
+        ensures short { OnErr result (self.old.capacity ≤ length self.old.parts) }
+    {
+        self.add(skipped, bytes, len.min(MOST) as u32)
+    }
+
+    /// Does the same. The length is narrow already: `replace_by_zeros` knows that it is small, and
+    /// needs no test.
+    #[inline(always)]
+    fn add(&mut self, skipped: usize, bytes: &[u8; 8], len: u32) -> Result<(), AllocError>
+        ensures ok { OnOk result ((body gone form : List ℕ) → Makes self.old body form
+            → length gone ≡ skipped
+            → Makes self.new (body ++ gone) (form ++ take len bytes.now)) }
+        ensures zeros { OnOk result (self.new.last.zeros ≡ 0) }
+        ensures err { OnErr result
+            ((self.new.parts ≡ self.old.parts) × (self.new.last ≡ self.old.last)) }
         ensures short { OnErr result (self.old.capacity ≤ length self.old.parts) }
     {
         self.parts.push(Part {
-            run: self.run,
             skips: skipped,
             len,
             bytes: *bytes,
+            ..self.last
         })?;
-        self.run = NOTHING;
+        self.last.reset();
         Ok(())
     }
 
@@ -197,14 +218,14 @@ impl Patches {
     fn most_before_last(&self, body: usize) -> usize
         ensures most { result ≤ body }
         ensures enough { min (kept_by self.now.parts) body ≤ result }
-        ensures last { self.now.run.zeros ≢ 0 → result ≡ body }
+        ensures last { self.now.last.zeros ≢ 0 → result ≡ body }
     {
-        if body < LONG || self.run.zeros > 0 {
+        if body < LONG || self.last.zeros > 0 {
             return body;
         }
         let mut front = 0usize;
         for part in &self.parts {
-            front = front.saturating_add(part.run.len);
+            front = front.saturating_add(part.keeps);
         }
         front.min(body)
     }
@@ -216,7 +237,7 @@ impl Patches {
         requires parts { at
             + (min (kept_by self.now.parts) (length body.now) + 8 * length self.now.parts)
             ≤ length room.old }
-        requires last { self.now.run.zeros ≢ 0
+        requires last { self.now.last.zeros ≢ 0
             → at + (length body.now + 8 * length self.now.parts) ≤ length room.old }
         ensures within { result.0 ≤ length room.new }
         ensures most { result.0 + length result.1.now
@@ -233,10 +254,10 @@ impl Patches {
             end = put_part(room, end, rest, part);
             rest = after(rest, part);
         }
-        if self.run.zeros > 0 {
-            return (put_run(room, end, rest, &self.run), &[]);
+        if self.last.zeros > 0 {
+            return (put_kept(room, end, rest, &self.last), &[]);
         }
-        (end, front(rest, self.run.len))
+        (end, front(rest, self.last.keeps))
     }
 
     /// Returns `true` only if both patched bodies have the same bytes. It compares what lies in the
@@ -259,7 +280,7 @@ impl Patches {
             rest = after(rest, &part);
             other_rest = after(other_rest, &other_part);
         }
-        is_run_alike(rest, &self.run, other_rest, &other.run)
+        is_kept_alike(rest, &self.last, other_rest, &other.last)
     }
 }
 

@@ -33,14 +33,14 @@ loop-i-preserved c same =
     let other_is : q ≡ get_or c.args.other.now.parts c.loop-i.i q =
     c.index-in-loop-i.ensures ∙ ap (λ (ps : List Part). get_or ps c.loop-i.i q) others in
     let rest =
-    ap (patched_by (drop (c.loop-i.i + 1) c.args.self.now.parts) c.args.self.now.run)
+    ap (patched_by (drop (c.loop-i.i + 1) c.args.self.now.parts) c.args.self.now.last)
     (sym c.after-rest.ensures)
     ∙ (same
-    ∙ ap (patched_by (drop (c.loop-i.i + 1) c.args.other.now.parts) c.args.other.now.run)
+    ∙ ap (patched_by (drop (c.loop-i.i + 1) c.args.other.now.parts) c.args.other.now.last)
     c.after-other_rest.ensures) in
     c.loop-i.invariant
-    (alike-step c.args.self.now.parts c.args.other.now.parts c.loop-i.i c.args.self.now.run
-    c.args.other.now.run c.loop-i.rest.now c.loop-i.other_rest.now p q within is other_within
+    (alike-step c.args.self.now.parts c.args.other.now.parts c.loop-i.i c.args.self.now.last
+    c.args.other.now.last c.loop-i.rest.now c.loop-i.other_rest.now p q within is other_within
     other_is
     (c.if-not-is_alike.ensures.kept refl) (c.if-not-is_alike.ensures.replaced refl) rest)
 
@@ -64,9 +64,9 @@ returns c is =
       ap length others,
     ) in
     c.loop-i.invariant
-    (patched-over c.args.self.now.parts c.loop-i.i c.args.self.now.run c.loop-i.rest.now over
-    ∙ (ap (λ (n : Noted). kept_of n.run c.loop-i.rest.now) (sym c.self.view_is)
-    ∙ (c.is_run_alike.ensures is
-    ∙ (ap (λ (n : Noted). kept_of n.run c.loop-i.other_rest.now) c.other.view_is
-    ∙ sym (patched-over c.args.other.now.parts c.loop-i.i c.args.other.now.run
+    (patched-over c.args.self.now.parts c.loop-i.i c.args.self.now.last c.loop-i.rest.now over
+    ∙ (ap (λ (n : Noted). kept_of n.last c.loop-i.rest.now) (sym c.self.view_is)
+    ∙ (c.is_kept_alike.ensures is
+    ∙ (ap (λ (n : Noted). kept_of n.last c.loop-i.other_rest.now) c.other.view_is
+    ∙ sym (patched-over c.args.other.now.parts c.loop-i.i c.args.other.now.last
     c.loop-i.other_rest.now other_over)))))

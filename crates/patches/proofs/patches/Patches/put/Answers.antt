@@ -16,7 +16,7 @@ within c = omega (arith, c.loop-part-test.true, ap length (parts_of c))
 abbrev part_of : After-after-rest → Part
 part_of c =
     get_or c.deref-part-items.result.now c.loop-part.part-index
-    (record { run = record { len = 0; zeros_at = 0; zeros = 0 }; skips = 0; len = 0; bytes = [] })
+    (record { keeps = 0; zeros_at = 0; zeros = 0; len = 0; skips = 0; bytes = [] })
 
 is_part : (c : After-after-rest)
     → part_of c ≡ get_or c.args.self.now.parts c.loop-part.part-index (part_of c)
@@ -32,8 +32,8 @@ loop-part-preserved c = record {
       (λ (b : List ℕ).
       take c.put_part-end.result c.put_part-end.new.room
       ++ patched_by (drop (c.loop-part.part-index + 1) c.args.self.now.parts)
-      c.args.self.now.run b) c.after-rest.ensures
-      ∙ written-step c.args.self.now.parts c.loop-part.part-index c.args.self.now.run
+      c.args.self.now.last b) c.after-rest.ensures
+      ∙ written-step c.args.self.now.parts c.loop-part.part-index c.args.self.now.last
       c.loop-part.rest.now (take c.loop-part.end c.loop-part.room) _ _ (part_of c) (within c)
       (is_part c) c.put_part-end.ensures.written c.loop-part.invariant.written;
   short =

@@ -1,10 +1,18 @@
-use Rattle.std.proofs.Common.{refl, subst, sym}
-use Rattle.patches.specs.Patches.{Makes, Noted, noted_of}
-use Rattle.patches.proofs.PatchesLemmas.{makes-replaced}
+use Rattle.std.proofs.Common.{List, ℕ, ◌≡◌, ◌++◌, ◌∙◌, ap, length, min, rules, subst, sym, take}
+use Rattle.std.proofs.lemmas.List.{take_min}
+use Rattle.std.proofs.lemmas.Result.{on_ok_weaker}
+use Rattle.patches.specs.Patches.{Makes}
 use Rattle.patches.proofs.patches.Patches.replace.Goals as goal
 
 pub returns-clause-ok : goal.returns-clause-ok
-returns-clause-ok c body gone form makes l =
-    let was = subst (λ (noted : Noted). Makes noted body form) (sym c.self.view_is) makes in
-    makes-replaced (noted_of c.self.inside) _ _ body gone form was
-    c.in_ok-push.ensures.items refl refl l
+returns-clause-ok c =
+    let bytes = c.args.bytes.now in
+    let eight : length bytes ≡ 8 = search rules in
+    let all : take c.min.result bytes ≡ take c.args.len bytes =
+    ap (λ (n : ℕ). take n bytes) (c.min.ensures ∙ ap (min c.args.len) (sym eight))
+    ∙ take_min c.args.len bytes in
+    on_ok_weaker c.add.result
+    (λ adds body gone form makes l.
+    subst (λ (put : List ℕ). Makes c.add.new.self (body ++ gone) (form ++ put)) all
+    (adds body gone form makes l))
+    c.add.ensures.ok

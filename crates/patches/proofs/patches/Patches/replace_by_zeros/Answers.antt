@@ -6,8 +6,8 @@ use Rattle.patches.proofs.patches.Patches.replace_by_zeros.Goals as goal
 
 pub returns-clause-ok : goal.returns-clause-ok
 returns-clause-ok c =
-    on_ok_weaker c.replace.result
+    on_ok_weaker c.add.result
     (λ replaces body gone form makes l few.
-    subst (λ (put : List ℕ). Makes c.replace.new.self (body ++ gone) (form ++ put))
+    subst (λ (put : List ℕ). Makes c.add.new.self (body ++ gone) (form ++ put))
     (take-replicate c.args.count 8 0 c.requires) (replaces body gone form makes l))
-    c.replace.ensures.ok
+    c.add.ensures.ok

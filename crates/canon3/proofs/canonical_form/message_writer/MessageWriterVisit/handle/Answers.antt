@@ -5,4 +5,4 @@ pub returns-then-is_empty-clause-ok : goal.returns-then-is_empty-clause-ok
 returns-then-is_empty-clause-ok g c =
     adds_empty_handle c.args.self.now c.keep.new.self c.args._name.now c.args.bytes.now
     (is_none c.args.bytes.now c.is_empty.result c.is_empty.ensures c.if-is_empty.true)
-    c.keep.ensures
+    c.keep.ensures.makes

@@ -5,6 +5,6 @@ pub returns : goal.returns
 returns g c = record {
   ok =
       adds_run c.args.self.now c.keep.new.self c.args._fields.now c.args.bytes.now _ c.requires
-      c.keep.ensures;
+      c.keep.ensures.makes;
   err = tt;
 }

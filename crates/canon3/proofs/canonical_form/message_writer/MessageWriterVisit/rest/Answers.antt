@@ -3,4 +3,4 @@ use Rattle.canon3.proofs.canonical_form.message_writer.MessageWriterVisit.rest.G
 
 pub returns-clause-ok : goal.returns-clause-ok
 returns-clause-ok g c =
-    adds_rest c.args.self.now c.keep.new.self c.args._name.now c.args.bytes.now c.keep.ensures
+    adds_rest c.args.self.now c.keep.new.self c.args._name.now c.args.bytes.now c.keep.ensures.makes
