@@ -1,5 +1,5 @@
 -- One item more in a text of items, or in the labels after it.
-use Rattle.listing3.proofs.Common.{◌≡◌, ◌≢◌, ℕ, ◌+◌, ◌%◌, ◌<◌, List, [], ◌∷◌, ◌++◌, length, map, take, drop, drop-append_seam, ◌-◌, refl, sym, ap, ◌∙◌, subst, append_assoc, append-nil, arith, flat_map-append, map-append, Item, Word, Hyper, Fixed, WriteVerf, Opaque, Rest, PlainField, run_items, shown_item, shown_items, ◌^◌, length-append, take-append_seam, Kind, Spells, residue, run_size, Adds, Keeps, ItemsText, TextStands, closed, noted, labels_of, field_label}
+use Rattle.listing3.proofs.Common.{◌≡◌, ◌≢◌, ℕ, ◌+◌, ◌%◌, ◌<◌, List, [], ◌∷◌, ◌++◌, length, map, take, drop, drop-append_seam, ◌-◌, refl, sym, ap, ◌∙◌, subst, append_assoc, append-nil, arith, flat_map-append, map-append, Item, Word, Hyper, Fixed, WriteVerf, Opaque, Rest, PlainField, run_items, shown_item, shown_items, ◌^◌, length-append, take-append_seam, Kind, Spells, residue, run_size, Adds, Keeps, ItemsText, TextStands, closed, labelled, labels_of, field_label}
 use Rattle.xdr3.proofs.Lemmas.Reading.Items.{Spells-single, Spells-split}
 use Rattle.xdr3.specs.declared.plain.PlainField.TheVariants as fields
 use Rattle.listing3.specs.declared.line_writer.labels.ValueKind.{ValueKind}
@@ -71,7 +71,7 @@ keeps_closed old items stands = record {
 }
 
 pub adds_labels : (old : ItemsText) (more : List Item) (size : ℕ) → HasSize more size
-    → Adds TextStands old (noted old (labels_of more) size) more
+    → Adds TextStands old (labelled old (labels_of more) size) more
 unfolding Adds
 adds_labels old more size has items stands = record {
   first = stands.first;
@@ -96,7 +96,7 @@ adds_labels old more size has items stands = record {
 
 -- what was noted is this
 pub noted_adds : (old new : ItemsText) (more : List Item) (size : ℕ) → HasSize more size
-    → new ≡ noted old (labels_of more) size → Adds TextStands old new more
+    → new ≡ labelled old (labels_of more) size → Adds TextStands old new more
 noted_adds old new more size has is =
     subst (λ t. Adds TextStands old t more) (sym is) (adds_labels old more size has)
 
@@ -106,7 +106,7 @@ closed_keeps old new is = subst (Keeps TextStands old) (sym is) (keeps_closed ol
 -- a label that was noted is dropped again
 pub restored : (old between : ItemsText) (label : List ℕ × ValueKind)
     (labels : List (List ℕ × ValueKind)) (count size : ℕ)
-    → between ≡ noted old (label ∷ []) size → count ≡ length old.labels
+    → between ≡ labelled old (label ∷ []) size → count ≡ length old.labels
     → labels ≡ take count between.labels
     → record between { labels = labels; left = old.left } ≡ closed old
 restored old between label labels count size is count_is cut =
@@ -170,11 +170,11 @@ run_labels (fields.Hyper name ∷ all) run =
     ap (λ l. field_label (fields.Hyper name) ∷ l) (run_labels all _)
 
 pub noted_run_adds : (old new : ItemsText) (all : List PlainField) (run : List ℕ) (size : ℕ)
-    → size ≡ run_size all → new ≡ noted old (map field_label all) size
+    → size ≡ run_size all → new ≡ labelled old (map field_label all) size
     → Adds TextStands old new (run_items all run)
 noted_run_adds old new all run size is noted_is =
     noted_adds old new (run_items all run) size (plain_size all run size is)
-    (noted_is ∙ ap (λ l. noted old l size) (sym (run_labels all run)))
+    (noted_is ∙ ap (λ l. labelled old l size) (sym (run_labels all run)))
 
 -- ---- text that was appended, and after an error
 

@@ -1,5 +1,5 @@
 -- Text that is written part by part, and the items that a body spells.
-use Rattle.listing3.proofs.Common.{◌≡◌, ℕ, ◌+◌, ◌<◌, List, [], ◌∷◌, ◌++◌, length, take, drop, refl, sym, ap, ◌∙◌, subst, append_assoc, append-nil, arith, flat_map-append, encode_lower, quoted, opening, Option, Item, Word, Hyper, Fixed, WriteVerf, Opaque, Rest, Kind, Var, Text, Handle, Spells, residue, word_bytes, shown_item, shown_items, length-append, drop-append_seam, take-append_seam, Appends, AppendsFront, Appends-nil, Appends-trans, front_of_first, front_of_second, kind_of, label_of, run_in, size_in, text_in, MovesOn}
+use Rattle.listing3.proofs.Common.{◌≡◌, ℕ, ◌+◌, ◌<◌, List, [], ◌∷◌, ◌++◌, length, take, drop, refl, sym, ap, ◌∙◌, subst, append_assoc, append-nil, arith, flat_map-append, encode_lower, quoted, opening, Option, Item, Word, Hyper, Fixed, WriteVerf, Opaque, Rest, Kind, Var, Text, Handle, Spells, residue, word_bytes, shown_item, shown_items, length-append, drop-append_seam, take-append_seam, Appends, AppendsFront, Appends-nil, Appends-trans, front_of_first, front_of_second, kind_of, label_of, run_in, size_in, text_in, IsAppended}
 use Rattle.byteorder.specs.Endian.{big_number}
 use Rattle.byteorder.specs.Numbers.{big_number-reads_back, length-bytes_high_first}
 use Rattle.listing3.proofs.Common.{AddsText, false≢true, encode_with, Err, Ok, OnOk, Result, flat_map, quoted_byte, decimal, get_or, labels_of, no_label, on_err_weaker, on_ok_weaker, ◌≤◌}
@@ -11,11 +11,11 @@ use Rattle.listing3.specs.declared.line_writer.labels.ValueKind.{ValueKind}
 
 -- ---- text that waits
 
-pub moves_none : (at : Option (List ℕ) × List ℕ) → MovesOn at at []
+pub moves_none : (at : Option (List ℕ) × List ℕ) → IsAppended at at []
 moves_none (written, waiting) = ([], Appends-nil written, append-nil waiting)
 
-pub moves_both : (a b c : Option (List ℕ) × List ℕ) (text more : List ℕ) → MovesOn a b text
-    → MovesOn b c more → MovesOn a c (text ++ more)
+pub moves_both : (a b c : Option (List ℕ) × List ℕ) (text more : List ℕ) → IsAppended a b text
+    → IsAppended b c more → IsAppended a c (text ++ more)
 moves_both (o, w) (n, l) (m, k) text more (front, first, is) (front', second, is') = (
   front ++ front',
   Appends-trans o n m front front' first second,
@@ -31,7 +31,7 @@ pub cut_first : (a b : Option (List ℕ) × List ℕ) (text more : List ℕ)
 cut_first (o, w) (n, l) text more cut =
     front_of_first o n (w ++ text) more (w ++ (text ++ more)) (sym (append_assoc w text more)) cut
 
-pub cut_second : (a b c : Option (List ℕ) × List ℕ) (text more : List ℕ) → MovesOn a b text
+pub cut_second : (a b c : Option (List ℕ) × List ℕ) (text more : List ℕ) → IsAppended a b text
     → AppendsFront b.0 c.0 (b.1 ++ more) → AppendsFront a.0 c.0 (a.1 ++ (text ++ more))
 cut_second (o, w) (n, l) (m, k) text more (front, first, is) cut =
     front_of_second o n m front (l ++ more) (w ++ (text ++ more))
@@ -40,12 +40,12 @@ cut_second (o, w) (n, l) (m, k) text more (front, first, is) cut =
 
 -- text that comes behind what waits
 pub moves_waiting : (written : Option (List ℕ)) (waiting left text : List ℕ)
-    → left ≡ waiting ++ text → MovesOn (written, waiting) (written, left) text
+    → left ≡ waiting ++ text → IsAppended (written, waiting) (written, left) text
 moves_waiting written waiting left text is = ([], Appends-nil written, sym is)
 
 -- all that waits is written
 pub moves_out : (old new : Option (List ℕ)) (waiting left : List ℕ) → Appends old new waiting
-    → left ≡ [] → MovesOn (old, waiting) (new, left) []
+    → left ≡ [] → IsAppended (old, waiting) (new, left) []
 moves_out old new waiting left written none =
     (waiting, written, ap (λ (x : List ℕ). waiting ++ x) (sym none))
 
@@ -66,7 +66,7 @@ module _ {X : Type 0} (written : Option (List ℕ)) (waiting left text : List �
         ok =
             on_ok_weaker result
             (λ more.
-            subst (MovesOn (written, waiting) new) same
+            subst (IsAppended (written, waiting) new) same
             (moves_both (written, waiting) (written, left) new text [] moves more))
             adds.ok;
         err =
@@ -81,11 +81,11 @@ module _ {X : Type 0} (written : Option (List ℕ)) (waiting left text : List �
 pub record PutUpTo (start now : Option (List ℕ) × List ℕ) (whole rest : List ℕ) : Type 0 where
   pub front : List ℕ
   pub split : whole ≡ front ++ rest
-  pub moves : MovesOn start now front
+  pub moves : IsAppended start now front
 
 module _ (start now new : Option (List ℕ) × List ℕ) (whole rest text next : List ℕ)
     (put : PutUpTo start now whole rest) (cut : rest ≡ text ++ next) where
-  pub put_part : MovesOn now new text → PutUpTo start new whole next
+  pub put_part : IsAppended now new text → PutUpTo start new whole next
   put_part moves = record {
     front = put.front ++ text;
     split =
@@ -103,9 +103,9 @@ module _ (start now new : Option (List ℕ) × List ℕ) (whole rest text next :
       (cut_first now new text next front))
 
 pub put_whole : (start now : Option (List ℕ) × List ℕ) (whole rest : List ℕ)
-    → PutUpTo start now whole rest → rest ≡ [] → MovesOn start now whole
+    → PutUpTo start now whole rest → rest ≡ [] → IsAppended start now whole
 put_whole start now whole rest put none =
-    subst (MovesOn start now)
+    subst (IsAppended start now)
     (sym (put.split ∙ (ap (λ (l : List ℕ). put.front ++ l) none ∙ append-nil put.front))) put.moves
 
 pub put_start : (written : Option (List ℕ)) (waiting left name more : List ℕ)
@@ -212,7 +212,7 @@ first_run kind name b items body
           ∙ take_is (length b) (drop 4 body) b (residual ++ back) after refl,
       subst (Spells items)
           (sym
-              (drop_is (4 + (big_number 4 body + residue (big_number 4 body))) body front back split
+          (drop_is (4 + (big_number 4 body + residue (big_number 4 body))) body front back split
           (all ∙ sym (ap (λ n. 4 + (n + residue n)) count)))) spells,
     )
 
@@ -272,7 +272,7 @@ pub record HasPut (items : List Item) (count : ℕ) (rest : List ℕ)
     pub split : items ≡ front ++ back
     pub count_is : length front ≡ count
     pub spells : Spells back rest
-    pub moves : MovesOn start now (shown_items front)
+    pub moves : IsAppended start now (shown_items front)
 
 pub put_none : (items : List Item) (body : List ℕ) (at : Option (List ℕ) × List ℕ)
     → Spells items body → HasPut items 0 body at at
@@ -304,8 +304,8 @@ module _ (labels : List (List ℕ × ValueKind)) (items : List Item) (i size : �
     (are : labels ≡ labels_of items) (within : i < length labels)
     (is : label ≡ get_or labels i no_label) where
   put_item : (front back : List Item) (item : Item) → items ≡ front ++ (item ∷ back)
-      → length front ≡ i → Spells (item ∷ back) rest → MovesOn start now (shown_items front)
-      → MovesOn now new (text_in label rest) → size ≡ size_in label.1 rest
+      → length front ≡ i → Spells (item ∷ back) rest → IsAppended start now (shown_items front)
+      → IsAppended now new (text_in label rest) → size ≡ size_in label.1 rest
       → next ≡ drop size rest → HasPut items (i + 1) next start new
   put_item front back item split count spells moves text sized left =
       let first = first_item item back rest spells in
@@ -325,14 +325,14 @@ module _ (labels : List (List ℕ × ValueKind)) (items : List Item) (i size : �
         count_is = omega (arith, count, length-append front (item ∷ []));
         spells = subst (Spells back) (sym after) first.1;
         moves =
-            subst (MovesOn start new) (sym joined)
+            subst (IsAppended start new) (sym joined)
             (moves_both start now new (shown_items front) (shown_item item) moves
-            (subst (MovesOn now new) shown text));
+            (subst (IsAppended now new) shown text));
       }
 
   -- an error came in the text of an item
   cut_item : (front back : List Item) (item : Item) → items ≡ front ++ (item ∷ back)
-      → length front ≡ i → Spells (item ∷ back) rest → MovesOn start now (shown_items front)
+      → length front ≡ i → Spells (item ∷ back) rest → IsAppended start now (shown_items front)
       → AppendsFront now.0 new.0 (now.1 ++ text_in label rest)
       → AppendsFront start.0 new.0 (start.1 ++ shown_items items)
   cut_item front back item split count spells moves cut =
@@ -350,7 +350,7 @@ module _ (labels : List (List ℕ × ValueKind)) (items : List Item) (i size : �
 
   next_is : (P : Type 0) → HasPut items i rest start now
       → ((front back : List Item) (item : Item) → items ≡ front ++ (item ∷ back)
-      → length front ≡ i → Spells (item ∷ back) rest → MovesOn start now (shown_items front) → P)
+      → length front ≡ i → Spells (item ∷ back) rest → IsAppended start now (shown_items front) → P)
       → P
   next_is P put holds =
       at put.back put.split put.spells
@@ -368,7 +368,7 @@ module _ (labels : List (List ℕ × ValueKind)) (items : List Item) (i size : �
       at (item ∷ back) split spells =
           holds put.front back item split put.count_is spells put.moves
 
-  pub put_more : HasPut items i rest start now → MovesOn now new (text_in label rest)
+  pub put_more : HasPut items i rest start now → IsAppended now new (text_in label rest)
       → size ≡ size_in label.1 rest → next ≡ drop size rest → HasPut items (i + 1) next start new
   put_more put text sized left =
       next_is (HasPut items (i + 1) next start new) put
@@ -386,9 +386,9 @@ module _ (labels : List (List ℕ × ValueKind)) (items : List Item) (i size : �
 -- all items were put
 pub put_all : (labels : List (List ℕ × ValueKind)) (items : List Item) (i : ℕ) (rest : List ℕ)
     (start now : Option (List ℕ) × List ℕ) → labels ≡ labels_of items → length labels ≤ i
-    → HasPut items i rest start now → MovesOn start now (shown_items items)
+    → HasPut items i rest start now → IsAppended start now (shown_items items)
 put_all labels items i rest start now are over put =
-    subst (MovesOn start now) (ap shown_items (sym (whole put.back put.split))) put.moves
+    subst (IsAppended start now) (ap shown_items (sym (whole put.back put.split))) put.moves
   where
     whole : (back : List Item) → items ≡ put.front ++ back → items ≡ put.front
     whole [] split = split ∙ append-nil put.front
@@ -436,7 +436,7 @@ module _ (a b d : Option (List ℕ)) (head text shown waiting : List ℕ)
 
 module _ (a b d : Option (List ℕ)) (head text shown waiting left : List ℕ)
     (first : Appends a b (head ++ text)) (none : waiting ≡ [])
-    (moves : MovesOn (b, waiting) (d, left) shown) where
+    (moves : IsAppended (b, waiting) (d, left) shown) where
   rest_is : shown ++ 10 ∷ [] ≡ moves.0 ++ (left ++ 10 ∷ [])
   rest_is =
       ap (λ (l : List ℕ). l ++ 10 ∷ [])

@@ -23,9 +23,9 @@ pub record TextStands (of : ItemsText) (items : List Item) : Type 0 where
 abbrev pub closed : ItemsText → ItemsText
 closed of = record of { most = 0 }
 
--- these labels were noted, of items that have so many bytes
-abbrev pub noted : ItemsText → List (List ℕ × ValueKind) → (size : ℕ) → ItemsText
-noted of labels size = record of {
+-- these labels came, of items that have so many bytes
+abbrev pub labelled : ItemsText → List (List ℕ × ValueKind) → (size : ℕ) → ItemsText
+labelled of labels size = record of {
   most = 0;
   labels = of.labels ++ labels;
   left = (of.left + size) % 2 ^ 64;

@@ -14,8 +14,8 @@ pub record WritesText {X : Type 0} (old new : Option (List ℕ)) (text : List �
 
 -- What was written, and what waits to be written behind it, became so by this text: some of it was
 -- written.
-abbrev pub MovesOn : (old new : Option (List ℕ) × List ℕ) (text : List ℕ) → Type 0
-MovesOn (old, waiting) (new, left) text =
+abbrev pub IsAppended : (old new : Option (List ℕ) × List ℕ) (text : List ℕ) → Type 0
+IsAppended (old, waiting) (new, left) text =
     (front : List ℕ) × Appends old new front × (waiting ++ text ≡ front ++ left)
 
 -- after an error a prefix of both was written
@@ -23,5 +23,5 @@ pub record AddsText {X : Type 0} (old new : Option (List ℕ) × List ℕ) (text
     (result : Result X Error)
     : Type 0
   where
-    pub ok : OnOk result (MovesOn old new text)
+    pub ok : OnOk result (IsAppended old new text)
     pub err : OnErr result (AppendsFront old.0 new.0 (old.1 ++ text))

@@ -3,7 +3,7 @@
 ghost use Rattle.std.specs.Prelude.{◌≡◌, ◌≢◌, ◌≤◌, ◌+◌, ◌∷◌, [], length, map, OnOk, OnErr, IsFalse};
 ghost use Rattle.xdr3.specs.Item.{residue};
 ghost use Rattle.xdr3.specs.Visit.{Adds, Keeps, body_limit};
-ghost use Rattle.listing3.specs.machinery.ItemsText.{TextStands, closed, noted};
+ghost use Rattle.listing3.specs.machinery.ItemsText.{TextStands, closed, labelled};
 ghost use Rattle.listing3.specs.machinery.Labels.{field_label};
 
 use crate::line_text::LineText;
@@ -91,7 +91,7 @@ impl ItemsText {
         kind: ValueKind,
         size: usize,
     ) -> Result<(), AllocError>
-        ensures ok { OnOk result (self.new ≡ noted self.old ((name.now, kind) ∷ []) size) }
+        ensures ok { OnOk result (self.new ≡ labelled self.old ((name.now, kind) ∷ []) size) }
         ensures err { OnErr result (self.new ≡ closed self.old) }
     {
         self.most = 0;
@@ -103,7 +103,7 @@ impl ItemsText {
     /// Notes the labels of a run that has `size` bytes. No more text is composed.
     #[inline(never)]
     fn note_run(&mut self, fields: &[PlainField], size: usize) -> Result<(), AllocError>
-        ensures ok { OnOk result (self.new ≡ noted self.old (map field_label fields.now) size) }
+        ensures ok { OnOk result (self.new ≡ labelled self.old (map field_label fields.now) size) }
         ensures err { OnErr result (self.new ≡ closed self.old) }
     {
         self.most = 0;

@@ -14,7 +14,7 @@ returns-clause-ok g c =
     let new = told.new.self in
     subst (λ r. OnOk r (Adds (LineStands g.H.Visit.stands) w
     (with_both g.H.Visit.stands w gathered.new.self (record w.items { text = new })) (item ∷ [])))
-        (sym told.ensures.result)
+    (sym told.ensures.result)
     (on_ok_both gathered.result
     (λ same gathers.
     adds_both g.H.Visit.stands w gathered.new.self _ name bytes
@@ -31,7 +31,7 @@ returns-clause-err g c =
     let new = told.new.self in
     subst (λ r. OnErr r (Keeps (LineStands g.H.Visit.stands) w
     (with_both g.H.Visit.stands w gathered.new.self (record w.items { text = new }))))
-        (sym told.ensures.result)
+    (sym told.ensures.result)
     (on_err_both gathered.result
     (λ cut kept.
     kept_both g.H.Visit.stands w gathered.new.self _ kept

@@ -14,7 +14,7 @@ loop-part-preserved g c =
           put_part (g.W.Sink.written c.args.sink.now, c.args.waiting.now)
           (g.W.Sink.written c.loop-part.sink, c.loop-part.waiting)
           (g.W.Sink.written c.write_digits.new.sink, c.write_digits.new.waiting)
-              _ _ (encode_lower c.in-Some.part.now) _ so_far.put
+          _ _ (encode_lower c.in-Some.part.now) _ so_far.put
           (ap encode_lower steps.1.0
           ∙ hex_parts c.in-Some.part.now (chunks_rest c.next.new.self))
           c.in_ok-write_digits.ensures.adds.ok;
@@ -30,7 +30,7 @@ returns-in_err-write_digits-clause-adds g c =
           (cut_part (g.W.Sink.written c.args.sink.now, c.args.waiting.now)
           (g.W.Sink.written c.loop-part.sink, c.loop-part.waiting)
           (g.W.Sink.written c.write_digits.new.sink, c.write_digits.new.waiting)
-              _ _ (encode_lower c.in-Some.part.now) _ c.loop-part.invariant.put
+          _ _ (encode_lower c.in-Some.part.now) _ c.loop-part.invariant.put
           (ap encode_lower c.in-Some.ensures.steps.1.0
           ∙ hex_parts c.in-Some.part.now (chunks_rest c.next.new.self))
           c.in_err-write_digits.ensures.adds.err);

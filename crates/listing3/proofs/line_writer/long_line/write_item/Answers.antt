@@ -12,9 +12,9 @@ returns-in_err-write_number-in-Word-clause-adds g c =
           (cut_same (g.W.Sink.written c.args.sink.now, c.args.waiting.now)
           (g.W.Sink.written c.write_number.new.sink, c.write_number.new.waiting) _ _
           (ap (λ (k : ℕ). opening c.args.label.name.now ++ decimal k)
-              (c.from.ensures ∙ c.in_ok-word_in-in-Word.ensures.word)
+          (c.from.ensures ∙ c.in_ok-word_in-in-Word.ensures.word)
           ∙ sym
-              (ap (λ k. opening c.args.label.name.now ++ value_in k c.args.body.now) c.in-Word.is))
+          (ap (λ k. opening c.args.label.name.now ++ value_in k c.args.body.now) c.in-Word.is))
           c.in_err-write_number-in-Word.ensures.adds.err);
     }
 
@@ -27,11 +27,11 @@ returns-in_err-write_number-in-Hyper-clause-adds g c =
           on_err c.from_residual-in_err-write_number-in-Hyper.result
           (cut_same (g.W.Sink.written c.args.sink.now, c.args.waiting.now)
           (g.W.Sink.written c.write_number-in-Hyper.new.sink, c.write_number-in-Hyper.new.waiting)
-              _ _
+          _ _
           (ap (λ (k : ℕ). opening c.args.label.name.now ++ decimal k)
-              (c.in_ok-hyper_in-in-Hyper.ensures.hyper)
+          (c.in_ok-hyper_in-in-Hyper.ensures.hyper)
           ∙ sym
-              (ap (λ k. opening c.args.label.name.now ++ value_in k c.args.body.now) c.in-Hyper.is))
+          (ap (λ k. opening c.args.label.name.now ++ value_in k c.args.body.now) c.in-Hyper.is))
           c.in_err-write_number-in-Hyper.ensures.adds.err);
     }
 
@@ -46,7 +46,7 @@ returns-in_err-write_hex-in-Bytes-clause-adds g c =
           (g.W.Sink.written c.write_hex.new.sink, c.write_hex.new.waiting) _ _
           (ap (λ (l : List ℕ). opening c.args.label.name.now ++ encode_lower l) (c.front.ensures)
           ∙ sym
-              (ap (λ k. opening c.args.label.name.now ++ value_in k c.args.body.now) c.in-Bytes.is))
+          (ap (λ k. opening c.args.label.name.now ++ value_in k c.args.body.now) c.in-Bytes.is))
           c.in_err-write_hex-in-Bytes.ensures.adds.err);
     }
 
@@ -60,12 +60,12 @@ returns-in_err-write_hex-in-Data-clause-adds g c =
           (cut_same (g.W.Sink.written c.args.sink.now, c.args.waiting.now)
           (g.W.Sink.written c.write_hex-in-Data.new.sink, c.write_hex-in-Data.new.waiting) _ _
           (ap (λ (l : List ℕ). opening c.args.label.name.now ++ encode_lower l)
-              (c.front-in-Data.ensures
-                  ∙ (ap (λ (l : List ℕ). take c.in_ok-len-in-Data.field-0 l) c.behind.ensures
-                  ∙ ap (λ (k : ℕ). take k (drop 4 c.args.body.now))
-                      c.in_ok-len-in-Data.ensures.word))
+          (c.front-in-Data.ensures
+          ∙ (ap (λ (l : List ℕ). take c.in_ok-len-in-Data.field-0 l) c.behind.ensures
+          ∙ ap (λ (k : ℕ). take k (drop 4 c.args.body.now))
+          c.in_ok-len-in-Data.ensures.word))
           ∙ sym
-              (ap (λ k. opening c.args.label.name.now ++ value_in k c.args.body.now) c.in-Data.is))
+          (ap (λ k. opening c.args.label.name.now ++ value_in k c.args.body.now) c.in-Data.is))
           c.in_err-write_hex-in-Data.ensures.adds.err);
     }
 
@@ -79,11 +79,11 @@ returns-in_err-write_quoted-in-Text-clause-adds g c =
           (cut_same (g.W.Sink.written c.args.sink.now, c.args.waiting.now)
           (g.W.Sink.written c.write_quoted.new.sink, c.write_quoted.new.waiting) _ _
           (ap (λ (l : List ℕ). opening c.args.label.name.now ++ quoted l) (c.front-in-Text.ensures
-                  ∙ (ap (λ (l : List ℕ). take c.in_ok-len-in-Text.field-0 l)
-                      c.behind-in-Text.ensures
-                  ∙ ap (λ (k : ℕ). take k (drop 4 c.args.body.now))
-                      c.in_ok-len-in-Text.ensures.word))
+          ∙ (ap (λ (l : List ℕ). take c.in_ok-len-in-Text.field-0 l)
+          c.behind-in-Text.ensures
+          ∙ ap (λ (k : ℕ). take k (drop 4 c.args.body.now))
+          c.in_ok-len-in-Text.ensures.word))
           ∙ sym
-              (ap (λ k. opening c.args.label.name.now ++ value_in k c.args.body.now) c.in-Text.is))
+          (ap (λ k. opening c.args.label.name.now ++ value_in k c.args.body.now) c.in-Text.is))
           c.in_err-write_quoted-in-Text.ensures.adds.err);
     }

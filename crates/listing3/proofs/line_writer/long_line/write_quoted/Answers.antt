@@ -13,7 +13,7 @@ loop-part-preserved g c =
           put_part (g.W.Sink.written c.args.sink.now, c.args.waiting.now)
           (g.W.Sink.written c.loop-part.sink, c.loop-part.waiting)
           (g.W.Sink.written c.write_inside.new.sink, c.write_inside.new.waiting)
-              _ _ (flat_map quoted_byte c.in-Some.part.now) _ so_far.put
+          _ _ (flat_map quoted_byte c.in-Some.part.now) _ so_far.put
           (quoted_more _ c.in-Some.part.now (chunks_rest c.next.new.self) steps.1.0)
           c.in_ok-write_inside.ensures.adds.ok;
       count = c.in_ok-write_inside.ensures.count ∙ so_far.count;
@@ -28,7 +28,7 @@ returns-in_err-write_inside-clause-adds g c =
           (cut_part (g.W.Sink.written c.args.sink.now, c.args.waiting.now)
           (g.W.Sink.written c.loop-part.sink, c.loop-part.waiting)
           (g.W.Sink.written c.write_inside.new.sink, c.write_inside.new.waiting)
-              _ _ (flat_map quoted_byte c.in-Some.part.now) _ c.loop-part.invariant.put
+          _ _ (flat_map quoted_byte c.in-Some.part.now) _ c.loop-part.invariant.put
           (quoted_more _ c.in-Some.part.now (chunks_rest c.next.new.self)
           c.in-Some.ensures.steps.1.0)
           c.in_err-write_inside.ensures.adds.err);
@@ -41,6 +41,6 @@ returns-clause-adds g c =
     c.append_byte-2.result c.or_memory-3.result
     (quoted_end (g.W.Sink.written c.args.sink.now, c.args.waiting.now)
     (g.W.Sink.written c.loop-part.sink, c.loop-part.waiting)
-        _ (chunks_rest c.loop-part.part-iterator) c.loop-part.invariant.put
+    _ (chunks_rest c.loop-part.part-iterator) c.loop-part.invariant.put
     c.in-None.ensures.steps.1.0)
     c.append_byte-2.ensures.ok c.or_memory-3.ensures.ok

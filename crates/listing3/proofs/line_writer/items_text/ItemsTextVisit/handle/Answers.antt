@@ -5,8 +5,10 @@ use Rattle.listing3.proofs.line_writer.items_text.ItemsTextVisit.handle.Goals as
 pub returns-then-is_full-clause-ok : goal.returns-then-is_full-clause-ok
 returns-then-is_full-clause-ok c =
     on_ok_weaker c.note.result
-    (noted_adds c.args.self.now c.note.new.self (Opaque Handle c.args.name.now c.args.bytes.now ∷ []) _
-    (data_size Handle c.args.name.now c.args.bytes.now c.encoded_size.result c.encoded_size.ensures))
+    (noted_adds c.args.self.now c.note.new.self
+    (Opaque Handle c.args.name.now c.args.bytes.now ∷ []) _
+    (data_size Handle c.args.name.now c.args.bytes.now c.encoded_size.result
+    c.encoded_size.ensures))
     c.note.ensures.ok
 
 pub returns-then-is_full-clause-err : goal.returns-then-is_full-clause-err
@@ -16,10 +18,12 @@ returns-then-is_full-clause-err c =
 pub returns-clause-ok : goal.returns-clause-ok
 returns-clause-ok c =
     on_ok_weaker c.handle.result
-    (adds_text c.args.self.now c.handle.new.self (Opaque Handle c.args.name.now c.args.bytes.now ∷ [])
+    (adds_text c.args.self.now c.handle.new.self
+    (Opaque Handle c.args.name.now c.args.bytes.now ∷ [])
     (c.is_full.ensures c.if-is_full.false))
     c.handle.ensures.ok
 
 pub returns-clause-err : goal.returns-clause-err
 returns-clause-err c =
-    on_err_weaker c.handle.result (keeps_still c.args.self.now c.handle.new.self) c.handle.ensures.err
+    on_err_weaker c.handle.result (keeps_still c.args.self.now c.handle.new.self)
+    c.handle.ensures.err

@@ -5,7 +5,8 @@ use Rattle.listing3.proofs.line_writer.items_text.ItemsTextVisit.text.Goals as g
 pub returns-then-leaves_out-clause-ok : goal.returns-then-leaves_out-clause-ok
 returns-then-leaves_out-clause-ok c =
     on_ok_weaker c.note.result
-    (noted_adds c.args.self.now c.note.new.self (Opaque Text c.args.name.now c.args.bytes.now ∷ []) _
+    (noted_adds c.args.self.now c.note.new.self (Opaque Text c.args.name.now c.args.bytes.now ∷ [])
+    _
     (data_size Text c.args.name.now c.args.bytes.now c.encoded_size.result c.encoded_size.ensures))
     c.note.ensures.ok
 

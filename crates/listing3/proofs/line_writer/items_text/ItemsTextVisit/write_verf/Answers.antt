@@ -16,10 +16,12 @@ returns-then-is_full-clause-err c =
 pub returns-clause-ok : goal.returns-clause-ok
 returns-clause-ok c =
     on_ok_weaker c.write_verf.result
-    (adds_text c.args.self.now c.write_verf.new.self (WriteVerf c.args.name.now c.args.bytes.now ∷ [])
+    (adds_text c.args.self.now c.write_verf.new.self
+    (WriteVerf c.args.name.now c.args.bytes.now ∷ [])
     (c.is_full.ensures c.if-is_full.false))
     c.write_verf.ensures.ok
 
 pub returns-clause-err : goal.returns-clause-err
 returns-clause-err c =
-    on_err_weaker c.write_verf.result (keeps_still c.args.self.now c.write_verf.new.self) c.write_verf.ensures.err
+    on_err_weaker c.write_verf.result (keeps_still c.args.self.now c.write_verf.new.self)
+    c.write_verf.ensures.err

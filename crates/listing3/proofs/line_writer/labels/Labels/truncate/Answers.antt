@@ -6,4 +6,4 @@ pub returns : goal.returns
 returns c =
     rw (c.truncate.ensures.items, ← c.self.view_is)
     (sym
-        (take-map (label_at c.self.inside.distinct.items) c.args.count c.self.inside.indices.items))
+    (take-map (label_at c.self.inside.distinct.items) c.args.count c.self.inside.indices.items))
