@@ -17,7 +17,7 @@ from collections.abc import Callable, Iterable, Iterator
 sys.path.insert(0, str(pathlib.Path(__file__).resolve().parents[2]))
 from examples import messages
 from examples.messages import (
-    NFS, call, dirop, fh, fragment, hyper, ok, post_op_attr, success, wcc, word)
+    MOUNT, NFS, call, dirop, fh, fragment, hyper, ok, post_op_attr, success, wcc, word)
 from tests.shared.running import Runs, pipe_of, try_tests
 from tests.shared.texts import mixed
 from tests.shared.traffic import COMMIT
@@ -179,6 +179,85 @@ def links_in_messages(place: Place) -> None:
         % escaped(path)])
 
 
+# --- Lines longer than what is held of one ---
+
+HELD = 1 << 20  # so many bytes of a line's text are held before its record is judged
+ATTRIBUTES = messages.fattr(1, 7)
+SHOWN_ATTRIBUTES = (
+    b' attr=1 type=1 mode=420 nlink=1 uid=1000 gid=1000 size=0 used=0 rdev1=0 rdev2=0 fsid=66 fileid=7'
+    + b''.join(b' %b_sec=1744830464 %b_nsec=250000000' % (name, name) for name in (b'atime', b'mtime', b'ctime')))
+
+
+def name_of(number: int) -> bytes:
+    """Of different lengths, some with bytes that are escaped."""
+    return b'"' * (number % 3) + b'n' * (number % 40)
+
+
+def shown_entry(number: int) -> bytes:
+    return b' entry=1 fileid=%d name="%b" cookie=%d' % (number * PRIME, escaped(name_of(number)), number)
+
+
+def names_listed(xid: int, count: int) -> tuple[bytes, bytes]:
+    """A READDIR reply, and its line."""
+    items = (messages.entry(number * PRIME, name_of(number), number) for number in range(count))
+    results = b''.join(map(shown_entry, range(count)))
+    return success(xid, ok(messages.entries(None, bytes(8), items, True))), (
+        b'1 server %d xid=%d NFSPROC3_READDIR mtype=1 reply_stat=0 verf_flavor=0 verf_body= accept_stat=0 status=0 attr=0 '
+        b'cookieverf=0000000000000000%b entry=0 eof=1' % (xid, xid, results))
+
+
+def entries_listed(xid: int, count: int) -> tuple[bytes, bytes]:
+    """A READDIRPLUS reply, and its line. Some entries have attributes, and most a handle."""
+    def attributes(number: int) -> bytes | None:
+        return ATTRIBUTES if number % 7 else None
+    def handle(number: int) -> bytes | None:
+        return b'h' * (number % 64 + 1) if number % 5 else None
+    def shown(number: int) -> bytes:
+        own = handle(number)
+        return shown_entry(number) + (SHOWN_ATTRIBUTES if number % 7 else b' attr=0') + (
+            b' handle=1 fh=' + own.hex().encode() if own else b' handle=0')
+    items = (messages.entryplus(number * PRIME, name_of(number), number, attributes(number), handle(number)) for number in range(count))
+    return success(xid, ok(messages.entries(ATTRIBUTES, bytes(8), items, False))), (
+        b'1 server %d xid=%d NFSPROC3_READDIRPLUS mtype=1 reply_stat=0 verf_flavor=0 verf_body= accept_stat=0 status=0%b '
+        b'cookieverf=0000000000000000%b entry=0 eof=0' % (xid, xid, SHOWN_ATTRIBUTES, b''.join(map(shown, range(count)))))
+
+
+def lists_in_messages(place: Place) -> None:
+    """From half of the text that is held to ten times as much."""
+    replies = [names_listed(xid, count) for xid, count in enumerate((6_000, 11_000, 12_000, 13_000, 140_000), 1)]
+    replies += [entries_listed(xid, count) for xid, count in enumerate((1_500, 2_500, 2_700, 2_900, 30_000), 6)]
+    sizes = [len(line) for _, line in replies]
+    place.want('sizes', [min(sizes) < HELD / 1.5, max(sizes) > 9 * HELD, len({size > HELD for size in sizes})], [True, True, 2])
+    calls = [call(xid, NFS, 3, 16, fh(b'd') + bytes(20)) for xid in range(1, 6)]
+    calls += [call(xid, NFS, 3, 17, fh(b'd') + bytes(24)) for xid in range(6, 11)]
+    place.write('a', capture(calls, [reply for reply, _ in replies]))
+    place.counted('a', calls=10, replies=10, handles=65)
+    head = b'1 client %d xid=%d NFSPROC3_%b mtype=0 rpcvers=2 prog=100003 vers=3 proc=%d cred_flavor=0 cred_body= verf_flavor=0 verf_body= fh=64 ' \
+           b'cookie=0 cookieverf=0000000000000000 %b'
+    asked = [head % (xid, xid, b'READDIR', 16, b'count=0') for xid in range(1, 6)]
+    asked += [head % (xid, xid, b'READDIRPLUS', 17, b'dircount=0 maxcount=0') for xid in range(6, 11)]
+    place.listed('a', [*asked, *(line for _, line in replies)])
+
+
+def two_names_in_one_message(place: Place) -> None:
+    """Each is longer than what is composed at once, and a word of few bytes comes between them."""
+    first, second = bytes(range(256)) * 300, b'n' * 100_000
+    place.write('a', capture([call(1, NFS, 3, 14, dirop(b'a', first) + dirop(b'b', second))], []))
+    place.listed('a', [
+        b'1 client 1 xid=1 NFSPROC3_RENAME mtype=0 rpcvers=2 prog=100003 vers=3 proc=14 cred_flavor=0 cred_body= verf_flavor=0 verf_body= '
+        b'fh=61 name="%b" fh=62 name="%b"' % (escaped(first), escaped(second))])
+
+
+def words_of_one_message(place: Place) -> None:
+    """The flavors of a MNT reply, which are nothing but words."""
+    flavors = [number * PRIME & 0xffffffff for number in range(300_000)]
+    place.write('a', capture([call(1, MOUNT, 3, 1, messages.opaque(b'/'))], [success(1, ok(fh(b'a'), messages.array(list(map(word, flavors)))))]))
+    place.listed('a', [
+        b'1 client 1 xid=1 MOUNTPROC3_MNT mtype=0 rpcvers=2 prog=100005 vers=3 proc=1 cred_flavor=0 cred_body= verf_flavor=0 verf_body= dirpath="/"',
+        b'1 server 1 xid=1 MOUNTPROC3_MNT mtype=1 reply_stat=0 verf_flavor=0 verf_body= accept_stat=0 status=0 fh=61 flavors=300000%b'
+        % b''.join(b' flavor=%d' % flavor for flavor in flavors)])
+
+
 # --- Command lines ---
 
 NULL = messages.capture(([call(1, NFS, 3, 0)], [success(1)]))
@@ -223,7 +302,8 @@ def streams_of_a_line(place: Place) -> None:
 
 TESTS: list[Callable[[Place], None]] = [
     calls_and_handles_of_one_connection, xids_and_replies_of_one_connection, write_verifiers, records_of_same, streams_of_version_2,
-    records_of_the_largest_size, names_in_messages, links_in_messages, words_of_the_line, names_of_files, streams_of_a_line]
+    records_of_the_largest_size, names_in_messages, links_in_messages, lists_in_messages, two_names_in_one_message,
+    words_of_one_message, words_of_the_line, names_of_files, streams_of_a_line]
 
 
 if __name__ == '__main__':

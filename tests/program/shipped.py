@@ -191,10 +191,12 @@ def checked(clone: Clone) -> Answer:
 
 
 def a_stale_folder(clone: Clone) -> None:
-    """dev/dist --check refuses a folder that was made of other sources, a damaged one, and none."""
+    """dev/dist --check refuses a folder that was made of other sources, a damaged one, and none. It is made anew, since
+    programs that another kit made are not compared."""
     for name in PROGRAMS:
         os.makedirs(clone.path(f'crates/{name}/out'))
         shutil.copy2(TOP / f'crates/{name}/out/{name}', clone.path(f'crates/{name}/out/{name}'))
+    clone.want('made', ended(['dev/dist'], clone.folder, limit=None).text(), (0, '', ''))
     clone.want('as it is', checked(clone)[::2], (0, ''))
     clone.write('crates/nfs3mask/out/nfs3mask', b'another')
     clone.want('another program', checked(clone), (1, '', 'dev/dist: dist/nfs3mask.xz is not the program that was built here\n'))
