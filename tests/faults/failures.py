@@ -104,6 +104,14 @@ def drawn_mixed(seed: int) -> bytes:
     return in_version_2(chance, streams_of(chance, Traffic(seed, Names.drawn(chance)).connections))
 
 
+def of_long_lines() -> bytes:
+    """A capture whose lines have more text than is held of one, or data and a string of many bytes."""
+    entries = messages.entries(None, bytes(8), (messages.entry(number, b'name', number) for number in range(26_000)), True)
+    calls = [call(1, NFS, 3, 16, messages.fh(b'd') + bytes(20)), call(2, NFS, 3, 3, messages.dirop(b'd', b'"' * 20_000)),
+             call(3, NFSACL, 3, 1, bytes(20_000))]
+    return messages.capture((calls, [success(1, messages.ok(entries))]))
+
+
 # --- Memory ---
 
 def growths(line: str, capture: bytes, place: Place) -> None:
@@ -394,6 +402,7 @@ def tries() -> Iterator[tuple[str, Callable[..., None], *tuple[object, ...]]]:
     for name, capture in captures.items():
         for line in COMMANDS:
             yield 'growths: %s of %s' % (line, name), growths, line, capture
+    yield 'growths: show a of long lines', growths, 'show a', of_long_lines()
     for line in OTHER_LINES:
         yield 'growths: ' + line, growths, line, captures['getattr']
     for name, piece in GIVEN_AT_ONCE.items():
