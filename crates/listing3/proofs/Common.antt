@@ -34,7 +34,7 @@ pub use Rattle.listing3.specs.Listing.{client, entry_line, is_plain, item_name, 
 pub use Rattle.listing3.specs.declared.line_writer.items_text.ItemsText.{ItemsText}
 pub use Rattle.listing3.specs.machinery.Fields.{HasShortName, field_name}
 pub use Rattle.listing3.specs.machinery.Digits.{AreHalves, halves_in_order}
-pub use Rattle.listing3.specs.machinery.ItemsText.{TextStands, closed, labelled}
-pub use Rattle.listing3.specs.machinery.Labels.{field_label, kind_of, label_at, label_of, labels_at, labels_of, named_kind, no_label, run_in, size_in, text_in, value_in}
+pub use Rattle.listing3.specs.machinery.ItemsText.{TextStands, full, labelled}
+pub use Rattle.listing3.specs.machinery.Labels.{field_label, shown_kind, label_at, label_of, labels_at, labels_of, named_kind, no_label, run_in, size_in, text_in, shown_in}
 pub use Rattle.listing3.specs.machinery.LineWriter.{HasLineUnderWay, LineRests, LineStands, SkipsOthers, after_front, always, items_before}
 pub use Rattle.listing3.specs.machinery.WritesText.{AddsText, IsAppended, WritesText}

@@ -10,4 +10,3 @@ pub mod Texts
 pub mod Telling
 pub mod HalvesLemmas
 pub mod Runs
-pub mod LabelsLemmas

@@ -1,5 +1,5 @@
 -- One item more in a text of items, or in the labels after it.
-use Rattle.listing3.proofs.Common.{◌≡◌, ◌≢◌, ℕ, ◌+◌, ◌%◌, ◌<◌, List, [], ◌∷◌, ◌++◌, length, map, take, drop, drop-append_seam, ◌-◌, refl, sym, ap, ◌∙◌, subst, append_assoc, append-nil, arith, flat_map-append, map-append, Item, Word, Hyper, Fixed, WriteVerf, Opaque, Rest, PlainField, run_items, shown_item, shown_items, ◌^◌, length-append, take-append_seam, Kind, Spells, residue, run_size, Adds, Keeps, ItemsText, TextStands, closed, labelled, labels_of, field_label}
+use Rattle.listing3.proofs.Common.{◌≡◌, ◌≢◌, ℕ, ◌+◌, ◌%◌, ◌<◌, List, [], ◌∷◌, ◌++◌, length, map, take, drop, drop-append_seam, ◌-◌, refl, sym, ap, ◌∙◌, subst, append_assoc, append-nil, arith, flat_map-append, map-append, Item, Word, Hyper, Fixed, WriteVerf, Opaque, Rest, PlainField, run_items, shown_item, shown_items, ◌^◌, length-append, take-append_seam, Kind, Spells, residue, run_size, Adds, Keeps, ItemsText, TextStands, full, labelled, labels_of, field_label}
 use Rattle.xdr3.proofs.Lemmas.Reading.Items.{Spells-single, Spells-split}
 use Rattle.xdr3.specs.declared.plain.PlainField.TheVariants as fields
 use Rattle.listing3.specs.declared.line_writer.labels.ValueKind.{ValueKind}
@@ -58,9 +58,9 @@ module _ (old : ItemsText) (text : List ℕ) where
 
 -- ---- items whose labels are there
 
-pub keeps_closed : (old : ItemsText) → Keeps TextStands old (closed old)
+pub keeps_full : (old : ItemsText) → Keeps TextStands old (full old)
 unfolding Keeps
-keeps_closed old items stands = record {
+keeps_full old items stands = record {
   first = stands.first;
   others = stands.others;
   split = stands.split;
@@ -100,15 +100,15 @@ pub noted_adds : (old new : ItemsText) (more : List Item) (size : ℕ) → HasSi
 noted_adds old new more size has is =
     subst (λ t. Adds TextStands old t more) (sym is) (adds_labels old more size has)
 
-pub closed_keeps : (old new : ItemsText) → new ≡ closed old → Keeps TextStands old new
-closed_keeps old new is = subst (Keeps TextStands old) (sym is) (keeps_closed old)
+pub full_keeps : (old new : ItemsText) → new ≡ full old → Keeps TextStands old new
+full_keeps old new is = subst (Keeps TextStands old) (sym is) (keeps_full old)
 
 -- a label that was noted is dropped again
 pub restored : (old between : ItemsText) (label : List ℕ × ValueKind)
     (labels : List (List ℕ × ValueKind)) (count size : ℕ)
     → between ≡ labelled old (label ∷ []) size → count ≡ length old.labels
     → labels ≡ take count between.labels
-    → record between { labels = labels; left = old.left } ≡ closed old
+    → record between { labels = labels; left = old.left } ≡ full old
 restored old between label labels count size is count_is cut =
     let same : labels ≡ old.labels =
     cut
@@ -116,7 +116,7 @@ restored old between label labels count size is count_is cut =
     ∙ (ap (λ n. take n (old.labels ++ label ∷ [])) count_is
     ∙ take-append_seam old.labels (label ∷ []))) in
     ap (λ (t : ItemsText). record t { labels = labels; left = old.left }) is
-    ∙ ap (λ (l : List (List ℕ × ValueKind)). record (closed old) { labels = l }) same
+    ∙ ap (λ (l : List (List ℕ × ValueKind)). record (full old) { labels = l }) same
 
 -- ---- no items
 

@@ -1,5 +1,5 @@
 -- Text that is written part by part, and the items that a body spells.
-use Rattle.listing3.proofs.Common.{◌≡◌, ℕ, ◌+◌, ◌<◌, List, [], ◌∷◌, ◌++◌, length, take, drop, refl, sym, ap, ◌∙◌, subst, append_assoc, append-nil, arith, flat_map-append, encode_lower, quoted, opening, Option, Item, Word, Hyper, Fixed, WriteVerf, Opaque, Rest, Kind, Var, Text, Handle, Spells, residue, word_bytes, shown_item, shown_items, length-append, drop-append_seam, take-append_seam, Appends, AppendsFront, Appends-nil, Appends-trans, front_of_first, front_of_second, kind_of, label_of, run_in, size_in, text_in, IsAppended}
+use Rattle.listing3.proofs.Common.{◌≡◌, ℕ, ◌+◌, ◌<◌, List, [], ◌∷◌, ◌++◌, length, take, drop, refl, sym, ap, ◌∙◌, subst, append_assoc, append-nil, arith, flat_map-append, encode_lower, quoted, opening, Option, Item, Word, Hyper, Fixed, WriteVerf, Opaque, Rest, Kind, Var, Text, Handle, Spells, residue, word_bytes, shown_item, shown_items, length-append, drop-append_seam, take-append_seam, Appends, AppendsFront, Appends-nil, Appends-trans, front_of_first, front_of_second, shown_kind, label_of, run_in, size_in, text_in, IsAppended}
 use Rattle.byteorder.specs.Endian.{big_number}
 use Rattle.byteorder.specs.Numbers.{big_number-reads_back, length-bytes_high_first}
 use Rattle.listing3.proofs.Common.{AddsText, false≢true, encode_with, Err, Ok, OnOk, Result, flat_map, quoted_byte, decimal, get_or, labels_of, no_label, on_err_weaker, on_ok_weaker, ◌≤◌}
@@ -179,7 +179,7 @@ take_is count body front back split size =
 -- what a body says of its first item, and what is left of it
 abbrev pub IsFirst : Item → List Item → List ℕ → Type 0
 IsFirst item items body = (text_in (label_of item) body ≡ shown_item item)
-    × Spells items (drop (size_in (kind_of item) body) body)
+    × Spells items (drop (size_in (shown_kind item) body) body)
 
 first_run : (kind : Kind) (name b : List ℕ) (items : List Item) (body : List ℕ)
     → Spells (Opaque kind name b ∷ items) body
@@ -316,7 +316,7 @@ module _ (labels : List (List ℕ × ValueKind)) (items : List Item) (i size : �
       let joined : shown_items (front ++ (item ∷ [])) ≡ shown_items front ++ shown_item item =
       flat_map-append shown_item front (item ∷ [])
       ∙ ap (λ (l : List ℕ). shown_items front ++ l) (append-nil (shown_item item)) in
-      let after : next ≡ drop (size_in (kind_of item) rest) rest =
+      let after : next ≡ drop (size_in (shown_kind item) rest) rest =
       left ∙ ap (λ n. drop n rest) (sized ∙ ap (λ l. size_in l.1 rest) same) in
       record {
         front = front ++ (item ∷ []);

@@ -20,8 +20,8 @@ pub record TextStands (of : ItemsText) (items : List Item) : Type 0 where
   pub grows : of.most ≢ 0 → of.labels ≡ []
 
 -- no more text is composed
-abbrev pub closed : ItemsText → ItemsText
-closed of = record of { most = 0 }
+abbrev pub full : ItemsText → ItemsText
+full of = record of { most = 0 }
 
 -- these labels came, of items that have so many bytes
 abbrev pub labelled : ItemsText → List (List ℕ × ValueKind) → (size : ℕ) → ItemsText

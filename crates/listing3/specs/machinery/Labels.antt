@@ -32,21 +32,21 @@ field_label (fields.Word name) = (name.now, kinds.Word)
 field_label (fields.Hyper name) = (name.now, kinds.Hyper)
 
 -- how bytes after their length are shown
-abbrev pub kind_of_run : Kind → ValueKind
-kind_of_run Var = kinds.Data
-kind_of_run Text = kinds.Text
-kind_of_run Handle = kinds.Data
+abbrev pub shown_run : Kind → ValueKind
+shown_run Var = kinds.Data
+shown_run Text = kinds.Text
+shown_run Handle = kinds.Data
 
-abbrev pub kind_of : Item → ValueKind
-kind_of (Word name n) = kinds.Word
-kind_of (Hyper name n) = kinds.Hyper
-kind_of (Fixed name bytes) = kinds.Bytes 8
-kind_of (WriteVerf name bytes) = kinds.Bytes 8
-kind_of (Opaque kind name bytes) = kind_of_run kind
-kind_of (Rest name bytes) = kinds.Bytes (length bytes)
+abbrev pub shown_kind : Item → ValueKind
+shown_kind (Word name n) = kinds.Word
+shown_kind (Hyper name n) = kinds.Hyper
+shown_kind (Fixed name bytes) = kinds.Bytes 8
+shown_kind (WriteVerf name bytes) = kinds.Bytes 8
+shown_kind (Opaque kind name bytes) = shown_run kind
+shown_kind (Rest name bytes) = kinds.Bytes (length bytes)
 
 abbrev pub label_of : Item → List ℕ × ValueKind
-label_of item = (item_name item, kind_of item)
+label_of item = (item_name item, shown_kind item)
 
 abbrev pub labels_of : List Item → List (List ℕ × ValueKind)
 labels_of items = map label_of items
@@ -58,16 +58,16 @@ abbrev pub run_in : List ℕ → List ℕ
 run_in body = take (big_number 4 body) (drop 4 body)
 
 -- its value
-abbrev pub value_in : ValueKind → (body : List ℕ) → List ℕ
-value_in kinds.Word body = decimal (big_number 4 body)
-value_in kinds.Hyper body = decimal (big_number 8 body)
-value_in (kinds.Bytes count) body = encode_lower (take count body)
-value_in kinds.Data body = encode_lower (run_in body)
-value_in kinds.Text body = quoted (run_in body)
+abbrev pub shown_in : ValueKind → (body : List ℕ) → List ℕ
+shown_in kinds.Word body = decimal (big_number 4 body)
+shown_in kinds.Hyper body = decimal (big_number 8 body)
+shown_in (kinds.Bytes count) body = encode_lower (take count body)
+shown_in kinds.Data body = encode_lower (run_in body)
+shown_in kinds.Text body = quoted (run_in body)
 
 -- its text, which is that of an item with this label
 abbrev pub text_in : List ℕ × ValueKind → (body : List ℕ) → List ℕ
-text_in (name, kind) body = opening name ++ value_in kind body
+text_in (name, kind) body = opening name ++ shown_in kind body
 
 -- how many bytes spell it
 abbrev pub size_in : ValueKind → (body : List ℕ) → ℕ

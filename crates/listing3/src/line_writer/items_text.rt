@@ -3,7 +3,7 @@
 ghost use Rattle.std.specs.Prelude.{◌≡◌, ◌≢◌, ◌≤◌, ◌+◌, ◌∷◌, [], length, map, OnOk, OnErr, IsFalse};
 ghost use Rattle.xdr3.specs.Item.{residue};
 ghost use Rattle.xdr3.specs.Visit.{Adds, Keeps, body_limit};
-ghost use Rattle.listing3.specs.machinery.ItemsText.{TextStands, closed, labelled};
+ghost use Rattle.listing3.specs.machinery.ItemsText.{TextStands, full, labelled};
 ghost use Rattle.listing3.specs.machinery.Labels.{field_label};
 
 use crate::line_text::LineText;
@@ -92,7 +92,7 @@ impl ItemsText {
         size: usize,
     ) -> Result<(), AllocError>
         ensures ok { OnOk result (self.new ≡ labelled self.old ((name.now, kind) ∷ []) size) }
-        ensures err { OnErr result (self.new ≡ closed self.old) }
+        ensures err { OnErr result (self.new ≡ full self.old) }
     {
         self.most = 0;
         self.labels.push(name, kind)?;
@@ -104,7 +104,7 @@ impl ItemsText {
     #[inline(never)]
     fn note_run(&mut self, fields: &[PlainField], size: usize) -> Result<(), AllocError>
         ensures ok { OnOk result (self.new ≡ labelled self.old (map field_label fields.now) size) }
-        ensures err { OnErr result (self.new ≡ closed self.old) }
+        ensures err { OnErr result (self.new ≡ full self.old) }
     {
         self.most = 0;
         self.labels.push_run(fields)?;

@@ -1,5 +1,5 @@
 use Rattle.listing3.proofs.Common.{[], ◌∷◌, Handle, Opaque, on_err}
-use Rattle.listing3.proofs.Lines.ItemsTexts.{closed_keeps, data_size, noted_adds, restored}
+use Rattle.listing3.proofs.Lines.ItemsTexts.{full_keeps, data_size, noted_adds, restored}
 use Rattle.listing3.proofs.Lines.LineLemmas.{adds_both, kept_both, keeps_text}
 use Rattle.listing3.proofs.line_writer.LineWriter.note_handle.Goals as goal
 
@@ -19,7 +19,7 @@ pub returns-in-Err-clause-err : goal.returns-in-Err-clause-err
 returns-in-Err-clause-err g c =
     let w = c.args.self.now in
     kept_both g.H.Visit.stands w c.handle.new.self _ c.in-Err.ensures.err
-    (closed_keeps w.items _
+    (full_keeps w.items _
     (restored w.items c.note.new.self _ c.truncate.new.self _ c.encoded_size.result
     c.in_ok-note.ensures.ok c.len-count.ensures c.truncate.ensures))
 
@@ -27,4 +27,4 @@ pub returns-in_err-note-clause-err : goal.returns-in_err-note-clause-err
 returns-in_err-note-clause-err g c =
     on_err c.from_residual.result
     (keeps_text g.H.Visit.stands c.args.self.now c.note.new.self
-    (closed_keeps c.args.self.now.items c.note.new.self c.in_err-note.ensures.err))
+    (full_keeps c.args.self.now.items c.note.new.self c.in_err-note.ensures.err))

@@ -1,4 +1,4 @@
-use Rattle.listing3.proofs.Common.{ℕ, List, ◌++◌, ◌∙◌, ap, sym, decimal, drop, take, encode_lower, opening, quoted, value_in, rules, on_err}
+use Rattle.listing3.proofs.Common.{ℕ, List, ◌++◌, ◌∙◌, ap, sym, decimal, drop, take, encode_lower, opening, quoted, shown_in, rules, on_err}
 use Rattle.listing3.proofs.Lines.LongLines.{cut_same}
 use Rattle.listing3.proofs.line_writer.long_line.write_item.Goals as goal
 
@@ -14,7 +14,7 @@ returns-in_err-write_number-in-Word-clause-adds g c =
           (ap (λ (k : ℕ). opening c.args.label.name.now ++ decimal k)
           (c.from.ensures ∙ c.in_ok-word_in-in-Word.ensures.word)
           ∙ sym
-          (ap (λ k. opening c.args.label.name.now ++ value_in k c.args.body.now) c.in-Word.is))
+          (ap (λ k. opening c.args.label.name.now ++ shown_in k c.args.body.now) c.in-Word.is))
           c.in_err-write_number-in-Word.ensures.adds.err);
     }
 
@@ -31,7 +31,7 @@ returns-in_err-write_number-in-Hyper-clause-adds g c =
           (ap (λ (k : ℕ). opening c.args.label.name.now ++ decimal k)
           (c.in_ok-hyper_in-in-Hyper.ensures.hyper)
           ∙ sym
-          (ap (λ k. opening c.args.label.name.now ++ value_in k c.args.body.now) c.in-Hyper.is))
+          (ap (λ k. opening c.args.label.name.now ++ shown_in k c.args.body.now) c.in-Hyper.is))
           c.in_err-write_number-in-Hyper.ensures.adds.err);
     }
 
@@ -46,7 +46,7 @@ returns-in_err-write_hex-in-Bytes-clause-adds g c =
           (g.W.Sink.written c.write_hex.new.sink, c.write_hex.new.waiting) _ _
           (ap (λ (l : List ℕ). opening c.args.label.name.now ++ encode_lower l) (c.front.ensures)
           ∙ sym
-          (ap (λ k. opening c.args.label.name.now ++ value_in k c.args.body.now) c.in-Bytes.is))
+          (ap (λ k. opening c.args.label.name.now ++ shown_in k c.args.body.now) c.in-Bytes.is))
           c.in_err-write_hex-in-Bytes.ensures.adds.err);
     }
 
@@ -65,7 +65,7 @@ returns-in_err-write_hex-in-Data-clause-adds g c =
           ∙ ap (λ (k : ℕ). take k (drop 4 c.args.body.now))
           c.in_ok-len-in-Data.ensures.word))
           ∙ sym
-          (ap (λ k. opening c.args.label.name.now ++ value_in k c.args.body.now) c.in-Data.is))
+          (ap (λ k. opening c.args.label.name.now ++ shown_in k c.args.body.now) c.in-Data.is))
           c.in_err-write_hex-in-Data.ensures.adds.err);
     }
 
@@ -84,6 +84,6 @@ returns-in_err-write_quoted-in-Text-clause-adds g c =
           ∙ ap (λ (k : ℕ). take k (drop 4 c.args.body.now))
           c.in_ok-len-in-Text.ensures.word))
           ∙ sym
-          (ap (λ k. opening c.args.label.name.now ++ value_in k c.args.body.now) c.in-Text.is))
+          (ap (λ k. opening c.args.label.name.now ++ shown_in k c.args.body.now) c.in-Text.is))
           c.in_err-write_quoted-in-Text.ensures.adds.err);
     }

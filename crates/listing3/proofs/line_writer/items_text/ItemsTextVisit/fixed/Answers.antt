@@ -1,5 +1,5 @@
 use Rattle.listing3.proofs.Common.{[], ◌∷◌, on_err_weaker, on_ok_weaker, Fixed}
-use Rattle.listing3.proofs.Lines.ItemsTexts.{adds_text, closed_keeps, keeps_still, noted_adds, fixed_size}
+use Rattle.listing3.proofs.Lines.ItemsTexts.{adds_text, full_keeps, keeps_still, noted_adds, fixed_size}
 use Rattle.listing3.proofs.line_writer.items_text.ItemsTextVisit.fixed.Goals as goal
 
 pub returns-then-is_full-clause-ok : goal.returns-then-is_full-clause-ok
@@ -11,7 +11,7 @@ returns-then-is_full-clause-ok c =
 
 pub returns-then-is_full-clause-err : goal.returns-then-is_full-clause-err
 returns-then-is_full-clause-err c =
-    on_err_weaker c.note.result (closed_keeps c.args.self.now c.note.new.self) c.note.ensures.err
+    on_err_weaker c.note.result (full_keeps c.args.self.now c.note.new.self) c.note.ensures.err
 
 pub returns-clause-ok : goal.returns-clause-ok
 returns-clause-ok c =

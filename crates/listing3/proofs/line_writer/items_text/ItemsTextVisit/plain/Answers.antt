@@ -1,5 +1,5 @@
 use Rattle.listing3.proofs.Common.{on_err_weaker, on_ok_weaker, run_items}
-use Rattle.listing3.proofs.Lines.ItemsTexts.{adds_text, closed_keeps, keeps_still, noted_run_adds, same_text}
+use Rattle.listing3.proofs.Lines.ItemsTexts.{adds_text, full_keeps, keeps_still, noted_run_adds, same_text}
 use Rattle.listing3.specs.machinery.ItemsText.{TextStands}
 use Rattle.xdr3.proofs.Lemmas.Shapes.Walks.{some_none}
 use Rattle.listing3.proofs.line_writer.items_text.ItemsTextVisit.plain.Goals as goal
@@ -7,7 +7,7 @@ use Rattle.listing3.proofs.line_writer.items_text.ItemsTextVisit.plain.Goals as 
 pub returns-then-is_full : goal.returns-then-is_full
 returns-then-is_full c =
     let kept =
-    on_err_weaker c.note_run.result (closed_keeps c.args.self.now c.note_run.new.self)
+    on_err_weaker c.note_run.result (full_keeps c.args.self.now c.note_run.new.self)
     c.note_run.ensures.err in
     record {
       ok =

@@ -1,5 +1,5 @@
 use Rattle.listing3.proofs.Common.{[], ◌∷◌, on_err_weaker, on_ok_weaker, Opaque, Text}
-use Rattle.listing3.proofs.Lines.ItemsTexts.{adds_text, closed_keeps, keeps_still, noted_adds, data_size}
+use Rattle.listing3.proofs.Lines.ItemsTexts.{adds_text, full_keeps, keeps_still, noted_adds, data_size}
 use Rattle.listing3.proofs.line_writer.items_text.ItemsTextVisit.text.Goals as goal
 
 pub returns-then-leaves_out-clause-ok : goal.returns-then-leaves_out-clause-ok
@@ -12,7 +12,7 @@ returns-then-leaves_out-clause-ok c =
 
 pub returns-then-leaves_out-clause-err : goal.returns-then-leaves_out-clause-err
 returns-then-leaves_out-clause-err c =
-    on_err_weaker c.note.result (closed_keeps c.args.self.now c.note.new.self) c.note.ensures.err
+    on_err_weaker c.note.result (full_keeps c.args.self.now c.note.new.self) c.note.ensures.err
 
 pub returns-clause-ok : goal.returns-clause-ok
 returns-clause-ok c =

@@ -1,5 +1,5 @@
 use Rattle.listing3.proofs.Common.{on_err}
-use Rattle.listing3.proofs.LabelsLemmas.{labels_more, labels_stay}
+use Rattle.listing3.proofs.Lines.LabelsLemmas.{labels_more, labels_stay}
 use Rattle.listing3.proofs.line_writer.labels.Labels.push.Goals as goal
 
 pub returns-in_err-index-clause-err : goal.returns-in_err-index-clause-err
