@@ -240,7 +240,7 @@ def lists_in_messages(place: Place) -> None:
 
 
 def two_names_in_one_message(place: Place) -> None:
-    """Each is longer than what is composed at once, and a word of few bytes comes between them."""
+    """Each is longer than what is composed at once, and a handle of one byte comes between them."""
     first, second = bytes(range(256)) * 300, b'n' * 100_000
     place.write('a', capture([call(1, NFS, 3, 14, dirop(b'a', first) + dirop(b'b', second))], []))
     place.listed('a', [
