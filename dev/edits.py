@@ -7,23 +7,28 @@ runs at the top of the repository, once the libraries below the crates are built
 
 An edit is one bug, in one function. A check goes on after a function that it refuses, and says of each function why it is
 not proved. Proofs read the contracts of the functions that they call, and not their bodies, so a bug in a body changes the
-verdict on its own function alone. Edits of different functions are therefore tried in one check, a round, and each counts as
-refused only if its own function is refused for a reason of its own. All others are tried alone, and then the verdict is that
-of `rt must-fail`: an edit that changes nothing or does not compile, one of a contract, a type, a definition or a proof, and
-one that no round refuses. The last line is 'N passed, M failed'.
+verdict on its own function alone. Edits of different functions are therefore tried in one check, a round. All others are
+tried alone, as by `rt must-fail`: an edit that changes nothing or does not compile, one of a contract, a type, a definition
+or a proof, and one whose function no round refuses.
+
+An edit counts as refused only if a goal is left open: a clause, what a callee requires, an invariant, a check of the code, or
+a law over definitions. A proof file that names what the edit took away, a proof that is not made, or an error of types says
+nothing of a contract. Then the function is checked without its own proof files, so that it is seen whether it is proved.
+The line before the last says how many edits each kind of goal refused. The last line is 'N passed, M failed'.
 """
 import hashlib
 import json
 import os
 import re
 import sys
+from collections import Counter
 from collections.abc import Iterator
 from concurrent.futures import ThreadPoolExecutor
 from pathlib import Path
 from typing import NamedTuple
 
 sys.path.insert(0, str(Path(__file__).resolve().parent))
-from bodies import function_at  # noqa: E402
+from bodies import function_at, function_with  # noqa: E402
 import kit  # noqa: E402
 
 # A round begins with a load of the crate, which takes 10 to 20 seconds. Smaller rounds use processors that are idle.
@@ -31,6 +36,16 @@ MOST = 12
 PAIR = re.compile(r'^(file|old|new): ?(.*)$', re.MULTILINE)
 LINE = re.compile(r'^fn (\S+): (.*)$', re.MULTILINE)
 OF_CALLEES = re.compile(r'it (calls|passes the block) .*?, which (is|are) not proved')
+# A goal that is left open, by its place in the code.
+OPEN = re.compile(r'(?:note: )?(?:\./)?(src/\S+?):(\d+):\d+: it is not proved that ([^;\n]*)')
+# An error in a proof file, but for names that are gone: in the answers of a function with the name of its goal, or in a proof of a law.
+NOT_OF_NAMES = r': error: (?!.*(?:has no field|is not in scope|has no `|was not admitted))'
+ANSWER = re.compile(r'(?:\./)?proofs/(\S+)/Answers\.antt:\d+:\d+' + NOT_OF_NAMES + r'`(\S+?)`: ')
+LAW = re.compile(r'(?:note: )?(?:\./)?proofs/\S+:\d+:\d+' + NOT_OF_NAMES)
+# The kinds of goals, by words in what a check says of them or in their names.
+KINDS = {'what a callee requires': (' requires ', '-requires'), 'a clause': (' ensures ', 'returns'),
+         'an invariant or a measure': ('loop', 'invariant', 'preserved', 'decreases')}
+OF_CODE, OF_A_LAW = 'a check of the code', 'a law'
 
 
 class Round(NamedTuple):
@@ -40,9 +55,13 @@ class Round(NamedTuple):
 
 
 class Outcome(NamedTuple):
-    """What became of an edit."""
-    is_refused: bool
+    """What became of an edit: what is said of it, and which kind of goal refused it, if one did."""
     said: str
+    kind: str = ''
+
+    @property
+    def is_refused(self) -> bool:
+        return bool(self.kind)
 
 
 def changes(edit: Path) -> Iterator[tuple[str, str, str]]:
@@ -102,32 +121,36 @@ def rounds_of(crate: kit.Crate, edits: list[Path]) -> tuple[list[Round], list[Pa
     return rounds, alone
 
 
-def own_reasons(said: str) -> dict[str, str]:
-    """Returns the functions that a check refuses for reasons of their own, each with them."""
-    found = {}
-    for name, why in LINE.findall(said):
-        own = OF_CALLEES.sub('', why).removeprefix('no proof:').strip(' ;,')
-        if own and not why.startswith(('proved', 'could not tell', 'assumed')):
-            found[name] = own
-    return found
+def goals_in(said: str, crate: kit.Crate, texts: dict[str, str]) -> list[tuple[str, str]]:
+    """Returns the goals that a check leaves open: the path of each one's function, and what the check says of it."""
+    found = []
+    for path, line, words in OPEN.findall(said):
+        text = texts.get(path) or (Path(crate.folder) / path).read_text()
+        found.append((function_with(path, text, int(line)) or path, words))
+    return found + [(path.replace('/', '::'), goal) for path, goal in ANSWER.findall(said)]
 
 
-def named(functions: set[str], reasons: dict[str, str]) -> str:
-    """Returns the reason for which one of some functions is refused, or nothing. A check prints whole paths."""
-    return next((why for name, why in reasons.items() for function in functions if ('::' + name).endswith('::' + function)), '')
+def goal_of(functions: set[str], goals: list[tuple[str, str]]) -> str | None:
+    """Returns the first goal of some functions, if there is one. Paths of methods have their types, not their modules."""
+    return next((goal for path, goal in goals if any(('::' + path).endswith('::' + name) for name in functions)), None)
+
+
+def kind_of(goal: str) -> str:
+    """Returns which kind of goal one is."""
+    return next((kind for kind, several in KINDS.items() if any(words in goal for words in several)), OF_CODE)
 
 
 def tried(crate: kit.Crate, one: Round) -> dict[Path, Outcome]:
     """Tries a round, and alone what it does not refuse. If one edit is no code, the check says nothing of any function."""
-    functions = sorted(set().union(*one.functions.values()))
-    said = kit.check(crate, one.texts, functions)
+    said = kit.check(crate, one.texts, sorted(set().union(*one.functions.values())))
     if len(one.functions) > 1 and not LINE.search(said):
         return tried_by_halves(crate, list(one.functions))
-    reasons = own_reasons(said)
+    goals = goals_in(said, crate, one.texts)
     found = {}
     for edit, names in one.functions.items():
-        why = named(names, reasons)
-        found[edit] = Outcome(True, f'refused in {", ".join(sorted(names))}: {why[:120]}') if why else tried_alone(crate, edit)
+        goal = goal_of(names, goals)
+        found[edit] = tried_alone(crate, edit) if goal is None else \
+            Outcome(f'refused in {", ".join(sorted(names))}: {goal[:160]}', kind_of(goal))
     return found
 
 
@@ -141,8 +164,24 @@ def tried_by_halves(crate: kit.Crate, edits: list[Path]) -> dict[Path, Outcome]:
 
 
 def tried_alone(crate: kit.Crate, edit: Path) -> Outcome:
-    """Tries an edit as `rt must-fail` does."""
-    return Outcome(*kit.refused_alone(crate, edit))
+    """Tries an edit as `rt must-fail` does, and looks at the reason."""
+    is_refused, said = kit.refused_alone(crate, edit)
+    goal = OPEN.search(said) or ANSWER.search(said)
+    if is_refused and goal:
+        return Outcome(said, kind_of(goal[goal.re.groups]))
+    if is_refused and LAW.search(said):
+        return Outcome(said, OF_A_LAW)
+    if is_refused and is_proved_without_its_proofs(crate, edit):
+        return Outcome('NOT REFUSED: its function is proved without the proof files that name what the edit took away')
+    return Outcome(f'NO GOAL IS LEFT OPEN: {said}' if is_refused else said)
+
+
+def is_proved_without_its_proofs(crate: kit.Crate, edit: Path) -> bool:
+    """Whether the functions of an edit are proved if the proof files that were written for them are not there."""
+    names = functions_of(edit, crate)
+    said = kit.check_without_proofs(crate, kit.texts_with(edit, crate)[0], sorted(names))
+    verdicts = LINE.findall(said)
+    return bool(verdicts) and all(why.startswith('proved') for _, why in verdicts)
 
 
 class Tries:
@@ -161,11 +200,11 @@ class Tries:
         edits = list(self.rounds[number].functions) if number < len(self.rounds) else [self.alone[number - len(self.rounds)]]
         place = self.place(edits)
         if place.exists() and not self.is_anew:
-            said = json.loads(place.read_text())
-            return {edit: Outcome(True, said[edit.name]) for edit in edits}
+            kept = json.loads(place.read_text())
+            return {edit: Outcome(*kept[edit.name]) for edit in edits}
         found = tried(self.crate, self.rounds[number]) if number < len(self.rounds) else {edit: tried_alone(self.crate, edit) for edit in edits}
         if all(outcome.is_refused for outcome in found.values()):
-            keep(place, {edit.name: outcome.said for edit, outcome in found.items()})
+            keep(place, {edit.name: outcome for edit, outcome in found.items()})
         return found
 
     def place(self, edits: list[Path]) -> Path:
@@ -181,21 +220,26 @@ def kept_at() -> Path:
     return Path(os.environ.get('XDG_CACHE_HOME') or Path.home() / '.cache') / 'nfs3canon/refused'
 
 
-def keep(place: Path, said: dict[str, str]) -> None:
-    """Writes what was said of edits, beside and then under its name."""
+def keep(place: Path, outcomes: dict[str, Outcome]) -> None:
+    """Writes what became of edits, beside and then under its name."""
     place.parent.mkdir(parents=True, exist_ok=True)
     beside = place.with_suffix(f'.{os.getpid()}')
-    beside.write_text(json.dumps(said))
+    beside.write_text(json.dumps(outcomes))
     beside.replace(place)
 
 
-def told(crate: kit.Crate, outcomes: dict[Path, Outcome]) -> tuple[int, int]:
-    """Prints what became of edits. Returns how many were refused, and how many were not."""
+def told(crate: kit.Crate, outcomes: dict[Path, Outcome]) -> Counter[str]:
+    """Prints what became of edits. Returns how many each kind of goal refused; those that none did have no kind."""
     for edit, outcome in outcomes.items():
         label = '' if outcome.said.startswith('must-fail') else f'{crate.name}/{edit.name}: '
         print(f'{label}{outcome.said}'.splitlines()[0], flush=True)
-    refused = sum(outcome.is_refused for outcome in outcomes.values())
-    return refused, len(outcomes) - refused
+    return Counter(outcome.kind for outcome in outcomes.values())
+
+
+def told_of_kinds(kinds: Counter[str]) -> str:
+    """Returns what to say of the edits of all crates."""
+    refused = ', '.join(f'{number} by {kind}' for kind, number in kinds.most_common() if kind)
+    return f'{kinds.total()} edits: {refused or "none refused"}; {kinds[""]} not refused by a goal'
 
 
 def told_of_others(crate: kit.Crate, others: list[Path]) -> int:
@@ -207,16 +251,17 @@ def told_of_others(crate: kit.Crate, others: list[Path]) -> int:
 
 def main(names: list[str]) -> int:
     crates = [crate for crate in kit.crates(Path.cwd()) if not names or crate.name in names]
-    passed = failed = 0
+    kinds, bad = Counter[str](), 0
     for crate in crates:
         found, others = kit.edits(crate)
-        failed += told_of_others(crate, others)
+        bad += told_of_others(crate, others)
         tries = Tries(crate, found, is_anew=True)
         with ThreadPoolExecutor(kit.processors()) as pool:
             for outcomes in pool.map(tries.outcomes, range(len(tries))):
-                refused, missed = told(crate, outcomes)
-                passed, failed = passed + refused, failed + missed
-    print(f'{passed} passed, {failed} failed')
+                kinds += told(crate, outcomes)
+    failed = bad + kinds['']
+    print(told_of_kinds(kinds))
+    print(f'{kinds.total() - kinds[""]} passed, {failed} failed')
     return int(failed > 0)
 
 

@@ -9,12 +9,14 @@ Three things go on side by side:
 - the tests of that crate by `rt try --test`, which builds it with checks and proves nothing;
 - the edits of each crate (dev/edits.py), once the libraries below it are proved.
 
-Once the programs are proved they are compared with those in dist/, and the tests run on them, side by side.
+Once the programs are proved and the edits are tried, the programs are compared with those in dist/, and the tests run on
+them, side by side. No test has to wait for a processor that an edit takes.
 
 --anew takes nothing from earlier runs. --alone has `rt ci` try the tree as it is: it proves the crate of tests as
 well, and tries each edit in a check of its own. That takes about twice as long. The last line is 'N passed, M failed'.
 """
 import argparse
+import contextlib
 import os
 import re
 import shutil
@@ -23,6 +25,7 @@ import sys
 import tempfile
 import threading
 import time
+from collections import Counter
 from collections.abc import Callable, Iterator
 from concurrent.futures import Future, ThreadPoolExecutor
 from pathlib import Path
@@ -50,15 +53,22 @@ SECONDS = 1.0  # how often a task that waits for memory looks again
 
 
 class Count:
-    """How much passed and failed so far. It is added to from several threads."""
+    """How much passed and failed so far, and which kinds of goals refused the edits. It is added to from several threads."""
 
     def __init__(self) -> None:
         self.passed = self.failed = 0
+        self.kinds = Counter[str]()
         self.lock = threading.Lock()
 
     def add(self, passed: int, failed: int) -> None:
         with self.lock:
             self.passed, self.failed = self.passed + passed, self.failed + failed
+
+    def add_edits(self, kinds: Counter[str]) -> None:
+        """Adds edits by the kinds of goals that refused them. Those that none did have no kind, and failed."""
+        self.add(kinds.total() - kinds[''], kinds[''])
+        with self.lock:
+            self.kinds.update(kinds)
 
 
 class Board:
@@ -107,6 +117,14 @@ class Memory:
 
 def say(text: str) -> None:
     print(f'{time.strftime("%H:%M:%S")} {text}', flush=True)
+
+
+@contextlib.contextmanager
+def timed(name: str) -> Iterator[None]:
+    """Says how long a part of the gate took."""
+    start = time.monotonic()
+    yield
+    say(f'{name} took {(time.monotonic() - start) / 60:.1f} minutes')
 
 
 def not_copied(folder: str, names: list[str]) -> set[str]:
@@ -165,7 +183,7 @@ def tries_of_edits(tries: edits.Tries, number: int, board: Board, count: Count, 
         count.add(0, 1)
         return
     memory.wait()
-    count.add(*edits.told(crate, tries.outcomes(number)))
+    count.add_edits(edits.told(crate, tries.outcomes(number)))
 
 
 def checks_of_edits(top: Path, is_anew: bool, count: Count) -> list[tuple[edits.Tries, int]]:
@@ -218,9 +236,10 @@ def tests_of(words: tuple[str, ...], count: Count) -> bool:
 def tested(count: Count) -> bool:
     """Runs the tests of the built programs side by side, and then those of the tools, which do so themselves."""
     scripts = [(f'tests/{room}/{name}.py',) for room, names in TESTS.items() for name in names]
-    with ThreadPoolExecutor(kit.processors()) as pool:
+    with timed('the tests of the programs'), ThreadPoolExecutor(kit.processors()) as pool:
         are_well = list(pool.map(lambda words: tests_of(words, count), scripts))
-    return all([*are_well, tests_of(TESTS_OF_THE_TOOLS, count)])
+    with timed('the tests of the tools'):
+        return all([*are_well, tests_of(TESTS_OF_THE_TOOLS, count)])
 
 
 def together(is_anew: bool, count: Count) -> bool:
@@ -232,12 +251,15 @@ def together(is_anew: bool, count: Count) -> bool:
         tasks: list[Future[None]] = [pool.submit(tries_of_tests, count, memory)]
         tasks += [pool.submit(tries_of_edits, tries, number, board, count, memory)
                   for tries, number in checks_of_edits(top, is_anew, count)]
-        is_well = proved(top, is_anew, board, count)
+        with timed('the proofs'):
+            is_well = proved(top, is_anew, board, count)
+        with timed('the edits that were left then'):
+            for task in tasks:
+                task.result()
+        say(edits.told_of_kinds(count.kinds))
         if is_well:
             taken_back(top)
             is_well = tested(count)
-        for task in tasks:
-            task.result()
     return is_well
 
 

@@ -42,7 +42,7 @@ pub fn two_more(n: u32) -> u32
 '''
 # An edit is a name, the old and the new text, and what is said of it.
 FIRST, SECOND, CONTRACT = '    n + 1', '    one_more(n) + 1', '    ensures { result ≡ n + 1 }'
-TOGETHER = r'refused in \w+: .*'
+TOGETHER = r'refused in \w+: what the function ensures holds when it returns.*'
 ALONE = 'refused, as it must be.*'
 EDITS = {
     'adds_two': (FIRST, '    n + 2', TOGETHER),
@@ -56,6 +56,18 @@ EDITS = {
 SPOILT = {
     'adds_two': (FIRST, '    n + 2', TOGETHER),
     'is_no_code': (SECOND, '    one_more(n) +', 'BAD EDIT: it did not reach the prover.*'),
+}
+# A proof of the second function, and edits that take away what it names.
+ANSWERS = '''use Rattle.std.proofs.Common.{◌≡◌, ◌+◌, arith}
+use Rattle.sums.proofs.two_more.Goals as goal
+
+pub returns : goal.returns
+returns c = omega (arith, c.one_more.ensures)
+'''
+OF_NAMES = {
+    'adds_without_the_first': (SECOND, '    n + 2', 'NOT REFUSED: its function is proved without the proof files.*'),
+    'adds_two_more': (SECOND, '    one_more(n) + 2', 'refused in two_more: returns'),
+    'adds_three': (SECOND, '    n + 3', 'NO GOAL IS LEFT OPEN: .*'),
 }
 # Places in a file, and the function whose body each is in.
 PLACES = {
@@ -101,20 +113,29 @@ def repository(runs: Runs, edits: dict[str, tuple[str, str, str]]) -> None:
         (crate / f'must-fail/{name}.edit').write_text(f'file: src/lib.rt\nold: {old}\nnew: {new}\n')
 
 
-def are_told(runs: Runs, edits: dict[str, tuple[str, str, str]]) -> None:
-    """Each edit is told with the words of its row, and the last line counts those that are refused."""
+def are_told(runs: Runs, edits: dict[str, tuple[str, str, str]], answers: str = '') -> None:
+    """What is said of each edit has the words of its row, and the last line counts those that are refused."""
     repository(runs, edits)
+    if answers:
+        proofs = pathlib.Path(runs.folder, 'crates/sums/proofs/two_more')
+        proofs.mkdir(parents=True)
+        (proofs / 'Answers.antt').write_text(answers)
     status, out, _ = ended([sys.executable, str(TOP / 'dev/edits.py')], runs.folder, limit=None).text()
     for name, (_, _, wanted) in edits.items():
         told = re.findall(rf'sums/{name}\.edit: (.*)', out)
         runs.want(name, [bool(re.fullmatch(wanted, line)) for line in told] == [True] or told, True)
-    refused = sum('refused' in wanted for _, _, wanted in edits.values())
+    refused = sum(wanted.startswith('refused') for _, _, wanted in edits.values())
     runs.want('count', (out.splitlines()[-1], status), (f'{refused} passed, {len(edits) - refused} failed', 1))
 
 
 def edits_of_each_kind(runs: Runs) -> None:
     """Two of one function, one that means the same, one that changes nothing, and one of a contract."""
     are_told(runs, EDITS)
+
+
+def names_in_a_proof(runs: Runs) -> None:
+    """An edit is not refused if all that is wrong is a name in a proof file that was written."""
+    are_told(runs, OF_NAMES, ANSWERS)
 
 
 def an_edit_that_is_no_code(runs: Runs) -> None:
@@ -138,4 +159,4 @@ def tried(program: str, name: str) -> list[str]:
 
 
 if __name__ == '__main__':
-    try_all(words_of(__doc__), [(name, tried, name) for name in ('edits_of_each_kind', 'an_edit_that_is_no_code', 'places_of_functions')], 2)
+    try_all(words_of(__doc__), [(name, tried, name) for name in ('edits_of_each_kind', 'names_in_a_proof', 'an_edit_that_is_no_code', 'places_of_functions')], 2)
