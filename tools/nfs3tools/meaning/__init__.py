@@ -1,0 +1,1 @@
+"""What calls and replies say against each other: exchanges as values, and rules over them."""
