@@ -7,7 +7,7 @@ from .content import Content, Part
 from .names import Names, made_under_a_new_name
 from .objects import UNSURE, Find, Object, Objects, Unstable
 from .recorded import NEVER, OF_NAMES, Exchange, Finding, Recorded, Source, in_frame
-from .values import attributes, before, seconds
+from .values import attributes, before, bytes_in, seconds, size_of
 
 UNSTABLE, UNCHECKED = 0, 0
 
@@ -60,11 +60,11 @@ class Across:
         is_alone = not any(change.meets(first, last)
                            for change in self.recorded.beside(one, one.call['fh']))
         if not one.is_ok:
-            known.content.put(Part(first, last, None))
+            known.content.put(Part(first, last))
             return
-        place, size = one.call['data']
-        last = first + min(size, one.reply['count'])
-        known.content.put(Part(first, last, place if is_alone else None,
+        data = one.call['data']
+        last = first + min(size_of(data), one.reply['count'])
+        known.content.put(Part(first, last, data if is_alone else None, first,
                                one.source._replace(frame=one.begin)))
         self.write_time(one, known)
         self.same_verifier(one)
@@ -76,7 +76,7 @@ class Across:
     def write_time(self, one: Exchange, known: Object) -> None:
         """WRITE that moves mtime moves ctime as well."""
         after, was = attributes(one.reply, 'obj.after.'), before(one.reply, 'obj.') or known.seen
-        if after and was and one.call['data'][1] and after.ctime < after.mtime != was.mtime \
+        if after and was and one.call['count'] and after.ctime < after.mtime != was.mtime \
                 and self.recorded.is_quiet(one, one.call['fh']):
             text = (f'mtime is {seconds(after.mtime)}, {in_frame(known.source)} it was '
                     f'{seconds(was.mtime)}, and ctime is {seconds(after.ctime)}')
@@ -91,9 +91,9 @@ class Across:
                 or not self.recorded.is_quiet(one, one.call['fh']):
             self.beside += 1
             return
-        place, size = one.reply['data']
-        first, data = one.call['offset'], self.recorded.spool.read(place, size)
-        found, compared = known.content.unlike(first, data, self.recorded.spool)
+        first, kept = one.call['offset'], one.reply['data']
+        data = bytes_in(kept, 0, size_of(kept))
+        found, compared = known.content.unlike(first, data)
         self.reads, self.bytes = self.reads + (compared > 0), self.bytes + compared
         if found:
             source = found.part.source
@@ -101,7 +101,7 @@ class Across:
                     f'{found.was:02x}, with the same mtime and size')
             self.objects.doubt(known, source.frame if source else 0,
                                Finding('read-data', one.number, text, source))
-        known.content.put(Part(first, first + size, place, one.source))
+        known.content.put(Part(first, first + len(data), kept, first, one.source))
 
     def set_attributes(self, one: Exchange) -> None:
         size = one.call.get('set.size')

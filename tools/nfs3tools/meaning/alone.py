@@ -5,7 +5,7 @@ from collections import defaultdict
 from collections.abc import Callable, Iterator
 
 from .recorded import MAKES, OF_NAMES, Exchange, Recorded
-from .values import Attributes, Values, attributes, before, length_of, seconds
+from .values import Attributes, Values, attributes, before, length_of, seconds, size_of
 
 Check = Callable[[Exchange, Recorded], Iterator[str]]
 REGULAR, DIRECTORY, LINK = 1, 2, 5
@@ -47,14 +47,14 @@ def count_asked(one: Exchange, recorded: Recorded) -> Iterator[str]:
 
 @checks('read-count-data', 'READ')
 def read_count(one: Exchange, recorded: Recorded) -> Iterator[str]:
-    if one.reply['count'] != one.reply['data'][1]:
-        yield f'count {one.reply["count"]}, data of {one.reply["data"][1]} bytes'
+    if one.reply['count'] != size_of(one.reply['data']):
+        yield f'count {one.reply["count"]}, data of {size_of(one.reply["data"])} bytes'
 
 
 @checks('write-count-data', 'WRITE', of_failures=True)
 def write_count(one: Exchange, recorded: Recorded) -> Iterator[str]:
-    if one.call['count'] != one.call['data'][1]:
-        yield f'count {one.call["count"]}, data of {one.call["data"][1]} bytes'
+    if one.call['count'] != size_of(one.call['data']):
+        yield f'count {one.call["count"]}, data of {size_of(one.call["data"])} bytes'
 
 
 @checks('read-eof', 'READ')
@@ -194,13 +194,13 @@ def no_entry(one: Exchange, recorded: Recorded) -> Iterator[str]:
 
 @checks('entries-size', *LISTINGS)
 def entries_size(one: Exchange, recorded: Recorded) -> Iterator[str]:
-    size = 4 + 84 * ('dir.type' in one.reply) + 8 + sum(map(size_of, one.reply['entries'])) + 8
+    size = 4 + 84 * ('dir.type' in one.reply) + 8 + sum(map(size_of_entry, one.reply['entries'])) + 8
     most = one.call.get('count', one.call.get('maxcount', 0))
     if size > most:
         yield f'{size} bytes of {most}'
 
 
-def size_of(entry: Values) -> int:
+def size_of_entry(entry: Values) -> int:
     """Returns how many bytes of XDR an entry has, with the word before it."""
     size = 4 + 8 + 4 + (length_of(entry['name']) + 3) // 4 * 4 + 8
     if 'listed.fileid' not in entry:

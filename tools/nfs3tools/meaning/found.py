@@ -7,16 +7,15 @@
 """
 from __future__ import annotations
 
-from collections.abc import Container, Iterator, Sequence
+from collections.abc import Container, Sequence
 from dataclasses import dataclass
 
-from ..judgement.exchanges import Values as Store
 from ..judgement.verdict import Verdict
 from ..recordings.selection import count
 from ..recordings.taken import Taken
 from .across import Across
 from .alone import broken_by
-from .recorded import Exchange, Finding, Recorded
+from .recorded import Finding, Recorded
 from .rules import BY_NAME, NOTE, Rule
 
 
@@ -68,7 +67,7 @@ class Found:
         self.recording, self.wanted = recording, wanted
         self.recorded, self.looked, self.begun = Recorded(), Looked(), 0
         self.rows = dict[tuple[str, str], Row]()
-        self.kept = Store(self.recorded.spool)
+        self.all = list[Finding]()
 
     def take(self, program: str, taken: Taken, verdicts: Sequence[Verdict]) -> None:
         """Takes the exchanges of the connections that were judged, and puts the rules to them."""
@@ -77,7 +76,7 @@ class Found:
         for connection in taken.connections:
             state = states.get(connection.number, 'error')
             if state != 'error':
-                self.recorded.take(program, connection, state == 'refused')
+                self.recorded.kept.take(program, connection, state == 'refused')
         self.recorded.finish()
         is_whole = not {*states.values()} - {'ok', 'note'}
         across = Across(self.recorded, self.add, is_whole)
@@ -94,22 +93,26 @@ class Found:
     def add(self, finding: Finding) -> None:
         if finding.rule not in self.wanted:
             return
-        self.kept.append(tuple(finding))
-        server = self.recorded.parts[self.recorded.part_of[finding.number]].server
+        self.all.append(finding)
+        server = self.recorded.kept.parts[self.recorded.kept.part_of[finding.number]].server
         row = self.rows.get((finding.rule, server))
         if row is None:
             self.rows[finding.rule, server] = Row(BY_NAME[finding.rule], server, 1, finding)
         else:
             row.number += 1
 
-    def findings(self) -> Iterator[tuple[Finding, Exchange]]:
-        """Iterates over the findings, each with its exchange, in the order of time."""
-        ones = map(Finding._make, map(self.kept.__getitem__, range(1, len(self.kept) + 1)))
-        for finding in sorted(ones, key=lambda one: self.recorded.begun[one.number]):
-            yield finding, self.recorded.exchange(finding.number)
+    def findings(self) -> list[Finding]:
+        """Returns all findings in the order of time."""
+        return sorted(self.all, key=lambda one: self.recorded.kept.times[one.number])
 
     def words(self, finding: Finding) -> str:
         """Returns the frame of an exchange, its call, and how it breaks a rule."""
-        one = self.recorded.exchange(finding.number)
-        frame = f'frame {one.frame}: ' if one.frame else f'{one.part.number}:{one.record}: '
-        return frame + ' '.join(self.recorded.words(one).split()) + f': {finding.text}'
+        one = self.recorded.kept.exchange(finding.number)
+        frame = f'frame {self.frame(finding)}' if one.frame else f'{one.part.number}:{one.record}'
+        return f'{frame}: {self.recorded.words(finding.number)}: {finding.text}'
+
+    def frame(self, finding: Finding) -> int:
+        """Returns the frame that breaks a rule: that of the call if it is the client's."""
+        one = self.recorded.kept.exchange(finding.number)
+        is_call = BY_NAME[finding.rule].by == 'client' or not one.answered
+        return one.frame if is_call else one.answered[0].frame

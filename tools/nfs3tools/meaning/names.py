@@ -34,9 +34,7 @@ class Names:
         folder, says = self.objects.at(one, handle), says_of(one, number)
         is_known = (says is not None and one.sent == 1 and folder.seen is not None
                     and not folder.is_blind and self.recorded.is_quiet(one, handle))
-        found: Key | bool = True
-        if one.is_ok and one.reply.get('fh'):
-            found = self.recorded.key(one.server, one.reply['fh'])
+        found = self.key_of(one, one.reply.get('fh'))
         if is_known:
             self.compare(one, folder, name, bool(says), found)
         if one.procedure == 'LOOKUP':
@@ -77,12 +75,17 @@ class Names:
             change.end == NEVER or (handle, name) in change.names
             for change in self.recorded.beside(one, handle))
 
+    def key_of(self, one: Exchange, handle: str | None) -> Key | bool:
+        """Returns the ids of the object of a handle, or True if they are not known."""
+        known = self.objects.known.get((one.server, handle)) if handle else None
+        return known.ids if known and known.ids else True
+
     def left_by(self, one: Exchange, found: Key | bool) -> Key | bool:
         """Returns what a name is after a call that was done."""
         if one.procedure in ('REMOVE', 'RMDIR'):
             return False
         if one.procedure == 'LINK':
-            return self.recorded.key(one.server, one.call['file.fh'])
+            return self.key_of(one, one.call['file.fh'])
         return found
 
     def rename(self, one: Exchange, number: int) -> None:
@@ -155,8 +158,7 @@ def says_of(one: Exchange, number: int) -> bool | None:
 
 def is_other(known: Key | bool | None, found: Key | bool | None) -> bool:
     """Whether two objects are known by their ids, and are not the same."""
-    return (isinstance(known, tuple) and isinstance(found, tuple)
-            and len(known) == len(found) == 3 and known != found)
+    return isinstance(known, tuple) and isinstance(found, tuple) and known != found
 
 
 def ids_of(known: Key | bool) -> str:

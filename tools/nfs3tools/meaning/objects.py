@@ -41,6 +41,7 @@ class Unstable(NamedTuple):
 class Object:
     """What is known of an object by one handle.
 
+    ids, shown_by: its type, fsid and fileid as the first reply has them, and that exchange
     seen, seen_at, source: its attributes when it was last at rest, the frame and the exchange
     states, befores: its sizes and mtimes after and before the changes since then
     is_moved, is_blind: whether a change came since then, and one whose reply shows nothing
@@ -55,6 +56,8 @@ class Object:
         self.seen: Attributes | None = None
         self.seen_at = self.since = self.confirmed = self.loose = 0
         self.source: Source | None = None
+        self.ids: tuple[int, int, int] | None = None
+        self.shown_by: Source | None = None
         self.states, self.befores = set[State](), list[State]()
         self.is_moved = self.is_blind = self.is_complete = False
         self.sights = list[Sight]()
@@ -127,15 +130,14 @@ class Objects:
         """A handle is of one object."""
         if not told.now:
             return
-        first = self.recorded.objects[one.server, handle][1:]
-        if first != (told.now.fsid, told.now.fileid):
-            text = (f'{handle} is of fsid {told.now.fsid} and fileid {told.now.fileid}, '
-                    f'{in_frame(known.source)} it was of {first[0]} and {first[1]}')
-            self.find(Finding('handle-object', one.number, text, known.source))
-        if known.seen and told.now.type != known.seen.type:
-            text = (f'{handle} is of type {told.now.type}, {in_frame(known.source)} it was of '
-                    f'{known.seen.type}')
-            self.find(Finding('handle-object', one.number, text, known.source))
+        now = told.now.type, told.now.fsid, told.now.fileid
+        if known.ids is None:
+            known.ids, known.shown_by = now, one.source
+        elif now != known.ids:
+            text = ', '.join(f'{name} is {value}, {in_frame(known.shown_by)} it was {was}' for
+                             name, value, was in zip(('type', 'fsid', 'fileid'), now, known.ids)
+                             if value != was)
+            self.find(Finding('handle-object', one.number, f'{handle}: {text}', known.shown_by))
 
     def at_rest(self, one: Exchange, known: Object, found: Attributes | Before,
                 now: Attributes | None) -> None:

@@ -1,11 +1,11 @@
 """The items of a call or of a reply as values, by one pattern for each layout.
 
-    read_call('NFSPROC3_READ', said)     # {'fh': '01ab', 'offset': 0, 'count': 4096, ..}
-    read_reply('NFSPROC3_READ', said)    # (0, {'obj.size': 5, .., 'count': 5, 'eof': 1, 'data': ..})
+    read_call('NFSPROC3_READ', said, values)   # {'fh': '01ab', 'offset': 0, 'count': 4096}
+    read_reply('NFSPROC3_READ', said, values)  # (0, {'obj.size': 5, .., 'data': b'alpha'})
 
 `said` is what the listing has after the name of the procedure. An item has the name of its layout,
 after the name of its owner if it has one. What is absent has no name. Numbers are integers, handles
-and opaque data digits, and names as the listing spells them.
+and verifiers digits, names as the listing spells them, and data bytes.
 """
 from __future__ import annotations
 
@@ -15,8 +15,9 @@ from collections.abc import Callable, Mapping
 from operator import itemgetter
 from typing import Any, NamedTuple, Optional
 
-from ..captures.answering import STATUS
-from ..captures.in_words import head_of
+from ..exchanges.answering import STATUS
+from ..exchanges.in_words import head_of
+from ..exchanges.stored import Long, Values as LongValues
 from ..shared.layouts import BY_NAME, PARTS, RAW, cases_of
 
 Values = dict[str, Any]
@@ -116,11 +117,12 @@ def pattern_of(item: str, owner: str, names: list[str],
     return f' {name}={pattern}(?:{"|".join(parts)}|)'
 
 
-def read(layout: Layout, said: str, at: int) -> Values:
+def read(layout: Layout, said: str, at: int, long_values: LongValues) -> Values:
     """Reads the items of a layout from a place on."""
     out, end = items_in(layout, said, at)
     if layout.has_data:
-        out['data'] = said[end + len(' data='):].rstrip('\n')
+        data = long_values.value(said[end + len(' data='):])
+        out['data'] = data if isinstance(data, Long) else bytes.fromhex(data)
     if layout.entry is not None:
         entries = out['entries'] = list[Values]()
         while said.startswith(' entry=1', end):
@@ -138,19 +140,32 @@ def items_in(layout: Layout, said: str, at: int) -> tuple[Values, int]:
     return {name: make(value) for name, make, value in values if value is not None}, found.end()
 
 
-def read_call(procedure: str, said: str) -> Values:
+def read_call(procedure: str, said: str, long_values: LongValues) -> Values:
     """Returns the arguments of a call."""
-    return read(layout_of(BY_NAME[procedure].arguments), said, len(head_of(procedure, said)[0]))
+    layout = layout_of(BY_NAME[procedure].arguments)
+    return read(layout, said, len(head_of(procedure, said)[0]), long_values)
 
 
-def read_reply(procedure: str, said: str) -> tuple[int | None, Values]:
+def read_reply(procedure: str, said: str,
+               long_values: LongValues) -> tuple[int | None, Values]:
     """Returns the status and the results of a reply: no status if the call was not accepted."""
     found = STATUS.match(said)
     assert found, said[:200]
     if found[1] != '0' or procedure == RAW.name:
         return None, {}
     status, layouts = int(found[2] or 0), BY_NAME[procedure]
-    return status, read(layout_of(layouts.failed if status else layouts.done), said, found.end())
+    layout = layout_of(layouts.failed if status else layouts.done)
+    return status, read(layout, said, found.end(), long_values)
+
+
+def size_of(data: bytes | Long) -> int:
+    """Returns how many bytes the data of a READ or a WRITE have."""
+    return data.size if isinstance(data, Long) else len(data)
+
+
+def bytes_in(data: bytes | Long, begin: int, end: int) -> bytes:
+    """Returns some bytes of data."""
+    return data.read(begin, end) if isinstance(data, Long) else data[begin:end]
 
 
 @functools.cache
