@@ -47,6 +47,7 @@ class Across:
     def end(self) -> None:
         """Finds what counts only once all exchanges are taken."""
         self.objects.end()
+        self.names.end()
         for known in self.objects.known.values() if self.is_whole else ():
             for left in known.unstable:
                 self.find(Finding('not-committed', left.source.number,

@@ -8,7 +8,7 @@
 from __future__ import annotations
 
 from collections.abc import Container, Sequence
-from dataclasses import dataclass
+from dataclasses import dataclass, field
 
 from ..judgement.verdict import Verdict
 from ..recordings.selection import count
@@ -42,21 +42,25 @@ class Looked:
     beside: int = 0
     exchanges: int = 0
     is_across: bool = True
+    still: list[str] = field(default_factory=list)
 
     def add(self, other: Looked) -> None:
         for name in ('reads', 'bytes', 'names', 'listings', 'beside', 'exchanges'):
             setattr(self, name, getattr(self, name) + getattr(other, name))
         self.is_across &= other.is_across
+        self.still += other.still
 
     def words(self) -> str:
         """Returns what is printed of it."""
         if not self.is_across:
             return (f'looked at {count(self.exchanges, "exchange")}, each by itself: a capture has '
                     'no frames, so rules about several were not asked')
+        of_names = (f'; names not, since times stand still at {", ".join(self.still)}'
+                    if self.still else '')
         return (f'looked at {count(self.exchanges, "exchange")}, {count(self.reads, "READ")} '
                 f'({self.bytes:,} bytes), {count(self.names, "name")}, '
                 f'{count(self.listings, "listing")}; {count(self.beside, "READ")} beside changes '
-                'not compared')
+                f'not compared{of_names}')
 
 
 class Found:
@@ -88,7 +92,8 @@ class Found:
                 across.take(one)
         across.end()
         self.looked = Looked(across.reads, across.bytes, across.names.asked, across.names.listed,
-                             across.beside, self.looked.exchanges, self.recorded.has_frames)
+                             across.beside, self.looked.exchanges, self.recorded.has_frames,
+                             sorted(across.names.still))
 
     def add(self, finding: Finding) -> None:
         if finding.rule not in self.wanted:

@@ -15,20 +15,47 @@ DOTS = ('.', '..')
 
 class Names:
     """The rules about names, over the objects of a recording. `asked` counts the names that
-    something was known of, and `listed` the whole listings."""
+    something was known of, and `listed` the whole listings. `moved` and `stood` are the servers at
+    which a change of a directory moved its ctime, and did not."""
 
     def __init__(self, objects: Objects) -> None:
         self.objects, self.recorded = objects, objects.recorded
         self.asked = self.listed = 0
+        self.moved, self.stood = set[str](), set[str]()
+        self.doubts = list[tuple[str, Object, int, Finding]]()
 
     def take(self, one: Exchange) -> None:
         """Takes what a reply says of names against what is known, and then what the call did."""
         if one.procedure in LISTINGS:
             self.take_listing(one)
         elif one.procedure == 'LOOKUP' or one.procedure in OF_NAMES:
+            if one.is_ok:
+                self.look_at_times(one)
             for number, (handle, name) in enumerate(names_in(one.call)):
                 if name not in DOTS:
                     self.take_name(one, number, handle, name)
+
+    def end(self) -> None:
+        """Finds what was found at servers whose times show changes."""
+        for server, folder, loose, finding in self.doubts:
+            if server not in self.still and not (loose and folder in self.objects.others):
+                self.objects.find(finding)
+
+    def doubt(self, one: Exchange, folder: Object, rule: str, text: str,
+              source: Source | None) -> None:
+        self.doubts.append((one.server, folder, folder.loose,
+                            Finding(rule, one.number, text, source)))
+
+    def look_at_times(self, one: Exchange) -> None:
+        """Notes whether a change of a directory is seen in its ctime."""
+        for told in one.told:
+            if told.now and told.before:
+                (self.moved if told.now.ctime != told.before.ctime else self.stood).add(one.server)
+
+    @property
+    def still(self) -> set[str]:
+        """The servers whose times do not show changes, so that those of others are not seen."""
+        return self.stood - self.moved
 
     def take_name(self, one: Exchange, number: int, handle: str, name: str) -> None:
         folder, says = self.objects.at(one, handle), says_of(one, number)
@@ -66,8 +93,8 @@ class Names:
             rule, is_now, was = 'name-object', f'of {ids_of(found)}', f'of {ids_of(known)}'
         if rule:
             source = folder.named_by.get(name) or folder.named_by.get('')
-            text = f'{name} is {is_now}, {in_frame(source)} it was {was}'
-            self.objects.doubt(folder, 0, Finding(rule, one.number, text, source))
+            self.doubt(one, folder, rule, f'{name} is {is_now}, {in_frame(source)} it was {was}',
+                       source)
 
     def is_unsure(self, one: Exchange, handle: str, name: str) -> bool:
         """Whether it cannot be known what a call did to a name."""
@@ -122,8 +149,7 @@ class Names:
         elif before and before[:2] == (mtime, call['cookie']):
             twice = sorted(set(entries) & set(before[2]))
             if twice and folder.seen and folder.seen.mtime == mtime:
-                self.objects.find(Finding('listing', one.number, f'{twice[0]} is listed twice',
-                                          folder.source))
+                self.doubt(one, folder, 'listing', f'{twice[0]} is listed twice', folder.source)
             folder.listing = mtime, last, before[2] + entries
         if one.reply['eof'] and folder.listing and not folder.is_blind \
                 and folder.seen and folder.seen.mtime == mtime:
@@ -137,8 +163,8 @@ class Names:
             if (known is False) == (name in there) and '\\x' not in name:
                 source = folder.named_by.get(name)
                 is_now, was = ('listed', 'gone') if name in there else ('not listed', 'there')
-                text = f'{name} is {is_now}, {in_frame(source)} it was {was}'
-                self.objects.doubt(folder, 0, Finding('listing', one.number, text, source))
+                self.doubt(one, folder, 'listing',
+                           f'{name} is {is_now}, {in_frame(source)} it was {was}', source)
         folder.names = {name: folder.names.get(name) or True for name in there - {*DOTS}}
         folder.named_by = dict.fromkeys(('', *folder.names), one.source)
         folder.is_complete = True

@@ -165,10 +165,9 @@ class Objects:
         names = [name for name in LASTING if getattr(now, name) != getattr(known.seen, name)]
         if self.relinked < known.seen_at and now.nlink != known.seen.nlink:
             names.append('nlink')
-        tick = TICK if now.ctime_nsec else COARSE_TICK
         if not names:
             known.confirmed = one.begun
-        elif known.confirmed - known.since >= tick:
+        elif known.confirmed - known.since >= (TICK if now.ctime_nsec else COARSE_TICK):
             text = ', '.join(f'{name} is {getattr(now, name)}, {in_frame(known.source)} it was '
                              f'{getattr(known.seen, name)}' for name in names)
             self.find(Finding('same-ctime', one.number, text, known.source))

@@ -1,0 +1,499 @@
+"""Tests of `tools/meaning`: for each rule a fault and what is sound beside it; one item changed in
+recorded replies; and exchanges that are hidden, as those of a client that is not recorded."""
+import collections
+import functools
+import json
+import os
+import random
+import struct
+import unittest
+from collections.abc import Callable, Iterable, Iterator
+from pathlib import Path
+from typing import Any, NamedTuple, Optional
+
+from examples.messages import (
+    DIR, FILE_SYNC, GUARDED, NFS, NFS_PROCEDURES, NOENT, REG, UNSTABLE, call, capture, dirop,
+    entries, entry, entryplus, failed, fattr, fh, fragment, guard, how, hyper, made, nfstime, ok,
+    opaque, optional, post_op_attr, sattr, success, word)
+from examples.packets import Talk, pcap
+from tools.nfs3tools.judgement.verdict import Verdict
+from tools.nfs3tools.meaning.found import Found
+from tools.nfs3tools.meaning.recorded import Exchange, Recorded
+from tools.nfs3tools.meaning.rules import BY_NAME, RULES
+from tools.nfs3tools.recordings.selection import Options
+from tools.nfs3tools.recordings.taken import take
+
+from .cases import PROGRAM, FolderTest
+from .scripts import TOP, Tools
+
+FOLDER, FILE, OTHER = b'folder', b'file', b'other'
+T1, T2, T3 = (nfstime(seconds, 250_000_000) for seconds in (100, 200, 300))
+VERIFIER, RESTARTED = b'verifier', b'restart.'
+SECONDS = 10**9
+# Recordings of the repository, or those of a folder.
+FOLDER_OF_RECORDINGS = os.environ.get('RECORDINGS')
+RECORDINGS = [path for path in sorted(Path(FOLDER_OF_RECORDINGS or TOP / 'examples').glob('*.pcap'))
+              if not path.name.startswith('bad_')]
+KINDS_AT_LEAST, SHARE_FOUND = 30, 0.65
+HIDDEN, ALARMS_AT_MOST = (0.02, 0.1, 0.4), 2
+
+
+# --- A fault of each rule ---
+
+Step = tuple[str, bytes, bytes]  # a procedure, its arguments and its results
+
+
+class Case(NamedTuple):
+    """Exchanges that break a rule, and such that do not, after some that both have."""
+    rule: str
+    before: list[Step]
+    broken: list[Step]
+    sound: list[Step]
+
+
+def shown(kind: int = REG, fileid: int = 5, size: int = 5, mode: int = 0o644, mtime: bytes = T1,
+          ctime: bytes = T1) -> bytes:
+    return fattr(kind, fileid, size, mode)[:60] + T1 + mtime + ctime
+
+
+def folder(mtime: bytes = T1) -> bytes:
+    return shown(DIR, 2, 4096, 0o755, mtime, mtime)
+
+
+def changed(now: bytes, size: int = 5, was: bytes = T1) -> bytes:
+    """wcc_data of an object with attributes of before."""
+    return optional(hyper(size) + was + was) + post_op_attr(now)
+
+
+def asked(handle: bytes = FILE, now: bytes = shown()) -> Step:
+    return 'GETATTR', fh(handle), ok(now)
+
+
+def read(data: bytes, count: int = 100, size: int = 5, is_end: int = 1,
+         number: Optional[int] = None) -> Step:
+    told = post_op_attr(shown(size=size)) + word(len(data) if number is None else number)
+    return 'READ', fh(FILE) + hyper(0) + word(count), ok(told + word(is_end) + opaque(data))
+
+
+def write(now: bytes, count: int = 5, stable: int = FILE_SYNC, committed: int = FILE_SYNC,
+          written: int = 5, verifier: bytes = VERIFIER) -> Step:
+    return ('WRITE', fh(FILE) + hyper(0) + word(count) + word(stable) + opaque(b'alpha'),
+            ok(changed(now), word(written), word(committed), verifier))
+
+
+def looked_up(name: bytes, handle: bytes = FILE, fileid: int = 5, mtime: bytes = T1,
+              kind: int = DIR) -> Step:
+    above = shown(kind, 2, 4096, 0o755, mtime, mtime)
+    return ('LOOKUP', dirop(FOLDER, name),
+            ok(fh(handle) + post_op_attr(shown(fileid=fileid)) + post_op_attr(above)))
+
+
+def not_found(name: bytes, mtime: bytes) -> Step:
+    return 'LOOKUP', dirop(FOLDER, name), failed(NOENT, post_op_attr(folder(mtime)))
+
+
+def made_folder(mode: int = 0o700, kind: int = DIR) -> Step:
+    return ('MKDIR', dirop(FOLDER, b'new') + sattr(mode=0o700),
+            ok(made(b'new', shown(kind, 9, 0, mode, T2, T2), changed(folder(T2), 4096))))
+
+
+def listed(*items: bytes, count: int = 4096, is_end: bool = True) -> Step:
+    return ('READDIR', fh(FOLDER) + hyper(0) + bytes(8) + word(count),
+            ok(entries(folder(), bytes(8), items, is_end)))
+
+
+def set_mode(mode: int, ctime: bytes) -> Step:
+    return ('SETATTR', fh(FILE) + sattr(mode=0o600) + guard(T1),
+            ok(changed(shown(mode=mode, ctime=T3), was=ctime)))
+
+
+def listed_plus(fileid: int) -> Step:
+    one = entryplus(5, b'a', 1, shown(fileid=fileid), None)
+    return ('READDIRPLUS', fh(FOLDER) + hyper(0) + bytes(8) + word(4096) + word(4096),
+            ok(entries(folder(), bytes(8), [one], True)))
+
+
+def limits(best: int) -> Step:
+    sizes = b''.join(map(word, (4096, best, 512, 4096, 4096, 512, 4096)))
+    return ('FSINFO', fh(FOLDER),
+            ok(post_op_attr(folder()) + sizes + hyper(1 << 40) + nfstime(0, 1) + word(27)))
+
+
+def accessible(granted: int) -> Step:
+    return 'ACCESS', fh(FILE) + word(1), ok(post_op_attr(shown()) + word(granted))
+
+
+REMOVED: Step = 'REMOVE', dirop(FOLDER, b'a'), ok(changed(folder(T2), 4096))
+CREATED: Step = ('CREATE', dirop(FOLDER, b'a') + how(GUARDED, sattr(mode=0o644)),
+                 ok(made(FILE, shown(size=0, mtime=T2, ctime=T2), changed(folder(T2), 4096))))
+COMMITTED: Step = 'COMMIT', fh(FILE) + hyper(0) + word(0), ok(changed(shown()), VERIFIER)
+UNCOMMITTED = write(shown(), stable=UNSTABLE, committed=UNSTABLE)
+AT_REST, AT_REST_LATER = asked(FOLDER, folder()), asked(FOLDER, folder(T2))
+CASES = [
+    Case('read-data', [read(b'alpha')], [read(b'alphb')], [read(b'alpha')]),
+    Case('read-eof', [], [read(b'alpha', is_end=0)], [read(b'alpha')]),
+    Case('read-past-end', [], [read(b'alpha', size=4)], [read(b'alpha')]),
+    Case('read-count-data', [], [read(b'alpha', number=4, size=4)], [read(b'alpha')]),
+    Case('read-count-asked', [], [read(b'alpha', 3)], [read(b'alpha', 5)]),
+    Case('write-size', [], [write(shown(size=4))], [write(shown())]),
+    Case('write-committed', [], [write(shown(), committed=UNSTABLE), COMMITTED],
+         [write(shown()), COMMITTED]),
+    Case('write-count-asked', [], [write(shown(size=6), written=6)], [write(shown())]),
+    Case('write-count-data', [], [write(shown(size=6), count=6)], [write(shown())]),
+    Case('verifier', [write(shown())], [write(shown(), verifier=RESTARTED)], [write(shown())]),
+    Case('not-committed', [], [UNCOMMITTED], [UNCOMMITTED, COMMITTED]),
+    Case('listing', [AT_REST, looked_up(b'a')], [listed(entry(9, b'b', 1))],
+         [listed(entry(5, b'a', 1))]),
+    Case('name-gone', [AT_REST, REMOVED, AT_REST_LATER], [looked_up(b'a', mtime=T2)],
+         [not_found(b'a', T2)]),
+    Case('name-there', [AT_REST, CREATED, AT_REST_LATER], [not_found(b'a', T2)],
+         [looked_up(b'a', mtime=T2)]),
+    Case('name-object', [AT_REST, looked_up(b'a')], [looked_up(b'a', OTHER, 6)],
+         [looked_up(b'a')]),
+    Case('handle-object', [asked()], [asked(now=shown(fileid=6))], [asked()]),
+    Case('same-ctime', [asked(), asked()], [asked(now=shown(mode=0o600))], [asked()]),
+    Case('returns', [asked(), asked()], [asked(now=shown(mtime=T2, ctime=T2)), asked()],
+         [asked(now=shown(mtime=T2, ctime=T2)), asked(now=shown(mtime=T3, ctime=T3))]),
+    Case('set-attributes', [], [set_mode(0o644, T1)], [set_mode(0o600, T1)]),
+    Case('made-attributes', [], [made_folder(0o755)], [made_folder()]),
+    Case('made-type', [], [made_folder(kind=REG)], [made_folder()]),
+    Case('guard', [], [set_mode(0o600, T2)], [set_mode(0o600, T1)]),
+    Case('entries-size', [], [listed(entry(5, b'a', 1), count=131)],
+         [listed(entry(5, b'a', 1), count=132)]),
+    Case('entries-none', [], [listed(is_end=False)], [listed()]),
+    Case('entry-cookies', [], [listed(entry(5, b'a', 1), entry(6, b'b', 1))],
+         [listed(entry(5, b'a', 1), entry(6, b'b', 2))]),
+    Case('entry-names', [], [listed(entry(5, b'a', 1), entry(6, b'a', 2))],
+         [listed(entry(5, b'a', 1), entry(6, b'b', 2))]),
+    Case('entry-fileid', [], [listed_plus(6)], [listed_plus(5)]),
+    Case('mode-bits', [], [asked(now=shown(mode=0o100644))], [asked()]),
+    Case('nsec', [], [asked(now=shown(mtime=nfstime(100, SECONDS)))], [asked()]),
+    Case('write-ctime', [asked()], [write(shown(mtime=T3, ctime=T2))],
+         [write(shown(mtime=T3, ctime=T3))]),
+    Case('dir-type', [], [looked_up(b'a', kind=REG)], [looked_up(b'a')]),
+    Case('access-asked', [], [accessible(3)], [accessible(1)]),
+    Case('fsinfo', [], [limits(8192)], [limits(4096)])]
+
+
+def frames_of(number: int, steps: Iterable[Step]) -> list[bytes]:
+    """The frames of a connection with a server of its own."""
+    talk = Talk(hosts=('192.0.2.7', f'198.51.100.{number}'))
+    frames = talk.opened()
+    for xid, (name, arguments, results) in enumerate(steps, 1):
+        body = call(xid, NFS, 3, NFS_PROCEDURES.index(name), arguments)
+        frames += [talk.sent(0, fragment(body)), talk.sent(1, fragment(success(xid, results)))]
+    return [*frames, *talk.closed()]
+
+
+def in_seconds(frames: Iterable[bytes]) -> bytes:
+    """A recording with a frame each second."""
+    return pcap([]) + b''.join(struct.pack('<IIII', 1000 + number, 0, len(frame), len(frame))
+                               + frame for number, frame in enumerate(frames))
+
+
+def meaning(tools: Tools, *words: str) -> tuple[int, Any]:
+    """The status of a run, and its JSON."""
+    status, out, error = tools.tool('meaning', '--program', tools.program, '--json', *words)
+    tools.want('standard error', error, '')
+    return status, json.loads(out)
+
+
+def a_fault_of_each_rule(tools: Tools) -> None:
+    """Each is found, and nothing else; what is sound beside it passes."""
+    tools.want('rules', sorted(case.rule for case in CASES), sorted(rule.name for rule in RULES))
+    frames = [frame for number, case in enumerate(CASES)
+              for frame in (*frames_of(2 * number, case.before + case.broken),
+                            *frames_of(2 * number + 1, case.before + case.sound))]
+    tools.write('a.pcap', in_seconds(frames))
+    status, whole = meaning(tools, 'a.pcap')
+    tools.want('status', (status, whole['counts']['ok']), (1, 2 * len(CASES)))
+    found = collections.defaultdict[int, set[str]](set)
+    for one in whole['findings']:
+        found[one['connection']].add(one['rule'])
+    for number, case in enumerate(CASES):
+        tools.want(case.rule, found[2 * number + 1], {case.rule})
+        tools.want(f'{case.rule}: sound', found[2 * number + 2], set())
+    by_two = {one['rule'] for one in whole['findings'] if one['against_frame']}
+    tools.want('findings with two frames', by_two, {
+        'read-data', 'verifier', 'listing', 'name-gone', 'name-there', 'name-object',
+        'handle-object', 'same-ctime', 'returns', 'write-ctime'})
+
+
+# --- Forms of output ---
+
+def write_faulty(tools: Tools) -> None:
+    tools.write('a.pcap', in_seconds(frames_of(1, [read(b'alpha'), read(b'alphb'), asked()])))
+
+
+def words_of_a_finding(tools: Tools) -> None:
+    """A row names both frames, and all forms of output have the same counts and status."""
+    write_faulty(tools)
+    run = functools.partial(tools.tool, 'meaning', '--program', tools.program)
+    first = ('frame 7: READ ? 0+100: byte 4 is 62, in frame 5 it was 61, with the same mtime and '
+             'size')
+    status, out, _ = run('a.pcap')
+    tools.want('row', (status, out.splitlines()[1].split(None, 5)[5]), (1, first))
+    sums = out.splitlines()[-2:]
+    tools.want('sums', sums, [
+        '1 finding by 1 rule, 0 notes; looked at 3 exchanges, 1 READ (5 bytes), 0 names, '
+        '0 listings; 0 READs beside changes not compared',
+        '1 judged (1 ok, 0 refused), 0 in part, 0 left out, 0 not checked, 0 errors'])
+    status, out, _ = run('--all', 'a.pcap')
+    tools.want('--all', (status, out.splitlines()), (1, [f'5.000000  read-data  {first}', *sums]))
+    status, out, error = run('--csv', 'a.pcap')
+    tools.want('--csv', (status, len(out.splitlines()), error.splitlines()), (1, 2, sums))
+    status, _, _ = run('--junit', 'a.xml', '--html', 'a.html', 'a.pcap')
+    junit, page = tools.read('a.xml').decode(), tools.read('a.html').decode()
+    tools.want('--junit', (status, 'failures="1"' in junit, first in junit), (1, True, True))
+    tools.want('--html', (first in page, sums[0] in page), (True, True))
+    tools.want('--rule', run('--rule', 'nsec', 'a.pcap')[0], 0)
+    status, out, _ = run('--explain', 'read-data')
+    tools.want('--explain', (status, 'RFC 1813, section 3.3.6' in out), (0, True))
+
+
+def findings_that_are_accepted(tools: Tools) -> None:
+    """They change no status; what is no longer found is listed; other files are refused."""
+    write_faulty(tools)
+    run = functools.partial(tools.tool, 'meaning', '--program', tools.program, '--accept', 'a.json')
+    entries_ = [{'rule': 'read-data', 'server': '198.51.100.1:2049'}, {'rule': 'nsec', 'server': '*'}]
+    tools.write('a.json', json.dumps({'version': 1, 'accepted': entries_}).encode())
+    status, out, _ = run('a.pcap')
+    tools.want('accepted', (status, out.splitlines()[-3:-1]), (0, [
+        'no longer found: nsec *',
+        '0 findings by 0 rules, 0 notes, 1 accepted; looked at 3 exchanges, 1 READ (5 bytes), '
+        '0 names, 0 listings; 0 READs beside changes not compared']))
+    tools.want('--junit', (run('--junit', 'a.xml', 'a.pcap')[0],
+                           b'failures="0"' in tools.read('a.xml')), (0, True))
+    for wrong in (b'', b'[]', b'{"version": 2, "accepted": []}', b'\xff',
+                  b'{"version": 1, "accepted": [{"rule": "none", "server": "*"}]}'):
+        tools.write('a.json', wrong)
+        tools.want(f'{wrong!r}', run('a.pcap')[0], 2)
+
+
+def a_capture(tools: Tools) -> None:
+    """It has no frames, so rules about several exchanges are not asked, which is said."""
+    calls = [call(xid, NFS, 3, NFS_PROCEDURES.index(name), arguments)
+             for xid, (name, arguments, _) in enumerate((read(b'alpha'), read(b'alphb', 3)), 1)]
+    replies = [success(xid, results) for xid, (_, _, results)
+               in enumerate((read(b'alpha'), read(b'alphb', 3)), 1)]
+    tools.write('a.nfs3cap', capture((calls, replies)))
+    status, out, _ = tools.tool('meaning', '--program', tools.program, 'a.nfs3cap')
+    tools.want('rows', (status, [line.split()[0] for line in out.splitlines()[1:-2]]),
+               (1, ['read-count-asked']))
+    tools.want('is said', 'a capture has no frames' in out.splitlines()[-2], True)
+
+
+def real_recordings(tools: Tools) -> None:
+    """What is found in the recordings of the repository. The memory back end of nfs-ganesha keeps
+    no data beyond a size, and moves mtime without ctime."""
+    for name, wanted in (('ganesha_a', {'write-ctime': 6, 'read-data': 1}),
+                         ('concurrent_a', {'write-ctime': 4})):
+        status, whole = meaning(tools, str(TOP / f'examples/{name}.pcap'))
+        tools.want(name, (status, {row['rule']: row['found'] for row in whole['rules']}),
+                   (1, wanted))
+
+
+# --- One item changed, and exchanges hidden ---
+
+class Changed(Recorded):
+    """Recorded exchanges, one of which says something else."""
+    number = -1
+    change: Callable[[Exchange], Exchange]
+
+    def exchange(self, number: int) -> Exchange:
+        one = super().exchange(number)
+        return self.change(one) if number == self.number else one
+
+
+class Hiding(Recorded):
+    """Recorded exchanges without some, as if a client were not recorded."""
+    hidden = frozenset[int]()
+
+    def note_change(self, number: int, procedure: str) -> None:
+        if number not in self.hidden:
+            super().note_change(number, procedure)
+
+    def answered(self) -> Iterator[Exchange]:
+        return (one for one in super().answered() if one.number not in self.hidden)
+
+
+class Nothing(NamedTuple):
+    """What is taken of a recording that was read before."""
+    connections: tuple[()] = ()
+    begun: int = 0
+
+
+def first_of(path: Path) -> Found:
+    """What is found in a recording."""
+    found = Found(str(path), BY_NAME)
+    with take(str(path), Options(), shows_progress=False) as taken:
+        found.take(PROGRAM, taken, [Verdict(str(path), one.number) for one in taken.connections])
+    return found
+
+
+def again(first: Found, recorded: Recorded, is_whole: bool = True) -> set[tuple[str, int]]:
+    """What is found if the exchanges of a recording are others."""
+    found = Found(first.recording, BY_NAME)
+    recorded.kept, recorded.values, found.recorded = (
+        first.recorded.kept, first.recorded.values, recorded)
+    state = Verdict('', 1, state='ok' if is_whole else 'in part')
+    found.take('', Nothing(), [state])  # type: ignore[arg-type]
+    return {(one.rule, one.number) for one in found.all}
+
+
+class Plant(NamedTuple):
+    """A change of one item, valid to `check`: the procedures, whether the call is changed, the item
+    (the last of that name if there are several), and its new value."""
+    procedures: str
+    is_call: bool
+    item: str
+    value: Callable[[Any, Exchange], Any]
+    is_fit: Callable[[Exchange], Any] = lambda one: True
+
+    def changed(self, one: Exchange) -> Optional[Exchange]:
+        """Returns an exchange with the change, or None if it has no such item."""
+        values = one.call if self.is_call else one.reply
+        names = [name for name in values if name == self.item or name.endswith('.' + self.item)]
+        if not one.is_ok or one.procedure not in self.procedures.split() or not names \
+                or not self.is_fit(one):
+            return None
+        new = self.value(values[names[-1]], one)
+        if new == values[names[-1]]:
+            return None
+        values[names[-1]] = new
+        return one
+
+
+def more(step: int) -> Callable[[Any, Exchange], int]:
+    return lambda value, one: int(value) + step
+
+
+def bit(mask: int) -> Callable[[Any, Exchange], int]:
+    return lambda value, one: int(value) ^ mask
+
+
+def other_byte(data: Any, one: Exchange) -> bytes:
+    whole = data if isinstance(data, bytes) else data.read(0, data.size)
+    return whole[:-1] + bytes([whole[-1] ^ 1]) if whole else whole
+
+
+def other_digit(value: Any, one: Exchange) -> str:
+    return f'{value[:-1]}{"1" if value[-1] == "0" else "0"}'
+
+
+def in_entry(name: str, value: Callable[[Any], Any]) -> Callable[[Any, Exchange], Any]:
+    """Changes the third entry of a directory."""
+    return lambda items, one: [{**item, name: value(item[name])} if at == 2 and name in item
+                               else item for at, item in enumerate(items)]
+
+
+LOOKS, LISTINGS = 'GETATTR ACCESS LOOKUP', 'READDIR READDIRPLUS'
+PLANTS = {
+    'READ: a byte': Plant('READ', False, 'data', other_byte),
+    'READ: count': Plant('READ', False, 'count', more(-1), lambda one: one.reply['count']),
+    'READ: eof': Plant('READ', False, 'eof', bit(1), lambda one: one.call['count']),
+    'READ: size more': Plant('READ', False, 'size', more(1)),
+    'READ: size less': Plant('READ', False, 'size', more(-1), lambda one: one.reply['eof']),
+    'WRITE: a byte': Plant('WRITE', True, 'data', other_byte),
+    'WRITE: count': Plant('WRITE', False, 'count', more(1)),
+    'WRITE: count of the call': Plant('WRITE', True, 'count', more(1)),
+    'WRITE: committed': Plant('WRITE', False, 'committed', lambda value, one: 0),
+    'WRITE: size less': Plant('WRITE', False, 'size', more(-1)),
+    'WRITE: size more': Plant('WRITE', False, 'size', more(1)),
+    'WRITE: verifier': Plant('WRITE', False, 'verf', other_digit),
+    'COMMIT: verifier': Plant('COMMIT', False, 'verf', other_digit),
+    'COMMIT: of another file': Plant('COMMIT', True, 'fh', other_digit),
+    'type': Plant(LOOKS, False, 'type', lambda value, one: 2 if value == 1 else 1),
+    'fileid': Plant(LOOKS, False, 'fileid', more(1)),
+    'fsid': Plant(LOOKS, False, 'fsid', more(1)),
+    'mode': Plant(LOOKS, False, 'mode', bit(0o100)),
+    'uid': Plant(LOOKS, False, 'uid', more(1)),
+    'size': Plant(LOOKS, False, 'size', more(1)),
+    'mtime': Plant(LOOKS, False, 'mtime_sec', more(1)),
+    'ctime back': Plant(LOOKS, False, 'ctime_sec', more(-10)),
+    'nanoseconds': Plant(LOOKS, False, 'mtime_nsec', lambda value, one: SECONDS),
+    'bits of the type': Plant(LOOKS, False, 'mode', bit(0o40000)),
+    'ACCESS: a bit more': Plant('ACCESS', False, 'access',
+                                lambda value, one: value | (0x3f & ~one.call['access'])),
+    'LOOKUP: another handle': Plant('LOOKUP', False, 'fh', other_digit),
+    'SETATTR: mode': Plant('SETATTR', False, 'mode', bit(0o100),
+                           lambda one: 'set.mode' in one.call),
+    'SETATTR: size': Plant('SETATTR', False, 'size', more(1),
+                           lambda one: 'set.size' in one.call),
+    'made: type': Plant('CREATE MKDIR SYMLINK MKNOD', False, 'obj.type',
+                        lambda value, one: value % 7 + 1),
+    'made: mode': Plant('CREATE MKDIR MKNOD', False, 'obj.mode', bit(0o200)),
+    'REMOVE: of another name': Plant('REMOVE', True, 'name', other_digit),
+    'entry: name': Plant(LISTINGS, False, 'entries', in_entry('name', lambda name: name + 'x')),
+    'entry: cookie': Plant(LISTINGS, False, 'entries', in_entry('cookie', lambda value: 0)),
+    'entry: file id': Plant('READDIRPLUS', False, 'entries',
+                            in_entry('fileid', lambda value: value + 1)),
+    'listing: eof': Plant(LISTINGS, False, 'eof', bit(1)),
+    'FSINFO: rtmult': Plant('FSINFO', False, 'rtmult', lambda value, one: 0),
+    'FSINFO: rtmax': Plant('FSINFO', False, 'rtmax', lambda value, one: 1)}
+EACH = 3  # of each kind, in a recording
+
+
+def is_planted_found(first: Found, plant: Plant, known: set[tuple[str, int]],
+                     number: int) -> Optional[bool]:
+    """Whether a change of an exchange is found; None if it has no such item."""
+    if plant.changed(first.recorded.exchange(number)) is None:
+        return None
+    recorded = Changed()
+    recorded.number = number
+    recorded.change = lambda one: plant.changed(one) or one
+    return bool(again(first, recorded) - known)
+
+
+class Recordings(unittest.TestCase):
+    """Tests over recordings, from which a value or an exchange is taken."""
+
+    def test_planted(self) -> None:
+        """Of the changes of one item, most are found."""
+        told = collections.Counter[str]()
+        for path in RECORDINGS:
+            first = first_of(path)
+            known = {(one.rule, one.number) for one in first.all}
+            numbers = [one.number for one in first.recorded.answered()]
+            for name, plant in PLANTS.items():
+                random.Random(name).shuffle(numbers)
+                tried = (is_planted_found(first, plant, known, number) for number in numbers)
+                done = [is_found for is_found, _ in zip(
+                    (one for one in tried if one is not None), range(EACH))]
+                told[name] += sum(done)
+                told['all'] += len(done)
+                told['found'] += sum(done)
+            first.recorded.kept.close()
+        print(told)
+        self.assertGreaterEqual(told['all'], KINDS_AT_LEAST)
+        self.assertGreaterEqual(told['found'], SHARE_FOUND * told['all'], told)
+
+    def test_hidden(self) -> None:
+        """Nothing more is found if exchanges are hidden."""
+        alarms = list[str]()
+        for path in RECORDINGS:
+            first = first_of(path)
+            known = {(one.rule, one.number) for one in first.all}
+            for hidden in hidings(first):
+                recorded = Hiding()
+                recorded.hidden = hidden
+                alarms += [f'{path.name}: {one}' for one in again(first, recorded, False) - known]
+            first.recorded.kept.close()
+        self.assertLessEqual(len(alarms), ALARMS_AT_MOST, alarms)
+
+
+def hidings(first: Found) -> Iterator[frozenset[int]]:
+    """A connection of several, and shares of all exchanges at random."""
+    kept = first.recorded.kept
+    if len(kept.parts) <= 20:
+        yield from (frozenset(kept.exchanges_of(at)) for at in range(len(kept.parts)))
+    for share in HIDDEN:
+        for seed in range(2):
+            chosen = random.Random(f'{seed} {share}')
+            yield frozenset(number for number in range(len(kept)) if chosen.random() < share)
+
+
+class MeaningTests(FolderTest, make=Tools, tests=(
+        a_fault_of_each_rule, words_of_a_finding, findings_that_are_accepted, a_capture,
+        real_recordings)):
+    pass
