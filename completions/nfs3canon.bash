@@ -32,6 +32,9 @@ _nfs3_tool() {
     *'compare --order') words='strict any' ;;
     *'compare --extra') words='asking none' ;;
     *'calls --sort') words='time latency' ;;
+    *'meaning --explain' | *'meaning --rule')
+      words='read-data read-eof read-past-end read-count-data read-count-asked write-size write-committed write-count-asked write-count-data verifier not-committed listing name-gone name-there name-object handle-object same-ctime returns set-attributes made-attributes made-type guard entries-size entries-none entry-cookies entry-names entry-fileid mode-bits nsec write-ctime dir-type access-asked fsinfo'
+      ;;
     *'procedures --sort') words='procedure calls again replies no-reply call-bytes reply-bytes median p99 most mean sum errors' ;;
     *) [[ $word != -* ]] || words=$(_nfs3_options "$tool") ;;
   esac
@@ -44,6 +47,7 @@ _nfs3_options() {
   case $1 in
     *verdicts) echo "$judging" --color --quiet --follow --junit --json --html -j ;;
     *calls) echo "$judging" --color --errors --slow --procedure --path --user --client --sort --json --csv ;;
+    *meaning) echo "$judging" --color --all --rule --notes --explain --accept --junit --html --json --csv ;;
     *procedures) echo "$judging" --color --width --beside --total --sort --json --csv --html ;;
     *compare) echo "$judging" --color --mask --order --extra --ignore --accept --accept-new --marks --all --brief --html --json --junit ;;
     *cut) echo --origins --program ;;
@@ -52,5 +56,5 @@ _nfs3_options() {
 
 # The tools, by the names under which they are installed, and those with a name of their own also by that: compare and where are
 # names of other programs.
-complete -o default -F _nfs3_tool from_pcap verdicts calls procedures nfs3-from-pcap nfs3-where nfs3-explain nfs3-verdicts nfs3-calls \
+complete -o default -F _nfs3_tool from_pcap verdicts calls procedures nfs3-from-pcap nfs3-where nfs3-explain nfs3-verdicts nfs3-calls nfs3-meaning \
   nfs3-procedures nfs3-cut nfs3-compare

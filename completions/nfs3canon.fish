@@ -18,7 +18,7 @@ complete -c nfs3canon -n '__fish_seen_subcommand_from canon same; and test (__nf
 complete -c nfs3canon -n '__fish_seen_subcommand_from pack' -F
 
 # The tools for recordings.
-for tool in from_pcap verdicts calls procedures nfs3-from-pcap nfs3-where nfs3-verdicts nfs3-calls nfs3-procedures nfs3-compare nfs3-explain nfs3-cut
+for tool in from_pcap verdicts calls procedures nfs3-from-pcap nfs3-where nfs3-verdicts nfs3-calls nfs3-meaning nfs3-procedures nfs3-compare nfs3-explain nfs3-cut
     complete -c $tool -l port -x -d 'Take the connections that have one of these ports'
     complete -c $tool -l no-midstream -d 'Leave out connections whose beginning was not recorded'
     complete -c $tool -l whole-records -d 'End each stream after its last whole record'
@@ -26,7 +26,7 @@ for tool in from_pcap verdicts calls procedures nfs3-from-pcap nfs3-where nfs3-v
     complete -c $tool -l version -d 'Print the version'
     complete -c $tool -l help -d 'Print help'
 end
-for tool in verdicts nfs3-verdicts calls nfs3-calls procedures nfs3-procedures nfs3-compare
+for tool in verdicts nfs3-verdicts calls nfs3-calls nfs3-meaning procedures nfs3-procedures nfs3-compare
     complete -c $tool -l color -x -a 'auto always never' -d 'Whether there are colours'
     complete -c $tool -l allow-losses -d 'Take what is in part or left out as the status 0'
     complete -c $tool -l allow-not-checked -d 'Take what is not checked as the status 0'
@@ -52,6 +52,16 @@ for tool in calls nfs3-calls
     complete -c $tool -l csv -d 'Print comma-separated values'
     complete -c $tool -l program -r -d 'nfs3canon'
 end
+complete -c nfs3-meaning -l all -d 'List each finding'
+complete -c nfs3-meaning -l rule -x -a 'read-data read-eof read-past-end read-count-data read-count-asked write-size write-committed write-count-asked write-count-data verifier not-committed listing name-gone name-there name-object handle-object same-ctime returns set-attributes made-attributes made-type guard entries-size entries-none entry-cookies entry-names entry-fileid mode-bits nsec write-ctime dir-type access-asked fsinfo' -d 'Find only what breaks these rules'
+complete -c nfs3-meaning -l notes -d 'Print notes as well'
+complete -c nfs3-meaning -l explain -x -a 'read-data read-eof read-past-end read-count-data read-count-asked write-size write-committed write-count-asked write-count-data verifier not-committed listing name-gone name-there name-object handle-object same-ctime returns set-attributes made-attributes made-type guard entries-size entries-none entry-cookies entry-names entry-fileid mode-bits nsec write-ctime dir-type access-asked fsinfo' -d 'Say what a rule is, and what may be the cause'
+complete -c nfs3-meaning -l accept -r -d 'A file of accepted findings'
+complete -c nfs3-meaning -l junit -r -d 'Write JUnit XML'
+complete -c nfs3-meaning -l html -r -d 'Write a page for a browser'
+complete -c nfs3-meaning -l json -d 'Print JSON'
+complete -c nfs3-meaning -l csv -d 'Print comma-separated values'
+complete -c nfs3-meaning -l program -r -d 'nfs3canon'
 for tool in procedures nfs3-procedures
     complete -c $tool -l beside -d 'Print two recordings side by side'
     complete -c $tool -l width -x -d 'Print no line of a table wider'

@@ -13,7 +13,7 @@ ROW = re.compile(r'^\| `(\w+)` \|', re.M)
 COLUMNS = re.compile(r'^line-length = (\d+)$', re.M)
 # From the lowest to the highest.
 ROOMS = ('shared', 'recordings', 'captures', 'exchanges', 'comparison.values', 'comparison.exchanges', 'comparison.verdict',
-         'comparison.parts', 'reporting', 'judgement', 'commands')
+         'comparison.parts', 'reporting', 'judgement', 'meaning', 'commands')
 
 
 def modules(package: pathlib.Path) -> dict[str, pathlib.Path]:

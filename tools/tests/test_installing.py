@@ -22,7 +22,8 @@ from .cases import FolderTest
 from .scripts import TOP
 
 PROGRAMS = ('nfs3canon', 'nfs3mask')
-TOOLS = ('from-pcap', 'where', 'verdicts', 'calls', 'procedures', 'compare', 'explain', 'cut')
+TOOLS = ('from-pcap', 'where', 'verdicts', 'calls', 'procedures', 'meaning', 'compare', 'explain',
+         'cut')
 
 
 class Place(Runs):

@@ -30,10 +30,10 @@ FOLDER, FILE, OTHER = b'folder', b'file', b'other'
 T1, T2, T3 = (nfstime(seconds, 250_000_000) for seconds in (100, 200, 300))
 VERIFIER, RESTARTED = b'verifier', b'restart.'
 SECONDS = 10**9
-# Recordings of the repository, or those of a folder.
+# Recordings of the repository, or all of a folder.
 FOLDER_OF_RECORDINGS = os.environ.get('RECORDINGS')
-RECORDINGS = [path for path in sorted(Path(FOLDER_OF_RECORDINGS or TOP / 'examples').glob('*.pcap'))
-              if not path.name.startswith('bad_')]
+RECORDINGS = sorted(Path(FOLDER_OF_RECORDINGS).glob('*.pcap') if FOLDER_OF_RECORDINGS
+                    else (TOP / 'examples').glob('*_a.pcap'))
 KINDS_AT_LEAST, SHARE_FOUND = 30, 0.65
 HIDDEN, ALARMS_AT_MOST = (0.02, 0.1, 0.4), 2
 
@@ -463,8 +463,7 @@ class Recordings(unittest.TestCase):
                 told[name] += sum(done)
                 told['all'] += len(done)
                 told['found'] += sum(done)
-            first.recorded.kept.close()
-        print(told)
+            first.recorded.close()
         self.assertGreaterEqual(told['all'], KINDS_AT_LEAST)
         self.assertGreaterEqual(told['found'], SHARE_FOUND * told['all'], told)
 
@@ -478,7 +477,7 @@ class Recordings(unittest.TestCase):
                 recorded = Hiding()
                 recorded.hidden = hidden
                 alarms += [f'{path.name}: {one}' for one in again(first, recorded, False) - known]
-            first.recorded.kept.close()
+            first.recorded.close()
         self.assertLessEqual(len(alarms), ALARMS_AT_MOST, alarms)
 
 

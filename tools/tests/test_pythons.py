@@ -15,7 +15,7 @@ from .scripts import TOP, Tools
 
 OLDEST = (3, 9)
 PACKAGE = TOP / 'tools/nfs3tools'
-COMMANDS = ('calls', 'compare', 'cut', 'explain', 'from_pcap', 'install', 'procedures', 'release', 'verdicts', 'where')
+COMMANDS = ('calls', 'compare', 'cut', 'explain', 'from_pcap', 'install', 'meaning', 'procedures', 'release', 'verdicts', 'where')
 # Names and arguments of the library that are newer than 3.9, by "What's New in Python".
 NEWER = frozenset((
     'pairwise', 'batched', 'bit_count', 'file_digest', 'chdir', 'hardlink_to', 'aclosing', 'anext', 'aiter', 'StrEnum', 'UTC', 'tomllib',

@@ -65,7 +65,7 @@ def fits(tools: Tools, name: str, text: str) -> Any:
 
 def written(tools: Tools, tool: str, *words: str) -> str:
     """What a tool writes as JSON to standard output."""
-    return tools.tool(tool, '--program', tools.program, *(['--json'] if tool == 'calls' else ['--json', '-']), *words)[1]
+    return tools.tool(tool, '--program', tools.program, *(['--json'] if tool in ('calls', 'meaning') else ['--json', '-']), *words)[1]
 
 
 def verdicts_fit(tools: Tools) -> None:
@@ -77,6 +77,8 @@ def verdicts_fit(tools: Tools) -> None:
         tools.want('version of ' + tool, value['version'], 2)
         states = {row['state'] for row in value.get('rows') or value['verdicts']}
         tools.want('states', states >= {'ok', 'refused', 'in part', 'error'}, True)
+    value = fits(tools, 'meaning.json', written(tools, 'meaning', *names))
+    tools.want('findings', len(value['findings']) > 0, True)
 
 
 def lines_of_follow_fit(tools: Tools) -> None:

@@ -37,7 +37,8 @@ from ..shared.version import TOP, version
 
 PROGRAM = TOP / 'crates/nfs3canon/out/nfs3canon'
 PROGRAMS = ('nfs3canon', 'nfs3mask')
-TOOLS = ('from_pcap', 'where', 'verdicts', 'calls', 'procedures', 'compare', 'explain', 'cut')
+TOOLS = ('from_pcap', 'where', 'verdicts', 'calls', 'procedures', 'meaning', 'compare', 'explain',
+         'cut')
 COMPLETIONS = {file.format(name): place.format(name) for name in PROGRAMS for file, place in (
     ('{}.bash', 'share/bash-completion/completions/{}'), ('_{}', 'share/zsh/site-functions/_{}'),
     ('{}.fish', 'share/fish/vendor_completions.d/{}.fish'))}

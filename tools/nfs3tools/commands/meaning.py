@@ -20,10 +20,10 @@ server, either of which may be `*`:
 
     {"version": 1, "accepted": [{"rule": "entries-size", "server": "10.77.0.1:2049"}]}
 
-The verdicts of tools/verdicts are counted in the last line; a finding makes no message invalid. The
-recordings are taken as there. The status is 0 if that of tools/verdicts is and nothing but notes and
-what is accepted was found, 1 if not, 2 and 3 as there. --json and --csv print all findings for
-programs, --junit writes a case for each rule and server, and --html a page for a browser.
+The last line has the counts of tools/verdicts; a finding makes no message invalid. The recordings
+are taken as there. The status is 0 if that of tools/verdicts is and nothing was found but notes and
+what is accepted, 1 if not, 2 and 3 as there. --json and --csv print all findings for programs,
+--junit writes a case for each rule and server, and --html a page for a browser.
 """
 from __future__ import annotations
 
@@ -226,7 +226,8 @@ def junit_of(tables: Sequence[tuple[str, list[Styled]]], rows: Sequence[Row], ac
         element(case, 'failure', message=sums_of(verdicts))
     suite.set('tests', str(len(suite.findall('testcase'))))
     suite.set('failures', str(len(suite.findall('testcase/failure'))))
-    return bytes(xml.etree.ElementTree.tostring(root, encoding='utf-8', xml_declaration=True)) + b'\n'
+    return bytes(xml.etree.ElementTree.tostring(root, encoding='utf-8',
+                                                xml_declaration=True)) + b'\n'
 
 
 def page_of(seen: Sequence[Seen], tables: Sequence[tuple[str, list[Styled]]], words: str,
@@ -259,8 +260,8 @@ def accepted_of(path: str) -> Accepted:
                    for entry in entries)
     except (ValueError, KeyError, TypeError, AttributeError, AssertionError, RecursionError):
         raise argparse.ArgumentTypeError(printable(
-            f'no accepted findings in {escaped(path)}: it needs an object with "version": {VERSION} '
-            'and a list "accepted" of objects with a rule and a server')) from None
+            f'no accepted findings in {escaped(path)}: it needs an object with "version": '
+            f'{VERSION} and a list "accepted" of objects with a rule and a server')) from None
     return Accepted(path, [(entry[0], entry[1]) for entry in entries])
 
 
@@ -319,7 +320,7 @@ def main(words: list[str]) -> int:
             tables.append((found.recording,
                            styled_rows(found, [*found.rows.values()], chosen.accept)))
             seen.append(Seen(recording, verdicts[before:]))
-            found.recorded.kept.close()
+            found.recorded.close()
         tell_verdicts(verdicts)
         form.end(rows, looked, verdicts)
     status = status_of(verdicts, allowed_of(chosen))

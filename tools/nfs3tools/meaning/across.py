@@ -141,7 +141,7 @@ class Across:
         verifier = one.reply['verf']
         known, source = self.verifiers.get(one.server, (verifier, None))
         if known != verifier:
-            self.find(Finding('verifier', one.number, f'verf is {verifier}, {in_frame(source)} it was {known}',
-                              source))
+            text = f'verf is {verifier}, {in_frame(source)} it was {known}'
+            self.find(Finding('verifier', one.number, text, source))
         if known != verifier or source is None:
             self.verifiers[one.server] = verifier, one.source

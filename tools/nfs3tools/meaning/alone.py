@@ -194,7 +194,8 @@ def no_entry(one: Exchange, recorded: Recorded) -> Iterator[str]:
 
 @checks('entries-size', *LISTINGS)
 def entries_size(one: Exchange, recorded: Recorded) -> Iterator[str]:
-    size = 4 + 84 * ('dir.type' in one.reply) + 8 + sum(map(size_of_entry, one.reply['entries'])) + 8
+    head = 4 + 84 * ('dir.type' in one.reply) + 8
+    size = head + sum(map(size_of_entry, one.reply['entries'])) + 4 + 4
     most = one.call.get('count', one.call.get('maxcount', 0))
     if size > most:
         yield f'{size} bytes of {most}'

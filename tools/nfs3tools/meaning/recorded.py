@@ -127,8 +127,8 @@ class Change(NamedTuple):
 
 def names_in(call: Values) -> tuple[tuple[str, str], ...]:
     """Returns the folders of a call, each with the name in it: two of RENAME."""
-    return tuple((call[owner + 'fh'], call[owner + 'name']) for owner in ('', 'from.', 'to.', 'link.')
-                 if owner + 'name' in call)
+    return tuple((call[owner + 'fh'], call[owner + 'name'])
+                 for owner in ('', 'from.', 'to.', 'link.') if owner + 'name' in call)
 
 
 def handles_changed(procedure: str, call: Values, reply: Values) -> set[str]:
@@ -153,6 +153,11 @@ class Recorded:
         # By servers and handles: in the order of their begins, and the latest end up to each.
         self.changes = defaultdict[Key, list[Change]](list)
         self.begins, self.ends = dict[Key, list[int]](), dict[Key, list[int]]()
+
+    def close(self) -> None:
+        self.kept.close()
+        if self.values.file:
+            self.values.file.close()
 
     def finish(self) -> None:
         """Looks for all changes, once all connections are taken."""
@@ -232,7 +237,7 @@ class Recorded:
                         self.end_of(number), ended)
 
     def answered(self) -> Iterator[Exchange]:
-        """Iterates over the exchanges of NFS whose call was accepted, in the order of their ends."""
+        """Iterates over exchanges of NFS whose call was accepted, in the order of their ends."""
         ends = [self.end_of(number) for number in range(len(self.kept))]
         for number in sorted(range(len(ends)), key=ends.__getitem__):
             if self.kept.firsts[number] and self.kept.listed_name(number).startswith(NFS):

@@ -24,7 +24,8 @@ from ..shared.version import version
 ABSENT, REFUSED, FAILED, INTERRUPTED = 1, 2, 3, 130  # ABSENT: no such position
 # How a tool reads a recording from standard input.
 READING = {'from_pcap': '- OUT', 'where': '- POSITION', 'explain': '- POSITION',
-           'verdicts': '-', 'procedures': '-', 'calls': '-', 'cut': '- POSITION OUT'}
+           'verdicts': '-', 'procedures': '-', 'calls': '-', 'meaning': '-',
+           'cut': '- POSITION OUT'}
 OPTION = re.compile(r' \[-[^]]*\]')  # in a usage
 STATUS = 'The status is 0'  # begins what is said of it
 COLUMNS = 100  # of help
