@@ -127,7 +127,7 @@ def waited(holds: Callable[[], bool], seconds: float = 20) -> bool:
     return holds()
 
 
-OTHER_NAMES = r'tools/|(?<!nfs3-)\b(?:from_pcap|where|verdicts|calls|procedures|compare|explain|cut)(?: - |\(1\))|\bfrom_pcap\b'
+OTHER_NAMES = r'tools/|(?<!nfs3-)\b(?:from_pcap|where|verdicts|calls|procedures|meaning|compare|explain|cut)(?: - |\(1\))|\bfrom_pcap\b'
 
 
 def named_as_installed(place: Place) -> None:
