@@ -56,6 +56,17 @@ def fields_of_a_reply(tools: Tools) -> None:
         'byte 80: fileid = 12', *(f'byte {at + 4}: {name} = {values[(at - 24) // 4]}' for at, name in times)])
 
 
+def values_that_are_odd(tools: Tools) -> None:
+    """Bits of the type in a mode, and a second in nanoseconds, are valid bytes and said to be odd."""
+    attributes = fattr(1, 12, mode=0o100644)[:60] + word(9) + word(10**9) + bytes(16)
+    tools.write('a', messages.capture(([call(5, NFS, 3, 1, fh(b'abc'))],
+                                       [success(5, ok(attributes))])))
+    lines = explained(tools, 'a', 'connection 1 server record 1')
+    wanted = ['byte 32: mode = 33188 (100644: has bits of the type)',
+              'byte 92: atime_nsec = 1000000000 (a second or more)', 'byte 100: mtime_nsec = 0']
+    tools.want('lines', [line for line in lines if line in wanted], wanted)
+
+
 def fields_of_each_message(tools: Tools) -> None:
     """Those that `show` lists, on every procedure, by the line that it prints; they follow one another up to the end of the body."""
     example = str(TOP / 'examples/every_procedure.nfs3cap')
@@ -340,7 +351,8 @@ def memory_of_large_recordings(tools: Tools) -> None:
               f'frame.number == {4 + ((last - 1) * 44 + 4) // size}', most=MOST_OF_A_RECORDING)
 
 
-TESTS = [fields_of_a_reply, fields_of_each_message, names_of_values, messages_at_fault, long_values, faults_of_recordings,
+TESTS = [fields_of_a_reply, values_that_are_odd, fields_of_each_message, names_of_values, messages_at_fault, long_values,
+         faults_of_recordings,
          recordings_of_all_kinds, options_of_recordings, bytes_of_captures, places_that_are_not_there,
          faults_of_damaged_captures, memory_of_large_captures, memory_of_many_parts, memory_of_large_recordings]
 

@@ -113,9 +113,20 @@ def tell_item(body: Body, is_call: bool, procedure: Procedure | None, byte: int,
 def line_of(item: Item, byte: int | None = None) -> str:
     """The line of an item, which is at this byte."""
     value = item.value + '..' if item.end - item.begin > SHOWN_AT_MOST else item.value
+    remarks = ': '.join(filter(None, (item.meaning, remark_on(item))))
     return 'byte %d: %s = %s%s' % (item.begin if byte is None else byte, item.name,
                                    value or 'nothing, since the body ends here',
-                                   ' (%s)' % item.meaning if item.meaning else '')
+                                   ' (%s)' % remarks if remarks else '')
+
+
+def remark_on(item: Item) -> str:
+    """What is valid in an item and still not as RFC 1813 means it (section 2.5): bits of
+    a mode beyond its twelve, and a second in nanoseconds."""
+    if item.is_whole and item.name == 'mode' and int(item.value) & ~0o7777:
+        return 'has bits of the type'
+    if item.is_whole and item.name.endswith('_nsec') and int(item.value) >= 10**9:
+        return 'a second or more'
+    return ''
 
 
 def tell_bytes(data: Body, begin: int, end: int, byte: int, tell: Tell, first: int = 0) -> None:
