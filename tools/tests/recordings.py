@@ -72,6 +72,12 @@ def content_kind(content: bytes) -> int:
     return IPV6 if content[0] >> 4 == 6 else IPV4
 
 
+def in_snap(content: bytes) -> bytes:
+    """A frame of IEEE 802.3 with the headers LLC and SNAP (RFC 1042)."""
+    carried = b'\xaa\xaa\3\0\0\0' + struct.pack('>H', content_kind(content)) + content
+    return bytes(12) + struct.pack('>H', min(len(carried), 1_500)) + carried
+
+
 # --- Tunnels ---
 
 def udp(source: int, target: int, content: bytes) -> bytes:

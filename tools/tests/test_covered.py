@@ -6,19 +6,23 @@ import json
 import lzma
 import re
 import shutil
+import struct
 import subprocess
 import typing
 import xml.etree.ElementTree
 
 from examples.messages import MOUNT, NFS, call, fh, success
-from examples.packets import ACK, CLIENT, FIN, RST, SERVER, Talk, datagram, ethernet, pcap
+from examples.packets import (
+    ACK, CLIENT, FIN, RST, SERVER, Talk, datagram, ethernet, pcap, segment)
 
 from ..nfs3tools.commands.verdicts import json_of, junit_of
 from ..nfs3tools.judgement.verdict import counts_after, is_row, status_of
 from ..nfs3tools.recordings.coverage import Allowed
 from ..nfs3tools.reporting.messages import ports_of
 from .cases import FolderTest
-from .recordings import fragments, in_geneve, in_gre, in_labels, in_session, in_vxlan, pcapng, udp
+from .recordings import (
+    enhanced, fragments, in_geneve, in_gre, in_labels, in_session, in_snap, in_vxlan, interface, pcapng,
+    section, udp)
 from .scripts import ALL, CALLS, REPLIES, Tools, both_ways, exchange, stream, sums, taken_of, whole
 
 CALL, REPLY = len(stream(CALLS[:1])), len(stream(REPLIES[:1]))
@@ -76,6 +80,39 @@ def datagrams(number: int, port: int = 2049) -> list[bytes]:
     return [frame for pair in zip(asked, answered) for frame in pair]
 
 
+UNREAD = 'in part: %s not taken, since %s headers are not whole or do not fit %s length'
+
+
+def acknowledging(times: int = 4, step: tuple[int, int] = (100_000, 1_000_000),
+                  payload: bytes = b'', service: int = 2049) -> list[bytes]:
+    """A connection of which each end acknowledges what the other sent, so many times: each time so
+    many bytes more of the client and of the server. A payload is cut, with its lengths."""
+    ports, frames = ((701, service), (service, 701)), list[bytes]()
+    for number in range(times):
+        at = 5_000 + number * step[0], 9_000 + number * step[1]
+        for side, hosts in enumerate(((CLIENT, SERVER), (SERVER, CLIENT))):
+            one = datagram(*hosts, segment(ports[side], at[side], at[1 - side], ACK))
+            frames.append(ethernet(one))
+            if payload:
+                one = datagram(*hosts, segment(ports[side], at[side], at[1 - side], ACK, payload))
+                frames.append(ethernet(one)[:60])
+    return frames
+
+
+def fragmented(change: typing.Callable[[list[bytes]], list[bytes]]) -> list[bytes]:
+    """A connection whose first calls come in fragments, which are changed."""
+    frames = whole(port=701)
+    pieces = change(fragments(frames[3][14:], 64))
+    return [*frames[:3], *map(ethernet, pieces), *frames[4:]]
+
+
+def spoilt(piece: bytes, places: int = 0) -> bytes:
+    """A fragment with another last byte, moved by so many times eight bytes."""
+    place = int.from_bytes(piece[6:8], 'big') + places
+    size = len(piece).to_bytes(2, 'big')
+    return piece[:2] + size + piece[4:6] + place.to_bytes(2, 'big') + piece[8:-1] + b'\xee'
+
+
 CASES = [
     Case('a good one', whole(port=701), ['ok'], ['ok'], {'ok': 1}, GOOD),
     Case('begun before the recording', whole(port=701)[3:], ['in part'],
@@ -125,6 +162,55 @@ CASES = [
     Case('no RPC at a port of NFS', http(2049), ['refused'], ['client record 1 byte 0: RecordTooLong, frame 19'], {'refused': 1}, NEITHER),
     Case('no RPC at a port that was chosen', http(80), ['refused'], ['client record 1 byte 0: RecordTooLong, frame 19'], {'refused': 1}, NEITHER,
          ['--port', '80,2049']),
+    Case('acknowledgements alone', acknowledging(), ['left out'],
+         ['left out: ' + ENDS % (701, 2049) + '3,300,000 bytes acknowledged and not recorded'],
+         {'left_out': 1}, LOSSES),
+    Case('the same at another port', acknowledging(service=80), [], [], {'left_out': 1, 'bare': 1},
+         GOOD),
+    Case('one acknowledgement beyond', acknowledging(2, (0, 1)), [], [],
+         {'left_out': 1, 'bare': 1}, GOOD),
+    Case('frames that lack their payload, with their lengths', acknowledging(payload=bytes(99)),
+         ['left out', 'in part'],
+         ['left out: ' + ENDS % (701, 2049) + '3,300,000 bytes acknowledged and not recorded',
+          UNREAD % ('8 frames to or from port 2049 are', 'their', 'their')],
+         {'left_out': 1, 'in_part': 1}, LOSSES),
+    Case('a last frame that is shortened',
+         [*talked(CALLS, REPLIES)[:4], talked(CALLS, REPLIES)[4][:60]],
+         ['ok', 'in part'], ['ok', UNREAD % ('1 frame to or from port 2049 is', 'its', 'its')],
+         {'in_part': 1, 'ok': 1}, LOSSES),
+    Case('a frame without its ports', [whole(port=701)[3][:37]], ['in part'],
+         [UNREAD % ('1 frame is', 'its', 'its')], {'in_part': 1}, LOSSES),
+    Case('a frame without its header of IP', [whole(port=701)[3][:30]], ['in part'],
+         [UNREAD % ('1 frame is', 'its', 'its')], {'in_part': 1}, LOSSES),
+    Case('the kind of another version of IP',
+         [frame[:14] + b'\x55' + frame[15:] for frame in whole(port=701)[3:5]], ['not checked'],
+         ['not checked: 2 frames of an unknown version of IP are not read; '
+          'what is in them is not known'], {'not_checked': 1}, NOT_CHECKED),
+    Case('LLC and SNAP', [in_snap(frame[14:]) for frame in whole(port=701)], ['not checked'],
+         ['not checked: 15 frames of LLC/SNAP are not read; what is in them is not known'],
+         {'not_checked': 1}, NOT_CHECKED),
+    Case('a spanning tree', [bytes(12) + b'\0\x26\x42\x42\3' + bytes(35)], [], [], {}, GOOD),
+    Case('PPP of itself', [bytes(12) + struct.pack('>HBBHHH', 0x8864, 0x11, 0, 1, 10, 0xc021) + bytes(8)],
+         [], [], {}, GOOD),
+    *[Case(f'{name} in UDP', [ethernet(datagram(CLIENT, SERVER, udp(*ports, bytes(60)), 17))],
+           ['not checked'],
+           [f'not checked: 1 frame of {name} is not read; what is in it is not known'],
+           {'not_checked': 1}, NOT_CHECKED)
+      for name, ports in (('GTP-U', (2152, 2152)), ('L2TP', (1701, 1701)), ('L2TP', (1701, 50_000)),
+                          ('ESP in UDP', (4500, 4500)), ('Teredo', (50_000, 3544)))],
+    Case('a fragment twice with other bytes', fragmented(lambda one: [one[0], one[1], spoilt(one[1]), *one[2:]]),
+         ['in part'], ['ok in part: 39 calls, 1 frame with other content'], {'in_part': 1}, LOSSES),
+    Case('a fragment twice with other bytes, the last first',
+         fragmented(lambda one: [*one[:0:-1], spoilt(one[1]), one[0]]), ['in part'],
+         ['ok in part: 39 calls, 1 frame with other content'], {'in_part': 1}, LOSSES),
+    Case('fragments that overlap with other bytes',
+         fragmented(lambda one: [one[0], spoilt(one[1][:28], -1), *one[1:]]), ['in part'],
+         ['ok in part: 39 calls, 1 frame with other content'], {'in_part': 1}, LOSSES),
+    Case('a fragment beyond the last',
+         fragmented(lambda one: [one[0], *one[2:], spoilt(one[1] + bytes(1_000)), one[1]]),
+         ['in part'], ['ok in part: 39 calls, 1 frame with other content'], {'in_part': 1}, LOSSES),
+    Case('fragments twice with the same bytes', fragmented(lambda one: [*one, *one]), ['ok'], ['ok'],
+         {'ok': 1}, GOOD),
     Case('a fault at another port', talked(CALLS, [*REPLIES[:-1], success(99)], service=900), ['refused'],
          ['server record 39 byte 0: NoCall, frame 20'], {'refused': 1}, NEITHER),
 ]
@@ -215,6 +301,17 @@ def recordings_that_end_inside_a_frame(tools: Tools) -> None:
     tools.want('pcapng', [verdict.message for verdict in verdicts], ['ok', 'in part: the recording ends inside a frame (frame 15)'])
 
 
+def interfaces_that_are_not_read(tools: Tools) -> None:
+    """Frames of an interface of pcapng whose link type is not read are not checked, beside good
+    ones."""
+    frames = [*map(enhanced, good()), *(enhanced(frame, index=1) for frame in good())]
+    recording = section() + interface() + interface(105) + b''.join(frames)
+    told = 'not checked: 15 frames of the link type 105 are not read; what is in them is not known'
+    for how, verdicts in zip(('plain', 'followed'), both_ways(tools, recording, [])):
+        statuses = [status_of(verdicts, Allowed(not_checked=allowed)) for allowed in (False, True)]
+        tools.want(how, ([verdict.message for verdict in verdicts], statuses), (['ok', told], [1, 0]))
+
+
 def ports_that_are_chosen(tools: Tools) -> None:
     """--port takes the connections that have one of the ports, and no datagrams of others."""
     frames = whole() + whole(port=701, service=900) + whole(port=702, service=20_048) + datagrams(4)
@@ -254,17 +351,20 @@ def tunnels(tools: Tools) -> None:
                 ('VXLAN in fragments', [ethernet(piece) for at, frame in enumerate(frames) for piece in fragments(outer(in_vxlan(frame)), 64, at)])):
             tools.told(what, pcap(recorded), [ALL], [])
     secret = [ethernet(datagram('198.51.100.1', '198.51.100.2', bytes(99), 50)) for _ in range(112)]
-    tools.told('ESP', pcap(whole() + secret), [ALL], ['112 frames of ESP are passed over; what is in them is not known'])
+    tools.told('ESP', pcap(whole() + secret), [ALL], ['not checked: 112 frames of ESP are not read; what is in them is not known'])
     tools.write('a.pcap', pcap(secret + [bytes(12) + b'\x08\x06' + bytes(28)]))
-    tools.want('ESP alone', run_of(tools, 'a.pcap')[1], ['no connection to judge: 113 frames without TCP: 112 of ESP, 1 of ARP'])
+    tools.want('ESP alone', run_of(tools, 'a.pcap')[1],
+               ['not checked: 112 frames of ESP are not read; what is in them is not known',
+                'no connection to judge: 113 frames without TCP: 112 of ESP, 1 of ARP'])
     deep = whole()[4][14:]
     for _ in range(9):
         deep = datagram('198.51.100.1', '198.51.100.2', deep, 4)
-    tools.told('many tunnels', pcap([*whole(), ethernet(deep)]), [ALL], ['1 frame of many tunnels is passed over; what is in them is not known'])
+    tools.told('many tunnels', pcap([*whole(), ethernet(deep)]), [ALL], ['not checked: 1 frame of many tunnels is not read; what is in it is not known'])
     tools.want('the kind 0', taken_of(pcap([bytes(14) + frame[14:] for frame in whole()])).connections, [])
 
 
-TESTS = [words_of_all_kinds, words_on_the_command_line, words_in_files, recordings_that_end_inside_a_frame, ports_that_are_chosen, tunnels]
+TESTS = [words_of_all_kinds, words_on_the_command_line, words_in_files, recordings_that_end_inside_a_frame,
+         interfaces_that_are_not_read, ports_that_are_chosen, tunnels]
 
 
 class CoveredTest(FolderTest, make=Tools, tests=TESTS):

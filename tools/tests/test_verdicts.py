@@ -388,8 +388,8 @@ def ok_in_part_in_files(tools: Tools) -> None:
 
 def notes_on_a_recording(tools: Tools) -> None:
     """A note on a whole recording is none of its first connection: a line, a row of JSON, and output of the suite."""
-    frames = whole(port=701) + whole()
-    lying = frames[0][:16] + b'\xff\xff' + frames[0][18:]
+    frames, other = whole(port=701) + whole(), whole(service=900)[0]
+    lying = other[:16] + b'\xff\xff' + other[18:]
     tools.write('a.pcap', pcap(frames + [lying]))
     tools.write('b.pcap', pcap(whole(port=702) + [lying]))
     told = '1 frame has headers that do not fit its length, and is passed over'

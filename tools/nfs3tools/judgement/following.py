@@ -295,9 +295,9 @@ class Following:
 
     def is_superseded(self, connection: Connection) -> bool:
         """Whether another connection of the same ends has begun, and has had payload."""
-        newest = self.connections.sides.get(connection.key)
-        return (newest is not None and newest[0] is not connection
-                and newest[0].first_payload is not None)
+        newest = self.connections.newest.get(connection.key)
+        return (newest is not None and newest is not connection
+                and newest.first_payload is not None)
 
     # --- Judging ---
 

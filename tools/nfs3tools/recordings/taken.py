@@ -39,7 +39,7 @@ from .parts import Part, files_of, in_order, pattern_beside
 from .passed_over import notes_of, nothing_in, remarks_of
 from .records import Extent, Window, body_of, extent_of, extents, fragments
 from .segments import Segments
-from .selection import Options, Selected, count, is_of_rpc, select
+from .selection import Options, Selected, count, is_of_rpc, missing_of, select
 from .spool import Brought, Frames, Spool, Stored
 from .unpacking import READ_AT_ONCE, Damaged, Readable
 
@@ -543,7 +543,7 @@ class Taking:
         self.taken.remarks += remarks_of(self.segments)
         self.taken.nothing = nothing_in(self.segments)
         for connection in self.connections.finish():
-            add(self.taken, connection, select(connection, self.options), self.options)
+            add(self.taken, connection, self.options)
         return self.taken
 
 
@@ -552,8 +552,12 @@ def ports_of(options: Options) -> frozenset[int]:
     return (options.ports or NFS_PORTS) - {PORT_MAPPER}
 
 
-def add(taken: Taken, connection: Connection, selected: Selected, options: Options) -> None:
+def add(taken: Taken, connection: Connection, options: Options) -> None:
     """Takes a connection, or says why it is left out."""
+    if connection.is_bare:
+        taken.left_out.append(without_payload(connection))
+        return
+    selected = select(connection, options)
     left_out = left_out_of(connection, selected, options)
     if left_out:
         taken.left_out.append(left_out)
@@ -566,7 +570,7 @@ def left_out_of(connection: Connection, selected: Selected, options: Options) ->
     ends = ' and '.join(connection.ends)
     if connection.first_payload is None and not any(
             stream.gap_at_end() for stream in connection.streams):
-        return LeftOut(ends, 'no payload', shows_calls=False)
+        return without_payload(connection)
     if not is_of_rpc(connection, options.ports):
         return LeftOut(ends, NO_RPC, shows_calls=False)
     if any(kept.ranges for kept in selected.kept):
@@ -574,6 +578,11 @@ def left_out_of(connection: Connection, selected: Selected, options: Options) ->
     is_for_losses = connection.client is not None or options.midstream
     return LeftOut(ends, why_left_out(connection, options),
                    selected.missing if is_for_losses else 0, connection.client is None)
+
+
+def without_payload(connection: Connection) -> LeftOut:
+    """What is said of a connection that shows neither payload nor that some is missing."""
+    return LeftOut(' and '.join(connection.ends), 'no payload', shows_calls=False)
 
 
 def taken_connection(number: int, connection: Connection, selected: Selected) -> TakenConnection:
@@ -585,10 +594,14 @@ def taken_connection(number: int, connection: Connection, selected: Selected) ->
         number, connection.number, connection.ends[selected.client],
         connection.ends[1 - selected.client], ' and '.join(connection.ends), selected.why, client,
         server, [*selected.notes, *connection.strays], selected.missing, selected.lacks,
-        connection.is_closed, tuple(filter(None, connection.opened_by)))
+        connection.is_closed, connection.opened_by)
 
 
 def why_left_out(connection: Connection, options: Options) -> str:
+    """Why nothing of a connection is taken in which there may be calls."""
+    missing = sum(map(missing_of, connection.streams))
+    if missing and not any(stream.stored.size for stream in connection.streams):
+        return f'{count(missing, "byte")} acknowledged and not recorded'
     if connection.client is None and not options.midstream:
         return ('no SYN in the recording, so its streams may begin inside a record '
                 '(--no-midstream leaves it out)')
