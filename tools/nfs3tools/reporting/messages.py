@@ -19,7 +19,7 @@ from ..shared.outputs import ENDING, Refused
 from ..shared.places import NoPlace
 from ..shared.printed import escaped, printable
 from ..shared.programs import Died, FilterRefused, Missing
-from ..shared.version import version
+from ..shared.version import TOP, version
 
 ABSENT, REFUSED, FAILED, INTERRUPTED = 1, 2, 3, 130  # ABSENT: no such position
 # How a tool reads a recording from standard input.
@@ -189,8 +189,15 @@ def help_of(text: str, name: str) -> str:
     what, lines, *_ = text.strip('\n').split('\n\n')
     status = STATUS + text.partition(STATUS)[2].partition('\n\n')[0]
     words = textwrap.fill(' '.join(status.split()), COLUMNS, break_on_hyphens=False)
-    page = called(name) if is_installed() else f'-l {shlex.quote(str(PAGES / name))}.1'
-    return '\n\n'.join([what, lines, words, f'The manual page has more: man {page}'])
+    return '\n\n'.join([what, lines, words, f'The manual page has more: {page_of(name)}'])
+
+
+def page_of(name: str) -> str:
+    """Returns where the manual page of a tool is. A Python package has none."""
+    if not is_installed():
+        return f'man -l {shlex.quote(str(PAGES / name))}.1'
+    pages = Path(TOP.parent, 'man/man1').glob(f'{called(name)}.1*')
+    return f'man {called(name)}' if any(pages) else f'man/{name}.1 of the tools in a clone of nfs3canon'
 
 
 def add_options(parser: argparse.ArgumentParser) -> None:
