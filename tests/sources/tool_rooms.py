@@ -12,8 +12,8 @@ HEADING = re.compile(r'^### `([\w.]+)`$(.*?)(?=^#)', re.M | re.S)  # of a room
 ROW = re.compile(r'^\| `(\w+)` \|', re.M)
 COLUMNS = re.compile(r'^line-length = (\d+)$', re.M)
 # From the lowest to the highest.
-ROOMS = ('shared', 'recordings', 'captures', 'comparison.values', 'comparison.exchanges', 'comparison.verdict', 'comparison.parts',
-         'reporting', 'judgement', 'commands')
+ROOMS = ('shared', 'recordings', 'captures', 'exchanges', 'comparison.values', 'comparison.exchanges', 'comparison.verdict',
+         'comparison.parts', 'reporting', 'judgement', 'commands')
 
 
 def modules(package: pathlib.Path) -> dict[str, pathlib.Path]:

@@ -17,8 +17,8 @@ from examples.messages import (
     success, wcc, word)
 from tests.shared.traffic import Names, Traffic
 
-from ..nfs3tools.captures.listings import Message, messages_of
-from ..nfs3tools.captures.whose import Labels, fields_of
+from ..nfs3tools.exchanges.listing import Message, messages_of
+from ..nfs3tools.exchanges.whose import Labels, fields_of
 from ..nfs3tools.comparison.values.classes import Mask, Way, mask_of
 from ..nfs3tools.comparison.values.long_values import apart
 from ..nfs3tools.comparison.verdict.differences import Comparison

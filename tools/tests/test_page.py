@@ -19,7 +19,7 @@ from examples.messages import (
 from examples.packets import Talk, pcap
 from tests.shared.running import ended
 
-from ..nfs3tools.captures.listings import Message
+from ..nfs3tools.exchanges.listing import Message
 from ..nfs3tools.comparison.verdict.cover import Size
 from ..nfs3tools.comparison.verdict.differences import Difference
 from ..nfs3tools.comparison.verdict.findings import Compared, Finding, Run
@@ -356,7 +356,7 @@ def places_of_many_findings(place: Pages) -> None:
     """Of many findings that each say the same as many others, 20,000 places are listed."""
     findings = list[Finding]()
     for number in range(22_000):
-        message = Message(1, 'server', number + 1, 1, 'NFSPROC3_GETATTR', ())
+        message = Message(1, 'server', number + 1, 1, 'NFSPROC3_GETATTR')
         difference = Difference('mode', str(number % 100), '1000', label='obj.mode', field='obj.mode')
         findings.append(Finding('changed', message, message, None, (difference,)))
     report = Report('differ', {}, ('a', 'b'), (Size(22_000, 1),) * 2)

@@ -17,7 +17,7 @@ from examples.messages import (
 from examples.packets import Talk, pcap
 
 from ..nfs3tools.judgement import seen
-from ..nfs3tools.judgement.exchanges import Kept
+from ..nfs3tools.exchanges.kept import Kept
 from ..nfs3tools.reporting.time_line import COLUMNS, Dot, TimeLine, of_time_line
 from .browser import Browser, chromium
 from .cases import FolderTest

@@ -1,1 +1,1 @@
-"""What `show` lists of a capture, and whose each item is."""
+"""What is at a position of a capture or a recording."""

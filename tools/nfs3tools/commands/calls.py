@@ -51,7 +51,8 @@ from collections.abc import Callable, Iterator, Sequence
 from functools import partial
 
 from ..comparison.values.long_values import bytes_of
-from ..judgement.exchanges import Exchange, Kept, call_of
+from ..exchanges.kept import Exchange, Kept, call_of
+from ..judgement.seen import kept_in
 from ..judgement.tallies import milliseconds
 from ..judgement.verdict import (
     VERSION, Verdict, counts_after, is_row, named, object_of, status_of, sums_of, tell_notes)
@@ -129,15 +130,13 @@ def listed(judge: Judge, recording: str, conditions: list[Wanted], by_latency: b
            verdicts: list[Verdict]) -> Listed:
     """Judges a recording or capture, adds its verdicts, and returns the exchanges of the
     connections that were judged."""
-    kept, begun = Kept(), list[int]()
+    begun, found = list[int](), list[Kept]()
 
     def look(taken: Taken, judged: list[Verdict]) -> None:
         begun.append(taken.begun)
-        states = {verdict.connection: verdict.state for verdict in judged}
-        for connection in taken.connections:
-            if states.get(connection.number, 'error') != 'error':
-                kept.take(judge.program, connection, states[connection.number] == 'refused')
+        found.append(kept_in(judge.program, taken, judged))
     verdicts += judge.verdicts(recording, look)
+    kept = (found or [Kept()])[0]
     order = kept.in_order(by_latency)
     if conditions:
         order = [at for at in order if holds_all(conditions, kept.exchange(at))]
@@ -247,11 +246,12 @@ def tell_of_times(found: Listed, chosen: argparse.Namespace) -> None:
 def values_of(one: Exchange, recording: str) -> tuple[object, ...]:
     """The values of COLUMNS; of the replies an object for each."""
     part = one.part
-    replies = [{'record': reply.record, 'frame': reply.frame or None, 'answer': reply.words}
-               for reply in one.replies]
+    replies = [{'record': reply.record, 'frame': reply.frame or None, 'answer': words}
+               for reply, words in zip(one.answered, one.answers)]
     return (escaped(recording), part.number, one.record, part.client, part.server,
             one.frame or None, one.time or None, one.latency, one.asked.user, one.procedure,
-            one.path, one.other_path, one.asked.words, one.again, one.answer, one.is_error, replies)
+            one.path, one.other_path, one.asked.words, len(one.again), one.answer, one.is_error,
+            replies)
 
 
 class Json:

@@ -36,6 +36,7 @@ a capture. The status is 0 if that of tools/verdicts is, and 1 to 3 as there; --
 from __future__ import annotations
 
 import argparse
+import contextlib
 import csv
 import io
 import itertools
@@ -46,15 +47,15 @@ from collections import Counter
 from collections.abc import Iterator, Sequence
 from functools import partial
 
-from ..judgement.seen import Seen, seen_in
-from ..judgement.tallies import Tallies, Tally, counted_of, in_order, milliseconds, sum_of
+from ..judgement.seen import Seen, kept_in, seen_in
+from ..judgement.tallies import Tallies, Tally, in_order, milliseconds, sum_of, tallies_of
 from ..judgement.verdict import (
     VERSION, Verdict, colour_of, counts_after, is_row, named, object_of as object_of_verdict,
     status_of, sums_of, tell_notes)
 from ..judgement.verdict_page import Content, Table as ShownTable, page, row_of_cells, said_of
 from ..recordings.parts import files_of
 from ..recordings.selection import plural
-from ..recordings.taken import Taken, TakenConnection
+from ..recordings.taken import Taken
 from ..reporting.markup import encoded
 from ..reporting.messages import add_judging, allowed_of, options_of, parser_of, run
 from ..shared.outputs import printed_beside, try_outputs, write_file
@@ -133,21 +134,17 @@ def counted(judge: Judge, recording: str, is_seen: bool) -> Counted:
     tables, seen = list[Table](), list[Seen]()
 
     def look(taken: Taken, verdicts: list[Verdict]) -> None:
-        judged = {verdict.connection: verdict for verdict in verdicts if verdict.state != 'error'}
-        tables.extend(table_of(judge, connection, judged[connection.number])
-                      for connection in taken.connections if connection.number in judged)
-        if is_seen:
-            seen.append(seen_in(judge.program, taken, recording, verdicts))
+        judged = {verdict.connection: verdict for verdict in verdicts}
+        with contextlib.closing(kept_in(judge.program, taken, verdicts,
+                                        has_texts=is_seen)) as kept:
+            tables.extend(Table(recording, judged[part.number], tallies_of(kept, recording, number))
+                          for number, part in enumerate(kept.parts))
+            if is_seen:
+                seen.append(seen_in(kept, taken, recording, verdicts))
     verdicts = judge.verdicts(recording, look)
     in_all = Table(recording, None, sum_of(table.tallies for table in tables))
     return Counted(recording, verdicts, tables, in_all,
                    (seen or [Seen(recording, verdicts)])[0]._replace(verdicts=verdicts))
-
-
-def table_of(judge: Judge, connection: TakenConnection, verdict: Verdict) -> Table:
-    return Table(verdict.recording, verdict,
-                 counted_of(judge.program, verdict.recording, connection,
-                            verdict.state == 'refused'))
 
 
 # --- What is printed ---

@@ -63,7 +63,7 @@ import xml.etree.ElementTree
 from functools import partial
 
 from ..judgement.following import Form, follow
-from ..judgement.seen import Seen, seen_in
+from ..judgement.seen import Seen, kept_in, seen_in
 from ..judgement.verdict import (
     HEADS, VERSION, Verdict, colour_of, counts_after, error_of, is_row, object_of, of_covered,
     row_of, status_of, sums_of, tell_notes, told, verdict_of)
@@ -118,7 +118,8 @@ class Judge(typing.NamedTuple):
         found = list[Seen]()
 
         def look(taken: Taken, verdicts: list[Verdict]) -> None:
-            found.append(seen_in(self.program, taken, recording, verdicts))
+            with contextlib.closing(kept_in(self.program, taken, verdicts)) as kept:
+                found.append(seen_in(kept, taken, recording, verdicts))
         verdicts = self.verdicts(recording, look)
         # (an error may come after the look, and then counts alone)
         return found[0] if found and found[0].verdicts is verdicts else Seen(recording, verdicts)

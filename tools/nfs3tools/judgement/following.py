@@ -20,6 +20,7 @@ import stat
 import time
 import typing
 
+from ..exchanges.answering import Answers, calls_in
 from ..recordings.connections import Connection, Connections, is_of_stray
 from ..recordings.container import Streamed, capture_of
 from ..recordings.coverage import Allowed, Counts, Covered, called_in
@@ -137,8 +138,9 @@ class Open:
     """A connection that is not judged for good.
 
     number: from 1 in the order of first bytes, 0 if nothing of it is taken yet
-    before: what was judged of it and is forgotten; `carried` and `known` have the calls without a
-        reply among that, and their xids
+    before: what was judged of it and is forgotten; `carried` and `known` have the calls that may
+        be answered yet among that, and their xids
+    answered: the numbers of those of which another sending has a reply
     next_size: how many bytes its section has when it is judged again
     doubted: a fault that may go away, since the call of a reply may come yet
     walked: up to where the stored bytes of each end were seen to be whole records, after that
@@ -148,6 +150,7 @@ class Open:
     before: Before = Before()
     carried: Stored | None = None
     known: frozenset[int] = frozenset()
+    answered: list[int] = dataclasses.field(default_factory=list)
     next_size: int = dataclasses.field(default_factory=lambda: FIRST_SIZE)
     doubted: str | None = None
     walked: list[int] = dataclasses.field(default_factory=lambda: [0, 0])
@@ -455,10 +458,13 @@ def forget_section(one: Open, selected: Selected, verdict: Verdict, spool: Spool
     client, server = (TakenStream(stream.stored, None, kept.ranges)
                       for stream, kept in zip(streams, selected.kept))
     earlier = [TakenStream(one.carried, None, whole(one.carried))] if one.carried else []
-    calls, left_out = without_reply([*earlier, client], server)
+    answers = Answers(itertools.chain.from_iterable(map(calls_in, [*earlier, client])), server,
+                      one.answered)
+    calls, left_out = carried_of(answers)
     carried = Stored(spool)
-    for taken, low, high in calls:
-        carried.append(taken.read(low, high - low))
+    for call in map(answers.calls.__getitem__, calls):
+        carried.append(call.stream.read(call.begin, call.end - call.begin))
+    one.answered = [number for number, at in enumerate(calls) if answers.is_answered(at)]
     one.known = frozenset(xid for _, xid, _ in xids(Window(carried), 0, carried.size))
     if one.carried:
         one.carried.close()
@@ -477,24 +483,15 @@ def forget_section(one: Open, selected: Selected, verdict: Verdict, spool: Spool
     one.next_size = one.size + FIRST_SIZE
 
 
-Call = tuple[TakenStream, int, int]  # where it begins and ends in a stream
-
-
-def without_reply(streams: list[TakenStream], server: TakenStream) -> tuple[list[Call], bool]:
-    """The last calls of those that have fewer replies than their xid has calls, as many as are
-    kept, and whether others are left out."""
-    replies = collections.Counter(xid for _, xid, _ in xids(Window(server), 0, server.size))
-    calls, is_any_left_out = collections.deque[Call](maxlen=CALLS_AT_MOST), False
-    for stream in streams:
-        for extent, xid, _ in xids(Window(stream), 0, stream.size):
-            if replies.get(xid, 0):
-                replies[xid] -= 1
-            else:
-                is_any_left_out |= len(calls) == CALLS_AT_MOST
-                calls.append((stream, extent.begin, extent.end))
-    sizes = itertools.accumulate(end - begin for _, begin, end in reversed(calls))
+def carried_of(answers: Answers) -> tuple[list[int], bool]:
+    """The last of the calls that may be answered yet, as many as are kept, and whether others are
+    left out."""
+    calls = list(answers.may_be_answered())
+    last = calls[-CALLS_AT_MOST:]
+    sizes = itertools.accumulate(answers.calls[at].end - answers.calls[at].begin
+                                 for at in reversed(last))
     number = sum(1 for _ in itertools.takewhile(lambda size: size <= CARRIED_AT_MOST, sizes))
-    return list(calls)[len(calls) - number:], is_any_left_out or number < len(calls)
+    return last[len(last) - number:], number < len(calls)
 
 
 # --- The command ---

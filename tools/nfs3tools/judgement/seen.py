@@ -1,22 +1,24 @@
 """What a page shows of a recording beside its verdicts: a dot for each call, and the fields of the
 messages that are at fault.
 
-    seen_in(program, taken, verdicts)     # while what is taken is there
+    with contextlib.closing(kept_in(program, taken, verdicts)) as kept:
+        seen_in(kept, taken, recording, verdicts)      # while what is taken is there
 """
 from __future__ import annotations
 
 import contextlib
-from collections.abc import Iterator, Sequence
+from collections.abc import Iterable, Iterator, Sequence
 from typing import NamedTuple
 
 from ..captures.explained import Tell, tell_record
 from ..captures.located import Within
+from ..exchanges.kept import Exchange, Kept, call_of
+from ..exchanges.stored import Values
 from ..recordings.parts import Part
 from ..recordings.taken import Taken
 from ..reporting.time_line import COLUMNS, Dot, TimeLine
 from ..shared.places import NoPlace, Place, parse_place
 from ..shared.printed import printable
-from .exchanges import Exchange, Kept, call_of
 from .tallies import milliseconds
 from .verdict import Verdict
 
@@ -44,20 +46,26 @@ class Seen(NamedTuple):
     parts: Sequence[Part] = ()
 
 
-def seen_in(program: str, taken: Taken, recording: str, verdicts: list[Verdict]) -> Seen:
-    """Returns what is shown of what was taken of a recording.
+def kept_in(program: str, taken: Taken, verdicts: Iterable[Verdict],
+            values: Values | None = None, has_texts: bool = True) -> Kept:
+    """Returns the exchanges of the connections that were judged, as `Kept` is to keep them.
 
-    Raises what `counted_of` does.
+    Raises `Died` and `OSError`.
     """
+    kept = Kept(values, has_texts)
+    states = {verdict.connection: verdict.state for verdict in verdicts}
+    for connection in taken.connections:
+        state = states.get(connection.number, 'error')
+        if state != 'error':
+            kept.take(program, connection, state == 'refused')
+    return kept
+
+
+def seen_in(kept: Kept, taken: Taken, recording: str, verdicts: list[Verdict]) -> Seen:
+    """Returns what is shown of a recording, by the exchanges of its connections."""
     refused = [verdict for verdict in verdicts if verdict.state == 'refused']
     faults = [fault_of(taken, verdict) for verdict in refused[:FAULTS_AT_MOST]]
-    states = {verdict.connection: verdict.state for verdict in verdicts}
-    with contextlib.closing(Kept()) as kept:
-        for connection in taken.connections:
-            state = states.get(connection.number, 'error')
-            if state != 'error':
-                kept.take(program, connection, state == 'refused')
-        return Seen(recording, verdicts, faults, line_of(kept, taken.begun), tuple(taken.parts))
+    return Seen(recording, verdicts, faults, line_of(kept, taken.begun), tuple(taken.parts))
 
 
 # --- Faults ---

@@ -1,33 +1,24 @@
 """How often each procedure was called in a connection, how that ended, how many bytes it took, and
 how long.
 
-    counted = counted_of(program, connection, is_refused=False)
-    counted['NFSPROC3_READ'].ranked((0.5, 0.99))     # nanoseconds
+    tallies = tallies_of(kept, 'run.pcap', 0)        # of the first connection
+    tallies['NFSPROC3_READ'].ranked((0.5, 0.99))     # nanoseconds
 
-What the messages say is read from the listing of `nfs3canon show`. How many bytes they have, and
-when they were complete, is known from the recording.
+A tally is a sum over the exchanges that are kept of a connection.
 """
 from __future__ import annotations
 
-import contextlib
 import math
-import re
-import tempfile
 from array import array
 from collections import Counter
-from collections.abc import Iterable, Iterator
+from collections.abc import Iterable
 from dataclasses import dataclass, field
-from typing import IO, NamedTuple
+from typing import NamedTuple
 
-from ..captures.answering import Answering, error_in
-from ..recordings.coverage import call_named
-from ..recordings.taken import Completion, TakenConnection
-from ..shared.layouts import BY_NAME, RAW
-from ..shared.programs import lines_of_program
+from ..exchanges.kept import UNTIMED, Kept
+from ..shared.layouts import BY_NAME
 from ..shared.screens import Screen
 
-NUMBERS = re.compile(r'mtype=0 rpcvers=2 prog=(\d+) vers=(\d+) proc=(\d+) ')
-REFUSED = 2  # the status of `show` after a fault
 NANOSECONDS_OF_A_MILLISECOND = 1_000_000
 
 
@@ -126,116 +117,27 @@ def milliseconds(rank: int | None, screen: Screen = Screen()) -> str:
     return f'{number:.3f}' if screen.width is None else f'{number:,.3f}'
 
 
-class Counting:
-    """Counts the messages of a connection, first its calls and then its replies. The connection is
-    named by its recording and its number there."""
+def tallies_of(kept: Kept, recording: str, number: int) -> Tallies:
+    """Counts the exchanges of a connection, by its place among those that are kept."""
+    tallies: Tallies = {}
+    for at in kept.exchanges_of(number):
+        name = kept.names[kept.kinds[at]]
+        count_exchange(kept, at, tallies.get(name) or tallies.setdefault(name, Tally()), recording)
+    return tallies
 
-    def __init__(self, recording: str = '', connection: int = 0) -> None:
-        self.recording, self.connection = recording, connection
-        self.tallies: Tallies = {}
-        self.calls = list[Tally]()  # that of each call
-        # When each call was complete, 0 if that is not known, and by which frame.
-        self.sent, self.frames = array('q'), array('Q')
-        self.is_answered = bytearray()
-        self.answering = Answering()
 
-    def take_call(self, line: str, completion: Completion) -> None:
-        _, _, _, xid, name, said = line.split(' ', 5)
-        tally = self.tallies.get(name) or self.tally_of(name, said)
-        tally.calls += 1
-        tally.call_bytes += completion.size
-        self.calls.append(tally)
-        self.sent.append(completion.time)
-        self.frames.append(completion.frame)
-        is_again = self.answering.call(xid, said) is not None
-        tally.again += is_again
-        self.is_answered.append(is_again)
-
-    def tally_of(self, name: str, said: str) -> Tally:
-        """Returns the tally of a procedure that may not have one yet. That of a raw call is named
-        by its program."""
-        return self.tallies.setdefault(name_of_call(name, said), Tally())
-
-    def take_reply(self, line: str, completion: Completion) -> None:
-        _, _, _, xid, name, said = line.split(' ', 5)
-        at = self.answering.reply(xid)
-        tally = self.calls[at]
-        tally.replies += 1
-        tally.reply_bytes += completion.size
-        error = error_in(name, said)
-        if error:
-            tally.errors[error] += 1
-        if not self.is_answered[at]:
-            self.is_answered[at] = True
-            if completion.time and self.sent[at]:
-                self.take_latency(tally, at, completion.time - self.sent[at])
-
-    def take_latency(self, tally: Tally, at: int, latency: int) -> None:
+def count_exchange(kept: Kept, at: int, tally: Tally, recording: str) -> None:
+    again, replies = kept.again.get(at, ()), kept.replies_of(at)
+    tally.calls += 1 + len(again)
+    tally.again += len(again)
+    tally.call_bytes += kept.sizes[at] + sum(sent.size for sent in again)
+    tally.replies += len(replies)
+    tally.reply_bytes += sum(map(kept.reply_sizes.__getitem__, replies))
+    tally.unanswered += not replies
+    tally.errors.update(kept.errors.get(at, ()))
+    latency = kept.latencies[at]
+    if latency != UNTIMED:
         tally.latencies.append(latency)
         if tally.longest is None or latency > tally.longest.latency:
-            tally.took(Longest(latency, self.recording, self.connection, at + 1, self.frames[at]))
-
-    def counted(self) -> Tallies:
-        """Returns what was counted. Nothing is taken after this."""
-        for tally, is_answered in zip(self.calls, self.is_answered):
-            tally.unanswered += not is_answered
-        return self.tallies
-
-
-def name_of_call(name: str, said: str) -> str:
-    """Returns the name of a call's procedure: that of the listing, or of a raw call that of its
-    program and its procedure."""
-    if name != RAW.name:
-        return name
-    read = NUMBERS.match(said)
-    assert read, said[:200]
-    program, version, procedure = map(int, read.groups())
-    return call_named(program, version, procedure)
-
-
-def counted_of(program: str, recording: str, connection: TakenConnection,
-               is_refused: bool) -> Tallies:
-    """Counts a connection, which the program refuses or not; then up to the fault.
-
-    Raises `Died` if the program does not end as that says, and `OSError` if a temporary file cannot
-    be written.
-    """
-    counting = Counting(recording, connection.number)
-    for line, completion in listed_of(program, connection, is_refused):
-        if is_call(line):
-            counting.take_call(line, completion)
-        else:
-            counting.take_reply(line, completion)
-    return counting.counted()
-
-
-def is_call(line: str) -> bool:
-    """Whether a line of a listing of one connection is that of a call, as `1 client 1 ..` is."""
-    return line[2] == 'c'
-
-
-def listed_of(program: str, connection: TakenConnection,
-              is_refused: bool) -> Iterator[tuple[str, Completion]]:
-    """Iterates over the lines of a connection's listing, as that of connection 1, first those of
-    its calls and then those of its replies. Each comes with what completed its record.
-
-    Raises what `counted_of` does.
-    """
-    calls, replies = connection.client.completions(), connection.server.completions()
-    with captured(connection) as capture:
-        for line in lines_of_program(program, ['show', '/dev/stdin'],
-                                     REFUSED if is_refused else 0, capture):
-            yield line, next(calls if is_call(line) else replies)
-
-
-@contextlib.contextmanager
-def captured(connection: TakenConnection) -> Iterator[IO[bytes]]:
-    """A temporary file with the capture of a connection."""
-    with tempfile.TemporaryFile(prefix='nfs3canon') as file:
-        try:
-            file.writelines(connection.capture())
-            file.seek(0)
-        except OSError as failed:
-            raise OSError(failed.errno, failed.strerror or str(failed),
-                          'a temporary file') from failed
-        yield file
+            tally.longest = Longest(latency, recording, kept.parts[kept.part_of[at]].number,
+                                    kept.records[at], kept.frames[at])

@@ -6,12 +6,13 @@ from collections.abc import Iterable, Iterator, Sequence
 from html import escape
 from typing import NamedTuple
 
-from ..captures.listings import Message
-from ..captures.whose import Labels
 from ..comparison.values import long_values
 from ..comparison.verdict.arguments import LAST_OF_HEAD
 from ..comparison.verdict.differences import Difference
 from ..comparison.verdict.findings import Finding
+from ..exchanges.listing import Message
+from ..exchanges.stored import Value
+from ..exchanges.whose import Labels
 from . import marking, telling
 
 DIFFERENCES_AT_MOST = 200  # of a message
@@ -120,7 +121,7 @@ def values_of(message: Message) -> Iterator[tuple[bool, str, str]]:
         yield at <= end, labels.label(at), telling.named(item.name, item.value, labels.meaning(at))
 
 
-def parting_of(first: str, second: str) -> str:
+def parting_of(first: Value, second: Value) -> str:
     """Returns how two values differ of which one at least is not printed whole, or nothing: what is
     cut off may be all that differs."""
     if telling.shortened(first) == first and telling.shortened(second) == second:

@@ -133,7 +133,7 @@ def of_only(some: Sequence[Finding]) -> Phrase:
     if len(some) > 1:
         return Phrase(f'{words}: ', paths[0], and_others(some))
     asked = [f' {one.name} {one.meaning or one.value}'
-             for one in some[0].arguments if not one.is_of_path and len(one.value) <= LONGEST]
+             for one in some[0].arguments if not one.is_of_path and len(str(one.value)) <= LONGEST]
     more = ' ..' if len(asked) > FIELDS_AT_MOST else ''
     return Phrase(f'{words}: ', paths[0], ''.join(asked[:FIELDS_AT_MOST]) + more)
 
@@ -176,7 +176,7 @@ def values_of(some: Sequence[Finding]) -> str:
         return ''
     if one.apart or one.remark or not (one.first and one.second):
         return ''
-    first, second = (meaning or value
+    first, second = (meaning or str(value)
                      for value, meaning in zip((one.first, one.second), one.meanings))
     return f'{first} → {second}' if len(first + second) <= 2 * LONGEST else ''
 

@@ -17,8 +17,8 @@ NO_LETTER = '\u00b7'  # stands for a byte that is none
 
 def of_difference(difference: Difference) -> list[str]:
     """Returns both values as HTML, or nothing if they are numbers."""
-    values = difference.apart.shown if difference.apart else (difference.first or '',
-                                                              difference.second or '')
+    values = difference.apart.shown if difference.apart else (str(difference.first or ''),
+                                                              str(difference.second or ''))
     if difference.is_equal or not has_bytes(difference):
         return []
     pieces = [content_of(value) for value in values]
@@ -42,7 +42,7 @@ def has_bytes(difference: Difference) -> bool:
     if difference.apart or not all(both):
         return difference.apart is not None
     return difference.name in OPAQUE or all(
-        value is not None and value.startswith('"') and not is_long(value) for value in both)
+        value is not None and str(value).startswith('"') and not is_long(value) for value in both)
 
 
 def content_of(value: str) -> bytes:

@@ -14,7 +14,6 @@ from html import escape
 from itertools import chain, zip_longest
 from typing import NamedTuple, Optional
 
-from ..captures.listings import Message
 from ..comparison.values.classes import besides, told
 from ..comparison.verdict import summary
 from ..comparison.verdict.cover import Cover, Row as NotJudged, losses_of
@@ -22,6 +21,7 @@ from ..comparison.verdict.excerpt import Connection, Gap, Row
 from ..comparison.verdict.findings import Compared, Finding, Run
 from ..comparison.verdict.ignored import Ignored
 from ..comparison.verdict.report import Report
+from ..exchanges.listing import Message
 from ..recordings.coverage import named
 from ..recordings.parts import Part
 from ..recordings.selection import count, plural

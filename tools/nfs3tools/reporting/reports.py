@@ -7,8 +7,6 @@ from collections import Counter
 from collections.abc import Iterable, Iterator, Sequence
 from typing import Any
 
-from ..captures.listings import Message
-from ..captures.stored import Stored
 from ..comparison.values.classes import Mask
 from ..comparison.verdict.accepted import Split
 from ..comparison.verdict.cover import Cover
@@ -16,6 +14,8 @@ from ..comparison.verdict.differences import Difference
 from ..comparison.verdict.findings import Compared, Finding, Framing
 from ..comparison.verdict.report import PartReport, Report
 from ..comparison.verdict.summary import RUNS, short
+from ..exchanges.listing import Message
+from ..exchanges.stored import Long, Value
 from ..shared.printed import escaped, printable
 from . import telling
 from .telling import brief_of, folded, is_summed, of_group, of_silent, shortened
@@ -125,13 +125,13 @@ def of_difference(difference: Difference) -> dict[str, Any]:
             'apart': parting}
 
 
-def cut(value: str | None) -> str | None:
-    return shortened(value) if isinstance(value, Stored) else value
+def cut(value: Value | None) -> str | None:
+    return shortened(value) if isinstance(value, Long) else value
 
 
-def digest_of(value: str | None) -> str | None:
+def digest_of(value: Value | None) -> str | None:
     """Returns the digest of a value of which the JSON has no more than the beginning."""
-    return value.digest if isinstance(value, Stored) else None
+    return value.digest if isinstance(value, Long) else None
 
 
 # --- JUnit XML ---

@@ -4,12 +4,12 @@ from __future__ import annotations
 from collections import Counter, defaultdict
 from collections.abc import Iterable, Iterator, Sequence
 
-from ..captures.listings import Message
-from ..captures.stored import Stored
 from ..comparison.values import long_values
 from ..comparison.verdict.accepted import Split, words_of
 from ..comparison.verdict.differences import Difference
 from ..comparison.verdict.findings import Compared, Finding, Framing, Silent
+from ..exchanges.listing import Message
+from ..exchanges.stored import Long, Value
 
 LONGEST_VALUE, LONGEST_NAME = 128, 1024  # characters, as the listing spells them
 LONGEST_LIST = 4  # frames
@@ -20,9 +20,9 @@ PLACES = frozenset(('fh', 'offset', 'count', 'data', 'cookie', 'cookieverf', 'di
                     'maxcount', 'createverf'))
 
 
-def shortened(value: str) -> str:
+def shortened(value: Value) -> str:
     """Returns a value as it is printed alone. Handles and names are whole."""
-    if isinstance(value, Stored):
+    if isinstance(value, Long):
         return f'{value.shown(LONGEST_VALUE)}.. ({2 * value.size} characters)'
     most = LONGEST_NAME if value.startswith('"') else LONGEST_VALUE
     return value if len(value) <= most else f'{value[:most]}.. ({len(value)} characters)'
@@ -70,7 +70,7 @@ def value_of(difference: Difference, number: int) -> str:
                  difference.meanings[number])
 
 
-def named(name: str, value: str, meaning: str) -> str:
+def named(name: str, value: Value, meaning: str) -> str:
     """Returns the value of an item with what it is called, if it has a name. A mode is known by its
     octal digits, which come first."""
     if name == 'mode' and meaning:

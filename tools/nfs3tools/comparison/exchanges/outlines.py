@@ -12,7 +12,7 @@ from bisect import bisect_left, bisect_right
 from collections import defaultdict, deque
 from collections.abc import Callable, Iterable, Iterator
 
-from ...captures.paths import MAKING
+from ...exchanges.objects import MAKING
 from ..values.bindings import RENAMED
 from ..values.classes import CLASSES, Mask, Way
 

@@ -18,7 +18,7 @@ from itertools import accumulate, chain, count, groupby, repeat
 from operator import itemgetter
 from typing import NamedTuple
 
-from ...captures.listings import Message, message_of
+from ...exchanges.listing import Message, message_of
 from ...recordings.records import Window, extents
 from ...recordings.taken import Taken, TakenConnection, TakenStream
 from ...shared.places import SIDES, Side

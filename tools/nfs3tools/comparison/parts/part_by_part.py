@@ -15,7 +15,7 @@ from dataclasses import replace
 from functools import cache
 from pathlib import Path
 
-from ...captures.listings import Message
+from ...exchanges.listing import Message
 from ...recordings.taken import Taken
 from ...shared.printed import escaped
 from ..exchanges.outlines import Outlines

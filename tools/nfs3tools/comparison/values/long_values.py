@@ -5,9 +5,9 @@ from __future__ import annotations
 import re
 from typing import NamedTuple
 
-from ...captures.stored import Stored
+from ...exchanges.stored import Long, Value
 
-LONG = 60  # characters of a value, as the listing spells it
+LONG_TEXT = 60  # characters of a value, as the listing spells it
 SHOWN = 16  # bytes of each value, round the first that differs
 AT_ONCE = 1 << 16  # bytes that are compared
 ESCAPED = re.compile(r'\\x([0-9a-f]{2})')
@@ -33,18 +33,17 @@ class Apart(NamedTuple):
 class Content:
     """The bytes of a value of a listing: of a string in quotes, or of hexadecimal digits."""
 
-    def __init__(self, value: str) -> None:
-        self.stored = value if isinstance(value, Stored) else None
-        self.bytes = b'' if self.stored is not None else bytes_of(value)
-        self.size = len(self.bytes) if self.stored is None else self.stored.size
+    def __init__(self, value: Value) -> None:
+        self.long = value if isinstance(value, Long) else None
+        self.bytes = b'' if isinstance(value, Long) else bytes_of(value)
+        self.size = len(self.bytes) if self.long is None else self.long.size
 
     def read(self, begin: int, end: int) -> bytes:
-        return (self.bytes[begin:end] if self.stored is None
-                else bytes.fromhex(self.stored.digits(begin, end)))
+        return self.bytes[begin:end] if self.long is None else self.long.read(begin, end)
 
 
-def is_long(value: str) -> bool:
-    return len(value) > LONG
+def is_long(value: Value) -> bool:
+    return isinstance(value, Long) or len(value) > LONG_TEXT
 
 
 def bytes_of(value: str) -> bytes:
@@ -54,7 +53,7 @@ def bytes_of(value: str) -> bytes:
     return bytes.fromhex(value)
 
 
-def apart(first: str, second: str, offset: int | None = None) -> Apart:
+def apart(first: Value, second: Value, offset: int | None = None) -> Apart:
     """Returns where two values of a listing part that differ. The offset is that of the first byte
     in its file."""
     one, other = Content(first), Content(second)
@@ -65,7 +64,7 @@ def apart(first: str, second: str, offset: int | None = None) -> Apart:
                                          other.read(begin, min(size, begin + AT_ONCE)))
         at = min(at, begin + first_of_piece) if number else at
         differing += number
-    is_text = first.startswith('"')
+    is_text = str(first).startswith('"')
     return Apart(at, None if offset is None else offset + at, differing, (one.size, other.size),
                  (shown(one, at, is_text), shown(other, at, is_text)))
 

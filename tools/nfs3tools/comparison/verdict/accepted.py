@@ -12,7 +12,7 @@ from fnmatch import fnmatchcase
 from itertools import compress
 from typing import Any, NamedTuple
 
-from ...captures.whose import ANY
+from ...exchanges.whose import ANY
 from ...shared.layouts import BY_NAME
 from ...shared.printed import escaped, printable
 from ..values.bindings import RENAMED
@@ -110,10 +110,16 @@ def kind_of(entry: Entry) -> str:
 
 def said_by(entries: Sequence[Entry], numbers: Iterable[int], difference: Difference) -> list[int]:
     """Returns which of some entries have a field and its values."""
-    values = {'first': difference.first, 'second': difference.second}
+    values = values_of(difference)
     return [number for number in numbers
             if entries[number].get('field') in (difference.label, difference.field)
             and all(entries[number].get(side, value) == value for side, value in values.items())]
+
+
+def values_of(difference: Difference) -> dict[str, str | None]:
+    """Returns both values as an entry has them: of long ones their digests."""
+    both = difference.first, difference.second
+    return {side: None if value is None else str(value) for side, value in zip(SIDES, both)}
 
 
 # --- The file ---
@@ -188,9 +194,7 @@ def entries_of(finding: Finding, mask: Mask) -> Iterator[Entry]:
     elif finding.kind in PLAIN:
         yield {**entry, 'kind': finding.kind}
     for one in finding.differences:
-        values = {'first': one.first, 'second': one.second}
-        if is_of_run(one, message.is_call, mask):
-            values = {}
+        values = {} if is_of_run(one, message.is_call, mask) else values_of(one)
         yield {**entry, 'is_call': message.is_call, 'field': one.label, **values}
 
 

@@ -4,8 +4,9 @@ from __future__ import annotations
 from collections.abc import Iterator
 from typing import NamedTuple
 
-from ...captures.listings import Message
-from ...captures.whose import Labels
+from ...exchanges.listing import Message
+from ...exchanges.stored import Value
+from ...exchanges.whose import Labels
 from ..values.classes import CLASSES, Mask, Way
 
 LAST_OF_HEAD = 'verf_body'  # RFC 5531, section 9
@@ -22,7 +23,7 @@ class Argument(NamedTuple):
     and whether it is a part of the call's path."""
     name: str
     label: str
-    value: str
+    value: Value
     meaning: str
     is_of_path: bool
 
@@ -39,7 +40,7 @@ def arguments_of(call: Message, mask: Mask) -> Iterator[Argument]:
         about.discard(name)
 
 
-def is_zero(name: str, value: str, mask: Mask) -> bool:
+def is_zero(name: str, value: Value, mask: Mask) -> bool:
     """Returns whether an item of a call is masked as zero."""
     return any(mask.get(one.name) is Way.ZERO and not one.has_names and one.has(name, True)
-               and one.has_value(value) for one in CLASSES)
+               and one.has_value(str(value)) for one in CLASSES)

@@ -5,7 +5,7 @@ from collections.abc import Sequence
 from dataclasses import replace
 from typing import NamedTuple
 
-from ...captures.listings import Message
+from ...exchanges.listing import Message
 from ...recordings.taken import Taken
 from ...shared.places import Place
 from ...shared.printed import escaped

@@ -5,9 +5,9 @@ from collections import Counter
 from collections.abc import Iterable, Iterator, Sequence
 from dataclasses import dataclass
 
-from ...captures.listings import Item, Message
-from ...captures.stored import text_of
-from ...captures.whose import Labels
+from ...exchanges.listing import Item, Message
+from ...exchanges.stored import Value, spelled
+from ...exchanges.whose import Labels
 from ..values.bindings import RENAMED, Bindings
 from ..values.classes import CLASSES, Mask, ValueClass, Way
 from ..values.long_values import Apart, Content, apart, is_long
@@ -29,8 +29,8 @@ class Difference:
     alike: what differences of renamed values have in common, of which each has values of its own
     """
     name: str
-    first: str | None
-    second: str | None
+    first: Value | None
+    second: Value | None
     remark: str = ''
     label: str = ''
     field: str = ''
@@ -111,7 +111,7 @@ class Comparison:
 
     def of_raw(self, here: Side, at: int, there: Side, to: int) -> Difference | None:
         """Handles in raw bytes are those of the other run where they are known."""
-        first, second = text_of(here.items[at].value), text_of(there.items[to].value)
+        first, second = spelled(here.items[at].value), spelled(there.items[to].value)
         renamed = self.bindings.renamed(first)
         if renamed == second:
             return None
@@ -121,7 +121,7 @@ class Comparison:
 
     def of_renamed(self, name: str, owner: ValueClass | None, here: Side, at: int, there: Side,
                    to: int) -> Difference | None:
-        first, second = here.items[at].value, there.items[to].value
+        first, second = str(here.items[at].value), str(there.items[to].value)
         zeros = [not value.strip('0') for value in (first, second)]
         if any(zeros) and (owner is not None and owner.keeps_zero or '' in (first, second)):
             # A zero cookie, a verifier of zeros and the empty handle stand for themselves alone.
@@ -195,7 +195,7 @@ def is_of(owner: ValueClass, side: Side, at: int) -> bool:
     decide, or its value."""
     if owner.is_of_changes:
         return side.labels.is_of_a_change(at) or side.labels.is_of_a_directory(at)
-    return owner.has_value(side.items[at].value)
+    return owner.has_value(str(side.items[at].value))
 
 
 # Entries by their keys, and by how many of a key are before. A broken directory may have several of
@@ -218,7 +218,7 @@ def at_name(side: Side, entry: range) -> int | None:
 
 def name_of(side: Side, entry: range) -> str:
     at = at_name(side, entry)
-    return '' if at is None else side.items[at].value
+    return '' if at is None else str(side.items[at].value)
 
 
 def parts_of(items: Sequence[Item]) -> tuple[range, list[range], range]:
@@ -252,10 +252,10 @@ def difference_of(here: Side, at: int, there: Side, to: int, remark: str = '', *
 def of_one_run(side: Side, at: int, number: int, remark: str = '') -> Difference:
     """An item that one run alone has: the first, of number 0, or the second."""
     item, meaning = side.items[at], side.labels.meaning(at)
-    values, meanings = ((item.value, None),
-                        (meaning, '')) if number == 0 else ((None, item.value), ('', meaning))
-    return Difference(item.name, *values, remark, side.labels.label(at), side.labels.field(at),
-                      meanings)
+    first, second = (item.value, None) if number == 0 else (None, item.value)
+    meanings = (meaning, '') if number == 0 else ('', meaning)
+    return Difference(item.name, first, second, remark, side.labels.label(at),
+                      side.labels.field(at), meanings)
 
 
 def of_entry(first: str | None, second: str | None, remark: str = '') -> Difference:

@@ -10,7 +10,7 @@ from functools import cached_property
 from itertools import accumulate, groupby
 from typing import NamedTuple
 
-from ...captures.listings import Exchange
+from ...exchanges.listing import Exchange
 from ..exchanges.matching import Pair
 from ..exchanges.pairing import NOBODY, Pairing
 

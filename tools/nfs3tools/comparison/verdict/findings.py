@@ -7,9 +7,9 @@ from collections import Counter
 from collections.abc import Callable, Iterable, Iterator, Sequence
 from dataclasses import dataclass, field
 
-from ...captures.listings import Exchange, Message, exchanges_of, messages_of
-from ...captures.paths import Paths, below
-from ...captures.stored import Storage
+from ...exchanges.listing import Exchange, Message, exchanges_of, messages_of
+from ...exchanges.objects import Paths, below
+from ...exchanges.stored import Values
 from ..exchanges.matching import Pair
 from ..exchanges.outlines import Outlines
 from ..exchanges.pairing import NOBODY, Listing, Pairing
@@ -103,7 +103,7 @@ class Apart:
     def __init__(self, run: Run, outlines: Outlines, wanted: Iterable[int]) -> None:
         kept = sorted(outlines.with_origins(wanted))
         found = exchanges_of(messages_of(chosen(run.listing() if kept else (), outlines, kept),
-                                         Storage().kept))
+                                         Values()))
         self.exchanges = dict(zip(kept,
                                   itertools.chain.from_iterable(
                                       some for _, some in sorted(found.items()))))
@@ -249,7 +249,7 @@ class Explaining:
     def of_late(self) -> Iterator[Finding]:
         for connection, number, among in self.pairing.late_replies:
             yield Finding(
-                'order', Message(connection, 'server', 1, 0, '', ()), None,
+                'order', Message(connection, 'server', 1, 0, ''), None,
                 remark=f'{number} of {among} replies of the connection come in another order')
 
     def of_the_lonely(self, mask: Mask) -> Iterator[Finding]:

@@ -10,7 +10,7 @@ from collections.abc import Sequence
 from dataclasses import replace
 from typing import NamedTuple
 
-from ...captures.whose import ANY, fields_of
+from ...exchanges.whose import ANY, fields_of
 from ...shared.layouts import BY_NAME
 from ...shared.printed import printable
 from .differences import Difference

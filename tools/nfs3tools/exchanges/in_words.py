@@ -1,9 +1,9 @@
 """What a call asks and what a reply says, in a few words, by their lines of a listing.
 
     asked_in('NFSPROC3_WRITE', said).words        # '0+4096 UNSTABLE'
-    answer_in('NFSPROC3_WRITE', reply_said)       # 'OK 4096 UNSTABLE' and no error
+    answer_in('NFSPROC3_WRITE', reply_said)       # 'OK 4096 UNSTABLE'
 
-`said` is what the listing has after the name of the procedure.
+`said` is what the listing has after the name of the procedure, from the space on.
 """
 from __future__ import annotations
 
@@ -14,12 +14,12 @@ from typing import NamedTuple, Optional
 
 from ..shared.layouts import RAW, VALUES, meaning_of
 from .answering import error_in
-from .listings import ITEM
+from .listing import ITEM
 
 LONGEST = 1_000  # characters of a name or a text
 KEPT_AT_MOST = 1_024  # texts that are made once
 WIDTH = 7  # of GETATTR and SETATTR, and of names that are shorter
-HEAD = re.compile(r'mtype=0 rpcvers=2 prog=\d+ vers=\d+ proc=\d+ cred_flavor=\d+ '
+HEAD = re.compile(r' mtype=0 rpcvers=2 prog=\d+ vers=\d+ proc=\d+ cred_flavor=\d+ '
                   r'(?:cred_body=\w*|cred_length=\d+ stamp=\d+ machinename="[^"]*" uid=(\d+) '
                   r'gid=\d+ gids=\d+(?: group=\d+)*) verf_flavor=0 verf_body=\w*')
 # The arguments besides handles and names, by procedures. Some names stand for several items.
@@ -86,7 +86,7 @@ def head_of(procedure: str, said: str) -> tuple[str, int | None]:
     """Returns what a call says before its arguments, and the user in that."""
     last = LAST_HEADS.get(procedure)
     # (the head ends before a space; with the same text before it, it is the same head)
-    if last and said.startswith(last[0]) and said[len(last[0]):len(last[0]) + 1] in ' \n':
+    if last and said.startswith(last[0]) and said[len(last[0]):len(last[0]) + 1] in ' ':
         return last
     head = HEAD.match(said)
     assert head, said[:200]
@@ -150,20 +150,18 @@ def settings_in(items: Mapping[str, str]) -> Iterator[str]:
             yield f'{name} {items[name + "_sec"]}.{int(items[name + "_nsec"]):09}'
 
 
-def answer_in(procedure: str, said: str) -> tuple[str, str]:
-    """Returns what a reply says, and the name of its error, or nothing for success."""
+def answer_in(procedure: str, said: str) -> str:
+    """Returns what a reply says: the name of its error, or what a success says."""
     error = error_in(procedure, said)
     if error:
-        return error, error
+        return error
     if procedure == RAW.name:
-        return NOT_READ, ''
+        return NOT_READ
     if procedure in LISTING:
-        return f'OK {entries_in(said)}', ''
+        return f'OK {entries_in(said)}'
     pattern, template = RESULTS.get(procedure, (None, ''))
     read = pattern.search(said) if pattern else None
-    if read is None:
-        return 'OK', ''
-    return result_of(template, read.groups()), ''
+    return 'OK' if read is None else result_of(template, read.groups())
 
 
 @functools.lru_cache(KEPT_AT_MOST)
@@ -175,7 +173,7 @@ def result_of(template: str, values: tuple[str, ...]) -> str:
 def entries_in(said: str) -> str:
     """How many entries a folder's listing has, and whether it is at its end."""
     number = sum(name == 'name' for name, _ in ITEM.findall(said))
-    is_end = said.endswith((' eof=1', ' eof=1\n'))
+    is_end = said.endswith(' eof=1')
     return f'{number:,} {"entry" if number == 1 else "entries"}' + ' eof' * is_end
 
 

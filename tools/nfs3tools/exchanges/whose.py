@@ -14,7 +14,7 @@ from functools import cached_property
 from typing import NamedTuple
 
 from ..shared.layouts import BY_NAME, Procedure, Spell, Stop, Walk, cases_of, meaning_of
-from .listings import Item, Message
+from .listing import Item, Message
 
 DIRECTORY = '2'  # NF3DIR
 SHAPES_AT_MOST = 1 << 10  # that are kept
@@ -101,7 +101,7 @@ class Slots(Owned):
     def word(self, name: str, values: Mapping[int, str] | None = None,
              most: int = 0xffffffff) -> int:
         self.met(name, values)
-        return int(self.items[len(self.slots) - 1].value)
+        return int(str(self.items[len(self.slots) - 1].value))
 
     def owner(self, name: str, number: int) -> Owner:
         """The name of a directory's entry comes after its file id."""
@@ -155,7 +155,8 @@ class Labels:
 
     def meaning(self, at: int) -> str:
         """The name of the item's number, if it has one."""
-        return meaning_of(self.slots[at].name, self.message.items[at].value, self.slots[at].values)
+        return meaning_of(self.slots[at].name, str(self.message.items[at].value),
+                          self.slots[at].values)
 
 
 class Fields(Owned):

@@ -9,7 +9,7 @@ from __future__ import annotations
 from collections.abc import Iterable, Sequence
 from typing import NamedTuple
 
-from .listings import Exchange, Item
+from .listing import Exchange, Item
 
 MOUNTING, LISTING = 'MOUNTPROC3_MNT', 'NFSPROC3_READDIRPLUS'
 MAKING = {
@@ -104,10 +104,10 @@ class Paths:
         name = '.'
         for item in items:
             if item.name == 'name':
-                name = item.value.strip('"')
+                name = str(item.value).strip('"')
             elif item.name == 'fh':
-                self.learn(item.value, Origin(folder, name, False))
+                self.learn(str(item.value), Origin(folder, name, False))
 
 
 def first_handle(items: Iterable[Item]) -> str | None:
-    return next((item.value for item in items if item.name == 'fh'), None)
+    return next((str(item.value) for item in items if item.name == 'fh'), None)

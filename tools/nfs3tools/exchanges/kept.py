@@ -1,0 +1,353 @@
+"""The exchanges of a recording. What they say is kept in a temporary file, and read if it is asked
+for.
+
+    with contextlib.closing(Kept()) as kept:
+        kept.take(program, connection, is_refused=False)     # from the listing of `nfs3canon show`
+        for at in kept.in_order(by_latency=False):
+            one = kept.exchange(at)
+            print(one.frame, one.path, one.call.items, one.replies[0].items)
+"""
+from __future__ import annotations
+
+import re
+from array import array
+from collections.abc import Sequence
+from functools import cached_property
+from typing import NamedTuple
+
+from ..recordings.selection import BEGUN_BEFORE
+from ..recordings.spool import Spool
+from ..recordings.taken import Completion, TakenConnection
+from .answering import Answering, error_in
+from .in_words import Asked, answer_in, asked_in, short_name
+from .listing import ITEM, Item, Message, is_call, listed_of, name_of_call
+from .objects import LISTING, MAKING, MOUNTING, UNKNOWN, Paths, below
+from .stored import Texts, Values, without_long
+
+UNTIMED = -1 << 63  # stands for no latency
+HANDLE = re.compile(r' (fh)=(\w*)')
+
+
+class Part(NamedTuple):
+    """A connection whose exchanges are kept.
+
+    number, client, server: as those of what was taken
+    paths: those of its handles
+    is_refused: whether the program refuses it
+    has_all_replies: whether a call of which no reply is listed got none
+    """
+    number: int
+    client: str
+    server: str
+    paths: Paths
+    is_refused: bool
+    has_all_replies: bool
+
+    def path(self, handle: str | None, entry: str | None) -> str | None:
+        """Returns the path of an object, or of a name in a folder. A folder whose path is not known
+        is `?`."""
+        if handle is None:
+            return entry
+        path = self.paths.of(handle) or UNKNOWN
+        return path if entry is None else below(path, entry)
+
+
+class Sent(NamedTuple):
+    """A record, with the frame that completed it, when, and how many bytes it has with its
+    marks. Frame and time are 0 if they are not known."""
+    record: int
+    frame: int
+    time: int
+    size: int
+
+
+class Exchange:
+    """A call, with its retransmissions and its replies. What they say is read once it is asked for.
+
+    part: its connection
+    sent: its call; `record`, `frame` and `time` are of that
+    again: its retransmissions
+    answered: its replies
+    latency: nanoseconds to the first reply
+    procedure: its name in the listing, or of a raw call that of its program and its procedure
+    """
+
+    def __init__(self, kept: 'Kept', at: int) -> None:
+        self.kept, self.at, self.part = kept, at, kept.parts[kept.part_of[at]]
+        self.record, self.frame, self.time = kept.records[at], kept.frames[at], kept.times[at]
+        self.procedure = kept.names[kept.kinds[at]]
+        # What was asked for.
+        self.known_asked: Asked | None = None
+        self.known_answers: list[str] | None = None
+
+    @property
+    def latency(self) -> int | None:
+        latency = self.kept.latencies[self.at]
+        return None if latency == UNTIMED else latency
+
+    @property
+    def sent(self) -> Sent:
+        return Sent(self.record, self.frame, self.time, self.kept.sizes[self.at])
+
+    @property
+    def again(self) -> Sequence[Sent]:
+        return self.kept.again.get(self.at, ())
+
+    @property
+    def answered(self) -> Sequence[Sent]:
+        return [self.kept.reply(number) for number in self.kept.replies_of(self.at)]
+
+    @cached_property
+    def call(self) -> Message:
+        """What is asked, with all items."""
+        kept = self.kept
+        return Message(self.part.number, 'client', self.record, kept.xids[self.at],
+                       kept.listed_name(self.at), kept.asking[self.at], kept.values, self.frame,
+                       self.time)
+
+    @cached_property
+    def replies(self) -> list[Message]:
+        """What is answered, with all items."""
+        kept, call = self.kept, (self.kept.xids[self.at], self.kept.listed_name(self.at))
+        some = ((kept.reply(number), number) for number in kept.replies_of(self.at))
+        return [Message(self.part.number, 'server', one.record, *call, kept.answering[number],
+                        kept.values, one.frame, one.time) for one, number in some]
+
+    @property
+    def asked(self) -> Asked:
+        """What is asked, in words."""
+        if self.known_asked is None:
+            self.known_asked = asked_in(self.kept.listed_name(self.at), self.kept.asking[self.at])
+        return self.known_asked
+
+    @property
+    def path(self) -> str | None:
+        return self.part.path(self.asked.handle, self.asked.entry)
+
+    @property
+    def other_path(self) -> str | None:
+        """The second path of RENAME and LINK."""
+        return self.part.path(self.asked.other, self.asked.other_entry)
+
+    @property
+    def answers(self) -> list[str]:
+        """What each reply says, in words."""
+        if self.known_answers is None:
+            name, texts = self.kept.listed_name(self.at), self.kept.answering
+            self.known_answers = [answer_in(name, texts[number])
+                                  for number in self.kept.replies_of(self.at)]
+        return self.known_answers
+
+    @property
+    def answer(self) -> str:
+        """What the replies say, or that there is none."""
+        words = self.answers
+        if len(words) == 1:
+            return words[0]
+        if len(words) > 1 and words.count(words[0]) == len(words):
+            return f'{words[0]} ({len(words)} replies)'
+        if words:
+            return ', then '.join(words)
+        if self.part.has_all_replies:
+            return 'no reply'
+        return 'not judged' if self.part.is_refused else 'no reply recorded'
+
+    @property
+    def errors(self) -> Sequence[str]:
+        """The names of the errors of its replies."""
+        return self.kept.errors.get(self.at, ())
+
+    @property
+    def is_error(self) -> bool:
+        """Whether a reply is no success, or the call got none."""
+        if not self.kept.firsts[self.at]:
+            return self.part.has_all_replies
+        return bool(self.errors)
+
+
+def call_of(one: Exchange) -> str:
+    """A call with its paths and its other arguments."""
+    words, path = [short_name(one.procedure)], one.path
+    if path is not None:
+        words.append(path)
+    if one.asked.other is not None:
+        words.append(f'-> {one.other_path}')
+    if one.asked.words:
+        words.append(one.asked.words)
+    if one.again:
+        words.append(f'(sent {len(one.again) + 1} times)')
+    return ' '.join(words)
+
+
+class Kept:
+    """The exchanges of a recording, numbered from 0, connection after connection.
+
+    parts, starts, part_of: the connections, the first exchange of each, and that of each exchange
+    names, kinds: the procedures, and that of each exchange
+    records, xids, frames, times, sizes: of each call
+    latencies: nanoseconds to the first reply
+    again: retransmissions, by exchanges
+    errors: the errors of replies, by exchanges
+    """
+
+    def __init__(self, values: Values | None = None, has_texts: bool = True) -> None:
+        """`values` keeps long values, which are lost without it. Without texts it is only kept when
+        an exchange was, its procedure and its errors."""
+        self.spool, self.values, self.has_texts = Spool(), values, has_texts
+        self.parts, self.starts = list[Part](), list[int]()
+        # What each call says, and each reply.
+        self.asking, self.answering = Texts(self.spool), Texts(self.spool)
+        # By the address of the server, since other servers may have equal handles.
+        self.paths: dict[str, Paths] = {}
+        self.names, self.numbers, self.kinds = list[str](), dict[str, int](), array('H')
+        self.listed_names = list[str]()  # those of the listing
+        self.part_of, self.records, self.xids = array('I'), array('I'), array('I')
+        self.sizes = array('I')
+        self.frames, self.times, self.latencies = array('Q'), array('q'), array('q')
+        self.again, self.errors = dict[int, list[Sent]](), dict[int, list[str]]()
+        # The first reply of each, from 1 in the order of all replies, 0 for none; and more.
+        self.firsts, self.further = array('Q'), dict[int, list[int]]()
+        # Of each reply.
+        self.reply_records, self.reply_sizes = array('I'), array('I')
+        self.reply_frames, self.reply_times = array('Q'), array('q')
+
+    def __len__(self) -> int:
+        return len(self.records)
+
+    def close(self) -> None:
+        self.spool.close()
+
+    def take(self, program: str, connection: TakenConnection, is_refused: bool) -> None:
+        """Takes the exchanges of a connection, up to its fault if the program refuses it.
+
+        Raises what `listed_of` does.
+        """
+        paths = self.paths.setdefault(connection.server_end.rpartition(':')[0], Paths())
+        has_all = not is_refused and has_all_replies(connection)
+        self.starts.append(len(self))
+        self.parts.append(Part(connection.number, connection.client_end, connection.server_end,
+                               paths, is_refused, has_all))
+        reading = Reading(self, paths)
+        call, reply = reading.call, reading.reply
+        for line, completion in listed_of(program, connection, is_refused):
+            (call if is_call(line) else reply)(line, completion)
+
+    def exchange(self, at: int) -> Exchange:
+        """Returns an exchange by its number."""
+        return Exchange(self, at)
+
+    def exchanges_of(self, number: int) -> range:
+        """Returns the exchanges of a connection, by its place among `parts`."""
+        ends = [*self.starts[1:], len(self)]
+        return range(self.starts[number], ends[number])
+
+    def listed_name(self, at: int) -> str:
+        """Returns the procedure of an exchange as the listing names it."""
+        return self.listed_names[self.kinds[at]]
+
+    def replies_of(self, at: int) -> Sequence[int]:
+        """Returns the numbers of the replies of an exchange."""
+        first = self.firsts[at]
+        return (first - 1, *self.further.get(at, ())) if first else ()
+
+    def reply(self, number: int) -> Sent:
+        return Sent(self.reply_records[number], self.reply_frames[number],
+                    self.reply_times[number], self.reply_sizes[number])
+
+    def in_order(self, by_latency: bool) -> list[int]:
+        """Returns the numbers of the exchanges by time, or with the longest latency first."""
+        if by_latency:
+            return sorted(range(len(self)), key=self.latencies.__getitem__, reverse=True)
+        return sorted(range(len(self)), key=self.times.__getitem__)
+
+    @property
+    def backward(self) -> int:
+        """How many latencies are negative, since the clock went back."""
+        return sum(UNTIMED < latency < 0 for latency in self.latencies)
+
+    @property
+    def has_latencies(self) -> bool:
+        return any(latency != UNTIMED for latency in self.latencies)
+
+
+def has_all_replies(connection: TakenConnection) -> bool:
+    """Whether all replies of a connection are recorded: its end is, and no byte is missing but for
+    its beginning."""
+    lacks = set(connection.lacks) - {BEGUN_BEFORE}
+    return connection.is_closed and not (connection.missing or lacks)
+
+
+class Reading:
+    """Reads the exchanges of a connection: first its calls, then its replies."""
+
+    def __init__(self, kept: Kept, paths: Paths) -> None:
+        self.kept, self.paths = kept, paths
+        self.rule, self.owners = Answering(), array('Q')  # the exchange of each call
+        self.number = len(kept.parts) - 1
+        self.cut = kept.values.cut if kept.values else without_long
+
+    def call(self, line: str, completion: Completion) -> None:
+        _, _, record, xid, rest = line.split(' ', 4)
+        end = rest.find(' ')
+        text = rest[end:-1]
+        number = int(xid[4:])
+        kept, earlier = self.kept, self.rule.call(number, text)
+        size, frame, time = completion
+        if earlier is not None:
+            at = self.owners[earlier]
+            kept.again.setdefault(at, []).append(Sent(int(record), frame, time, size))
+            self.owners.append(at)
+            return
+        self.owners.append(len(kept.records))
+        kept.part_of.append(self.number)
+        kept.kinds.append(self.kind_of(rest[:end], text))
+        kept.records.append(int(record))
+        kept.xids.append(number)
+        kept.sizes.append(size)
+        kept.frames.append(frame)
+        kept.times.append(time)
+        kept.latencies.append(UNTIMED)
+        kept.firsts.append(0)
+        if kept.has_texts:
+            kept.asking.append(self.cut(text))
+
+    def kind_of(self, listed: str, text: str) -> int:
+        """Returns the number of a call's procedure."""
+        kept, name = self.kept, name_of_call(listed, text)
+        number = kept.numbers.setdefault(name, len(kept.names))
+        if number == len(kept.names):
+            kept.names.append(name)
+            kept.listed_names.append(listed)
+        return number
+
+    def reply(self, line: str, completion: Completion) -> None:
+        _, _, record, xid, rest = line.split(' ', 4)
+        end = rest.find(' ')
+        name, text = rest[:end], rest[end:-1]
+        kept, at = self.kept, self.owners[self.rule.reply(int(xid[4:]))]
+        size, frame, time = completion
+        number = len(kept.reply_records)
+        if kept.has_texts:
+            kept.answering.append(self.cut(text))
+        kept.reply_records.append(int(record))
+        kept.reply_sizes.append(size)
+        kept.reply_frames.append(frame)
+        kept.reply_times.append(time)
+        if kept.firsts[at]:
+            kept.further.setdefault(at, []).append(number)
+        else:
+            kept.firsts[at] = number + 1
+            if time and kept.times[at]:
+                kept.latencies[at] = time - kept.times[at]
+        error = error_in(name, text)
+        if error:
+            kept.errors.setdefault(at, []).append(error)
+        elif kept.has_texts and (name in MAKING or name == LISTING or name == MOUNTING):
+            self.learn(at, name, text)
+
+    def learn(self, at: int, procedure: str, text: str) -> None:
+        """Learns from a reply which paths handles have."""
+        asked = asked_in(procedure, self.kept.asking[at])
+        found = ITEM.findall(text) if procedure == LISTING else HANDLE.findall(text)[:1]
+        items: Sequence[Item] = [Item(*item) for item in found if item[0] in ('name', 'fh')]
+        self.paths.take_reply(procedure, asked.handle or '', asked.entry or '', items)

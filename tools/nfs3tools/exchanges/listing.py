@@ -1,0 +1,183 @@
+"""The listing of a capture, as `nfs3canon show` prints it: messages, and the exchanges that they
+make up."""
+from __future__ import annotations
+
+import contextlib
+import re
+import tempfile
+from collections import defaultdict
+from collections.abc import Iterable, Iterator
+from dataclasses import dataclass, field
+from functools import cached_property
+from typing import IO, NamedTuple
+
+from ..recordings.coverage import call_named
+from ..recordings.taken import Completion, TakenConnection
+from ..shared.layouts import RAW
+from ..shared.programs import lines_of_program
+from .answering import Answering
+from .stored import Value, Values
+
+ITEM = re.compile(r' (\w+)=("[^"]*"|\S*)')
+NUMBERS = re.compile(r' ?mtype=0 rpcvers=2 prog=(\d+) vers=(\d+) proc=(\d+) ')
+REFUSED = 2  # the status of `show` after a fault
+
+
+class Line(NamedTuple):
+    """A line of a listing, of which the items are not read: ` mtype=0 ..`, up to its end."""
+    connection: int
+    is_call: bool
+    record: int
+    xid: int
+    procedure: str
+    text: str
+
+
+def line_of(line: str) -> Line:
+    """Reads a line of a listing."""
+    connection, side, record, xid, rest = line.split(' ', 4)
+    end = rest.find(' ')
+    return Line(int(connection), side == 'client', int(record), int(xid[4:]), rest[:end],
+                rest[end:].rstrip('\n'))
+
+
+class Item(NamedTuple):
+    """An item of a message: its name, and its value."""
+    name: str
+    value: Value
+
+
+@dataclass
+class Message:
+    """A call or a reply, where it is in its capture, and what it says.
+
+    text: its items as the listing has them after the procedure, with marks for long values, which
+        `values` has
+    frame, time: of the frame that completed it; 0 if there is none
+    """
+    connection: int
+    side: str
+    record: int
+    xid: int
+    procedure: str
+    text: str = ''
+    values: Values | None = field(default=None, repr=False, compare=False)
+    frame: int = 0
+    time: int = 0
+
+    @property
+    def is_call(self) -> bool:
+        return self.side == 'client'
+
+    @property
+    def place(self) -> str:
+        """The message's place, in the words of `nfs3canon`."""
+        return f'connection {self.connection} {self.side} record {self.record}'
+
+    @cached_property
+    def items(self) -> tuple[Item, ...]:
+        """Its items after the xid, read once they are asked for."""
+        some = ITEM.findall(self.text)
+        if self.values is None:
+            return tuple(map(Item._make, some))
+        return tuple(Item(name, self.values.value(word)) for name, word in some)
+
+    def value_of(self, name: str) -> str | None:
+        """The text of the first item of this name."""
+        return next((str(item.value) for item in self.items if item.name == name), None)
+
+
+@dataclass
+class Exchange:
+    """A call, its replies, and its retransmissions."""
+    call: Message
+    replies: list[Message] = field(default_factory=list)
+    again: list[Message] = field(default_factory=list)
+
+    @property
+    def procedure(self) -> str:
+        return self.call.procedure
+
+    @property
+    def calls(self) -> list[Message]:
+        """Its call each time that it was sent."""
+        return [self.call, *self.again]
+
+
+def message_of(line: str, values: Values | None = None) -> Message:
+    """Returns the message of a line of a listing. Long values are put among `values`."""
+    read = line_of(line)
+    return Message(read.connection, 'client' if read.is_call else 'server', read.record, read.xid,
+                   read.procedure, values.cut(read.text) if values else read.text, values)
+
+
+def messages_of(lines: Iterable[str], values: Values | None = None) -> Iterator[Message]:
+    """Returns the messages of a listing, line by line."""
+    return (message_of(line, values) for line in lines)
+
+
+def exchanges_of(messages: Iterable[Message]) -> dict[int, list[Exchange]]:
+    """Returns the exchanges of each connection, in the order of their calls."""
+    exchanges = defaultdict[int, list[Exchange]](list)
+    owners = defaultdict[int, list[Exchange]](list)  # the exchange of each call
+    answering = defaultdict[int, Answering](Answering)
+    for message in messages:
+        own, rule = owners[message.connection], answering[message.connection]
+        if not message.is_call:
+            own[rule.reply(message.xid)].replies.append(message)
+            continue
+        earlier = rule.call(message.xid, message.text)
+        if earlier is None:
+            exchanges[message.connection].append(Exchange(message))
+            own.append(exchanges[message.connection][-1])
+        else:
+            own[earlier].again.append(message)
+            own.append(own[earlier])
+    return dict(exchanges)
+
+
+def name_of_call(name: str, said: str) -> str:
+    """Returns the name of a call's procedure: that of the listing, or of a raw call that of its
+    program and its procedure."""
+    if name != RAW.name:
+        return name
+    read = NUMBERS.match(said)
+    assert read, said[:200]
+    program, version, procedure = map(int, read.groups())
+    return call_named(program, version, procedure)
+
+
+# --- The listing of a connection that was taken ---
+
+def is_call(line: str) -> bool:
+    """Whether a line of a listing of one connection is that of a call, as `1 client 1 ..` is."""
+    return line[2] == 'c'
+
+
+def listed_of(program: str, connection: TakenConnection,
+              is_refused: bool) -> Iterator[tuple[str, Completion]]:
+    """Iterates over the lines of a connection's listing, as that of connection 1, first those of
+    its calls and then those of its replies: up to its fault if the program refuses it. Each comes
+    with what completed its record.
+
+    Raises `Died` if the program does not end as that says, and `OSError` if a temporary file cannot
+    be written.
+    """
+    calls, replies = connection.client.completions(), connection.server.completions()
+    with captured(connection) as capture:
+        for line in lines_of_program(program, ['show', '/dev/stdin'],
+                                     REFUSED if is_refused else 0, capture):
+            yield line, next(calls if is_call(line) else replies)
+
+
+@contextlib.contextmanager
+def captured(connection: TakenConnection) -> Iterator[IO[bytes]]:
+    """A temporary file with the capture of a connection."""
+    with tempfile.TemporaryFile(prefix='nfs3canon') as file:
+        try:
+            file.writelines(connection.capture())
+            file.seek(0)
+        except OSError as failed:
+            raise OSError(failed.errno, failed.strerror or str(failed),
+                          'a temporary file') from failed
+        yield file

@@ -1,0 +1,139 @@
+"""Texts and long values of a listing in temporary files.
+
+    values = Values()
+    text = values.cut(' count=4096 data=6162..')    # ' count=4096 data=#0+4096:9f86..'
+    values.value('#0+4096:9f86..').read(0, 10)      # the first ten bytes
+"""
+from __future__ import annotations
+
+import hashlib
+import os
+import tempfile
+from array import array
+from dataclasses import dataclass, field
+from typing import IO, Union
+
+from ..recordings.records import READ_AT_ONCE
+from ..recordings.spool import Spool, Stored
+
+KEPT_AT_MOST = 1_024  # digits of a value that is part of its text
+MARK = '#'  # with which no value of a listing begins
+
+
+@dataclass(frozen=True)
+class Long:
+    """The bytes of a long value, in a temporary file.
+
+    digest, size: SHA-256 of the bytes, and how many there are
+    """
+    digest: str
+    size: int
+    begin: int = field(compare=False)
+    file: IO[bytes] = field(compare=False, repr=False)
+
+    def __str__(self) -> str:
+        return f'SHA-256 {self.digest}, {self.size} bytes'
+
+    def read(self, begin: int, end: int) -> bytes:
+        """Returns the bytes from one place up to another, or up to the end."""
+        return os.pread(self.file.fileno(), max(0, min(end, self.size) - begin),
+                        self.begin + begin)
+
+    @property
+    def digits(self) -> str:
+        """All of it, as the listing spells it."""
+        return self.read(0, self.size).hex()
+
+    def shown(self, number: int) -> str:
+        """Returns the given number of its first digits."""
+        return self.read(0, (number + 1) // 2).hex()[:number]
+
+
+# A value as the listing spells it, or the bytes of a long one. `str` of both is a short text.
+Value = Union[str, Long]
+
+
+def spelled(value: Value) -> str:
+    """Returns all of a value, as the listing spells it."""
+    return value.digits if isinstance(value, Long) else value
+
+
+class Values:
+    """Long values of a listing in a temporary file, which is there as long as one of them is.
+    Strings in quotes are none."""
+
+    def __init__(self) -> None:
+        self.file: IO[bytes] | None = None
+        self.size = 0
+
+    def cut(self, text: str) -> str:
+        """Returns items with a mark in the place of a long value."""
+        begin = begin_of_long(text)
+        return text if begin is None else f'{text[:begin]}{self.mark_of(text[begin:])}'
+
+    def mark_of(self, digits: str) -> str:
+        """Keeps a value, and returns where and what it is."""
+        if self.file is None:
+            self.file = tempfile.TemporaryFile(prefix='nfs3canon', buffering=0)
+        content, begin = bytes.fromhex(digits), self.size
+        while self.size < begin + len(content):
+            self.size += os.pwrite(self.file.fileno(), content[self.size - begin:], self.size)
+        return f'{MARK}{begin}+{len(content)}:{hashlib.sha256(content).hexdigest()}'
+
+    def value(self, word: str) -> Value:
+        """Returns the value that a word of a text is, or marks."""
+        if not word.startswith(MARK):
+            return word
+        place, _, digest = word[1:].partition(':')
+        begin, size = map(int, place.split('+'))
+        assert self.file
+        return Long(digest, size, begin, self.file)
+
+
+def begin_of_long(text: str) -> int | None:
+    """Returns where the long value of some items begins, if there is one. Data and raw bytes are
+    long, which are the last item of a message."""
+    begin = text.rfind('=') + 1
+    return begin if len(text) - begin > KEPT_AT_MOST and text[-1] != '"' else None
+
+
+def without_long(text: str) -> str:
+    """Returns items without the digits of a long value, of which nobody asks."""
+    return text[:begin_of_long(text)]
+
+
+class Texts:
+    """Texts in a temporary file, numbered from 0. Those that are near one another are read at
+    once."""
+
+    def __init__(self, spool: Spool) -> None:
+        self.stored, self.begins, self.size = Stored(spool), array('Q', [0]), 0
+        self.waiting = list[str]()  # are not stored yet
+        self.waiting_size = 0
+        # Bytes that were read, where they begin, and where the last text ended.
+        self.block, self.at, self.end = b'', 0, 0
+
+    def __len__(self) -> int:
+        return len(self.begins) - 1
+
+    def append(self, text: str) -> None:
+        self.waiting.append(text)
+        self.size += len(text)
+        self.waiting_size += len(text)
+        self.begins.append(self.size)
+        if self.waiting_size > READ_AT_ONCE:
+            self.store()
+
+    def store(self) -> None:
+        self.stored.append(''.join(self.waiting).encode('latin-1'))
+        self.waiting, self.waiting_size = [], 0
+
+    def __getitem__(self, number: int) -> str:
+        begin, end = self.begins[number], self.begins[number + 1]
+        if begin < self.at or end - self.at > len(self.block):
+            self.store()
+            is_near = 0 <= begin - self.end < READ_AT_ONCE
+            size = max(end - begin, READ_AT_ONCE if is_near else 0)
+            self.block, self.at = self.stored.read(begin, size), begin
+        self.end = end
+        return self.block[begin - self.at:end - self.at].decode('latin-1')
