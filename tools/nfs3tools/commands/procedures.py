@@ -47,11 +47,12 @@ from collections import Counter
 from collections.abc import Iterator, Sequence
 from functools import partial
 
-from ..judgement.seen import Seen, kept_in, seen_in
+from ..judgement.seen import Seen, count_unanswered, kept_in, seen_in
 from ..judgement.tallies import Tallies, Tally, in_order, milliseconds, sum_of, tallies_of
 from ..judgement.verdict import (
     VERSION, Verdict, colour_of, counts_after, is_row, named, object_of as object_of_verdict,
     status_of, sums_of, tell_notes)
+from ..judgement.window import add_window, window_of
 from ..judgement.verdict_page import Content, Table as ShownTable, page, row_of_cells, said_of
 from ..recordings.parts import files_of
 from ..recordings.selection import plural
@@ -63,8 +64,8 @@ from ..shared.places import Place
 from ..shared.printed import escaped, printable
 from ..shared.programs import program_path
 from ..shared.screens import (
-    Colour, Screen, Styled, add_colour, is_as_wide, lines_of, panels, screen_of)
-from .verdicts import CONNECTIONS_AT_ONCE, Judge, positive
+    Colour, Screen, Styled, add_colour, add_width, is_as_wide, lines_of, panels, screen_of)
+from .verdicts import CONNECTIONS_AT_ONCE, Judge
 
 PARTS = (0.5, 0.99, 1)  # of the latencies: the median, the 99th percentile, and the longest
 COUNTS = ('calls', 'again', 'replies', 'unanswered', 'call_bytes', 'reply_bytes')
@@ -128,19 +129,22 @@ def total_of(tallies: Tallies) -> Tally:
     return total
 
 
-def counted(judge: Judge, recording: str, is_seen: bool) -> Counted:
-    """Judges a recording or capture, and counts each connection that was judged. What a page shows
-    is looked for if there is to be one."""
+def counted(judge: Judge, recording: str, chosen: argparse.Namespace) -> Counted:
+    """Judges a recording or capture, and counts the calls that are chosen of each connection that was
+    judged. What a page shows is looked for if there is to be one."""
     tables, seen = list[Table](), list[Seen]()
 
     def look(taken: Taken, verdicts: list[Verdict]) -> None:
         judged = {verdict.connection: verdict for verdict in verdicts}
         with contextlib.closing(kept_in(judge.program, taken, verdicts,
-                                        has_texts=is_seen)) as kept:
-            tables.extend(Table(recording, judged[part.number], tallies_of(kept, recording, number))
+                                        has_texts=bool(chosen.html))) as kept:
+            count_unanswered(kept, verdicts)
+            window = window_of(chosen, taken.begun)
+            tables.extend(Table(recording, judged[part.number],
+                                tallies_of(kept, recording, number, window))
                           for number, part in enumerate(kept.parts))
-            if is_seen:
-                seen.append(seen_in(kept, taken, recording, verdicts))
+            if chosen.html:
+                seen.append(seen_in(kept, taken, recording, verdicts, window))
     verdicts = judge.verdicts(recording, look)
     in_all = Table(recording, None, sum_of(table.tallies for table in tables))
     return Counted(recording, verdicts, tables, in_all,
@@ -390,9 +394,8 @@ def words_of(words: list[str]) -> argparse.Namespace:
     parser.add_argument('--csv', metavar='FILE', help='writes the tables as comma-separated values')
     parser.add_argument('--html', metavar='FILE',
                         help='writes a page for a browser, with the tables and latencies')
-    parser.add_argument('--width', metavar='N', type=positive,
-                        help='prints no line of a table wider than N columns; '
-                             'by default those of a terminal')
+    add_window(parser)
+    add_width(parser)
     add_colour(parser)
     add_judging(parser)
     chosen = parser.parse_args(words)
@@ -406,8 +409,8 @@ def main(words: list[str]) -> int:
     inputs = [file for recording in chosen.recordings for file in files_of(recording)]
     outputs = [chosen.json, chosen.csv, chosen.html]
     try_outputs(outputs, inputs)
-    judge = Judge(program_path(chosen.program), options_of(chosen), CONNECTIONS_AT_ONCE, True)
-    found = [counted(judge, recording, bool(chosen.html)) for recording in chosen.recordings]
+    judge = Judge(program_path(chosen.program), options_of(chosen), CONNECTIONS_AT_ONCE, True, False)
+    found = [counted(judge, recording, chosen) for recording in chosen.recordings]
     verdicts = [verdict for one in found for verdict in one.verdicts]
     tell_notes(verdicts)
     with printed_beside(outputs):

@@ -11,7 +11,8 @@ from __future__ import annotations
 
 import re
 from array import array
-from collections.abc import Sequence
+from collections import defaultdict
+from collections.abc import Iterable, Mapping, Sequence
 from functools import cached_property
 from typing import NamedTuple
 
@@ -153,6 +154,28 @@ class Exchange:
         return 'not judged' if self.part.is_refused else 'no reply recorded'
 
     @property
+    def is_unanswered(self) -> bool:
+        return self.kept.is_unanswered(self.at)
+
+    @property
+    def waited(self) -> int | None:
+        """Nanoseconds without a reply: up to one on a later connection, or to the recording's
+        end."""
+        is_known = not self.kept.firsts[self.at] and not self.part.is_refused
+        return self.kept.waited(self.at) if is_known else None
+
+    @property
+    def earlier(self) -> str | None:
+        """The position of the same call on an earlier connection, of which it is a
+        retransmission, as `7:3182`."""
+        return self.kept.position(self.kept.earlier.get(self.at))
+
+    @property
+    def later(self) -> str | None:
+        """The same of a later connection."""
+        return self.kept.position(self.kept.later.get(self.at))
+
+    @property
     def errors(self) -> Sequence[str]:
         """The names of the errors of its replies."""
         return self.kept.errors.get(self.at, ())
@@ -176,6 +199,8 @@ def call_of(one: Exchange) -> str:
         words.append(one.asked.words)
     if one.again:
         words.append(f'(sent {len(one.again) + 1} times)')
+    if one.at in one.kept.earlier:
+        words.append(f'(again, as {one.earlier})')
     return ' '.join(words)
 
 
@@ -205,6 +230,10 @@ class Kept:
         self.sizes = array('I')
         self.frames, self.times, self.latencies = array('Q'), array('q'), array('q')
         self.again, self.errors = dict[int, list[Sent]](), dict[int, list[str]]()
+        self.said = array('q')  # a hash of what each call says
+        # Calls that were sent again on a later connection, both ways, and when all ended.
+        self.later, self.earlier = dict[int, int](), dict[int, int]()
+        self.ended = 0
         # The first reply of each, from 1 in the order of all replies, 0 for none; and more.
         self.firsts, self.further = array('Q'), dict[int, list[int]]()
         # Of each reply.
@@ -231,10 +260,57 @@ class Kept:
         call, reply = reading.call, reading.reply
         for line, completion in listed_of(program, connection, is_refused):
             (call if is_call(line) else reply)(line, completion)
+        self.said.extend(reading.said())
+
+    def link(self) -> None:
+        """Finds the calls that were sent again on a later connection of the same client and server:
+        they have the same xid, and say the same."""
+        several = defaultdict[tuple[str, str], list[int]](list)
+        for number, part in enumerate(self.parts):
+            if part.client:
+                several[host_of(part.client), part.server].append(number)
+        for numbers in several.values():
+            last = dict[int, int]()  # the last call with each xid
+            for own in map(self.exchanges_of, numbers):
+                xids = self.xids[own.start:own.stop]
+                if not last.keys().isdisjoint(xids):
+                    self.link_calls(own, last)
+                last.update(zip(xids, own))
+
+    def link_calls(self, own: range, last: Mapping[int, int]) -> None:
+        """Links the calls of a connection with those that were sent before."""
+        for at in own:
+            before = last.get(self.xids[at])
+            if before is not None and self.said[before] == self.said[at] and (
+                    self.kinds[before] == self.kinds[at]) and self.frames[before] <= self.frames[at]:
+                self.earlier[at], self.later[before] = before, at
+
+    def is_unanswered(self, at: int) -> bool:
+        """Whether a call got no reply on its connection, and neither did the same one on an earlier
+        connection, in whose place it would be."""
+        if self.firsts[at] or self.parts[self.part_of[at]].is_refused:
+            return False
+        before = self.earlier.get(at)
+        return before is None or bool(self.firsts[before])
+
+    def waited(self, at: int) -> int | None:
+        """Returns for how many nanoseconds a call without a reply waited: until it was answered on a
+        later connection, or until the end of the recording."""
+        end, later = self.ended, self.later.get(at)
+        while later is not None:
+            if self.firsts[later]:
+                end = self.reply_times[self.firsts[later] - 1]
+                break
+            later = self.later.get(later)
+        return end - self.times[at] if end and self.times[at] else None
 
     def exchange(self, at: int) -> Exchange:
         """Returns an exchange by its number."""
         return Exchange(self, at)
+
+    def position(self, at: int | None) -> str | None:
+        """Returns the position of an exchange, as `7:3182`."""
+        return None if at is None else f'{self.parts[self.part_of[at]].number}:{self.records[at]}'
 
     def exchanges_of(self, number: int) -> range:
         """Returns the exchanges of a connection, by its place among `parts`."""
@@ -277,6 +353,11 @@ def has_all_replies(connection: TakenConnection) -> bool:
     return connection.is_closed and not (connection.missing or lacks)
 
 
+def host_of(end: str) -> str:
+    """The address of an end."""
+    return end.rpartition(':')[0].strip('[]')
+
+
 class Reading:
     """Reads the exchanges of a connection: first its calls, then its replies."""
 
@@ -310,6 +391,13 @@ class Reading:
         kept.firsts.append(0)
         if kept.has_texts:
             kept.asking.append(self.cut(text))
+
+    def said(self) -> Iterable[int]:
+        """Returns a hash of what the call of each exchange says."""
+        said = self.rule.said
+        if len(self.kept) - self.kept.starts[-1] == len(said):
+            return said  # none was sent again
+        return dict(zip(self.owners, said)).values()
 
     def kind_of(self, listed: str, text: str) -> int:
         """Returns the number of a call's procedure."""

@@ -264,7 +264,8 @@ class Taken:
     has_frames: whether the frames of bytes are noted
     parts: those of a recording that has several, in order
     ports: those of NFS
-    begun: the time of the first frame of a recording that has one, in nanoseconds since 1970
+    begun, ended: the times of the first and of the last frame of a recording that has some, in
+        nanoseconds since 1970
     """
 
     def __init__(self, spool: Spool, is_recording: bool, has_frames: bool,
@@ -278,7 +279,7 @@ class Taken:
         self.damage: str | None = None
         self.nothing = 'no connection to judge'
         self.parts: list[Part] = []
-        self.begun = 0
+        self.begun = self.ended = 0
 
     @property
     def missing(self) -> int:
@@ -539,6 +540,7 @@ class Taking:
         name stands before what is told."""
         before, segments, connections, ports = (
             self.count, self.segments, self.connections, self.options.ports)
+        frame = None
         for frame in recording.frames():
             self.taken.begun = self.taken.begun or frame.time
             is_chosen = chosen is None or frame.number in chosen
@@ -549,6 +551,7 @@ class Taking:
             if not frame.number % FRAMES_A_STEP:
                 self.progress.step(f'{before + frame.number:,} frames', share)
         self.count += recording.count
+        self.taken.ended = frame.time if frame else self.taken.ended
         if recording.cut:
             self.taken.remarks.append(Covered('in part', name + recording.cut))
         if recording.damage:

@@ -56,6 +56,18 @@ def add_colour(parser: argparse.ArgumentParser) -> None:
                              'if NO_COLOR is not set')
 
 
+def add_width(parser: argparse.ArgumentParser) -> None:
+    """The option that says how wide lines may be."""
+    parser.add_argument('--width', metavar='N', type=positive,
+                        help='prints no line wider than N columns; by default those of a terminal')
+
+
+def positive(word: str) -> int:
+    if int(word) < 1:
+        raise ValueError
+    return int(word)
+
+
 def screen_of(when: str, width: int | None = None) -> Screen:
     """Returns what standard output is now: it may be standard error in its place. `width` is the
     one that a user wants."""
