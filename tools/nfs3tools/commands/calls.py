@@ -74,7 +74,7 @@ WIDEST = 72  # of the calls
 AT_ONCE = 1_000  # lines whose columns are set together
 NANOSECONDS = {'us': 1_000, 'ms': 1_000_000, 's': 1_000_000_000}
 COLUMNS = ('recording', 'connection', 'record', 'client', 'server', 'frame', 'time_ns',
-           'latency_ns', 'user', 'procedure', 'path', 'second_path', 'arguments',
+           'latency_ns', 'user', 'procedure', 'path', 'second_path', 'other_names', 'arguments',
            'sent_again', 'earlier', 'later', 'answer', 'waited_ns', 'is_error', 'replies')
 Wanted = Callable[[Exchange], bool]
 
@@ -112,8 +112,9 @@ def wanted_by(chosen: argparse.Namespace) -> list[Wanted]:
         # (a word alone is a last name)
         pattern = chosen.path if set(chosen.path) & set('*?[/') else f'*/{chosen.path}'
         fits = re.compile(fnmatch.translate(pattern)).match
-        conditions.append(lambda one: any(path is not None and fits(as_named(path))
-                                          for path in (one.path, one.other_path)))
+        conditions.append(lambda one: any(
+            path is not None and fits(as_named(path))
+            for path in (one.path, one.other_path, *one.other_names)))
     return conditions
 
 
@@ -279,7 +280,7 @@ def values_of(one: Exchange, recording: str) -> tuple[object, ...]:
                for reply, words in zip(one.answered, one.answers)]
     return (escaped(recording), part.number, one.record, part.client, part.server,
             one.frame or None, one.time or None, one.latency, one.asked.user, one.procedure,
-            one.path, one.other_path, one.asked.words, len(one.again), one.earlier, one.later,
+            one.path, one.other_path, one.other_names, one.asked.words, len(one.again), one.earlier, one.later,
             one.answer, one.waited, one.is_error, replies)
 
 
@@ -313,6 +314,7 @@ class Csv:
     def add(self, found: Listed) -> None:
         for one in found.exchanges():
             *values, replies = values_of(one, found.recording)
+            values[COLUMNS.index('other_names')] = ' '.join(one.other_names)
             self.writer.writerow([*values, len(typing.cast(list[object], replies))])
 
     def end(self, verdicts: list[Verdict]) -> None:

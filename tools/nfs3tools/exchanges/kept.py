@@ -12,7 +12,7 @@ from __future__ import annotations
 import re
 from array import array
 from collections import defaultdict
-from collections.abc import Iterable, Mapping, Sequence
+from collections.abc import Callable, Iterable, Mapping, Sequence
 from functools import cached_property
 from typing import NamedTuple
 
@@ -22,7 +22,7 @@ from ..recordings.taken import Completion, TakenConnection
 from .answering import Answering, error_in
 from .in_words import Asked, answer_in, asked_in, short_name
 from .listing import ITEM, Item, Message, is_call, listed_of, name_of_call
-from .objects import LISTING, MAKING, MOUNTING, UNKNOWN, Paths, below
+from .objects import LISTING, MAKING, RENAMING, TEACHING, UNKNOWN, Move, Names, Paths, below
 from .stored import Texts, Values, without_long
 
 UNTIMED = -1 << 63  # stands for no latency
@@ -43,13 +43,15 @@ class Part(NamedTuple):
     paths: Paths
     is_refused: bool
     has_all_replies: bool
+    names: Callable[[], Names]
 
-    def path(self, handle: str | None, entry: str | None) -> str | None:
-        """Returns the path of an object, or of a name in a folder. A folder whose path is not known
-        is `?`."""
+    def path(self, handle: str | None, entry: str | None, frame: int) -> str | None:
+        """Returns the path of an object, or of a name in a folder, at the time of a frame. A folder
+        whose path is not known is `?`."""
         if handle is None:
             return entry
-        path = self.paths.of(handle) or UNKNOWN
+        path = (self.names().path(handle, frame) if self.paths.moves
+                else self.paths.of(handle)) or UNKNOWN
         return path if entry is None else below(path, entry)
 
 
@@ -123,12 +125,30 @@ class Exchange:
 
     @property
     def path(self) -> str | None:
-        return self.part.path(self.asked.handle, self.asked.entry)
+        return self.part.path(self.asked.handle, self.asked.entry, self.frame)
+
+    @property
+    def other_names(self) -> list[str]:
+        """The other paths that its object had, before or after it was renamed."""
+        if not self.part.paths.moves:
+            return []
+        handle = self.asked.handle if self.asked.entry is None else self.made
+        names = self.part.names().all_of(handle) if handle else []
+        return [name for name in names if name != self.path]
+
+    @property
+    def made(self) -> str | None:
+        """The handle that a reply gave of a name in a folder."""
+        replies = self.kept.replies_of(self.at)
+        if not replies or self.errors or self.kept.listed_name(self.at) not in MAKING:
+            return None
+        found = HANDLE.search(self.kept.answering[replies[0]])
+        return found[2] if found else None
 
     @property
     def other_path(self) -> str | None:
         """The second path of RENAME and LINK."""
-        return self.part.path(self.asked.other, self.asked.other_entry)
+        return self.part.path(self.asked.other, self.asked.other_entry, self.frame)
 
     @property
     def answers(self) -> list[str]:
@@ -224,6 +244,7 @@ class Kept:
         self.asking, self.answering = Texts(self.spool), Texts(self.spool)
         # By the address of the server, since other servers may have equal handles.
         self.paths: dict[str, Paths] = {}
+        self.times_of_names: dict[str, Names] = {}
         self.names, self.numbers, self.kinds = list[str](), dict[str, int](), array('H')
         self.listed_names = list[str]()  # those of the listing
         self.part_of, self.records, self.xids = array('I'), array('I'), array('I')
@@ -251,16 +272,23 @@ class Kept:
 
         Raises what `listed_of` does.
         """
-        paths = self.paths.setdefault(connection.server_end.rpartition(':')[0], Paths())
+        server = connection.server_end.rpartition(':')[0]
+        paths = self.paths.setdefault(server, Paths())
         has_all = not is_refused and has_all_replies(connection)
         self.starts.append(len(self))
         self.parts.append(Part(connection.number, connection.client_end, connection.server_end,
-                               paths, is_refused, has_all))
+                               paths, is_refused, has_all, lambda: self.names_of(server)))
         reading = Reading(self, paths)
         call, reply = reading.call, reading.reply
         for line, completion in listed_of(program, connection, is_refused):
             (call if is_call(line) else reply)(line, completion)
         self.said.extend(reading.said())
+
+    def names_of(self, server: str) -> Names:
+        """Returns what the objects of a server were called when, once all is taken."""
+        if server not in self.times_of_names:
+            self.times_of_names[server] = Names(self.paths[server])
+        return self.times_of_names[server]
 
     def link(self) -> None:
         """Finds the calls that were sent again on a later connection of the same client and server:
@@ -430,12 +458,17 @@ class Reading:
         error = error_in(name, text)
         if error:
             kept.errors.setdefault(at, []).append(error)
-        elif kept.has_texts and (name in MAKING or name == LISTING or name == MOUNTING):
-            self.learn(at, name, text)
+        elif kept.has_texts and name in TEACHING:
+            self.learn(at, name, text, frame)
 
-    def learn(self, at: int, procedure: str, text: str) -> None:
+    def learn(self, at: int, procedure: str, text: str, frame: int) -> None:
         """Learns from a reply which paths handles have."""
         asked = asked_in(procedure, self.kept.asking[at])
+        if procedure == RENAMING:
+            if frame:
+                self.paths.moves.append(Move(frame, asked.handle or '', asked.entry or '',
+                                             asked.other or '', asked.other_entry or ''))
+            return
         found = ITEM.findall(text) if procedure == LISTING else HANDLE.findall(text)[:1]
         items: Sequence[Item] = [Item(*item) for item in found if item[0] in ('name', 'fh')]
-        self.paths.take_reply(procedure, asked.handle or '', asked.entry or '', items)
+        self.paths.take_reply(procedure, asked.handle or '', asked.entry or '', items, frame)
