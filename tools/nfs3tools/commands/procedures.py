@@ -72,8 +72,11 @@ COUNTS = ('calls', 'again', 'replies', 'unanswered', 'call_bytes', 'reply_bytes'
 RANKS = ('median_ns', 'p99_ns', 'most_ns', 'mean_ns', 'sum_ns')
 HEADS = ('procedure', 'calls', 'again', 'replies', 'no reply', 'call bytes',
          'reply bytes', 'median ms', '99 % ms', 'most ms', 'mean ms', 'sum ms', 'errors')
+NARROW = 6  # columns of a table's first panel in a narrow terminal: the counts, and the errors
+NUMBERS = range(1, len(HEADS) - 1)  # the columns that are set to the right
 LONGEST = 'longest'  # is before the errors in tables of one recording
 IN_ALL = 'in all'
+ON_PAGE = Screen(sys.maxsize)  # on which numbers are as on a terminal
 # The columns by which rows are sorted, but for the first with the largest number first.
 BY_NAME = 'procedure'
 COLUMNS: dict[str, typing.Callable[[Tally], int | None]] = {
@@ -189,9 +192,18 @@ def print_table(title: str, table: Table, column: str, screen: Screen) -> None:
     """Prints a table below its title, which is alone if there is nothing in the table. An empty
     line is before it."""
     print(f'\n{title}{told_of_clock(total_of(table.tallies))}')
-    for line in table.tallies and panels(rows_of(table, column, screen), screen,
-                                         range(1, len(HEADS) - 1)):
+    if not table.tallies:
+        return
+    rows = rows_of(table, column, screen)
+    if screen.width is not None and not is_as_wide(rows, screen.width):
+        rows = [row._replace(cells=beside_calls(row.cells)) for row in rows]
+    for line in panels(rows, screen, NUMBERS, NARROW):
         print(line)
+
+
+def beside_calls(cells: Sequence[str]) -> list[str]:
+    """Returns the cells of a row with the errors beside the counts."""
+    return [*cells[:NARROW - 1], cells[-1], *cells[NARROW - 1:-1]]
 
 
 def rows_of(table: Table, column: str, screen: Screen) -> list[Styled]:
@@ -308,7 +320,7 @@ def page_of(found: Sequence[Counted], chosen: argparse.Namespace) -> Iterator[st
     whole, of_each = list[ShownTable](), list[list[ShownTable]]()
     if chosen.beside:
         whole = [shown_of('A: {} | B: {}'.format(*(escaped(one.recording) for one in found)),
-                          rows_beside(found[0], found[1], chosen.sort, Screen()))]
+                          rows_beside(found[0], found[1], chosen.sort, ON_PAGE))]
     elif len(found) > 1:
         whole = [shown('all recordings', in_all_of(found), chosen.sort)]
     if not chosen.beside:
@@ -323,12 +335,13 @@ def page_of(found: Sequence[Counted], chosen: argparse.Namespace) -> Iterator[st
 def shown(title: str, table: Table, column: str) -> ShownTable:
     """A table as it is printed, for the page."""
     return shown_of(title + told_of_clock(total_of(table.tallies)),
-                    rows_of(table, column, Screen()))
+                    rows_of(table, column, ON_PAGE))
 
 
 def shown_of(title: str, styled: Sequence[Styled]) -> ShownTable:
-    numbers = range(1, len(HEADS) - 1)
-    heads, *rows = (row.cells for row in styled)
+    """The same of rows, with the errors beside the counts."""
+    heads, *rows = (beside_calls(row.cells) for row in styled)
+    numbers = [at for at, head in enumerate(heads) if head in HEADS[1:-1]]
     return ShownTable(title, heads, [row_of_cells(row, numbers) for row in rows], numbers)
 
 
