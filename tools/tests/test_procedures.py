@@ -114,7 +114,7 @@ def counts_by_hand(tools: Tools) -> None:
     tools.write('a.pcap', pcap(frames + whole(port=701)))
     status, tables, error = procedures(tools, 'a.pcap')
     titles = [f'a.pcap: connection 1: {ENDS}: ok', f'a.pcap: connection 2: {ENDS.replace("700", "701")}: ok',
-              'a.pcap in all: ' + sum_line(2, raw='1 PORTMAP DUMP, 1 PORTMAP GETPORT')]
+              'a.pcap in all: ' + sum_line(2, raw='1 PORTMAP DUMP, 1 PORTMAP GETPORT', silent=1)]
     tools.want('titles', (status, list(tables), error), (0, titles, ''))
     tools.want('heads', [table[0] for table in tables.values()], [HEADS] * 3)
     tools.want('the first', tables[titles[0]][1:-1], [row.cells() for row in rows])
@@ -136,7 +136,7 @@ def counts_by_hand(tools: Tools) -> None:
     last = tables[list(tables)[-1]]
     tools.want('two recordings', (list(tables)[-1], [cells[1] for cells in last][-1],
                                   [cells[LONGEST] for cells in last[1:3]]),
-               ('all recordings: ' + sum_line(3, raw='1 PORTMAP DUMP, 1 PORTMAP GETPORT'), '87',
+               ('all recordings: ' + sum_line(3, raw='1 PORTMAP DUMP, 1 PORTMAP GETPORT', silent=1), '87',
                 ['a.pcap 2:1 frame 24', 'a.pcap 1:1 frame 4']))
 
 
@@ -290,7 +290,8 @@ def side_by_side(tools: Tools) -> None:
     tools.write('b.pcap', pcap([*frames[:-2], *whole(port=701)]))  # without the last raw call, and with 39 NULL calls
     status, out, error = tools.tool('procedures', '--program', tools.program, '--beside', 'a.pcap', 'b.pcap')
     lines = out.splitlines()
-    sums = ['A: a.pcap: ' + sum_line(1, raw='1 PORTMAP DUMP, 1 PORTMAP GETPORT'), 'B: b.pcap: ' + sum_line(2, raw='1 PORTMAP GETPORT')]
+    sums = ['A: a.pcap: ' + sum_line(1, raw='1 PORTMAP DUMP, 1 PORTMAP GETPORT', silent=1),
+            'B: b.pcap: ' + sum_line(2, raw='1 PORTMAP GETPORT', silent=1)]
     tools.want('heads', (status, lines[:2], error), (0, sums, ''))
     cells = [re.split('  +', line.strip()) for line in lines[2:]]
     tools.want('rows', [row[0] for row in cells], ['procedure', *(row.procedure for row in rows), 'in all'])

@@ -63,9 +63,8 @@ import xml.etree.ElementTree
 from functools import partial
 
 from ..judgement.following import Form, follow
-from ..exchanges.answering import Answers, calls_in
 from ..judgement.seen import Seen, kept_in, seen_in
-from ..judgement.unanswered import Unanswered
+from ..judgement.unanswered import Unanswered, open_calls
 from ..judgement.verdict import (
     HEADS, VERSION, Verdict, colour_of, counts_after, error_of, is_row, object_of, of_covered,
     row_of, status_of, sums_of, tell_notes, told, verdict_of)
@@ -173,9 +172,9 @@ def with_unanswered(verdicts: list[Verdict], taken: Taken) -> list[Verdict]:
     unanswered, counted = Unanswered(), list[Verdict]()
     for verdict, connection in zip(verdicts, taken.connections):
         if verdict.state not in ('refused', 'error'):
-            answers = Answers(calls_in(connection.client), connection.server)
+            found = open_calls([connection.client], connection.server)
             verdict = verdict._replace(unanswered=unanswered.number(
-                connection.client_end, connection.server_end, answers))
+                connection.client_end, connection.server_end, found))
         counted.append(verdict)
     return counted
 

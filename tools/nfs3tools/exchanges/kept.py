@@ -125,7 +125,12 @@ class Exchange:
 
     @property
     def path(self) -> str | None:
-        return self.part.path(self.asked.handle, self.asked.entry, self.frame)
+        return self.part.path(self.asked.handle, self.asked.entry, self.turn)
+
+    @property
+    def turn(self) -> int:
+        """When it was asked among all others: by its frame, or in a capture by its number."""
+        return self.frame or self.at + 1
 
     @property
     def other_names(self) -> list[str]:
@@ -148,7 +153,7 @@ class Exchange:
     @property
     def other_path(self) -> str | None:
         """The second path of RENAME and LINK."""
-        return self.part.path(self.asked.other, self.asked.other_entry, self.frame)
+        return self.part.path(self.asked.other, self.asked.other_entry, self.turn)
 
     @property
     def answers(self) -> list[str]:
@@ -459,15 +464,14 @@ class Reading:
         if error:
             kept.errors.setdefault(at, []).append(error)
         elif kept.has_texts and name in TEACHING:
-            self.learn(at, name, text, frame)
+            self.learn(at, name, text, frame or at + 1)
 
     def learn(self, at: int, procedure: str, text: str, frame: int) -> None:
         """Learns from a reply which paths handles have."""
         asked = asked_in(procedure, self.kept.asking[at])
         if procedure == RENAMING:
-            if frame:
-                self.paths.moves.append(Move(frame, asked.handle or '', asked.entry or '',
-                                             asked.other or '', asked.other_entry or ''))
+            self.paths.moves.append(Move(frame, asked.handle or '', asked.entry or '',
+                                         asked.other or '', asked.other_entry or ''))
             return
         found = ITEM.findall(text) if procedure == LISTING else HANDLE.findall(text)[:1]
         items: Sequence[Item] = [Item(*item) for item in found if item[0] in ('name', 'fh')]

@@ -40,7 +40,7 @@ from ..shared.outputs import held
 from ..shared.printed import escaped
 from ..shared.programs import CHECKED, Died, run_program
 from ..shared.screens import Screen, Styled, lines_of
-from .unanswered import Unanswered
+from .unanswered import Unanswered, open_calls
 from .verdict import (
     HEADS, VERSION, Before, Verdict, colour_of, counts_after, error_of, is_row, object_of,
     of_covered, row_of, status_of, tell_notes, verdict_of)
@@ -378,9 +378,8 @@ class Following:
         connection = taken_connection(1, one.connection, selected)
         carried = one.carried and TakenStream(one.carried, None, whole(one.carried))
         streams = [*([carried] if carried else []), connection.client]
-        answers = Answers(itertools.chain.from_iterable(map(calls_in, streams)), connection.server,
-                          one.answered)
-        return self.unanswered.number(connection.client_end, connection.server_end, answers)
+        return self.unanswered.number(connection.client_end, connection.server_end,
+                                      open_calls(streams, connection.server, one.answered))
 
     def drop(self, one: Open) -> None:
         """Forgets a connection that is none. The older one of the same ends may have been judged
