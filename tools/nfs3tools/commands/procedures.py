@@ -6,8 +6,8 @@
 
 Printed is a table for each connection, one for each recording in all, and one for all recordings if
 they are several. A row has the calls of a procedure as `nfs3canon check` counts them; how many of
-them were sent again (an earlier call of the connection has the same xid and the same items); the
-replies; the calls without a reply (a call and its retransmissions are one); the bytes of the
+them were sent again (an earlier call of the connection, or of an earlier connection of both ends,
+has the same xid and the same items); the replies; the calls without a reply (a call and its retransmissions are one); the bytes of the
 records of calls and of replies, with their marks; the latencies in milliseconds; the call with the
 longest; and how many replies have which error.
 
@@ -22,7 +22,7 @@ are negative; their number is told.
 Each connection is judged as by tools/verdicts, whose verdict is above its table: one of which bytes
 are missing is `ok in part`, and one that is refused is counted up to its fault. The counts of
 tools/verdicts stand above the table of a recording. --total leaves out the tables of the
-connections. --sort has the largest of a column first. --beside has two recordings in one table: a
+connections, --from and --to the calls outside a window. --sort has the largest of a column first. --beside has two recordings in one table: a
 number that differs is `A -> B`, with the change in per cent for bytes and latencies. --json and
 --csv write all tables. --html writes a page for a browser, with the tables that are printed and a
 time line of the latencies of each recording: a dot for each call, with its path and its frame.
