@@ -16,8 +16,9 @@ retransmissions and its replies. The columns are
     answer  what the reply says
 
 A path is that at the time of the call: under which an object was made, or else first reached, and
-after a RENAME the new one. --path fits any of them. A folder whose path is not known is `?`. Of calls of other programs than NFS and MOUNT version 3 only the name is known. Their
-answer is `accepted`, or the error of RPC.
+after a RENAME the new one. --path fits any of them. A folder whose path is not known is `?`. Of
+calls of other programs than NFS and MOUNT version 3 only the name is known. Their answer is
+`accepted`, or the error of RPC.
 
 A call without a reply has one of three answers:
 
@@ -85,8 +86,8 @@ Wanted = Callable[[Exchange], bool]
 
 
 class Listed(typing.NamedTuple):
-    """A recording whose exchanges are listed: its name, from when times count, `None` for the time of
-    day, and the numbers of those that are wanted."""
+    """A recording whose exchanges are listed: its name, from when times count, `None` for the time
+    of day, and the numbers of those that are wanted."""
     recording: str
     begun: int | None
     kept: Kept
@@ -285,8 +286,8 @@ def values_of(one: Exchange, recording: str) -> tuple[object, ...]:
                for reply, words in zip(one.answered, one.answers)]
     return (escaped(recording), part.number, one.record, part.client, part.server,
             one.frame or None, one.time or None, one.latency, one.asked.user, one.procedure,
-            one.path, one.other_path, one.other_names, one.asked.words, len(one.again), one.earlier, one.later,
-            one.answer, one.waited, one.is_error, replies)
+            one.path, one.other_path, one.other_names, one.asked.words, len(one.again),
+            one.earlier, one.later, one.answer, one.waited, one.is_error, replies)
 
 
 class Json:
@@ -382,10 +383,11 @@ def words_of(words: list[str]) -> argparse.Namespace:
     parser.add_argument('recordings', metavar='RECORDING|CAPTURE', nargs='+')
     parser.add_argument('--errors', action='store_true',
                         help='lists calls whose reply is no success, or that got none')
-    parser.add_argument('--no-reply', action='store_true', help='lists calls that got no reply, or one '
-                        'on a later connection alone')
+    parser.add_argument('--no-reply', action='store_true',
+                        help='lists calls that got no reply, or one on a later connection alone')
     parser.add_argument('--slow', metavar='TIME', type=duration,
-                        help='lists calls with at least this latency, as 100ms, or open for as long')
+                        help='lists calls with at least this latency, as 100ms, or that waited '
+                             'as long')
     parser.add_argument('--procedure', metavar='NAME,..', type=procedure_names,
                         help='lists calls of these procedures')
     parser.add_argument('--path', metavar='PATTERN', help='lists calls whose path fits a pattern')
@@ -409,7 +411,8 @@ def words_of(words: list[str]) -> argparse.Namespace:
 
 def main(words: list[str]) -> int:
     chosen, verdicts = words_of(words), list[Verdict]()
-    judge = Judge(program_path(chosen.program), options_of(chosen), CONNECTIONS_AT_ONCE, True, False)
+    judge = Judge(program_path(chosen.program), options_of(chosen), CONNECTIONS_AT_ONCE, True,
+                  counts_unanswered=False)
     form: Json | Csv | Text
     form = (Json() if chosen.json else Csv() if chosen.csv
             else Text(len(chosen.recordings) == 1, screen_of(chosen.color, chosen.width)))

@@ -28,9 +28,9 @@ A recording is taken as by tools/from_pcap (--midstream, --whole-records, --filt
 quotes for the parts of one recording). OUT is written beside its name, and gets it once it is
 whole. It is refused if it is an input or begins as a recording; an older capture is replaced. If
 OUT is `-` it is standard output, and the lines are printed on standard error. The status is 0 if
-OUT was written, 1 if there is no such position, or if a record cannot be read in OUT.pcap or a frame
-not be trimmed, 2 if POSITION, RECORDING, FILTER or OUT is refused
-or a program is missing, 3 if a file, a program or memory failed.
+OUT was written, 1 if there is no such position, or if a record cannot be read in OUT.pcap or a
+frame not be trimmed, 2 if POSITION, RECORDING, FILTER or OUT is refused or a program is missing, 3
+if a file, a program or memory failed.
 """
 from __future__ import annotations
 
@@ -240,8 +240,8 @@ def read_twice(recording: str) -> Iterator[str]:
 
 def write_recording(program: str, taken: Taken, cuts: list[Cut], recording: str, out: str,
                     inputs: list[str]) -> tuple[list[str], int]:
-    """Writes OUT as a recording, and returns what is printed of it, and the status. The frames of SYN
-    are left out if the records are so far behind them that they can be read only without."""
+    """Writes OUT as a recording, and returns what is printed of it, and the status. The frames of
+    SYN are left out if the records are so far behind them that they can be read only without."""
     records = [Place(cut.connection.number, side, record) for cut in cuts for side in SIDES
                for record in cut.records[side]]
     frames = {frame.number for place in records for frame in taken.frames(place)}
@@ -256,8 +256,8 @@ def write_recording(program: str, taken: Taken, cuts: list[Cut], recording: str,
     lines = [line_of(taken, there, here) for there, here in extract.found]
     lines += [f'connection {verdict.connection}: {verdict.message}'
               for verdict in extract.verdicts if verdict.connection is not None]
-    lines += [f'frame {number} cannot be trimmed to these records, and a dissector may not find them'
-              for number in extract.untrimmed]
+    lines += [f'frame {number} cannot be trimmed to these records, and a dissector may not find '
+              'them' for number in extract.untrimmed]
     status = ABSENT if extract.untrimmed or extract.number < len(records) else 0
     return [*map(printable, lines), sums_of(extract.verdicts)], status
 

@@ -7,9 +7,9 @@
 Printed is a table for each connection, one for each recording in all, and one for all recordings if
 they are several. A row has the calls of a procedure as `nfs3canon check` counts them; how many of
 them were sent again (an earlier call of the connection, or of an earlier connection of both ends,
-has the same xid and the same items); the replies; the calls without a reply (a call and its retransmissions are one); the bytes of the
-records of calls and of replies, with their marks; the latencies in milliseconds; the call with the
-longest; and how many replies have which error.
+has the same xid and the same items); the replies; the calls without a reply (a call and its
+retransmissions are one); the bytes of the records of calls and of replies, with their marks; the
+latencies in milliseconds; the call with the longest; and how many replies have which error.
 
 A latency is the time from a call to its first reply. The time of a message is that of the frame
 that completed its record: of the frames that first brought its bytes the one with the largest
@@ -22,10 +22,11 @@ are negative; their number is told.
 Each connection is judged as by tools/verdicts, whose verdict is above its table: one of which bytes
 are missing is `ok in part`, and one that is refused is counted up to its fault. The counts of
 tools/verdicts stand above the table of a recording. --total leaves out the tables of the
-connections, --from and --to the calls outside a window. --sort has the largest of a column first. --beside has two recordings in one table: a
-number that differs is `A -> B`, with the change in per cent for bytes and latencies. --json and
---csv write all tables. --html writes a page for a browser, with the tables that are printed and a
-time line of the latencies of each recording: a dot for each call, with its path and its frame.
+connections, --from and --to the calls outside a window. --sort has the largest of a column first.
+--beside has two recordings in one table: a number that differs is `A -> B`, with the change in per
+cent for bytes and latencies. --json and --csv write all tables. --html writes a page for a browser,
+with the tables that are printed and a time line of the latencies of each recording: a dot for each
+call, with its path and its frame.
 
 The recordings are taken as by tools/from_pcap (--port, --no-midstream, --whole-records, --filter,
 patterns in quotes for the parts of one recording); `-` is standard input. FILE is written beside
@@ -133,8 +134,8 @@ def total_of(tallies: Tallies) -> Tally:
 
 
 def counted(judge: Judge, recording: str, chosen: argparse.Namespace) -> Counted:
-    """Judges a recording or capture, and counts the calls that are chosen of each connection that was
-    judged. What a page shows is looked for if there is to be one."""
+    """Judges a recording or capture, and counts the calls that are chosen of each connection that
+    was judged. What a page shows is looked for if there is to be one."""
     tables, seen = list[Table](), list[Seen]()
 
     def look(taken: Taken, verdicts: list[Verdict]) -> None:
@@ -422,7 +423,8 @@ def main(words: list[str]) -> int:
     inputs = [file for recording in chosen.recordings for file in files_of(recording)]
     outputs = [chosen.json, chosen.csv, chosen.html]
     try_outputs(outputs, inputs)
-    judge = Judge(program_path(chosen.program), options_of(chosen), CONNECTIONS_AT_ONCE, True, False)
+    judge = Judge(program_path(chosen.program), options_of(chosen), CONNECTIONS_AT_ONCE, True,
+                  counts_unanswered=False)
     found = [counted(judge, recording, chosen) for recording in chosen.recordings]
     verdicts = [verdict for one in found for verdict in one.verdicts]
     tell_notes(verdicts)

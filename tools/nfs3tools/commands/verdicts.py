@@ -22,8 +22,9 @@ The last line counts all of them. Each comes under one word:
 
 What no connection stands for has a row as well: UDP at a port of NFS is left out, and a recording
 that ends inside a frame is in part; frames that may carry NFS and are not read are not checked. At
-the end of the line are the calls without a reply, and those of other programs by name. What is missing is printed on standard error, and so are connections that show no call: those
-without payload, and those without RPC at another port than those of NFS.
+the end of the line are the calls without a reply, and those of other programs by name. What is
+missing is printed on standard error, and so are connections that show no call: those without
+payload, and those without RPC at another port than those of NFS.
 
 The status is 0 only if every call of NFS and MOUNT version 3 that is recorded was judged, and is
 valid. --allow-losses also allows what is in part and what is left out, --allow-not-checked what is

@@ -314,8 +314,8 @@ class Kept:
         """Links the calls of a connection with those that were sent before."""
         for at in own:
             before = last.get(self.xids[at])
-            if before is not None and self.said[before] == self.said[at] and (
-                    self.kinds[before] == self.kinds[at]) and self.frames[before] <= self.frames[at]:
+            if before is not None and self.frames[before] <= self.frames[at] and (
+                    self.kinds[before] == self.kinds[at] and self.said[before] == self.said[at]):
                 self.earlier[at], self.later[before] = before, at
 
     def is_unanswered(self, at: int) -> bool:
@@ -327,8 +327,8 @@ class Kept:
         return before is None or bool(self.firsts[before])
 
     def waited(self, at: int) -> int | None:
-        """Returns for how many nanoseconds a call without a reply waited: until it was answered on a
-        later connection, or until the end of the recording."""
+        """Returns for how many nanoseconds a call without a reply waited: until it was answered on
+        a later connection, or until the end of the recording."""
         end, later = self.ended, self.later.get(at)
         while later is not None:
             if self.firsts[later]:

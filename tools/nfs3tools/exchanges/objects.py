@@ -53,7 +53,8 @@ class Found(NamedTuple):
 
 
 class Move(NamedTuple):
-    """A RENAME: the frame that completed its reply, and the folder and the name before and after."""
+    """A RENAME: the frame that completed its reply, and the folder and the name before and
+    after."""
     frame: int
     folder: str
     name: str
@@ -68,7 +69,8 @@ class Paths:
         self.origins: dict[str, Origin] = {}
         self.known: dict[str, str] = {}  # paths so far
         self.moves: list[Move] = []
-        # The handle that was last found under a name of a folder, and all that were, with the frame.
+        # The handle that was last found under a name of a folder, and all that were, with the
+        # frame.
         self.placed: dict[tuple[str, str], str] = {}
         self.found: list[Found] = []
 
@@ -177,7 +179,8 @@ class Names:
                 break
             names.append(origin.name)
             at = origin.folder
-        path = UNKNOWN if origin is None or origin.folder is not None else origin.name.rstrip('/') or '/'
+        is_known = origin is not None and origin.folder is None
+        path = (origin.name.rstrip('/') or '/') if is_known and origin else UNKNOWN
         for name in reversed(names):
             path = below(path, name)
         return path
@@ -214,8 +217,8 @@ class Names:
             frames.update(since for since, _ in self.history.get(at, ()))
             waiting += [one.folder for one in origins
                         if one and one.folder is not None and one.folder not in seen]
-        return [*dict.fromkeys(path for path in (self.path(handle, frame) for frame in sorted(frames))
-                               if path is not None)]
+        paths = dict.fromkeys(self.path(handle, frame) for frame in sorted(frames))
+        return [path for path in paths if path is not None]
 
 
 def first_handle(items: Iterable[Item]) -> str | None:

@@ -38,8 +38,8 @@ class Tally:
     """What is counted of a procedure.
 
     calls: the records of calls, as `nfs3canon check` counts them
-    again: how many of those are retransmissions: an earlier call of the connection, or of an earlier
-        connection of the same client and server, has the same xid and all the same items
+    again: how many of those are retransmissions: an earlier call of the connection, or of an
+        earlier connection of the same client and server, has the same xid and all the same items
     replies: the records of replies
     unanswered: the calls without a reply; a call and its retransmissions are one
     call_bytes, reply_bytes: of the records, with their marks

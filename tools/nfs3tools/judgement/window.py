@@ -70,7 +70,8 @@ def nanoseconds(seconds: str) -> int:
 
 def add_window(parser: argparse.ArgumentParser) -> None:
     """The options that choose a window."""
-    for option, name, words in (('--from', 'begin', 'from a time on'), ('--to', 'end', 'up to a time')):
+    for option, name, words in (('--from', 'begin', 'from a time on'),
+                                ('--to', 'end', 'up to a time')):
         parser.add_argument(option, dest=name, metavar='TIME', type=moment,
                             help=f'takes calls {words}: seconds from the first frame, or a time '
                                  'of day (UTC), as 10:03:07')

@@ -44,8 +44,8 @@ def unread_of(segments: Segments) -> list[Covered]:
     several = sorted(segments.unread.items(), key=lambda one: one[0] or 0)
     return [Covered('in part',
                     f'{count(number, "frame")} {f"to or from port {port} " if port else ""}'
-                    f'{plural(number, "is", "are")} not taken, since {plural(number, "its", "their")} '
-                    f'headers are not whole or do not fit {plural(number, "its", "their")} length')
+                    f'{plural(number, "is", "are")} not taken, since '
+                    f'{plural(number, "its", "their")} headers are not whole or do not fit {plural(number, "its", "their")} length')
             for port, number in several]
 
 

@@ -1,6 +1,6 @@
-"""Frames whose payload of TCP is trimmed to the bytes that are wanted of it, as if they had been sent
-so: sequence numbers are moved, and the lengths and checksums of IP and TCP made anew. All else of a
-frame stays, but FIN after bytes that are gone.
+"""Frames whose payload of TCP is trimmed to the bytes that are wanted of it, as if they had been
+sent so: sequence numbers are moved, and the lengths and checksums of IP and TCP made anew. All else
+of a frame stays, but FIN after bytes that are gone.
 """
 from __future__ import annotations
 
@@ -18,8 +18,8 @@ Bytes = tuple[int, int]  # the sequence number of the first, and how many
 
 
 class Layers(Segments):
-    """Notes where the header of TCP is in a frame, 0 if it is not in the frame itself but in one that
-    was joined of fragments."""
+    """Notes where the header of TCP is in a frame, 0 if it is not in the frame itself but in one
+    that was joined of fragments."""
     data, at = b'', 0
 
     def of_tcp(self, data: bytes, at: int, end: int, length: int,
@@ -63,8 +63,8 @@ def trimmed(frames: Iterable[Frame],
 
 def with_bytes(frame: Frame, segment: Segment, layers: Layers,
                wanted: Iterable[Bytes]) -> Frame | None:
-    """Returns a frame with the bytes that are wanted of its segment, and what is between them; `None`
-    if it cannot be trimmed."""
+    """Returns a frame with the bytes that are wanted of its segment, and what is between them;
+    `None` if it cannot be trimmed."""
     pieces = [piece for piece in (within(segment, *one) for one in wanted) if piece[0] < piece[1]]
     begin = min((low for low, _ in pieces), default=0)
     end = max((high for _, high in pieces), default=len(segment.payload))

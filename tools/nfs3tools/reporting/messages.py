@@ -165,14 +165,14 @@ class Parser(argparse.ArgumentParser):
     print."""
 
     def error(self, message: str) -> typing.NoReturn:
-        """Prints the usage as one line, which leaves the options to the help, and what is wrong. Of a
-        word that is taken for an option, since it begins with a hyphen, that is all."""
+        """Prints the usage as one line, which leaves the options to the help, and what is wrong. Of
+        a word that is taken for an option, since it begins with a hyphen, that is all."""
         needed = NEEDED.fullmatch(message)
         option = needed[1].split('/')[-1] if needed else ''
         word = next((after for one, after in zip(sys.argv, sys.argv[1:]) if one == option), '')
         if word.startswith('-'):
-            self.exit(REFUSED, printable(f'{self.prog}: error: {message}, and {word} is none, since it '
-                                         'begins with `-`') + '\n')
+            self.exit(REFUSED, printable(f'{self.prog}: error: {message}, and {word} is none, since '
+                                         'it begins with `-`') + '\n')
         operands = OPTION.sub('', ' '.join(self.format_usage().split()))
         usage = operands.replace(self.prog, f'{self.prog} [OPTION ..]', 1)
         self.exit(REFUSED, f'{usage}\n{self.prog}: error: {printable(message)}\n')
@@ -215,7 +215,8 @@ def page_of(name: str) -> str:
     if not is_installed():
         return f'man -l {shlex.quote(str(PAGES / name))}.1'
     pages = Path(TOP.parent, 'man/man1').glob(f'{called(name)}.1*')
-    return f'man {called(name)}' if any(pages) else f'man/{name}.1 of the tools in a clone of nfs3canon'
+    return (f'man {called(name)}' if any(pages)
+            else f'man/{name}.1 of the tools in a clone of nfs3canon')
 
 
 def add_options(parser: argparse.ArgumentParser) -> None:

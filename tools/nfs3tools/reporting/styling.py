@@ -255,7 +255,8 @@ function worth(row, at) {
 // The largest first, or after another click the smallest. The row of sums stays the last.
 function sort(head) {
   const at = head.cellIndex, body = head.closest('table').tBodies[0], \
-    isUp = head.getAttribute('aria-sort') === 'descending', isSum = row => row.cells[0].textContent === 'in all';
+    isUp = head.getAttribute('aria-sort') === 'descending', \
+    isSum = row => row.cells[0].textContent === 'in all';
   const compared = (one, other) => typeof one === typeof other \
     ? (one < other) - (one > other) : (typeof one === 'number') - (typeof other === 'number');
   const ordered = [...body.rows].sort((one, other) => isSum(one) - isSum(other) \

@@ -77,7 +77,8 @@ def words_of(line: TimeLine) -> Iterator[str]:
     elif drawn:
         errors = f', {line.errors:,} of them errors' if line.errors else ''
         yield (f'{drawn:,} of {count(line.calls - line.untimed, "call")} are drawn: errors, calls '
-               f'without a reply, and the slowest call of each pixel column. {left:,} are left out{errors}.')
+               f'without a reply, and the slowest call of each pixel column. {left:,} are left '
+               f'out{errors}.')
 
 
 class Scale:

@@ -61,8 +61,8 @@ EXAMPLE = "as in 'connection 1 server record 7 byte 24'"
 
 
 def parse_place(text: str) -> Place | FilePlace | FramePlace:
-    """Reads a position from a line of `check`, of `same`, or of `show`, a call as tools/calls prints
-    it (`7:3182`), or a frame. Of several lines the first that is one counts.
+    """Reads a position from a line of `check`, of `same`, or of `show`, a call as tools/calls
+    prints it (`7:3182`), or a frame. Of several lines the first that is one counts.
 
     A line of `check` or `same` may have `first: `, `second: ` or `differ at ` before the position,
     and a reason after it. A line of `show` begins with the numbers of its connection and record.

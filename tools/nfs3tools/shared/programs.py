@@ -19,8 +19,8 @@ TOP = pathlib.Path(__file__).resolve().parents[3]
 CHECKED, COMPARED, MASKED = {0: 'ok ', 2: ''}, {0: 'same\n', 1: 'differ at '}, {0: 'ok '}
 COMMANDS = ('check', 'same', 'show')
 PIPE_SIZE = 1 << 16  # of Linux
-NOT_FOUND = ('nfs3canon is missing: it is neither beside the tools nor on the PATH; `tools/install` in a '
-             'clone of nfs3canon installs it')
+NOT_FOUND = ('nfs3canon is missing: it is neither beside the tools nor on the PATH; '
+             '`tools/install` in a clone of nfs3canon installs it')
 Stream = typing.Union[typing.IO[bytes], int]
 # Of a program itself; a shell and a loader have those above for one that cannot run
 MOST_STATUS = 125

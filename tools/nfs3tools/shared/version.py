@@ -10,7 +10,8 @@ from pathlib import Path
 
 TOP = Path(__file__).resolve().parents[3]
 CHANGES = Path(__file__).resolve().parents[2] / 'CHANGELOG.md'
-SECTION = re.compile(r'# Changelog of the tools\n.*?^## (\d+\.\d+\.\d+\S*)', re.MULTILINE | re.DOTALL)
+SECTION = re.compile(r'# Changelog of the tools\n.*?^## (\d+\.\d+\.\d+\S*)',
+                     re.MULTILINE | re.DOTALL)
 
 
 def version() -> str:
