@@ -42,11 +42,13 @@ def unread_of(segments: Segments) -> list[Covered]:
     """Frames of TCP whose headers cannot be read, to or from a port of NFS or of which the port is
     not known."""
     several = sorted(segments.unread.items(), key=lambda one: one[0] or 0)
-    return [Covered('in part',
-                    f'{count(number, "frame")} {f"to or from port {port} " if port else ""}'
-                    f'{plural(number, "is", "are")} not taken, since '
-                    f'{plural(number, "its", "their")} headers are not whole or do not fit {plural(number, "its", "their")} length')
-            for port, number in several]
+    return [Covered('in part', unread_words(port, number)) for port, number in several]
+
+
+def unread_words(port: int | None, number: int) -> str:
+    which, its = f' to or from port {port}' if port else '', plural(number, 'its', 'their')
+    return (f'{count(number, "frame")}{which} {plural(number, "is", "are")} not taken, since {its} '
+            f'headers are not whole or do not fit {its} length')
 
 
 def unknown_of(segments: Segments) -> list[Covered]:

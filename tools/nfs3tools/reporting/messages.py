@@ -171,8 +171,8 @@ class Parser(argparse.ArgumentParser):
         option = needed[1].split('/')[-1] if needed else ''
         word = next((after for one, after in zip(sys.argv, sys.argv[1:]) if one == option), '')
         if word.startswith('-'):
-            self.exit(REFUSED, printable(f'{self.prog}: error: {message}, and {word} is none, since '
-                                         'it begins with `-`') + '\n')
+            told = f'{message}, and {word} is none, since it begins with `-`'
+            self.exit(REFUSED, f'{self.prog}: error: {printable(told)}\n')
         operands = OPTION.sub('', ' '.join(self.format_usage().split()))
         usage = operands.replace(self.prog, f'{self.prog} [OPTION ..]', 1)
         self.exit(REFUSED, f'{usage}\n{self.prog}: error: {printable(message)}\n')
