@@ -124,16 +124,16 @@ CASES = [
     Case('the first frame is lost', whole(port=701)[:3] + whole(port=701)[4:], ['left out'],
          ['left out: ' + ENDS % (701, 2049) + 'its first bytes are missing from the recording'], {'left_out': 1}, LOSSES, ['--no-midstream']),
     Case('it ends inside a record', cut_at_its_end(None), ['in part'], ['ok in part: 39 calls, the recording ends inside a record'],
-         {'in_part': 1}, LOSSES),
+         {'in_part': 1, 'silent': 1}, LOSSES),
     Case('the other end closes', cut_at_its_end(FIN | ACK, 0), ['in part'], ['ok in part: 39 calls, the recording ends inside a record'],
-         {'in_part': 1}, LOSSES),
+         {'in_part': 1, 'silent': 1}, LOSSES),
     Case('the other end resets', cut_at_its_end(RST, 0), ['in part'], ['ok in part: 39 calls, the other end reset it inside a record'],
-         {'in_part': 1}, LOSSES),
+         {'in_part': 1, 'silent': 1}, LOSSES),
     Case('its sender closes', cut_at_its_end(FIN | ACK), ['refused'], [f'server record 39 byte {REPLY - 9 - 4}: RecordCut, frame 20'],
          {'refused': 1}, NEITHER),
     Case('its sender resets', cut_at_its_end(RST), ['refused'], [f'server record 39 byte {REPLY - 9 - 4}: RecordCut, frame 20'],
          {'refused': 1}, NEITHER),
-    Case('whole records', cut_at_its_end(FIN | ACK), ['in part'], [f'ok in part: 39 calls, {REPLY - 9} bytes left out'], {'in_part': 1},
+    Case('whole records', cut_at_its_end(FIN | ACK), ['in part'], [f'ok in part: 39 calls, {REPLY - 9} bytes left out'], {'in_part': 1, 'silent': 1},
          LOSSES, ['--whole-records']),
     Case('NFS version 4', talked(COMPOUNDS, ANSWERS), ['not checked'], ['not checked: 20 of 20 calls (NFS version 4)'],
          {'not_checked': 1}, NOT_CHECKED),
@@ -141,15 +141,15 @@ CASES = [
          ['not checked: 20 of 39 calls (NFS version 4)'], {'not_checked': 1}, NOT_CHECKED),
     Case('other versions', talked([call(1, MOUNT, 1, 1, bytes(8)), call(2, NFS, 2, 4, bytes(36)), call(3, NFS, 2, 4, bytes(36)),
                                    call(4, NFS, 3, 22)], []), ['not checked'],
-         ['not checked: 4 of 4 calls (2 NFS version 2, 1 MOUNT version 1, 1 NFS version 3 procedure 22)'], {'not_checked': 1}, NOT_CHECKED),
+         ['not checked: 4 of 4 calls (2 NFS version 2, 1 MOUNT version 1, 1 NFS version 3 procedure 22)'], {'not_checked': 1, 'silent': 4}, NOT_CHECKED),
     Case('version 4, and bytes are missing', talked(COMPOUNDS, ANSWERS)[:4] + talked(COMPOUNDS, ANSWERS)[5:], ['not checked'],
-         ['not checked: 20 of 20 calls (NFS version 4)'], {'not_checked': 1}, NEITHER),
+         ['not checked: 20 of 20 calls (NFS version 4)'], {'not_checked': 1, 'silent': 20}, NEITHER),
     Case('no typed call', talked([call(1, NFSACL, 3, 1, fh(b'a'))], []), ['not checked'],
-         ['not checked: no call of NFS or MOUNT version 3 (1 NFSACL GETACL)'], {'not_checked': 1}, NOT_CHECKED, raw='1 NFSACL GETACL'),
+         ['not checked: no call of NFS or MOUNT version 3 (1 NFSACL GETACL)'], {'not_checked': 1, 'silent': 1}, NOT_CHECKED, raw='1 NFSACL GETACL'),
     Case('calls of others beside typed ones', talked([*CALLS, *(call(50 + at, NFSACL, 3, 1, fh(b'a')) for at in range(7))], REPLIES), ['ok'],
-         ['ok'], {'ok': 1}, GOOD, raw='7 NFSACL GETACL'),
+         ['ok'], {'ok': 1, 'silent': 7}, GOOD, raw='7 NFSACL GETACL'),
     Case('the port mapper', talked([call(1, PORTMAP, 2, 3, bytes(16)), call(2, PORTMAP, 4, 3), call(3, PORTMAP, 2, 99)], [], service=111), ['ok'],
-         ['ok'], {'ok': 1}, GOOD, raw='1 PORTMAP GETADDR, 1 PORTMAP GETPORT, 1 PORTMAP version 2 procedure 99'),
+         ['ok'], {'ok': 1, 'silent': 3}, GOOD, raw='1 PORTMAP GETADDR, 1 PORTMAP GETPORT, 1 PORTMAP version 2 procedure 99'),
     Case('datagrams of UDP', datagrams(102), ['left out'], ['left out: 102 UDP datagrams to or from port 2049 are not taken'],
          {'left_out': 1}, LOSSES),
     Case('datagrams of UDP in fragments',
@@ -177,7 +177,7 @@ CASES = [
     Case('a last frame that is shortened',
          [*talked(CALLS, REPLIES)[:4], talked(CALLS, REPLIES)[4][:60]],
          ['ok', 'in part'], ['ok', UNREAD % ('1 frame to or from port 2049 is', 'its', 'its')],
-         {'in_part': 1, 'ok': 1}, LOSSES),
+         {'in_part': 1, 'ok': 1, 'silent': 39}, LOSSES),
     Case('a frame without its ports', [whole(port=701)[3][:37]], ['in part'],
          [UNREAD % ('1 frame is', 'its', 'its')], {'in_part': 1}, LOSSES),
     Case('a frame without its header of IP', [whole(port=701)[3][:30]], ['in part'],
@@ -260,11 +260,12 @@ def words_in_files(tools: Tools) -> None:
         written = json.loads(json_of(verdicts))
         rows = [row for row in written['rows'] if row['shows_calls']][1:]
         tools.want(case.what + ', rows', ([row['state'] for row in rows], [row['message'] for row in rows]), (case.states, case.messages))
-        numbers = {'ok': 0, 'refused': 0, 'in_part': 0, 'left_out': 0, 'bare': 0, 'not_checked': 0, 'errors': 0} | case.counts
+        numbers = {'ok': 0, 'refused': 0, 'in_part': 0, 'left_out': 0, 'bare': 0, 'not_checked': 0, 'errors': 0,
+                   'silent': 0} | case.counts
         numbers['ok'] += 1
         named = {'judged': numbers['ok'] + numbers['refused'], 'ok': numbers['ok'], 'refused': numbers['refused'],
                  'in part': numbers['in_part'], 'left out': numbers['left_out'], 'without calls': numbers['bare'],
-                 'not checked': numbers['not_checked'], 'errors': 0}
+                 'not checked': numbers['not_checked'], 'errors': 0, 'without reply': numbers['silent']}
         raw = {name: int(number) for number, name in (word.split(' ', 1) for word in case.raw.split(', ') if word)}
         tools.want(case.what + ', counts', (written['version'], written['counts']), (2, {**named, 'raw': raw}))
         suite = xml.etree.ElementTree.fromstring(junit_of(verdicts, Allowed()).decode())[0]

@@ -186,7 +186,9 @@ def answer_of(one: Exchange) -> str:
     """What is said of an answer: also for how long a call without one waited."""
     if one.waited is None:
         return one.answer
-    later = f', answered as {one.later}' if one.later else ''
+    answered = one.kept.position(one.kept.answered_later(one.at))
+    later = (f', answered as {answered}' if answered else f', sent again as {one.later}' if one.later
+             else '')
     return f'{one.answer} in {one.waited / 1_000_000_000:.3f} s{later}'
 
 

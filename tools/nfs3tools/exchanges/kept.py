@@ -329,13 +329,16 @@ class Kept:
     def waited(self, at: int) -> int | None:
         """Returns for how many nanoseconds a call without a reply waited: until it was answered on
         a later connection, or until the end of the recording."""
-        end, later = self.ended, self.later.get(at)
-        while later is not None:
-            if self.firsts[later]:
-                end = self.reply_times[self.firsts[later] - 1]
-                break
-            later = self.later.get(later)
+        later = self.answered_later(at)
+        end = self.ended if later is None else self.reply_times[self.firsts[later] - 1]
         return end - self.times[at] if end and self.times[at] else None
+
+    def answered_later(self, at: int) -> int | None:
+        """Returns the same call on a later connection on which it was answered, if there is one."""
+        later = self.later.get(at)
+        while later is not None and not self.firsts[later]:
+            later = self.later.get(later)
+        return later
 
     def exchange(self, at: int) -> Exchange:
         """Returns an exchange by its number."""
