@@ -125,7 +125,8 @@ def counts_by_hand(tools: Tools) -> None:
                Row('in all', (9, 1, 8, 1), (calls, replies), (1, 2, 2, 1, 10), '1:1 frame 4',
                    errors).cells())
     # The 39 NULL calls are in the frames 24 to 28, and their replies in the frames 29 to 33.
-    numbers = ['39', '0', '39', '0']
+    # (the first has the xid and the bytes of a call of the first connection)
+    numbers = ['39', '1', '39', '0']
     tools.want('the second', [cells[:5] for cells in tables[titles[1]][1:]], [['NFSPROC3_NULL', *numbers], ['in all', *numbers]])
     sums = [cells[:5] for cells in tables[titles[2]][1:]]
     tools.want('in all', (sums[0], sums[1:-1], sums[-1]),
@@ -298,7 +299,7 @@ def side_by_side(tools: Tools) -> None:
     null, *others, last, same, _ = cells[1:]
     nulls = 39 * size(call(1, NFS, 3, 0))
     grown = f'{rows[0].bytes[0]} -> {rows[0].bytes[0] + nulls} (+3900 %)'
-    tools.want('what grew', null[:7], ['NFSPROC3_NULL', '1 -> 40', '0', '0 -> 39', '1', grown, f'0 -> {39 * size(success(1))}'])
+    tools.want('what grew', null[:7], ['NFSPROC3_NULL', '1 -> 40', '0 -> 1', '0 -> 39', '1', grown, f'0 -> {39 * size(success(1))}'])
     tools.want('what is new', null[7].startswith('- -> 0.00'), True)
     tools.want('what is the same', [*others, same],
                [row.cells_beside() for row in [*rows[1:-2], rows[-1]]])
