@@ -46,9 +46,9 @@ _nfs3_options() {
   echo --port --no-midstream --whole-records --filter --version --help
   case $1 in
     *verdicts) echo "$judging" --color --quiet --follow --junit --json --html -j ;;
-    *calls) echo "$judging" --color --errors --slow --procedure --path --user --client --sort --json --csv ;;
+    *calls) echo "$judging" --color --width --errors --no-reply --slow --procedure --path --user --client --from --to --sort --utc --json --csv ;;
     *meaning) echo "$judging" --color --all --rule --notes --explain --accept --junit --html --json --csv ;;
-    *procedures) echo "$judging" --color --width --beside --total --sort --json --csv --html ;;
+    *procedures) echo "$judging" --color --width --beside --total --from --to --sort --json --csv --html ;;
     *compare) echo "$judging" --color --mask --order --extra --ignore --accept --accept-new --marks --all --brief --html --json --junit ;;
     *cut) echo --origins --program ;;
   esac

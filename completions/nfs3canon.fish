@@ -42,6 +42,11 @@ for tool in verdicts nfs3-verdicts
 end
 for tool in calls nfs3-calls
     complete -c $tool -l errors -d 'List calls whose reply is no success, or that got none'
+    complete -c $tool -l no-reply -d 'List calls that got no reply'
+    complete -c $tool -l from -x -d 'Take calls from a time on'
+    complete -c $tool -l to -x -d 'Take calls up to a time'
+    complete -c $tool -l utc -d 'Print the time of day of each call'
+    complete -c $tool -l width -x -d 'Print no line wider'
     complete -c $tool -l slow -x -d 'List calls with at least this latency, as 100ms'
     complete -c $tool -l procedure -x -d 'List calls of these procedures'
     complete -c $tool -l path -x -d 'List calls whose path fits a pattern'
@@ -64,7 +69,9 @@ complete -c nfs3-meaning -l csv -d 'Print comma-separated values'
 complete -c nfs3-meaning -l program -r -d 'nfs3canon'
 for tool in procedures nfs3-procedures
     complete -c $tool -l beside -d 'Print two recordings side by side'
-    complete -c $tool -l width -x -d 'Print no line of a table wider'
+    complete -c $tool -l width -x -d 'Print no line wider'
+    complete -c $tool -l from -x -d 'Take calls from a time on'
+    complete -c $tool -l to -x -d 'Take calls up to a time'
     complete -c $tool -l total -d 'Print no tables of connections'
     complete -c $tool -l sort -x -a 'procedure calls again replies no-reply call-bytes reply-bytes median p99 most mean sum errors' -d 'Have the largest of a column first'
     complete -c $tool -l json -r -d 'Write JSON'

@@ -1,7 +1,8 @@
 # For the launchers: runs a program that writes a file, and removes what it has written so far if a signal ends it.
 #
-# The program writes beside OUT, under a random name. The file that is removed is the one that its own process has open under such a name, so
-# it is never that of another run. If it cannot be known, it stays.
+# The program writes beside OUT, under a random name. The file that is removed is the one that its own process has open under such a name to
+# write to it, so it is never that of another run, nor an input. If it cannot be known, it stays. A limit on the size of files (`ulimit -f`) is
+# a failed write, and not a signal, so that the program itself takes the file away.
 
 # Whether a command line, after the program's name, is of a command that writes a file.
 is_writing() {
@@ -19,7 +20,7 @@ run_writing() {
   exec 3<&0
   # (a terminal signals both)
   (
-    trap '' INT HUP
+    trap '' INT HUP XFSZ
     exec "$@"
   ) <&3 3<&- &
   pid=$!
@@ -57,10 +58,11 @@ is_stopped() {
   [ "$state" = T ] || [ "$state" = Z ]
 } 2>/dev/null
 
-# Prints the file of 16 hexadecimal digits that a process has open.
+# Prints the file of 16 hexadecimal digits that a process has open to write to it.
 part_of() {
   for link in "/proc/$1/fd"/*; do
     name=$(readlink "$link" 2>/dev/null) || continue
+    is_open_for_writing "$1" "${link##*/}" || continue
     digits=${name##*/.nfs3canon-}
     case $digits in
       "$name" | *[!0-9a-f]*) ;;
@@ -68,3 +70,13 @@ part_of() {
     esac
   done
 }
+
+# Whether a process may write to a descriptor: the last two bits of its flags, which are octal, are not 0.
+is_open_for_writing() {
+  while read -r key flags; do
+    case $key-$flags in
+      flags:-*[1256]) return 0 ;;
+    esac
+  done <"/proc/$1/fdinfo/$2"
+  return 1
+} 2>/dev/null

@@ -87,7 +87,7 @@ def recordings_through_the_launchers(clone: Clone) -> None:
               'big nano': b'\xa1\xb2\x3c\x4d', 'pcapng': b'\x0a\x0d\x0d\x0a'}
     for name, begin in begins.items():
         clone.write(name, begin + bytes(20))
-        told = name.replace(' ', '\\ ')
+        told = f"'{name}'" if ' ' in name else name
         advice = f'nfs3canon: {told} is a recording: `tools/verdicts {told}` reads it'
         clone.want(name, clone.command('./nfs3canon', 'check', name),
                    (2, '', f'file 0: BadMagic\n{advice}\n'))

@@ -51,6 +51,37 @@ def pcapng(frames: Iterable[bytes], order: str = '<') -> bytes:
     return section(order) + interface(order=order) + block(NAMES, bytes(4), order) + b''.join(packets)
 
 
+# --- Parts of segments ---
+
+def part_of(frame: bytes, begin: int, end: int) -> bytes:
+    """A frame of Ethernet, IP and TCP, all without options, with some bytes of its payload as if they
+    had been sent so, with its checksums."""
+    at, payload = (14 + (20 if frame[14] >> 4 == 4 else 40)), frame[-len(frame):]
+    content = frame[at:at + 20] + payload[at + 20:][begin:end]
+    sequence = (int.from_bytes(content[4:8], 'big') + begin) % (1 << 32)
+    content = content[:4] + sequence.to_bytes(4, 'big') + content[8:16] + bytes(2) + content[18:]
+    size = len(content).to_bytes(4, 'big')
+    if at == 34:
+        head = frame[14:16] + (20 + len(content)).to_bytes(2, 'big') + frame[18:24] + bytes(2) + frame[26:34]
+        head = head[:10] + ones_complement(head) + head[12:]
+        addresses = head[12:]
+    else:
+        head = frame[14:18] + size[2:] + frame[20:54]
+        addresses = head[8:]
+    total = ones_complement(addresses + size + b'\0\0\0\6' + content)
+    return frame[:14] + head + content[:16] + total + content[18:]
+
+
+def ones_complement(content: bytes) -> bytes:
+    """The checksum of RFC 1071: the complement of the sum of all words, in which what overflows is
+    added again."""
+    total = 0
+    for at in range(0, len(content), 2):
+        total += int.from_bytes(content[at:at + 2].ljust(2, b'\0'), 'big')
+        total = total - 0xffff if total > 0xffff else total
+    return (0xffff - total).to_bytes(2, 'big')
+
+
 # --- Link layers, by link type ---
 
 def cooked(content: bytes) -> bytes:
@@ -70,6 +101,12 @@ def loopback(content: bytes, order: str = '<') -> bytes:
 
 def content_kind(content: bytes) -> int:
     return IPV6 if content[0] >> 4 == 6 else IPV4
+
+
+def in_snap(content: bytes) -> bytes:
+    """A frame of IEEE 802.3 with the headers LLC and SNAP (RFC 1042)."""
+    carried = b'\xaa\xaa\3\0\0\0' + struct.pack('>H', content_kind(content)) + content
+    return bytes(12) + struct.pack('>H', min(len(carried), 1_500)) + carried
 
 
 # --- Tunnels ---

@@ -83,11 +83,13 @@ def taken_of(recording: bytes, **options: typing.Any) -> Taken:
 
 
 def sums(ok: int = 0, in_part: int = 0, refused: int = 0, errors: int = 0, left_out: int = 0, not_checked: int = 0, bare: int = 0,
-         raw: str = '') -> str:
-    """The line of sums of `tools/verdicts`; `bare` is how many of those that are left out show no call."""
+         raw: str = '', silent: int = 0) -> str:
+    """The line of sums of `tools/verdicts`; `bare` is how many of those that are left out show no call, and
+    `silent` how many calls got no reply."""
+    open_calls = f'; {silent} call{"s" * (silent != 1)} without a reply' if silent else ''
     without = f' ({bare} without a call)' if bare else ''
     return (f'{ok + refused} judged ({ok} ok, {refused} refused), {in_part} in part, {left_out} left out{without}, '
-            f'{not_checked} not checked, {errors} errors' + (f'; {raw} raw' if raw else ''))
+            f'{not_checked} not checked, {errors} errors{open_calls}' + (f'; {raw} raw' if raw else ''))
 
 
 class Measured(typing.NamedTuple):

@@ -6,19 +6,23 @@ import json
 import lzma
 import re
 import shutil
+import struct
 import subprocess
 import typing
 import xml.etree.ElementTree
 
 from examples.messages import MOUNT, NFS, call, fh, success
-from examples.packets import ACK, CLIENT, FIN, RST, SERVER, Talk, datagram, ethernet, pcap
+from examples.packets import (
+    ACK, CLIENT, FIN, RST, SERVER, Talk, datagram, ethernet, pcap, segment)
 
 from ..nfs3tools.commands.verdicts import json_of, junit_of
 from ..nfs3tools.judgement.verdict import counts_after, is_row, status_of
 from ..nfs3tools.recordings.coverage import Allowed
 from ..nfs3tools.reporting.messages import ports_of
 from .cases import FolderTest
-from .recordings import fragments, in_geneve, in_gre, in_labels, in_session, in_vxlan, pcapng, udp
+from .recordings import (
+    enhanced, fragments, in_geneve, in_gre, in_labels, in_session, in_snap, in_vxlan, interface, pcapng,
+    section, udp)
 from .scripts import ALL, CALLS, REPLIES, Tools, both_ways, exchange, stream, sums, taken_of, whole
 
 CALL, REPLY = len(stream(CALLS[:1])), len(stream(REPLIES[:1]))
@@ -76,6 +80,39 @@ def datagrams(number: int, port: int = 2049) -> list[bytes]:
     return [frame for pair in zip(asked, answered) for frame in pair]
 
 
+UNREAD = 'in part: %s not taken, since %s headers are not whole or do not fit %s length'
+
+
+def acknowledging(times: int = 4, step: tuple[int, int] = (100_000, 1_000_000),
+                  payload: bytes = b'', service: int = 2049) -> list[bytes]:
+    """A connection of which each end acknowledges what the other sent, so many times: each time so
+    many bytes more of the client and of the server. A payload is cut, with its lengths."""
+    ports, frames = ((701, service), (service, 701)), list[bytes]()
+    for number in range(times):
+        at = 5_000 + number * step[0], 9_000 + number * step[1]
+        for side, hosts in enumerate(((CLIENT, SERVER), (SERVER, CLIENT))):
+            one = datagram(*hosts, segment(ports[side], at[side], at[1 - side], ACK))
+            frames.append(ethernet(one))
+            if payload:
+                one = datagram(*hosts, segment(ports[side], at[side], at[1 - side], ACK, payload))
+                frames.append(ethernet(one)[:60])
+    return frames
+
+
+def fragmented(change: typing.Callable[[list[bytes]], list[bytes]]) -> list[bytes]:
+    """A connection whose first calls come in fragments, which are changed."""
+    frames = whole(port=701)
+    pieces = change(fragments(frames[3][14:], 64))
+    return [*frames[:3], *map(ethernet, pieces), *frames[4:]]
+
+
+def spoilt(piece: bytes, places: int = 0) -> bytes:
+    """A fragment with another last byte, moved by so many times eight bytes."""
+    place = int.from_bytes(piece[6:8], 'big') + places
+    size = len(piece).to_bytes(2, 'big')
+    return piece[:2] + size + piece[4:6] + place.to_bytes(2, 'big') + piece[8:-1] + b'\xee'
+
+
 CASES = [
     Case('a good one', whole(port=701), ['ok'], ['ok'], {'ok': 1}, GOOD),
     Case('begun before the recording', whole(port=701)[3:], ['in part'],
@@ -87,16 +124,16 @@ CASES = [
     Case('the first frame is lost', whole(port=701)[:3] + whole(port=701)[4:], ['left out'],
          ['left out: ' + ENDS % (701, 2049) + 'its first bytes are missing from the recording'], {'left_out': 1}, LOSSES, ['--no-midstream']),
     Case('it ends inside a record', cut_at_its_end(None), ['in part'], ['ok in part: 39 calls, the recording ends inside a record'],
-         {'in_part': 1}, LOSSES),
+         {'in_part': 1, 'silent': 1}, LOSSES),
     Case('the other end closes', cut_at_its_end(FIN | ACK, 0), ['in part'], ['ok in part: 39 calls, the recording ends inside a record'],
-         {'in_part': 1}, LOSSES),
+         {'in_part': 1, 'silent': 1}, LOSSES),
     Case('the other end resets', cut_at_its_end(RST, 0), ['in part'], ['ok in part: 39 calls, the other end reset it inside a record'],
-         {'in_part': 1}, LOSSES),
+         {'in_part': 1, 'silent': 1}, LOSSES),
     Case('its sender closes', cut_at_its_end(FIN | ACK), ['refused'], [f'server record 39 byte {REPLY - 9 - 4}: RecordCut, frame 20'],
          {'refused': 1}, NEITHER),
     Case('its sender resets', cut_at_its_end(RST), ['refused'], [f'server record 39 byte {REPLY - 9 - 4}: RecordCut, frame 20'],
          {'refused': 1}, NEITHER),
-    Case('whole records', cut_at_its_end(FIN | ACK), ['in part'], [f'ok in part: 39 calls, {REPLY - 9} bytes left out'], {'in_part': 1},
+    Case('whole records', cut_at_its_end(FIN | ACK), ['in part'], [f'ok in part: 39 calls, {REPLY - 9} bytes left out'], {'in_part': 1, 'silent': 1},
          LOSSES, ['--whole-records']),
     Case('NFS version 4', talked(COMPOUNDS, ANSWERS), ['not checked'], ['not checked: 20 of 20 calls (NFS version 4)'],
          {'not_checked': 1}, NOT_CHECKED),
@@ -104,15 +141,15 @@ CASES = [
          ['not checked: 20 of 39 calls (NFS version 4)'], {'not_checked': 1}, NOT_CHECKED),
     Case('other versions', talked([call(1, MOUNT, 1, 1, bytes(8)), call(2, NFS, 2, 4, bytes(36)), call(3, NFS, 2, 4, bytes(36)),
                                    call(4, NFS, 3, 22)], []), ['not checked'],
-         ['not checked: 4 of 4 calls (2 NFS version 2, 1 MOUNT version 1, 1 NFS version 3 procedure 22)'], {'not_checked': 1}, NOT_CHECKED),
+         ['not checked: 4 of 4 calls (2 NFS version 2, 1 MOUNT version 1, 1 NFS version 3 procedure 22)'], {'not_checked': 1, 'silent': 4}, NOT_CHECKED),
     Case('version 4, and bytes are missing', talked(COMPOUNDS, ANSWERS)[:4] + talked(COMPOUNDS, ANSWERS)[5:], ['not checked'],
-         ['not checked: 20 of 20 calls (NFS version 4)'], {'not_checked': 1}, NEITHER),
+         ['not checked: 20 of 20 calls (NFS version 4)'], {'not_checked': 1, 'silent': 20}, NEITHER),
     Case('no typed call', talked([call(1, NFSACL, 3, 1, fh(b'a'))], []), ['not checked'],
-         ['not checked: no call of NFS or MOUNT version 3 (1 NFSACL GETACL)'], {'not_checked': 1}, NOT_CHECKED, raw='1 NFSACL GETACL'),
+         ['not checked: no call of NFS or MOUNT version 3 (1 NFSACL GETACL)'], {'not_checked': 1, 'silent': 1}, NOT_CHECKED, raw='1 NFSACL GETACL'),
     Case('calls of others beside typed ones', talked([*CALLS, *(call(50 + at, NFSACL, 3, 1, fh(b'a')) for at in range(7))], REPLIES), ['ok'],
-         ['ok'], {'ok': 1}, GOOD, raw='7 NFSACL GETACL'),
+         ['ok'], {'ok': 1, 'silent': 7}, GOOD, raw='7 NFSACL GETACL'),
     Case('the port mapper', talked([call(1, PORTMAP, 2, 3, bytes(16)), call(2, PORTMAP, 4, 3), call(3, PORTMAP, 2, 99)], [], service=111), ['ok'],
-         ['ok'], {'ok': 1}, GOOD, raw='1 PORTMAP GETADDR, 1 PORTMAP GETPORT, 1 PORTMAP version 2 procedure 99'),
+         ['ok'], {'ok': 1, 'silent': 3}, GOOD, raw='1 PORTMAP GETADDR, 1 PORTMAP GETPORT, 1 PORTMAP version 2 procedure 99'),
     Case('datagrams of UDP', datagrams(102), ['left out'], ['left out: 102 UDP datagrams to or from port 2049 are not taken'],
          {'left_out': 1}, LOSSES),
     Case('datagrams of UDP in fragments',
@@ -125,6 +162,55 @@ CASES = [
     Case('no RPC at a port of NFS', http(2049), ['refused'], ['client record 1 byte 0: RecordTooLong, frame 19'], {'refused': 1}, NEITHER),
     Case('no RPC at a port that was chosen', http(80), ['refused'], ['client record 1 byte 0: RecordTooLong, frame 19'], {'refused': 1}, NEITHER,
          ['--port', '80,2049']),
+    Case('acknowledgements alone', acknowledging(), ['left out'],
+         ['left out: ' + ENDS % (701, 2049) + '3,300,000 bytes acknowledged and not recorded'],
+         {'left_out': 1}, LOSSES),
+    Case('the same at another port', acknowledging(service=80), [], [], {'left_out': 1, 'bare': 1},
+         GOOD),
+    Case('one acknowledgement beyond', acknowledging(2, (0, 1)), [], [],
+         {'left_out': 1, 'bare': 1}, GOOD),
+    Case('frames that lack their payload, with their lengths', acknowledging(payload=bytes(99)),
+         ['left out', 'in part'],
+         ['left out: ' + ENDS % (701, 2049) + '3,300,000 bytes acknowledged and not recorded',
+          UNREAD % ('8 frames to or from port 2049 are', 'their', 'their')],
+         {'left_out': 1, 'in_part': 1}, LOSSES),
+    Case('a last frame that is shortened',
+         [*talked(CALLS, REPLIES)[:4], talked(CALLS, REPLIES)[4][:60]],
+         ['ok', 'in part'], ['ok', UNREAD % ('1 frame to or from port 2049 is', 'its', 'its')],
+         {'in_part': 1, 'ok': 1, 'silent': 39}, LOSSES),
+    Case('a frame without its ports', [whole(port=701)[3][:37]], ['in part'],
+         [UNREAD % ('1 frame is', 'its', 'its')], {'in_part': 1}, LOSSES),
+    Case('a frame without its header of IP', [whole(port=701)[3][:30]], ['in part'],
+         [UNREAD % ('1 frame is', 'its', 'its')], {'in_part': 1}, LOSSES),
+    Case('the kind of another version of IP',
+         [frame[:14] + b'\x55' + frame[15:] for frame in whole(port=701)[3:5]], ['not checked'],
+         ['not checked: 2 frames of an unknown version of IP are not read; '
+          'what is in them is not known'], {'not_checked': 1}, NOT_CHECKED),
+    Case('LLC and SNAP', [in_snap(frame[14:]) for frame in whole(port=701)], ['not checked'],
+         ['not checked: 15 frames of LLC/SNAP are not read; what is in them is not known'],
+         {'not_checked': 1}, NOT_CHECKED),
+    Case('a spanning tree', [bytes(12) + b'\0\x26\x42\x42\3' + bytes(35)], [], [], {}, GOOD),
+    Case('PPP of itself', [bytes(12) + struct.pack('>HBBHHH', 0x8864, 0x11, 0, 1, 10, 0xc021) + bytes(8)],
+         [], [], {}, GOOD),
+    *[Case(f'{name} in UDP', [ethernet(datagram(CLIENT, SERVER, udp(*ports, bytes(60)), 17))],
+           ['not checked'],
+           [f'not checked: 1 frame of {name} is not read; what is in it is not known'],
+           {'not_checked': 1}, NOT_CHECKED)
+      for name, ports in (('GTP-U', (2152, 2152)), ('L2TP', (1701, 1701)), ('L2TP', (1701, 50_000)),
+                          ('ESP in UDP', (4500, 4500)), ('Teredo', (50_000, 3544)))],
+    Case('a fragment twice with other bytes', fragmented(lambda one: [one[0], one[1], spoilt(one[1]), *one[2:]]),
+         ['in part'], ['ok in part: 39 calls, 1 frame with other content'], {'in_part': 1}, LOSSES),
+    Case('a fragment twice with other bytes, the last first',
+         fragmented(lambda one: [*one[:0:-1], spoilt(one[1]), one[0]]), ['in part'],
+         ['ok in part: 39 calls, 1 frame with other content'], {'in_part': 1}, LOSSES),
+    Case('fragments that overlap with other bytes',
+         fragmented(lambda one: [one[0], spoilt(one[1][:28], -1), *one[1:]]), ['in part'],
+         ['ok in part: 39 calls, 1 frame with other content'], {'in_part': 1}, LOSSES),
+    Case('a fragment beyond the last',
+         fragmented(lambda one: [one[0], *one[2:], spoilt(one[1] + bytes(1_000)), one[1]]),
+         ['in part'], ['ok in part: 39 calls, 1 frame with other content'], {'in_part': 1}, LOSSES),
+    Case('fragments twice with the same bytes', fragmented(lambda one: [*one, *one]), ['ok'], ['ok'],
+         {'ok': 1}, GOOD),
     Case('a fault at another port', talked(CALLS, [*REPLIES[:-1], success(99)], service=900), ['refused'],
          ['server record 39 byte 0: NoCall, frame 20'], {'refused': 1}, NEITHER),
 ]
@@ -174,11 +260,12 @@ def words_in_files(tools: Tools) -> None:
         written = json.loads(json_of(verdicts))
         rows = [row for row in written['rows'] if row['shows_calls']][1:]
         tools.want(case.what + ', rows', ([row['state'] for row in rows], [row['message'] for row in rows]), (case.states, case.messages))
-        numbers = {'ok': 0, 'refused': 0, 'in_part': 0, 'left_out': 0, 'bare': 0, 'not_checked': 0, 'errors': 0} | case.counts
+        numbers = {'ok': 0, 'refused': 0, 'in_part': 0, 'left_out': 0, 'bare': 0, 'not_checked': 0, 'errors': 0,
+                   'silent': 0} | case.counts
         numbers['ok'] += 1
         named = {'judged': numbers['ok'] + numbers['refused'], 'ok': numbers['ok'], 'refused': numbers['refused'],
                  'in part': numbers['in_part'], 'left out': numbers['left_out'], 'without calls': numbers['bare'],
-                 'not checked': numbers['not_checked'], 'errors': 0}
+                 'not checked': numbers['not_checked'], 'errors': 0, 'without reply': numbers['silent']}
         raw = {name: int(number) for number, name in (word.split(' ', 1) for word in case.raw.split(', ') if word)}
         tools.want(case.what + ', counts', (written['version'], written['counts']), (2, {**named, 'raw': raw}))
         suite = xml.etree.ElementTree.fromstring(junit_of(verdicts, Allowed()).decode())[0]
@@ -213,6 +300,17 @@ def recordings_that_end_inside_a_frame(tools: Tools) -> None:
         tools.want(name, (is_told, counts.refused, counts.errors, status_of(verdicts, Allowed())), (True, 0, 0, 1))
     verdicts = both_ways(tools, pcapng(good())[:-1], [])[0]
     tools.want('pcapng', [verdict.message for verdict in verdicts], ['ok', 'in part: the recording ends inside a frame (frame 15)'])
+
+
+def interfaces_that_are_not_read(tools: Tools) -> None:
+    """Frames of an interface of pcapng whose link type is not read are not checked, beside good
+    ones."""
+    frames = [*map(enhanced, good()), *(enhanced(frame, index=1) for frame in good())]
+    recording = section() + interface() + interface(105) + b''.join(frames)
+    told = 'not checked: 15 frames of the link type 105 are not read; what is in them is not known'
+    for how, verdicts in zip(('plain', 'followed'), both_ways(tools, recording, [])):
+        statuses = [status_of(verdicts, Allowed(not_checked=allowed)) for allowed in (False, True)]
+        tools.want(how, ([verdict.message for verdict in verdicts], statuses), (['ok', told], [1, 0]))
 
 
 def ports_that_are_chosen(tools: Tools) -> None:
@@ -254,17 +352,20 @@ def tunnels(tools: Tools) -> None:
                 ('VXLAN in fragments', [ethernet(piece) for at, frame in enumerate(frames) for piece in fragments(outer(in_vxlan(frame)), 64, at)])):
             tools.told(what, pcap(recorded), [ALL], [])
     secret = [ethernet(datagram('198.51.100.1', '198.51.100.2', bytes(99), 50)) for _ in range(112)]
-    tools.told('ESP', pcap(whole() + secret), [ALL], ['112 frames of ESP are passed over; what is in them is not known'])
+    tools.told('ESP', pcap(whole() + secret), [ALL], ['not checked: 112 frames of ESP are not read; what is in them is not known'])
     tools.write('a.pcap', pcap(secret + [bytes(12) + b'\x08\x06' + bytes(28)]))
-    tools.want('ESP alone', run_of(tools, 'a.pcap')[1], ['no connection to judge: 113 frames without TCP: 112 of ESP, 1 of ARP'])
+    tools.want('ESP alone', run_of(tools, 'a.pcap')[1],
+               ['not checked: 112 frames of ESP are not read; what is in them is not known',
+                'no connection to judge: 113 frames without TCP: 112 of ESP, 1 of ARP'])
     deep = whole()[4][14:]
     for _ in range(9):
         deep = datagram('198.51.100.1', '198.51.100.2', deep, 4)
-    tools.told('many tunnels', pcap([*whole(), ethernet(deep)]), [ALL], ['1 frame of many tunnels is passed over; what is in them is not known'])
+    tools.told('many tunnels', pcap([*whole(), ethernet(deep)]), [ALL], ['not checked: 1 frame of many tunnels is not read; what is in it is not known'])
     tools.want('the kind 0', taken_of(pcap([bytes(14) + frame[14:] for frame in whole()])).connections, [])
 
 
-TESTS = [words_of_all_kinds, words_on_the_command_line, words_in_files, recordings_that_end_inside_a_frame, ports_that_are_chosen, tunnels]
+TESTS = [words_of_all_kinds, words_on_the_command_line, words_in_files, recordings_that_end_inside_a_frame,
+         interfaces_that_are_not_read, ports_that_are_chosen, tunnels]
 
 
 class CoveredTest(FolderTest, make=Tools, tests=TESTS):

@@ -11,7 +11,7 @@ import unittest
 from collections.abc import Sequence
 from typing import Any
 
-from examples.messages import fragment
+from examples.messages import NFS, call, fh, fragment, opaque, success
 from examples.packets import ACK, Talk, ethernet, pcap
 from tests.shared.running import ended
 
@@ -19,7 +19,7 @@ from ..nfs3tools.commands import cut
 from ..nfs3tools.recordings.extract import frames_of
 from ..nfs3tools.shared.places import Place
 from .cases import FolderTest
-from .recordings import cooked, enhanced, fragments, fragments_6, interface, section
+from .recordings import cooked, enhanced, fragments, fragments_6, interface, part_of, section
 from .scripts import ALL, CALLS, REPLIES, TOP, Tools, packed, stream, sums, taken_of, whole
 
 EXAMPLE = "(as in 'connection 1 server record 7 byte 24')"
@@ -125,33 +125,40 @@ def words_of_a_position(tools: Tools) -> None:
 
 # --- As a recording ---
 
-def frames_as_they_were(tools: Tools) -> None:
-    """OUT.pcap has the frames of the call and of its reply, and those of SYN, with their bytes and
-    times, in both units of time."""
+def parts_of(frames: Sequence[bytes], parts: dict[int, tuple[int, int]]) -> list[bytes]:
+    """The frames of a recording, of which some have a part of their payload alone."""
+    return [part_of(frame, *parts[number]) if number in parts else frame
+            for number, frame in enumerate(frames, 1)]
+
+
+def frames_of_the_records(tools: Tools) -> None:
+    """OUT.pcap has the frames of SYN, and those of the call and of its reply without the bytes of other
+    records, with their times, in both units of time."""
     frames = [*whole(port=699), *whole()]
     for magic, unit in ((0xa1b2c3d4, 1_000), (0xa1b23c4d, 1)):
         for order in '<>':
             tools.write('a.pcap', pcap(frames, magic=magic, order=order))
             # The second connection begins in frame 16. Record 9 of its calls is in frame 20, and
             # record 9 of its replies in frame 25.
-            # The replies acknowledge all 1,716 bytes of the calls, of which 344 are there. Of the
-            # replies 219 bytes come before.
-            wanted = extract(frames, [16, 17, 20, 25], unit=unit)
+            # They begin 8 and 5 bytes after their frames. The replies acknowledge all 1,716 bytes of
+            # the calls, of which 44 are there. Of the replies 224 bytes come before.
+            wanted = extract(parts_of(frames, {20: (8, 52), 25: (5, 33)}), [16, 17, 20, 25], unit=unit)
             status, lines, error = tool(tools, 'cut', 'a.pcap',
                                         'connection 2 client record 9', 'out.pcap')
             tools.want('lines', (status, lines, error), (0, [
                 'connection 1 client record 1: connection 2 client record 9, frame 20',
                 'connection 1 server record 1: connection 2 server record 9, frame 25',
-                'connection 1: ok in part: 7 calls, 1,591 bytes missing, '
-                'the recording ends inside a record', sums(in_part=1)], ''))
+                'connection 1: ok in part: 1 call, 1,896 bytes missing', sums(in_part=1)], ''))
             tools.want('OUT', tools.read('out.pcap') == wanted, True)
             os.remove(tools.path('out.pcap'))
     tools.write('a.pcap', pcap(frames))
     with open(tools.path('a.pcap'), 'rb') as source:
         tools.want('standard input', tools.tool('cut', '--program', tools.program, '-',
                                                 'frame 20', 'out.pcap', stdin=source)[0], 0)
+    # (the records 8 to 16, from byte 308 to 704 of the calls, and from 196 to 448 of the replies)
+    parts = parts_of(frames, {19: (308, 344), 21: (0, 16), 24: (196, 219), 26: (0, 10)})
     tools.want('OUT of it',
-               tools.read('out.pcap') == extract(frames, [16, 17, 19, 20, 21, 24, 25, 26]), True)
+               tools.read('out.pcap') == extract(parts, [16, 17, 19, 20, 21, 24, 25, 26]), True)
     one = Talk()
     short = [*one.opened(), one.sent(0, fragment(CALLS[0])), one.sent(1, fragment(REPLIES[0]))]
     tools.write('b.pcap', pcap(short))
@@ -172,13 +179,14 @@ def parts_and_pcapng(tools: Tools) -> None:
                              'out.pcap')[0], 0)
     # Record 20 begins at byte 836 of the calls and 532 of the replies: the third frame of each
     # side, 6 and 11.
-    tools.want('OUT of parts', tools.read('out.pcap') == extract(frames, [1, 2, 6, 11]), True)
+    parts = parts_of(frames, {6: (148, 192), 11: (94, 122)})
+    tools.want('OUT of parts', tools.read('out.pcap') == extract(parts, [1, 2, 6, 11]), True)
     nano = section() + interface(unit=9) + b''.join(enhanced(frame, 10 ** 9 + number)
                                                     for number, frame in enumerate(frames))
     tools.write('a.pcapng', nano)
     tools.want('pcapng', tool(tools, 'cut', 'a.pcapng', 'connection 1 client record 20',
                               'a.pcap')[0], 0)
-    tools.want('OUT of pcapng', tools.read('a.pcap') == extract(frames, [1, 2, 6, 11], unit=1),
+    tools.want('OUT of pcapng', tools.read('a.pcap') == extract(parts, [1, 2, 6, 11], unit=1),
                True)
     second = Talk(701)
     others = [frame[14:] for frame in (*second.opened(), second.sent(0, fragment(CALLS[0])),
@@ -195,8 +203,8 @@ def parts_and_pcapng(tools: Tools) -> None:
 
 
 def datagrams_in_fragments(tools: Tools) -> None:
-    """Of a datagram that came in fragments all frames are taken, though the last alone completed
-    it, and none of another one."""
+    """Of a datagram that came in fragments all frames are taken as they are, though the last alone
+    completed it, and none of another one. That other records are in it is said, and the status 1."""
     for cut_up, hosts in ((fragments, ('192.0.2.7', '192.0.2.1')),
                           (fragments_6, ('2001:db8::7', '2001:db8::1'))):
         talk = Talk(hosts=hosts)
@@ -210,9 +218,13 @@ def datagrams_in_fragments(tools: Tools) -> None:
         status, lines, _ = tool(tools, 'cut', 'a.pcap', 'connection 1 client record 39', 'out.pcap')
         numbers = [frames.index(frame) + 1 for frame in call_pieces]
         place = 'connection 1 client record 39'
-        tools.want('lines', (status, lines[0]), (0, f'{place}: {place}, frame {numbers[-1]}'))
+        told = (f'frame {numbers[-1]} cannot be trimmed to these records, and a dissector may not '
+                'find them')
+        tools.want('lines', (status, lines[0], lines[-2]),
+                   (1, f'{place}: {place}, frame {numbers[-1]}', told))
+        parts = parts_of(frames, {len(frames): (38 * 28, 39 * 28)})
         tools.want('OUT',
-                   tools.read('out.pcap') == extract(frames, [1, 2, *numbers, len(frames)]), True)
+                   tools.read('out.pcap') == extract(parts, [1, 2, *numbers, len(frames)]), True)
         os.remove(tools.path('out.pcap'))
 
 
@@ -285,7 +297,7 @@ def openings_that_do_not_fit(tools: Tools) -> None:
         one = cut.cut_of(connection._replace(opened_by=opened_by),
                          cut.wanted_at(taken, [Place(1, 'client', 9)])[1])
         wanted = {4, 5}.union(opened_by)
-        found = [cut.extract_of(tools.program, frames_of(tools.path('a.pcap'), some), [one],
+        found = [cut.extract_of(tools.program, frames_of(tools.path('a.pcap'), some), [], [one],
                                 'a') for some in (wanted, {4, 5})]
         tools.want(f'records with {opened_by}', [extract_of.number for extract_of in found],
                    [0 if opened_by else 2, 2])
@@ -331,10 +343,52 @@ def as_tshark_reads_it(tools: Tools) -> None:
     tools.want('messages', (there, len(there.splitlines())), (here, 2))
 
 
+@unittest.skipUnless(shutil.which('tshark'), 'tshark is not there')
+def cuts_as_tshark_reads_them(tools: Tools) -> None:
+    """tshark finds the call and its reply in each cut, and nothing else, though in the recording they
+    begin and end inside segments; their checksums are right."""
+    v6 = '2001:db8::7', '2001:db8::1'
+    several = {
+        'Ethernet': pcap(whole()), 'IPv6': pcap(whole(hosts=v6)),
+        'a VLAN': pcap(whole(vlan=7)),
+        'cooked': pcap([cooked(frame[14:]) for frame in whole()], link=113),
+        'a large message': pcap(large_messages()), 'IPv6, large': pcap(large_messages(hosts=v6))}
+    fields = [word for field in ('rpc.msgtyp', 'rpc.xid', 'tcp.checksum.status', 'ip.checksum.status')
+              for word in ('-e', field)]
+    checked = ['-o', 'tcp.check_checksum:TRUE', '-o', 'ip.check_checksum:TRUE']
+    for name, recording in several.items():
+        tools.write('a.pcap', recording)
+        # Record 9 is inside a segment, and record 16 has bytes of two.
+        for record in (9, 16) if 'large' not in name else (2, 3):
+            status, _, error = tool(tools, 'cut', 'a.pcap', f'connection 1 client record {record}', 'out.pcap')
+            out = ended(['tshark', '-n', '-r', 'out.pcap', '-Y', 'rpc', *checked, '-T', 'fields', *fields],
+                        tools.folder).out.decode()
+            sums_of_ip = '' if 'IPv6' in name else '1'
+            wanted = [f'{kind}\t0x{record:08x}\t1\t{sums_of_ip}'.rstrip('\t') for kind in (0, 1)]
+            tools.want(f'{name}, record {record}', (status, error, [line.rstrip('\t') for line in out.splitlines()]),
+                       (0, '', wanted))
+            os.remove(tools.path('out.pcap'))
+
+
+def large_messages(**options: Any) -> list[bytes]:
+    """A connection with three WRITEs of 20,000 bytes and their replies, in segments of 1,448 bytes."""
+    calls = [call(xid, NFS, 3, 7, fh(b'h') + struct.pack('>QII', 0, 20_000, 2) + opaque(bytes(20_000)))
+             for xid in (1, 2, 3)]
+    replies = [success(xid, struct.pack('>IIIII8x', 0, 0, 0, 20_000, 2)) for xid in (1, 2, 3)]
+    talk = Talk(**options)
+    frames = talk.opened()
+    for side, bodies, size in ((0, calls, 1_448), (1, replies, 50)):
+        content = stream(bodies)
+        frames += [talk.sent(side, content[at:at + size]) for at in range(0, len(content), size)]
+    # (tshark joins no segments with wrong checksums)
+    return [part_of(frame, 0, len(frame)) for frame in (*frames, *talk.closed())]
+
+
 TESTS = [records_of_a_frame, frames_without_a_record, words_of_a_position,
-         frames_as_they_were, parts_and_pcapng, datagrams_in_fragments,
+         frames_of_the_records, parts_and_pcapng, datagrams_in_fragments,
          exchanges_in_the_extract, with_origins, records_at_fault,
-         openings_that_do_not_fit, outputs_that_are_refused, as_tshark_reads_it]
+         openings_that_do_not_fit, outputs_that_are_refused, as_tshark_reads_it,
+         cuts_as_tshark_reads_them]
 
 
 class FramesTest(FolderTest, make=Tools, tests=TESTS):

@@ -16,10 +16,11 @@ import tomllib
 import unittest
 from collections.abc import Callable
 
+from examples.messages import NFS, call
 from tests.shared.running import Answer, Runs, begin, ended, pipe_of, program_named
 from ..nfs3tools.comparison.values.classes import BY_NAME
 from .cases import FolderTest
-from .scripts import TOP
+from .scripts import TOP, packed, stream
 
 PROGRAMS = ('nfs3canon', 'nfs3mask')
 TOOLS = ('from-pcap', 'where', 'verdicts', 'calls', 'procedures', 'meaning', 'compare', 'explain',
@@ -110,6 +111,80 @@ def signals_leave_nothing(place: Place) -> None:
             place.want(f'{command[0]} {number.name}', (begun, status, gone, os.listdir(place.path('out'))), (True, -number, True, [mine]))
             for pipe in (process.stdin, process.stdout, process.stderr):
                 pipe_of(pipe).close()
+
+
+def part_named_by_a_user(place: Place) -> None:
+    """A signal takes away no IN that is named like a part, while OUT is a pipe that nobody reads."""
+    place.want('install', place.tool('install', 'prefix')[0], 0)
+    name = '.nfs3canon-0123456789abcdef'
+    place.write(name, packed((stream(call(xid, NFS, 3, 0) for xid in range(9_000)), b'')))
+    for launcher in (TOP, pathlib.Path(place.folder, 'prefix/bin')):
+        for number in (signal.SIGTERM, signal.SIGINT, signal.SIGHUP):
+            process = begin((str(launcher / 'nfs3canon'), 'canon', name, '/dev/stdout'), place.folder,
+                            stdin=subprocess.DEVNULL, prepare=own_group)
+            # (it has begun to write, and cannot end)
+            place.want('begun', pipe_of(process.stdout).read(1), b'N')
+            os.kill(process.pid, number)
+            place.want(f'{launcher} {number.name}', (process.wait(60), os.path.exists(place.path(name))),
+                       (-number, True))
+            for pipe in (process.stdout, process.stderr):
+                pipe_of(pipe).close()
+
+
+def a_limit_on_the_size_of_files(place: Place) -> None:
+    """If OUT is longer than files may be, it is not written, and nothing else is left."""
+    place.want('install', place.tool('install', 'prefix')[0], 0)
+    place.write('in', packed((stream(call(xid, NFS, 3, 0) for xid in range(900)), b'')))
+    for launcher in (TOP, pathlib.Path(place.folder, 'prefix/bin')):
+        for words in (('nfs3canon', 'canon', 'in', 'out'), ('nfs3mask', 'in', 'out')):
+            found = place.command('bash', '-c', 'ulimit -f 1; exec "$@"', 'bash', str(launcher / words[0]), *words[1:])
+            place.want(f'{launcher} {words[0]}', (found[0], sorted(os.listdir(place.folder))),
+                       (3, ['in', 'prefix']))
+
+
+def recordings_through_the_launchers(place: Place) -> None:
+    """The installed launchers say which installed tool reads a recording, after the line of the
+    program, whose status they keep."""
+    place.want('install', place.tool('install', 'prefix')[0], 0)
+    place.write('a b.pcap', b'\x0a\x0d\x0d\x0a' + bytes(20))
+    for words, own, advice in (
+            (('nfs3canon', 'check', 'a b.pcap'), 'file 0', "`nfs3-verdicts 'a b.pcap'` reads it"),
+            (('nfs3canon', 'show', 'a b.pcap'), 'file 0', "`nfs3-calls 'a b.pcap'` reads it"),
+            (('nfs3canon', 'same', str(TOP / 'examples/null.nfs3cap'), 'a b.pcap'), 'second: file 0',
+             '`nfs3-compare A B` reads recordings'),
+            (('nfs3mask', 'a b.pcap', 'out'), 'file 0',
+             "`nfs3-from-pcap 'a b.pcap' CAPTURE` makes a capture of it")):
+        found = place.command(place.path(f'prefix/bin/{words[0]}'), *words[1:])
+        line = f"{words[0]}: 'a b.pcap' is a recording: {advice}\n"
+        place.want(' '.join(words[:2]), found, (2, '', f'{own}: BadMagic\n{line}'))
+
+
+PIP = '--no-build-isolation --no-index --no-warn-script-location --root-user-action=ignore'.split()
+BUILDS = 'import setuptools, wheel, pip; assert int(setuptools.__version__.split(".")[0]) >= 61'
+
+
+def by_pip(place: Place) -> None:
+    """`pip install` works from a copy of the folder tools alone, leaves there only what git ignores, and
+    its commands say where the programs come from."""
+    pythons = [python for python in (sys.executable, '/usr/bin/python3')
+               if place.command(python, '-W', 'ignore', '-c', BUILDS)[0] == 0]
+    if not pythons:
+        print('by_pip: no Python that can build packages is there', file=sys.stderr)
+        return
+    copy = pathlib.Path(place.folder, 'tools')
+    shutil.copytree(TOP / 'tools', copy, ignore=shutil.ignore_patterns('__pycache__', 'build', '*.egg-info', 'tests'))
+    before = set(os.listdir(copy))
+    place.want('pip', place.command(pythons[0], '-m', 'pip', 'install', '-q', *PIP, '--target', place.path('made'), str(copy))[0], 0)
+    ignored = place.command('git', '-C', str(TOP), 'check-ignore', *(f'tools/{name}/' for name in set(os.listdir(copy)) - before))
+    place.want('what is left', len(ignored[1].split()), len(set(os.listdir(copy)) - before))
+    verdicts = place.path('made/bin/nfs3-verdicts')
+    made = ('env', f'PYTHONPATH={place.path("made")}', 'PATH=/nonexistent', pythons[0], verdicts)
+    place.want('version', place.command(*made, '--version'), (0, f'nfs3-verdicts {version()}\n', ''))
+    status, _, error = place.command(*made, str(TOP / 'examples/ganesha_a.pcap'))
+    place.want('without programs', (status, error), (
+        2, 'nfs3-verdicts: nfs3canon is missing: it is neither beside the tools nor on the PATH; '
+        '`tools/install` in a clone of nfs3canon installs it\n'))
+    place.want('help', 'man/verdicts.1 of the tools in a clone' in place.command(*made, '--help')[1], True)
 
 
 def own_group() -> None:
@@ -283,6 +358,22 @@ def on_a_full_disk(place: Place) -> None:
     nothing_changes(place, 3, *install, 'prefix')
 
 
+def nothing_that_would_not_work(place: Place) -> None:
+    """Without an nfs3mask beside the program, with a launcher of a clone for it, and with a folder under
+    the prefix that is a symbolic link, nothing is installed or released."""
+    for folder in ('only', 'real', 'elsewhere'):
+        os.mkdir(place.path(folder))
+    only = shutil.copy(place.program, place.path('only/nfs3canon'))
+    os.symlink('../elsewhere', place.path('real/bin'))
+    for name in ('install', 'release'):
+        for program in (only, str(TOP / 'nfs3canon')):
+            nothing_changes(place, 2, str(TOP / 'tools' / name), '--program', program, 'only')
+    nothing_changes(place, 2, str(TOP / 'tools/install'), '--program', place.program, 'real')
+    os.symlink(place.path('only'), place.path('link'))
+    place.want('a prefix that is a link', place.tool('install', 'link')[0], 0)
+    works(place, pathlib.Path(place.folder, 'link'))
+
+
 def removed_again(place: Place) -> None:
     """What was put under a prefix is taken away, and what was there before or was changed since is left."""
     place.write('other', b'')
@@ -420,6 +511,8 @@ def version_of_the_launcher(place: Place) -> None:
 
 TESTS: list[Callable[[Place], None]] = [under_a_prefix, named_as_installed, commands_of_the_package, completions_load, where_nothing_can_be_written,
                                         without_a_program, on_a_full_disk, removed_again, removed_from_elsewhere, as_a_release,
+                                        nothing_that_would_not_work, part_named_by_a_user, a_limit_on_the_size_of_files,
+                                        recordings_through_the_launchers, by_pip,
                                         as_a_package, help_of_the_installed_programs, signals_leave_nothing,
                                         under_every_umask, under_a_name_that_is_no_text,
                                         version_of_the_launcher]

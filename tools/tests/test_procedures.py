@@ -114,7 +114,7 @@ def counts_by_hand(tools: Tools) -> None:
     tools.write('a.pcap', pcap(frames + whole(port=701)))
     status, tables, error = procedures(tools, 'a.pcap')
     titles = [f'a.pcap: connection 1: {ENDS}: ok', f'a.pcap: connection 2: {ENDS.replace("700", "701")}: ok',
-              'a.pcap in all: ' + sum_line(2, raw='1 PORTMAP DUMP, 1 PORTMAP GETPORT')]
+              'a.pcap in all: ' + sum_line(2, raw='1 PORTMAP DUMP, 1 PORTMAP GETPORT', silent=1)]
     tools.want('titles', (status, list(tables), error), (0, titles, ''))
     tools.want('heads', [table[0] for table in tables.values()], [HEADS] * 3)
     tools.want('the first', tables[titles[0]][1:-1], [row.cells() for row in rows])
@@ -125,7 +125,8 @@ def counts_by_hand(tools: Tools) -> None:
                Row('in all', (9, 1, 8, 1), (calls, replies), (1, 2, 2, 1, 10), '1:1 frame 4',
                    errors).cells())
     # The 39 NULL calls are in the frames 24 to 28, and their replies in the frames 29 to 33.
-    numbers = ['39', '0', '39', '0']
+    # (the first has the xid and the bytes of a call of the first connection)
+    numbers = ['39', '1', '39', '0']
     tools.want('the second', [cells[:5] for cells in tables[titles[1]][1:]], [['NFSPROC3_NULL', *numbers], ['in all', *numbers]])
     sums = [cells[:5] for cells in tables[titles[2]][1:]]
     tools.want('in all', (sums[0], sums[1:-1], sums[-1]),
@@ -136,7 +137,7 @@ def counts_by_hand(tools: Tools) -> None:
     last = tables[list(tables)[-1]]
     tools.want('two recordings', (list(tables)[-1], [cells[1] for cells in last][-1],
                                   [cells[LONGEST] for cells in last[1:3]]),
-               ('all recordings: ' + sum_line(3, raw='1 PORTMAP DUMP, 1 PORTMAP GETPORT'), '87',
+               ('all recordings: ' + sum_line(3, raw='1 PORTMAP DUMP, 1 PORTMAP GETPORT', silent=1), '87',
                 ['a.pcap 2:1 frame 24', 'a.pcap 1:1 frame 4']))
 
 
@@ -290,14 +291,15 @@ def side_by_side(tools: Tools) -> None:
     tools.write('b.pcap', pcap([*frames[:-2], *whole(port=701)]))  # without the last raw call, and with 39 NULL calls
     status, out, error = tools.tool('procedures', '--program', tools.program, '--beside', 'a.pcap', 'b.pcap')
     lines = out.splitlines()
-    sums = ['A: a.pcap: ' + sum_line(1, raw='1 PORTMAP DUMP, 1 PORTMAP GETPORT'), 'B: b.pcap: ' + sum_line(2, raw='1 PORTMAP GETPORT')]
+    sums = ['A: a.pcap: ' + sum_line(1, raw='1 PORTMAP DUMP, 1 PORTMAP GETPORT', silent=1),
+            'B: b.pcap: ' + sum_line(2, raw='1 PORTMAP GETPORT', silent=1)]
     tools.want('heads', (status, lines[:2], error), (0, sums, ''))
     cells = [re.split('  +', line.strip()) for line in lines[2:]]
     tools.want('rows', [row[0] for row in cells], ['procedure', *(row.procedure for row in rows), 'in all'])
     null, *others, last, same, _ = cells[1:]
     nulls = 39 * size(call(1, NFS, 3, 0))
     grown = f'{rows[0].bytes[0]} -> {rows[0].bytes[0] + nulls} (+3900 %)'
-    tools.want('what grew', null[:7], ['NFSPROC3_NULL', '1 -> 40', '0', '0 -> 39', '1', grown, f'0 -> {39 * size(success(1))}'])
+    tools.want('what grew', null[:7], ['NFSPROC3_NULL', '1 -> 40', '0 -> 1', '0 -> 39', '1', grown, f'0 -> {39 * size(success(1))}'])
     tools.want('what is new', null[7].startswith('- -> 0.00'), True)
     tools.want('what is the same', [*others, same],
                [row.cells_beside() for row in [*rows[1:-2], rows[-1]]])

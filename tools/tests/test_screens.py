@@ -207,8 +207,9 @@ def procedures_fit(tools: Tools) -> None:
     heads = [line for line in lines if line.startswith('procedure ')]
     tools.want('heads', [line.split('  ')[0] for line in heads], ['procedure'] * len(heads))
     words = re.split('  +', ' '.join(line.removeprefix('procedure') for line in heads).strip())
-    tools.want('columns', words, ['calls', 'again', 'replies', 'no reply', 'call bytes', 'reply bytes', 'median ms', '99 % ms', 'most ms',
-                                  'mean ms', 'sum ms', 'longest', 'errors'])
+    tools.want('columns', words, ['calls', 'again', 'replies', 'no reply', 'errors', 'call bytes', 'reply bytes', 'median ms', '99 % ms',
+                                  'most ms', 'mean ms', 'sum ms', 'longest'])
+    tools.want('errors beside calls', len(heads[0].split('  ')) > 5 and 'errors' in heads[0], True)
     block = ['NFSPROC3_LOOKUP', '  calls        2', '  replies      2', '  call bytes   176', '  reply bytes  168']
     for found in (bare(on_terminal(tools, 80, 'procedures', '--beside', 'a.pcap', 'a.pcap')[1]),
                   tools.tool('procedures', '--program', tools.program, '--beside', '--width', '80', 'a.pcap', 'a.pcap')[1].splitlines()):

@@ -1,5 +1,5 @@
 """Random recordings against a small model of TCP streams: no byte is dropped without being counted,
-plain and with --follow.
+plain and with --follow. And recordings of which one frame was removed, shortened or changed.
 
 Of each seed some connections are made, and of each segment it is known which bytes of which stream
 it carries. Segments are lost, come late, twice or again with other boundaries, are cut or in
@@ -26,7 +26,8 @@ from examples.packets import ACK, CLIENT, FIN, RST, SERVER, SYN, datagram, ether
 
 from ..nfs3tools.commands.verdicts import Judge
 from ..nfs3tools.judgement import following
-from ..nfs3tools.judgement.verdict import Verdict, is_row
+from ..nfs3tools.judgement.verdict import Verdict, is_row, status_of
+from ..nfs3tools.recordings.coverage import Allowed
 from ..nfs3tools.recordings.selection import Options
 from ..nfs3tools.shared.places import SIDES
 from .cases import PROGRAM, in_steps, seeds
@@ -390,6 +391,88 @@ def of_seeds(program: str, seeds: range) -> list[str]:
     return [wrong for seed in seeds for wrong in wrong_of_seed(program, seed)]
 
 
+# --- One frame that is changed ---
+
+class Undisturbed(Make):
+    """Makes a recording that lacks nothing."""
+
+    def __init__(self, seed: int) -> None:
+        super().__init__(seed)
+        self.lost = self.late = self.twice = self.cut = self.odd = 0.0
+
+    def recorded(self) -> list[Recorded]:
+        return [frame for number in range(self.chance.choice((1, 1, 2)))
+                for frame in self.frames_of(self.connection(700 + number))]
+
+
+# Of Ethernet from the kind on, of IP, and of TCP, which only the first fragment has
+HEADERS, HEADERS_OF_IP = range(12, 54), range(12, 34)
+
+
+def changed(chance: random.Random, one: Recorded) -> list[Recorded]:
+    """A frame that is removed, that is shortened without or with its lengths, or of whose headers one
+    byte is another."""
+    frame, way = one.frame, chance.choice(('removed', 'cut', 'shortened', 'header', 'header', 'header'))
+    if way == 'removed':
+        return []
+    if way == 'cut':
+        return [one._replace(kept=chance.randrange(len(frame)))]
+    if way == 'shortened':
+        frame = frame[:chance.randrange(len(frame))]
+        return [one._replace(frame=frame, kept=len(frame))]
+    at = chance.choice(HEADERS_OF_IP if one.part else HEADERS)
+    other = (frame[at] + chance.choice((1, 2, 4, 8, 16, 32, 64, 128, chance.randrange(1, 256)))) % 256
+    return [one._replace(frame=frame[:at] + bytes([other]) + frame[at + 1:])]
+
+
+def records_of(streams: typing.Iterable[bytes]) -> collections.Counter[bytes]:
+    """The records of some streams, each with its mark. What is no record is one, too."""
+    found = collections.Counter[bytes]()
+    for content in streams:
+        while content:
+            size = 4 + (int.from_bytes(content[:4], 'big') & 0x7fffffff)
+            found[content[:size]] += 1
+            content = content[size:]
+    return found
+
+
+def recorded_in(made: Make, frames: list[Recorded]) -> tuple[bool, collections.Counter[bytes]]:
+    """Whether the model finds nothing missing in these frames, and the records that they bring."""
+    counts = {id(one.sent): one.parts for one in frames}
+    models = {id(connection): Model(connection, counts) for connection in made.connections}
+    for one in frames:
+        models[id(one.connection)].take(one)
+    brought = records_of(content[:side.shown] for model in models.values()
+                         for content, side in zip(model.connection.streams, model.sides))
+    return all(model.whole() is not False for model in models.values()), brought
+
+
+def wrong_of_change(program: str, seed: int) -> list[str]:
+    """What is wrong with the status after a frame was changed. It is 0 only if all records were judged,
+    or if those of the other frames are whole, and were."""
+    made = Undisturbed(seed)
+    frames = made.recorded()
+    at = made.chance.randrange(len(frames))
+    instead, others = changed(made.chance, frames[at]), frames[:at] + frames[at + 1:]
+    recording = pcap_of(frames[:at] + instead + frames[at + 1:])
+    statuses = [status_of(verdicts, Allowed())
+                for verdicts in (plain(program, recording), followed(program, recording))]
+    if all(statuses):
+        return []
+    with taken_of(recording) as taken:
+        judged = records_of(stream.read(0, stream.size) for one in taken.connections
+                            for stream in (one.client, one.server))
+    (_, every), (is_whole, left) = (recorded_in(made, some) for some in (frames, others))
+    is_right = judged == every or is_whole and judged >= left and every >= judged
+    return [] if is_right else [
+        f'seed {seed}: frame {at + 1}, statuses {statuses}, {is_whole}, judged {sum(judged.values())} '
+        f'of {sum(left.values())} and {sum(every.values())}']
+
+
+def of_changes(program: str, seeds: range) -> list[str]:
+    return [wrong for seed in seeds for wrong in wrong_of_change(program, seed)]
+
+
 class ShuffledTest(unittest.TestCase):
     """Processes side by side each have some of the seeds."""
 
@@ -398,5 +481,13 @@ class ShuffledTest(unittest.TestCase):
         steps = in_steps(seeds(5_000))
         with concurrent.futures.ProcessPoolExecutor() as pool:
             for step, wrong in zip(steps, pool.map(functools.partial(of_seeds, PROGRAM), steps)):
+                with self.subTest(seeds=step):
+                    self.assertEqual(wrong, [])
+
+    def test_changed_frames(self) -> None:
+        """With one frame removed, shortened or changed, nothing is called valid but what is whole."""
+        steps = in_steps(seeds(3_000))
+        with concurrent.futures.ProcessPoolExecutor() as pool:
+            for step, wrong in zip(steps, pool.map(functools.partial(of_changes, PROGRAM), steps)):
                 with self.subTest(seeds=step):
                     self.assertEqual(wrong, [])

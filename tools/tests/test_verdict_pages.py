@@ -105,8 +105,12 @@ def kinds_of_recordings(tools: Written) -> None:
             tools.want(f'{tool} {name}: a green heading', heading.attributes.get('class') == 'same', bool(is_all))
     _, _, page = tools.page('verdicts', 'lost.pcap', 'ok.pcap', 'other.pcap', 'bad.pcap')
     tools.want('green verdicts', greens_of(page), ['ok', 'ok', '1 judged (1 valid, 0 refused)'])
-    words = [row[-1].partition(':')[0] for row in table_of(page.all('table')[0])[1:]]
-    tools.want('verdicts', words, ['in part', 'ok', 'not checked', 'ok', 'server record 2 byte 0'])
+    words = [[row[-1].partition(':')[0] for row in table_of(table)[1:]] for table in page.all('table')[:2]]
+    tools.want('verdicts', words, [['server record 2 byte 0', 'in part', 'not checked'], ['ok', 'ok']])
+    folded, = page.all('details', 'valid')
+    tools.want('what is ok', (folded.attributes.get('open'), folded.all('summary')[0].text()), (None, '2 connections ok'))
+    folded, = tools.page('verdicts', 'ok.pcap')[2].all('details', 'valid')
+    tools.want('nothing else', 'open' in folded.attributes, True)
     tools.want('not ok', 'ok in part' in page.text(), False)
     _, _, page = tools.page('procedures', 'lost.pcap')
     tools.want('not ok in a table', ('ok in part' in page.text(), greens_of(page)), (False, []))
@@ -146,20 +150,22 @@ def rows_printed(out: str) -> list[list[str]]:
 def tables_as_printed(tools: Written) -> None:
     """The tables are those that the tools print."""
     _, out, page = tools.page('verdicts', FIRST, *BAD)
-    rows = table_of(page.all('div', 'cards')[0])
-    tools.want('verdicts', [row[:6] for row in rows], [row[:6] for row in rows_printed(out)[:-1]])
-    tools.want('last', [row[6] for row in rows], [row[6] for row in rows_printed(out)[:-1]])
+    wrong, valid = map(table_of, page.all('div', 'cards'))
+    rows, printed = [*wrong, *valid[1:]], rows_printed(out)[:-1]
+    is_ok = [row for row in printed if row[6] == 'ok']
+    tools.want('verdicts', rows, [*(row for row in printed if row not in is_ok), *is_ok])
     tools.want('heads', [cell.attributes['data-head'] for cell in page.all('tr', 'row')[0].all('td')], rows[0])
     for words in ((FIRST,), (FIRST, CONCURRENT), ('--sort', 'calls', FIRST), ('--total', FIRST), ('--beside', FIRST, CONCURRENT)):
         _, out, page = tools.page('procedures', *words)
-        found = sorted(row for table in page.all('table') for row in table_of(table))
+        # (errors are beside the counts there, and numbers have separators)
+        found = sorted([*row[:5], *row[6:], row[5]] for table in page.all('table') for row in table_of(table))
         printed = sorted(row for row in rows_printed(out) if row[0] == 'procedure' or len(row) > 8)
-        tools.want(' '.join(words), found, printed)
+        tools.want(' '.join(words), [[re.sub(r'(?<=\d),(?=\d{3})', '', cell) for cell in row] for row in found], printed)
     _, _, page = tools.page('procedures', FIRST, CONCURRENT)
     names = [node.attributes['id'] for node in page.nodes() if 'id' in node.attributes]
     tools.want('names of elements', sorted(names), sorted(set(names)))
     _, _, page = tools.page('procedures', '--sort', 'calls', FIRST)
-    numbers = [int(row[1]) for row in table_of(page.all('table')[0])[1:-1]]
+    numbers = [int(row[1].replace(',', '')) for row in table_of(page.all('table')[0])[1:-1]]
     tools.want('sorted', numbers, sorted(numbers, reverse=True))
     tools.want('folded', [one.attributes.get('open') for one in page.all('details', 'others')], [None])
 
@@ -357,6 +363,25 @@ def verdicts_in_a_narrow_window(tools: Written) -> None:
         tools.want('errors', browser.errors, [])
 
 
+def sorting(tools: Written) -> None:
+    """A click on the head of a column has its largest numbers first, and another the smallest; the sums stay
+    last. The errors are beside the counts, in sight at 1,300 columns."""
+    with tools.browser() as browser:
+        tools.page('procedures', '--total', FIRST)
+        browser.open(tools.path('page.html'), 1_300)
+        column = ('[...document.querySelector(".wide table").tBodies[0].rows].map('
+                  'row => Number(row.cells[1].textContent.replaceAll(",", "")))')
+        before = browser.value(column)
+        for is_up in (False, True):
+            browser.value('document.querySelectorAll(".wide th")[1].click()')
+            wanted = [*sorted(before[:-1], reverse=not is_up), before[-1]]
+            tools.want(f'sorted {is_up}', browser.value(column), wanted)
+        tools.want('errors', browser.value(
+            '(one => [one.textContent, one.getBoundingClientRect().right < innerWidth])'
+            '(document.querySelectorAll(".wide th")[5])'), ['errors', True])
+        tools.want('console', browser.errors, [])
+
+
 def searching(tools: Written) -> None:
     """The text field hides rows and faults without the text, and headings without anything below them. n goes from fault to fault."""
     with tools.browser() as browser:
@@ -368,7 +393,7 @@ def searching(tools: Written) -> None:
             rows = browser.value('[...document.querySelectorAll("tr.row")].filter(one => one.checkVisibility()).length')
             return [rows, browser.value(VISIBLE % 'article'), browser.value('[...document.querySelectorAll("h2")].filter(one => one.checkVisibility()).length')]
         every = shown('')
-        tools.want('all', every[:2], [8, ['f1', 'f2', 'f3', 'f4']])
+        tools.want('all', every[:2], [4, ['f1', 'f2', 'f3', 'f4']])
         tools.want('one', shown('BadBool')[:2], [1, ['f1']])
         tools.want('none', shown('nothing has this'), [0, [], 0])
         tools.want('all again', shown(''), every)
@@ -396,7 +421,7 @@ def without_scripts(tools: Written) -> None:
 TESTS: list[Callable[[Written], None]] = [
     kinds_of_recordings, what_shows_no_call, allowed, tables_as_printed, faults_with_their_fields, dots_and_calls, without_a_latency,
     forms_of_a_line, many_calls, errors_that_are_left_out, names_are_escaped, outputs]
-IN_CHROMIUM: list[Callable[[Written], None]] = [pages_load, forms_and_colours, verdicts_in_a_narrow_window, searching, without_scripts]
+IN_CHROMIUM: list[Callable[[Written], None]] = [pages_load, forms_and_colours, verdicts_in_a_narrow_window, sorting, searching, without_scripts]
 
 
 class VerdictPagesTest(FolderTest, make=Written, tests=[*TESTS, *map(unittest.skipUnless(chromium(), 'chromium is not there'), IN_CHROMIUM)]):

@@ -197,8 +197,16 @@ def parts_that_are_none(tools: Tools) -> None:
     tools.want('equal times', [row[-1] for row in verdicts(tools, 'equal*')[1]], ['ok'])
     tools.write('run.pcap3', pcap(whole(port=702))[:-3])
     tools.want('a part that is cut', verdicts(tools, 'run.pcap[013]')[1][-1][-1], 'in part: run.pcap3: the recording ends inside a frame (frame 15)')
-    tools.write('run.pcap.txt', b'no recording')
-    tools.want('no recording', verdicts(tools, 'run.pcap*')[:2], (1, [['run.pcap*', *['-'] * 5, 'run.pcap.txt: it is neither pcap nor pcapng']]))
+    tools.write('run.pcap3', pcap([]))
+    tools.write('run.pcap.html', b'<!doctype html>')
+    tools.write('run.pcap.txt', b'')
+    told = [f'run.pcap*: run.pcap.{name} is no recording, and is skipped' for name in ('html', 'txt')]
+    found = verdicts(tools, '--html', 'run.pcap.html', 'run.pcap*')
+    tools.want('a page beside them', ([row[-1] for row in found[1]], found[3].splitlines()), (['ok'] * 2, told))
+    answer = tools.tool('where', 'run.pcap*', 'connection 1 client record 8')
+    tools.want('where', (answer[0], answer[1].splitlines()[-1]), (0, 'run.pcap1: frame.number in {4..5}'))
+    tools.want('no recording', verdicts(tools, 'run.pcap.[ht]*')[:2],
+               (1, [['run.pcap.[ht]*', *['-'] * 5, 'run.pcap.html: it is neither pcap nor pcapng']]))
     tools.want('no file', verdicts(tools, 'absent*')[1][0][-1], 'absent*: No such file or directory')
 
 
@@ -388,8 +396,8 @@ def ok_in_part_in_files(tools: Tools) -> None:
 
 def notes_on_a_recording(tools: Tools) -> None:
     """A note on a whole recording is none of its first connection: a line, a row of JSON, and output of the suite."""
-    frames = whole(port=701) + whole()
-    lying = frames[0][:16] + b'\xff\xff' + frames[0][18:]
+    frames, other = whole(port=701) + whole(), whole(service=900)[0]
+    lying = other[:16] + b'\xff\xff' + other[18:]
     tools.write('a.pcap', pcap(frames + [lying]))
     tools.write('b.pcap', pcap(whole(port=702) + [lying]))
     told = '1 frame has headers that do not fit its length, and is passed over'

@@ -2,20 +2,23 @@
 
     tools/calls --errors RECORDING|CAPTURE ..
     tools/calls --slow 100ms --procedure WRITE,COMMIT --path '/d*' RECORDING ..
+    tools/calls --no-reply --utc --from 10:03 --to 10:05:30 RECORDING ..
 
 A line is printed for each exchange, in the order of time. An exchange is a call, with its
 retransmissions and its replies. The columns are
 
-    time    the seconds from the first frame of the recording, as Wireshark prints them
+    time    the seconds from the first frame of the recording, as Wireshark prints them, or with
+            --utc the time of day
     ms      the latency in milliseconds: from the call to its first reply, as in tools/procedures
     frame   the frame that completed the call
-    conn    CONNECTION:RECORD, for the other tools `connection CONNECTION client record RECORD`
+    conn    CONNECTION:RECORD, which the other tools take as a position
     call    the procedure, its path and its other arguments, as OFFSET+COUNT of a READ
     answer  what the reply says
 
-A path is that under which an object was made, or else first reached. A folder whose path is not
-known is `?`. Of calls of other programs than NFS and MOUNT version 3 only the name is known. Their
-answer is `accepted`, or the error of RPC.
+A path is that at the time of the call: under which an object was made, or else first reached, and
+after a RENAME the new one. --path fits any of them. A folder whose path is not known is `?`. Of
+calls of other programs than NFS and MOUNT version 3 only the name is known. Their answer is
+`accepted`, or the error of RPC.
 
 A call without a reply has one of three answers:
 
@@ -23,8 +26,11 @@ A call without a reply has one of three answers:
     no reply recorded  one may have been sent: bytes are missing, or the recording ends first
     not judged         the connection is refused, and its listing ends before a reply to this call
 
+For how long it waited comes after it: up to the end of the recording, or to the answer to the same
+call on a later connection, whose position is told.
+
 An exchange is listed if all conditions hold that are given. An error of --errors is a reply that is
-no success, or `no reply`.
+no success, or `no reply`. --no-reply lists the calls that tools/verdicts counts.
 
 The last line has the counts of tools/verdicts, and the line before it how many exchanges are
 listed. Connections that are not judged whole are told on standard error, with the reasons. --json
@@ -51,11 +57,12 @@ from collections.abc import Callable, Iterator, Sequence
 from functools import partial
 
 from ..comparison.values.long_values import bytes_of
-from ..exchanges.kept import Exchange, Kept, call_of
-from ..judgement.seen import kept_in
+from ..exchanges.kept import Exchange, Kept, call_of, host_of
+from ..judgement.seen import count_unanswered, kept_in
 from ..judgement.tallies import milliseconds
 from ..judgement.verdict import (
     VERSION, Verdict, counts_after, is_row, named, object_of, status_of, sums_of, tell_notes)
+from ..judgement.window import ALL, DAY, add_window, window_of
 from ..recordings.coverage import PROCEDURES
 from ..recordings.selection import count, plural
 from ..recordings.taken import Taken
@@ -63,7 +70,8 @@ from ..reporting.messages import add_judging, allowed_of, options_of, parser_of,
 from ..shared.layouts import BY_NAME, RAW
 from ..shared.printed import escaped, printable
 from ..shared.programs import program_path
-from ..shared.screens import GAP, NARROWEST, Colour, Screen, add_colour, screen_of
+from ..shared.screens import (
+    GAP, NARROWEST, Colour, Screen, add_colour, add_width, screen_of)
 from .verdicts import CONNECTIONS_AT_ONCE, Judge
 
 HEADS = ('time', 'ms', 'frame', 'conn', 'call', 'answer')
@@ -72,16 +80,16 @@ WIDEST = 72  # of the calls
 AT_ONCE = 1_000  # lines whose columns are set together
 NANOSECONDS = {'us': 1_000, 'ms': 1_000_000, 's': 1_000_000_000}
 COLUMNS = ('recording', 'connection', 'record', 'client', 'server', 'frame', 'time_ns',
-           'latency_ns', 'user', 'procedure', 'path', 'second_path', 'arguments',
-           'sent_again', 'answer', 'is_error', 'replies')
+           'latency_ns', 'user', 'procedure', 'path', 'second_path', 'other_names', 'arguments',
+           'sent_again', 'earlier', 'later', 'answer', 'waited_ns', 'is_error', 'replies')
 Wanted = Callable[[Exchange], bool]
 
 
 class Listed(typing.NamedTuple):
-    """A recording whose exchanges are listed: its name, when it begins, and the numbers of those
-    that are wanted."""
+    """A recording whose exchanges are listed: its name, from when times count, `None` for the time
+    of day, and the numbers of those that are wanted."""
     recording: str
-    begun: int
+    begun: int | None
     kept: Kept
     wanted: Sequence[int]
 
@@ -96,8 +104,10 @@ def wanted_by(chosen: argparse.Namespace) -> list[Wanted]:
     conditions = list[Wanted]()
     if chosen.errors:
         conditions.append(lambda one: one.is_error)
+    if chosen.no_reply:
+        conditions.append(lambda one: one.is_unanswered)
     if chosen.slow is not None:
-        conditions.append(lambda one: one.latency is not None and bool(one.latency >= chosen.slow))
+        conditions.append(lambda one: bool((one.latency or one.waited or 0) >= chosen.slow))
     if chosen.procedure:
         conditions.append(lambda one: bool(last_name(one.procedure) in chosen.procedure))
     if chosen.user is not None:
@@ -105,9 +115,12 @@ def wanted_by(chosen: argparse.Namespace) -> list[Wanted]:
     if chosen.client:
         conditions.append(lambda one: bool(host_of(one.part.client) == chosen.client))
     if chosen.path is not None:
-        fits = re.compile(fnmatch.translate(chosen.path)).match
-        conditions.append(lambda one: any(path is not None and fits(as_named(path))
-                                          for path in (one.path, one.other_path)))
+        # (a word alone is a last name)
+        pattern = chosen.path if set(chosen.path) & set('*?[/') else f'*/{chosen.path}'
+        fits = re.compile(fnmatch.translate(pattern)).match
+        conditions.append(lambda one: any(
+            path is not None and fits(as_named(path))
+            for path in (one.path, one.other_path, *one.other_names)))
     return conditions
 
 
@@ -116,17 +129,12 @@ def last_name(procedure: str) -> str:
     return re.split('[ _]', procedure)[-1] if procedure in BY_NAME else procedure.rpartition(' ')[2]
 
 
-def host_of(end: str) -> str:
-    """The address of an end."""
-    return end.rpartition(':')[0].strip('[]')
-
-
 def as_named(path: str) -> str:
     """A path as its files are named, without the spelling of the listing."""
     return os.fsdecode(bytes_of(f'"{path}"')) if '\\' in path else path
 
 
-def listed(judge: Judge, recording: str, conditions: list[Wanted], by_latency: bool,
+def listed(judge: Judge, recording: str, chosen: argparse.Namespace,
            verdicts: list[Verdict]) -> Listed:
     """Judges a recording or capture, adds its verdicts, and returns the exchanges of the
     connections that were judged."""
@@ -135,12 +143,16 @@ def listed(judge: Judge, recording: str, conditions: list[Wanted], by_latency: b
     def look(taken: Taken, judged: list[Verdict]) -> None:
         begun.append(taken.begun)
         found.append(kept_in(judge.program, taken, judged))
+        count_unanswered(found[0], judged)
     verdicts += judge.verdicts(recording, look)
     kept = (found or [Kept()])[0]
-    order = kept.in_order(by_latency)
+    order, conditions = kept.in_order(chosen.sort == 'latency'), wanted_by(chosen)
+    window = window_of(chosen, sum(begun))
+    if window != ALL:
+        order = [at for at in order if window.has(kept.times[at])]
     if conditions:
         order = [at for at in order if holds_all(conditions, kept.exchange(at))]
-    return Listed(recording, sum(begun), kept, order)
+    return Listed(recording, None if chosen.utc else sum(begun), kept, order)
 
 
 def holds_all(conditions: list[Wanted], one: Exchange) -> bool:
@@ -149,11 +161,35 @@ def holds_all(conditions: list[Wanted], one: Exchange) -> bool:
 
 # --- What is printed ---
 
-def cells_of(one: Exchange, begun: int) -> tuple[str, ...]:
+def time_of(time: int, begun: int | None) -> str:
+    """A time as seconds from the first frame, or as that of the day (UTC)."""
+    if not time:
+        return '-'
+    return (time_text(time) if begun is None
+            else f'{(time - begun) / 1_000_000_000:.6f}')
+
+
+def time_text(time: int) -> str:
+    """The time of the day (UTC), as `10:03:07.250000`."""
+    seconds, rest = divmod(time % DAY, 1_000_000_000)
+    return f'{seconds // 3_600:02}:{seconds // 60 % 60:02}:{seconds % 60:02}.{rest // 1_000:06}'
+
+
+def cells_of(one: Exchange, begun: int | None) -> tuple[str, ...]:
     """The cells of a line."""
-    return (f'{(one.time - begun) / 1_000_000_000:.6f}' if one.time else '-',
+    return (time_of(one.time, begun),
             milliseconds(one.latency), str(one.frame or '-'),
-            f'{one.part.number}:{one.record}', call_of(one), one.answer)
+            f'{one.part.number}:{one.record}', call_of(one), answer_of(one))
+
+
+def answer_of(one: Exchange) -> str:
+    """What is said of an answer: also for how long a call without one waited."""
+    if one.waited is None:
+        return one.answer
+    answered = one.kept.position(one.kept.answered_later(one.at))
+    later = (f', answered as {answered}' if answered
+             else f', sent again as {one.later}' if one.later else '')
+    return f'{one.answer} in {one.waited / 1_000_000_000:.3f} s{later}'
 
 
 class Lines:
@@ -235,6 +271,8 @@ def tell_of_times(found: Listed, chosen: argparse.Namespace) -> None:
         lines.append(f'the clock went back: {number:,} {are} negative')
     if chosen.slow is not None and len(kept) and not kept.has_latencies:
         lines.append('no latency is known, so --slow lists nothing')
+    if (chosen.begin or chosen.end) and len(kept) and not any(kept.times):
+        lines.append('no time is known, so --from and --to list nothing')
     if chosen.client and any(not part.client for part in kept.parts):
         lines.append('a capture has no addresses, so --client lists nothing')
     for line in lines:
@@ -250,8 +288,8 @@ def values_of(one: Exchange, recording: str) -> tuple[object, ...]:
                for reply, words in zip(one.answered, one.answers)]
     return (escaped(recording), part.number, one.record, part.client, part.server,
             one.frame or None, one.time or None, one.latency, one.asked.user, one.procedure,
-            one.path, one.other_path, one.asked.words, len(one.again), one.answer, one.is_error,
-            replies)
+            one.path, one.other_path, one.other_names, one.asked.words, len(one.again),
+            one.earlier, one.later, one.answer, one.waited, one.is_error, replies)
 
 
 class Json:
@@ -284,6 +322,7 @@ class Csv:
     def add(self, found: Listed) -> None:
         for one in found.exchanges():
             *values, replies = values_of(one, found.recording)
+            values[COLUMNS.index('other_names')] = ' '.join(one.other_names)
             self.writer.writerow([*values, len(typing.cast(list[object], replies))])
 
     def end(self, verdicts: list[Verdict]) -> None:
@@ -337,7 +376,7 @@ def address(word: str) -> str:
 
 def user_id(word: str) -> int:
     if not (word.isascii() and word.isdigit()):
-        raise argparse.ArgumentTypeError(f'no uid: {word}')
+        raise argparse.ArgumentTypeError(f'no uid: {word} (a number, as `id -u` prints it)')
     return int(word)
 
 
@@ -346,8 +385,11 @@ def words_of(words: list[str]) -> argparse.Namespace:
     parser.add_argument('recordings', metavar='RECORDING|CAPTURE', nargs='+')
     parser.add_argument('--errors', action='store_true',
                         help='lists calls whose reply is no success, or that got none')
+    parser.add_argument('--no-reply', action='store_true',
+                        help='lists calls that got no reply, or one on a later connection alone')
     parser.add_argument('--slow', metavar='TIME', type=duration,
-                        help='lists calls with at least this latency, as 100ms')
+                        help='lists calls with at least this latency, as 100ms, or that waited '
+                             'as long')
     parser.add_argument('--procedure', metavar='NAME,..', type=procedure_names,
                         help='lists calls of these procedures')
     parser.add_argument('--path', metavar='PATTERN', help='lists calls whose path fits a pattern')
@@ -360,6 +402,10 @@ def words_of(words: list[str]) -> argparse.Namespace:
     form = parser.add_mutually_exclusive_group()
     form.add_argument('--json', action='store_true', help='prints JSON')
     form.add_argument('--csv', action='store_true', help='prints comma-separated values')
+    parser.add_argument('--utc', action='store_true',
+                        help='prints the time of day (UTC) of each call')
+    add_window(parser)
+    add_width(parser)
     add_colour(parser)
     add_judging(parser)
     return parser.parse_args(words)
@@ -367,12 +413,13 @@ def words_of(words: list[str]) -> argparse.Namespace:
 
 def main(words: list[str]) -> int:
     chosen, verdicts = words_of(words), list[Verdict]()
-    judge = Judge(program_path(chosen.program), options_of(chosen), CONNECTIONS_AT_ONCE, True)
+    judge = Judge(program_path(chosen.program), options_of(chosen), CONNECTIONS_AT_ONCE, True,
+                  counts_unanswered=False)
     form: Json | Csv | Text
     form = (Json() if chosen.json else Csv() if chosen.csv
-            else Text(len(chosen.recordings) == 1, screen_of(chosen.color)))
+            else Text(len(chosen.recordings) == 1, screen_of(chosen.color, chosen.width)))
     for recording in chosen.recordings:
-        found = listed(judge, recording, wanted_by(chosen), chosen.sort == 'latency', verdicts)
+        found = listed(judge, recording, chosen, verdicts)
         with contextlib.closing(found.kept):
             form.add(found)
             tell_of_times(found, chosen)

@@ -16,9 +16,9 @@ are on the connections on which they were recorded. RECORDING has to be one that
 accepts.
 
 If OUT ends in `.pcap`, it is a recording for Wireshark and the tools: the frames that brought the
-bytes of these records, as they were recorded, and those of the SYN of both ends. Other records may
-be in these frames, too. The bytes between them are left out, so a connection of OUT is mostly `ok
-in part`.
+bytes of these records, and those of the SYN of both ends. Their payload is trimmed to the records,
+and all else of them is as recorded but sequence numbers, lengths and checksums. The bytes between
+the records are left out, so a connection of OUT is mostly `ok in part`.
 
 Printed are a line for each record of OUT, which says where it was, with its frames, and what
 `nfs3canon check` says of OUT. That is `ok`, or the reason for which the message was refused before.
@@ -28,8 +28,9 @@ A recording is taken as by tools/from_pcap (--midstream, --whole-records, --filt
 quotes for the parts of one recording). OUT is written beside its name, and gets it once it is
 whole. It is refused if it is an input or begins as a recording; an older capture is replaced. If
 OUT is `-` it is standard output, and the lines are printed on standard error. The status is 0 if
-OUT was written, 1 if there is no such position, 2 if POSITION, RECORDING, FILTER or OUT is refused
-or a program is missing, 3 if a file, a program or memory failed.
+OUT was written, 1 if there is no such position, or if a record cannot be read in OUT.pcap or a
+frame not be trimmed, 2 if POSITION, RECORDING, FILTER or OUT is refused or a program is missing, 3
+if a file, a program or memory failed.
 """
 from __future__ import annotations
 
@@ -40,7 +41,7 @@ import os
 import sys
 import tempfile
 from collections import defaultdict
-from collections.abc import Iterable, Iterator
+from collections.abc import Iterable, Iterator, Mapping
 from functools import partial
 from typing import NamedTuple
 
@@ -54,6 +55,7 @@ from ..recordings.frames import Frame, Source, opened
 from ..recordings.parts import files_of
 from ..recordings.records import Extent, Window, body_of, xids
 from ..recordings.selection import Options, plural
+from ..recordings.trimmed import trimmed
 from ..recordings.taken import (
     NotTaken, Taken, TakenConnection, TakenStream, copied, take, take_from)
 from ..reporting.messages import ABSENT, add_options, add_program, ended, options_of, parser_of, run
@@ -195,29 +197,30 @@ def main(words: list[str]) -> int:
         except NoPlace as absent:
             return ended('cut', str(absent), ABSENT)
         write = write_recording if is_pcap else write_cuts
-        lines = write(program, taken, cuts, recording, chosen.out, inputs)
+        lines, status = write(program, taken, cuts, recording, chosen.out, inputs)
     with printed_beside([chosen.out]):
         print('\n'.join(lines))
-    return 0
+    return status
 
 
 def write_cuts(program: str, taken: Taken, cuts: list[Cut], _: str, out: str,
-               inputs: list[str]) -> list[str]:
-    """Writes OUT as a capture, and returns what is printed of it."""
+               inputs: list[str]) -> tuple[list[str], int]:
+    """Writes OUT as a capture, and returns what is printed of it, and the status."""
     pairs = [cut.streams() for cut in cuts]
     answer = run_program(program, ['check', '/dev/stdin'], CHECKED, capture_of(pairs))
     write_file(out, capture_of(pairs), inputs, (CAPTURE,))
-    return [*lines_of(taken, cuts), (answer.out or answer.error).strip()]
+    return [*lines_of(taken, cuts), (answer.out or answer.error).strip()], 0
 
 
 # --- As a recording ---
 
 class Extract(NamedTuple):
     """A recording of some frames, and where it has the records of a cut: those there with their
-    places here, if they can be read."""
+    places here, if they can be read. Frames that are not trimmed have their numbers here."""
     content: bytes
     verdicts: list[Verdict]
     found: list[tuple[Place | None, Place]]
+    untrimmed: list[int]
 
     @property
     def number(self) -> int:
@@ -236,14 +239,15 @@ def read_twice(recording: str) -> Iterator[str]:
 
 
 def write_recording(program: str, taken: Taken, cuts: list[Cut], recording: str, out: str,
-                    inputs: list[str]) -> list[str]:
-    """Writes OUT as a recording, and returns what is printed of it. The frames of SYN are left out
-    if the records are so far behind them that they can be read only without."""
+                    inputs: list[str]) -> tuple[list[str], int]:
+    """Writes OUT as a recording, and returns what is printed of it, and the status. The frames of
+    SYN are left out if the records are so far behind them that they can be read only without."""
     records = [Place(cut.connection.number, side, record) for cut in cuts for side in SIDES
                for record in cut.records[side]]
     frames = {frame.number for place in records for frame in taken.frames(place)}
     opening = {number for cut in cuts for number in cut.connection.opened_by}
-    extracts = (extract_of(program, frames_of(recording, some), cuts, out)
+    wanted = bytes_by_frame(taken, records)
+    extracts = (extract_of(program, *trimmed(frames_of(recording, some), wanted), cuts, out)
                 for some in (frames | opening, frames))
     extract = next(extracts)
     if extract.number < len(records):
@@ -252,15 +256,32 @@ def write_recording(program: str, taken: Taken, cuts: list[Cut], recording: str,
     lines = [line_of(taken, there, here) for there, here in extract.found]
     lines += [f'connection {verdict.connection}: {verdict.message}'
               for verdict in extract.verdicts if verdict.connection is not None]
-    return [*map(printable, lines), sums_of(extract.verdicts)]
+    lines += [f'frame {number} cannot be trimmed to these records, and a dissector may not find '
+              'them' for number in extract.untrimmed]
+    status = ABSENT if extract.untrimmed or extract.number < len(records) else 0
+    return [*map(printable, lines), sums_of(extract.verdicts)], status
 
 
-def extract_of(program: str, frames: list[Frame], cuts: list[Cut], name: str) -> Extract:
+def bytes_by_frame(taken: Taken, records: Iterable[Place]) -> Mapping[int, list[tuple[int, int]]]:
+    """Returns what is wanted of the payload of each frame: the bytes of these records, by their
+    sequence numbers."""
+    wanted = defaultdict[int, list[tuple[int, int]]](list)
+    for place in records:
+        stream, extent = taken.record_at(place)
+        pieces = list(stream.sequences(extent.begin, extent.end))
+        for frame in taken.frames(place):
+            wanted[frame.number] += pieces
+    return wanted
+
+
+def extract_of(program: str, frames: list[Frame], untrimmed: list[int], cuts: list[Cut],
+               name: str) -> Extract:
     """Makes a recording of some frames, and reads it again."""
     content = b''.join(pcap_of(frames))
     with take_from(Source(io.BytesIO(content)), None, Options(), True, Progress(False)) as there:
         verdicts = Judge(program, Options(), 1, False).of_taken(name, there)
-        return Extract(content, verdicts, [pair for cut in cuts for pair in places_in(there, cut)])
+        found = [pair for cut in cuts for pair in places_in(there, cut)]
+        return Extract(content, verdicts, found, untrimmed)
 
 
 def places_in(extract: Taken, cut: Cut) -> Iterator[tuple[Place | None, Place]]:

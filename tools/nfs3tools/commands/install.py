@@ -32,7 +32,7 @@ from ..shared.installed import Installed, Made
 from ..shared.names import installed_name
 from ..shared.outputs import Refused
 from ..shared.printed import escaped
-from ..shared.programs import Missing, made_programs, program_beside
+from ..shared.programs import Missing, made_programs, path_beside
 from ..shared.version import TOP, version
 
 PROGRAM = TOP / 'crates/nfs3canon/out/nfs3canon'
@@ -58,7 +58,8 @@ if [ $# = 1 ] && [ "$1" = --version ]; then
   exit
 fi
 
-{writing}
+{shared}
+tools=nfs3- joint=-
 asks=
 [ "$name ${{1-}}" != 'nfs3canon help' ] || asks=1
 for word; do
@@ -67,7 +68,9 @@ for word; do
     -h | --help) asks=1 ;;
   esac
 done
-if [ -z "$asks" ] && is_writing "$name" "$@"; then run_writing "$program" "$@"; fi
+find_recording "$name" "$@"
+if [ -z "$asks$recording" ] && is_writing "$name" "$@"; then run_writing "$program" "$@"; fi
+if [ -z "$asks" ] && [ -n "$recording" ]; then tell_of_recording "$name" "$program" "$@"; fi
 [ -n "$asks" ] || exec "$program" "$@"
 
 status=0
@@ -84,7 +87,9 @@ esac
 exit "$status"
 '''
 LIST = f'{HOME}/installed'
-EXECUTABLE = 0o100
+# The folders from which the links and the launchers find others
+FOUND_FROM = ('bin', 'share', HOME, f'{HOME}/tools', 'libexec', PROGRAMS_HOME)
+EXECUTABLE, ELF = 0o100, b'\x7fELF'
 FOR_ALL_TO_RUN, FOR_ALL_TO_READ, OF_A_LINK = 0o755, 0o644, 0o777  # permissions
 # The names of tools in manual pages: after these macros, and in examples at the beginning of a
 # command.
@@ -97,8 +102,7 @@ IN_EXAMPLES = rf'(?P<before>^|\| |tools/){ONE_OF_TOOLS}(?= )'
 def files(program: Path) -> Iterator[tuple[Path, str]]:
     """Returns each file that is copied, and where it goes under the prefix."""
     for name in PROGRAMS:
-        yield (program if name == 'nfs3canon' else Path(program_beside(str(program), name)),
-               f'{PROGRAMS_HOME}/{name}')
+        yield found_program(program, name), f'{PROGRAMS_HOME}/{name}'
         yield TOP / 'man' / f'{name}.1', f'share/man/man1/{name}.1'
     for tool in TOOLS:
         yield TOP / 'tools' / tool, f'{HOME}/tools/{tool}'
@@ -111,6 +115,27 @@ def files(program: Path) -> Iterator[tuple[Path, str]]:
         yield TOP / name, f'{HOME}/{name}'
     for name, place in COMPLETIONS.items():
         yield TOP / 'completions' / name, place
+
+
+def found_program(program: Path, name: str) -> Path:
+    """Returns a program: nfs3canon, or the one beside it. A launcher is none, since it works in its
+    clone alone. Raises `Missing`."""
+    path = program if name == 'nfs3canon' else path_beside(program, name)
+    if not path.is_file() or not path.stat().st_mode & EXECUTABLE:
+        raise Missing(f'{escaped(str(path))} is missing, or cannot be run')
+    with path.open('rb') as file:
+        if file.read(len(ELF)) != ELF:
+            raise Missing(f'{escaped(str(path))} is a script, and no program')
+    return path
+
+
+def refuse_links(prefix: Path) -> None:
+    """Raises `Refused` if a folder from which others are found is a symbolic link: what is beside
+    it is not beside the folder to which it leads."""
+    for folder in map(prefix.joinpath, FOUND_FROM):
+        if folder.is_symlink():
+            raise Refused(f'{escaped(str(folder))} is a symbolic link, and no command would work '
+                          'from there; name another PREFIX')
 
 
 def links() -> Iterator[tuple[str, str]]:
@@ -152,10 +177,10 @@ def install(prefix: Path, program: Path, is_listed: bool = True) -> None:
     """
     if not is_utf8(prefix):
         raise Refused(f'{escaped(str(prefix))} is not UTF-8, and no program runs under such a name')
-    if not program.is_file() or not program.stat().st_mode & EXECUTABLE:
-        raise Missing(f'{escaped(str(program))} is missing, or cannot be run')
+    refuse_links(prefix)
+    copied = list(files(program))
     with Made(prefix) as made:
-        for source, place in files(program):
+        for source, place in copied:
             is_run = source.stat().st_mode & EXECUTABLE
             made.write(place, content_of(source, place),
                        FOR_ALL_TO_RUN if is_run else FOR_ALL_TO_READ)
@@ -170,8 +195,8 @@ def install(prefix: Path, program: Path, is_listed: bool = True) -> None:
 
 def launcher() -> str:
     """Returns the launcher of a program, with what those of a clone have, too."""
-    writing = (TOP / 'dev/writing.sh').read_text()
-    return LAUNCHER.format(version=version(), home=PROGRAMS_HOME, writing=writing)
+    shared = '\n'.join((TOP / 'dev' / name).read_text() for name in ('writing.sh', 'recordings.sh'))
+    return LAUNCHER.format(version=version(), home=PROGRAMS_HOME, shared=shared)
 
 
 def is_utf8(path: Path) -> bool:

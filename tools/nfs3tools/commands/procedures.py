@@ -6,10 +6,10 @@
 
 Printed is a table for each connection, one for each recording in all, and one for all recordings if
 they are several. A row has the calls of a procedure as `nfs3canon check` counts them; how many of
-them were sent again (an earlier call of the connection has the same xid and the same items); the
-replies; the calls without a reply (a call and its retransmissions are one); the bytes of the
-records of calls and of replies, with their marks; the latencies in milliseconds; the call with the
-longest; and how many replies have which error.
+them were sent again (an earlier call of the connection, or of an earlier connection of both ends,
+has the same xid and the same items); the replies; the calls without a reply (a call and its
+retransmissions are one); the bytes of the records of calls and of replies, with their marks; the
+latencies in milliseconds; the call with the longest; and how many replies have which error.
 
 A latency is the time from a call to its first reply. The time of a message is that of the frame
 that completed its record: of the frames that first brought its bytes the one with the largest
@@ -22,10 +22,11 @@ are negative; their number is told.
 Each connection is judged as by tools/verdicts, whose verdict is above its table: one of which bytes
 are missing is `ok in part`, and one that is refused is counted up to its fault. The counts of
 tools/verdicts stand above the table of a recording. --total leaves out the tables of the
-connections. --sort has the largest of a column first. --beside has two recordings in one table: a
-number that differs is `A -> B`, with the change in per cent for bytes and latencies. --json and
---csv write all tables. --html writes a page for a browser, with the tables that are printed and a
-time line of the latencies of each recording: a dot for each call, with its path and its frame.
+connections, --from and --to the calls outside a window. --sort has the largest of a column first.
+--beside has two recordings in one table: a number that differs is `A -> B`, with the change in per
+cent for bytes and latencies. --json and --csv write all tables. --html writes a page for a browser,
+with the tables that are printed and a time line of the latencies of each recording: a dot for each
+call, with its path and its frame.
 
 The recordings are taken as by tools/from_pcap (--port, --no-midstream, --whole-records, --filter,
 patterns in quotes for the parts of one recording); `-` is standard input. FILE is written beside
@@ -47,11 +48,12 @@ from collections import Counter
 from collections.abc import Iterator, Sequence
 from functools import partial
 
-from ..judgement.seen import Seen, kept_in, seen_in
+from ..judgement.seen import Seen, count_unanswered, kept_in, seen_in
 from ..judgement.tallies import Tallies, Tally, in_order, milliseconds, sum_of, tallies_of
 from ..judgement.verdict import (
     VERSION, Verdict, colour_of, counts_after, is_row, named, object_of as object_of_verdict,
     status_of, sums_of, tell_notes)
+from ..judgement.window import add_window, window_of
 from ..judgement.verdict_page import Content, Table as ShownTable, page, row_of_cells, said_of
 from ..recordings.parts import files_of
 from ..recordings.selection import plural
@@ -63,16 +65,19 @@ from ..shared.places import Place
 from ..shared.printed import escaped, printable
 from ..shared.programs import program_path
 from ..shared.screens import (
-    Colour, Screen, Styled, add_colour, is_as_wide, lines_of, panels, screen_of)
-from .verdicts import CONNECTIONS_AT_ONCE, Judge, positive
+    Colour, Screen, Styled, add_colour, add_width, is_as_wide, lines_of, panels, screen_of)
+from .verdicts import CONNECTIONS_AT_ONCE, Judge
 
 PARTS = (0.5, 0.99, 1)  # of the latencies: the median, the 99th percentile, and the longest
 COUNTS = ('calls', 'again', 'replies', 'unanswered', 'call_bytes', 'reply_bytes')
 RANKS = ('median_ns', 'p99_ns', 'most_ns', 'mean_ns', 'sum_ns')
 HEADS = ('procedure', 'calls', 'again', 'replies', 'no reply', 'call bytes',
          'reply bytes', 'median ms', '99 % ms', 'most ms', 'mean ms', 'sum ms', 'errors')
+NARROW = 6  # columns of a table's first panel in a narrow terminal: the counts, and the errors
+NUMBERS = range(1, len(HEADS) - 1)  # the columns that are set to the right
 LONGEST = 'longest'  # is before the errors in tables of one recording
 IN_ALL = 'in all'
+ON_PAGE = Screen(sys.maxsize)  # on which numbers are as on a terminal
 # The columns by which rows are sorted, but for the first with the largest number first.
 BY_NAME = 'procedure'
 COLUMNS: dict[str, typing.Callable[[Tally], int | None]] = {
@@ -128,19 +133,22 @@ def total_of(tallies: Tallies) -> Tally:
     return total
 
 
-def counted(judge: Judge, recording: str, is_seen: bool) -> Counted:
-    """Judges a recording or capture, and counts each connection that was judged. What a page shows
-    is looked for if there is to be one."""
+def counted(judge: Judge, recording: str, chosen: argparse.Namespace) -> Counted:
+    """Judges a recording or capture, and counts the calls that are chosen of each connection that
+    was judged. What a page shows is looked for if there is to be one."""
     tables, seen = list[Table](), list[Seen]()
 
     def look(taken: Taken, verdicts: list[Verdict]) -> None:
         judged = {verdict.connection: verdict for verdict in verdicts}
         with contextlib.closing(kept_in(judge.program, taken, verdicts,
-                                        has_texts=is_seen)) as kept:
-            tables.extend(Table(recording, judged[part.number], tallies_of(kept, recording, number))
+                                        has_texts=bool(chosen.html))) as kept:
+            count_unanswered(kept, verdicts)
+            window = window_of(chosen, taken.begun)
+            tables.extend(Table(recording, judged[part.number],
+                                tallies_of(kept, recording, number, window))
                           for number, part in enumerate(kept.parts))
-            if is_seen:
-                seen.append(seen_in(kept, taken, recording, verdicts))
+            if chosen.html:
+                seen.append(seen_in(kept, taken, recording, verdicts, window))
     verdicts = judge.verdicts(recording, look)
     in_all = Table(recording, None, sum_of(table.tallies for table in tables))
     return Counted(recording, verdicts, tables, in_all,
@@ -185,9 +193,18 @@ def print_table(title: str, table: Table, column: str, screen: Screen) -> None:
     """Prints a table below its title, which is alone if there is nothing in the table. An empty
     line is before it."""
     print(f'\n{title}{told_of_clock(total_of(table.tallies))}')
-    for line in table.tallies and panels(rows_of(table, column, screen), screen,
-                                         range(1, len(HEADS) - 1)):
+    if not table.tallies:
+        return
+    rows = rows_of(table, column, screen)
+    if screen.width is not None and not is_as_wide(rows, screen.width):
+        rows = [row._replace(cells=beside_calls(row.cells)) for row in rows]
+    for line in panels(rows, screen, NUMBERS, NARROW):
         print(line)
+
+
+def beside_calls(cells: Sequence[str]) -> list[str]:
+    """Returns the cells of a row with the errors beside the counts."""
+    return [*cells[:NARROW - 1], cells[-1], *cells[NARROW - 1:-1]]
 
 
 def rows_of(table: Table, column: str, screen: Screen) -> list[Styled]:
@@ -304,7 +321,7 @@ def page_of(found: Sequence[Counted], chosen: argparse.Namespace) -> Iterator[st
     whole, of_each = list[ShownTable](), list[list[ShownTable]]()
     if chosen.beside:
         whole = [shown_of('A: {} | B: {}'.format(*(escaped(one.recording) for one in found)),
-                          rows_beside(found[0], found[1], chosen.sort, Screen()))]
+                          rows_beside(found[0], found[1], chosen.sort, ON_PAGE))]
     elif len(found) > 1:
         whole = [shown('all recordings', in_all_of(found), chosen.sort)]
     if not chosen.beside:
@@ -319,12 +336,13 @@ def page_of(found: Sequence[Counted], chosen: argparse.Namespace) -> Iterator[st
 def shown(title: str, table: Table, column: str) -> ShownTable:
     """A table as it is printed, for the page."""
     return shown_of(title + told_of_clock(total_of(table.tallies)),
-                    rows_of(table, column, Screen()))
+                    rows_of(table, column, ON_PAGE))
 
 
 def shown_of(title: str, styled: Sequence[Styled]) -> ShownTable:
-    numbers = range(1, len(HEADS) - 1)
-    heads, *rows = (row.cells for row in styled)
+    """The same of rows, with the errors beside the counts."""
+    heads, *rows = (beside_calls(row.cells) for row in styled)
+    numbers = [at for at, head in enumerate(heads) if head in HEADS[1:-1]]
     return ShownTable(title, heads, [row_of_cells(row, numbers) for row in rows], numbers)
 
 
@@ -390,9 +408,8 @@ def words_of(words: list[str]) -> argparse.Namespace:
     parser.add_argument('--csv', metavar='FILE', help='writes the tables as comma-separated values')
     parser.add_argument('--html', metavar='FILE',
                         help='writes a page for a browser, with the tables and latencies')
-    parser.add_argument('--width', metavar='N', type=positive,
-                        help='prints no line of a table wider than N columns; '
-                             'by default those of a terminal')
+    add_window(parser)
+    add_width(parser)
     add_colour(parser)
     add_judging(parser)
     chosen = parser.parse_args(words)
@@ -406,8 +423,9 @@ def main(words: list[str]) -> int:
     inputs = [file for recording in chosen.recordings for file in files_of(recording)]
     outputs = [chosen.json, chosen.csv, chosen.html]
     try_outputs(outputs, inputs)
-    judge = Judge(program_path(chosen.program), options_of(chosen), CONNECTIONS_AT_ONCE, True)
-    found = [counted(judge, recording, bool(chosen.html)) for recording in chosen.recordings]
+    judge = Judge(program_path(chosen.program), options_of(chosen), CONNECTIONS_AT_ONCE, True,
+                  counts_unanswered=False)
+    found = [counted(judge, recording, chosen) for recording in chosen.recordings]
     verdicts = [verdict for one in found for verdict in one.verdicts]
     tell_notes(verdicts)
     with printed_beside(outputs):

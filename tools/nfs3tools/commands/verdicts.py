@@ -21,9 +21,10 @@ The last line counts all of them. Each comes under one word:
     errors       it could not be read
 
 What no connection stands for has a row as well: UDP at a port of NFS is left out, and a recording
-that ends inside a frame is in part. Calls of other programs are counted by name at the end of the
-line. What is missing is printed on standard error, and so are connections that show no call: those
-without payload, and those without RPC at another port than those of NFS.
+that ends inside a frame is in part; frames that may carry NFS and are not read are not checked. At
+the end of the line are the calls without a reply, and those of other programs by name. What is
+missing is printed on standard error, and so are connections that show no call: those without
+payload, and those without RPC at another port than those of NFS.
 
 The status is 0 only if every call of NFS and MOUNT version 3 that is recorded was judged, and is
 valid. --allow-losses also allows what is in part and what is left out, --allow-not-checked what is
@@ -64,6 +65,7 @@ from functools import partial
 
 from ..judgement.following import Form, follow
 from ..judgement.seen import Seen, kept_in, seen_in
+from ..judgement.unanswered import Unanswered, open_calls
 from ..judgement.verdict import (
     HEADS, VERSION, Verdict, colour_of, counts_after, error_of, is_row, object_of, of_covered,
     row_of, status_of, sums_of, tell_notes, told, verdict_of)
@@ -80,18 +82,21 @@ from ..shared.outputs import STANDARD_OUTPUT, printed_beside, try_outputs, write
 from ..shared.places import Place, parse_fault
 from ..shared.printed import escaped, printable
 from ..shared.programs import CHECKED, Died, FilterRefused, Missing, program_path, run_program
-from ..shared.screens import Screen, Styled, add_colour, is_as_wide, lines_of, screen_of
+from ..shared.screens import (
+    Screen, Styled, add_colour, is_as_wide, lines_of, positive, screen_of)
 
 CONNECTIONS_AT_ONCE = 32  # of a recording
 Look = typing.Callable[[Taken, list[Verdict]], object]
 
 
 class Judge(typing.NamedTuple):
-    """How recordings are judged: by which program, taken how, and how many connections at once."""
+    """How recordings are judged: by which program, taken how, how many connections at once, and
+    whether calls without a reply are counted, or by another module."""
     program: str
     options: Options
     at_once: int
     shows_progress: bool
+    counts_unanswered: bool = True
 
     def verdicts(self, recording: str, look: Look | None = None) -> list[Verdict]:
         """The verdicts on a recording or capture. What cannot be read is an error among them.
@@ -132,6 +137,8 @@ class Judge(typing.NamedTuple):
         with concurrent.futures.ThreadPoolExecutor(self.at_once) as threads:
             verdicts = list(threads.map(functools.partial(self.of_connection, recording, taken),
                                         taken.connections))
+        if self.counts_unanswered:
+            verdicts = with_unanswered(verdicts, taken)
         verdicts += [of_covered(recording, covered) for covered in taken.not_taken()]
         if taken.damage and not taken.is_recording:
             verdicts += self.of_container(recording, verdicts)
@@ -159,6 +166,18 @@ class Judge(typing.NamedTuple):
             return []
         return [Verdict(recording, at, state='refused', message=str(fault),
                         position=str(fault.place), reason=fault.reason)]
+
+
+def with_unanswered(verdicts: list[Verdict], taken: Taken) -> list[Verdict]:
+    """Returns the verdicts on connections with the numbers of their calls without a reply."""
+    unanswered, counted = Unanswered(), list[Verdict]()
+    for verdict, connection in zip(verdicts, taken.connections):
+        if verdict.state not in ('refused', 'error'):
+            found = open_calls([connection.client], connection.server)
+            verdict = verdict._replace(unanswered=unanswered.number(
+                connection.client_end, connection.server_end, found))
+        counted.append(verdict)
+    return counted
 
 
 # --- The command ---
@@ -221,12 +240,6 @@ def judged_all(chosen: argparse.Namespace) -> int:
         content = Content(seen, allowed_of(chosen), [table_of(seen)], (), True)
         write_file(chosen.html, encoded(page(content)), inputs)
     return status_of(verdicts, allowed_of(chosen))
-
-
-def positive(word: str) -> int:
-    if int(word) < 1:
-        raise ValueError
-    return int(word)
 
 
 def judged(judge: typing.Callable[[str], Seen], recordings: list[str],

@@ -11,7 +11,8 @@ from __future__ import annotations
 
 import re
 from array import array
-from collections.abc import Sequence
+from collections import defaultdict
+from collections.abc import Callable, Iterable, Mapping, Sequence
 from functools import cached_property
 from typing import NamedTuple
 
@@ -21,7 +22,7 @@ from ..recordings.taken import Completion, TakenConnection
 from .answering import Answering, error_in
 from .in_words import Asked, answer_in, asked_in, short_name
 from .listing import ITEM, Item, Message, is_call, listed_of, name_of_call
-from .objects import LISTING, MAKING, MOUNTING, UNKNOWN, Paths, below
+from .objects import LISTING, MAKING, RENAMING, TEACHING, UNKNOWN, Move, Names, Paths, below
 from .stored import Texts, Values, without_long
 
 UNTIMED = -1 << 63  # stands for no latency
@@ -42,13 +43,15 @@ class Part(NamedTuple):
     paths: Paths
     is_refused: bool
     has_all_replies: bool
+    names: Callable[[], Names]
 
-    def path(self, handle: str | None, entry: str | None) -> str | None:
-        """Returns the path of an object, or of a name in a folder. A folder whose path is not known
-        is `?`."""
+    def path(self, handle: str | None, entry: str | None, frame: int) -> str | None:
+        """Returns the path of an object, or of a name in a folder, at the time of a frame. A folder
+        whose path is not known is `?`."""
         if handle is None:
             return entry
-        path = self.paths.of(handle) or UNKNOWN
+        path = (self.names().path(handle, frame) if self.paths.moves
+                else self.paths.of(handle)) or UNKNOWN
         return path if entry is None else below(path, entry)
 
 
@@ -122,12 +125,35 @@ class Exchange:
 
     @property
     def path(self) -> str | None:
-        return self.part.path(self.asked.handle, self.asked.entry)
+        return self.part.path(self.asked.handle, self.asked.entry, self.turn)
+
+    @property
+    def turn(self) -> int:
+        """When it was asked among all others: by its frame, or in a capture by its number."""
+        return self.frame or self.at + 1
+
+    @property
+    def other_names(self) -> list[str]:
+        """The other paths that its object had, before or after it was renamed."""
+        if not self.part.paths.moves:
+            return []
+        handle = self.asked.handle if self.asked.entry is None else self.made
+        names = self.part.names().all_of(handle) if handle else []
+        return [name for name in names if name != self.path]
+
+    @property
+    def made(self) -> str | None:
+        """The handle that a reply gave of a name in a folder."""
+        replies = self.kept.replies_of(self.at)
+        if not replies or self.errors or self.kept.listed_name(self.at) not in MAKING:
+            return None
+        found = HANDLE.search(self.kept.answering[replies[0]])
+        return found[2] if found else None
 
     @property
     def other_path(self) -> str | None:
         """The second path of RENAME and LINK."""
-        return self.part.path(self.asked.other, self.asked.other_entry)
+        return self.part.path(self.asked.other, self.asked.other_entry, self.turn)
 
     @property
     def answers(self) -> list[str]:
@@ -153,6 +179,28 @@ class Exchange:
         return 'not judged' if self.part.is_refused else 'no reply recorded'
 
     @property
+    def is_unanswered(self) -> bool:
+        return self.kept.is_unanswered(self.at)
+
+    @property
+    def waited(self) -> int | None:
+        """Nanoseconds without a reply: up to one on a later connection, or to the recording's
+        end."""
+        is_known = not self.kept.firsts[self.at] and not self.part.is_refused
+        return self.kept.waited(self.at) if is_known else None
+
+    @property
+    def earlier(self) -> str | None:
+        """The position of the same call on an earlier connection, of which it is a
+        retransmission, as `7:3182`."""
+        return self.kept.position(self.kept.earlier.get(self.at))
+
+    @property
+    def later(self) -> str | None:
+        """The same of a later connection."""
+        return self.kept.position(self.kept.later.get(self.at))
+
+    @property
     def errors(self) -> Sequence[str]:
         """The names of the errors of its replies."""
         return self.kept.errors.get(self.at, ())
@@ -176,6 +224,8 @@ def call_of(one: Exchange) -> str:
         words.append(one.asked.words)
     if one.again:
         words.append(f'(sent {len(one.again) + 1} times)')
+    if one.at in one.kept.earlier:
+        words.append(f'(again, as {one.earlier})')
     return ' '.join(words)
 
 
@@ -199,12 +249,17 @@ class Kept:
         self.asking, self.answering = Texts(self.spool), Texts(self.spool)
         # By the address of the server, since other servers may have equal handles.
         self.paths: dict[str, Paths] = {}
+        self.times_of_names: dict[str, Names] = {}
         self.names, self.numbers, self.kinds = list[str](), dict[str, int](), array('H')
         self.listed_names = list[str]()  # those of the listing
         self.part_of, self.records, self.xids = array('I'), array('I'), array('I')
         self.sizes = array('I')
         self.frames, self.times, self.latencies = array('Q'), array('q'), array('q')
         self.again, self.errors = dict[int, list[Sent]](), dict[int, list[str]]()
+        self.said = array('q')  # a hash of what each call says
+        # Calls that were sent again on a later connection, both ways, and when all ended.
+        self.later, self.earlier = dict[int, int](), dict[int, int]()
+        self.ended = 0
         # The first reply of each, from 1 in the order of all replies, 0 for none; and more.
         self.firsts, self.further = array('Q'), dict[int, list[int]]()
         # Of each reply.
@@ -222,19 +277,76 @@ class Kept:
 
         Raises what `listed_of` does.
         """
-        paths = self.paths.setdefault(connection.server_end.rpartition(':')[0], Paths())
+        server = connection.server_end.rpartition(':')[0]
+        paths = self.paths.setdefault(server, Paths())
         has_all = not is_refused and has_all_replies(connection)
         self.starts.append(len(self))
         self.parts.append(Part(connection.number, connection.client_end, connection.server_end,
-                               paths, is_refused, has_all))
+                               paths, is_refused, has_all, lambda: self.names_of(server)))
         reading = Reading(self, paths)
         call, reply = reading.call, reading.reply
         for line, completion in listed_of(program, connection, is_refused):
             (call if is_call(line) else reply)(line, completion)
+        self.said.extend(reading.said())
+
+    def names_of(self, server: str) -> Names:
+        """Returns what the objects of a server were called when, once all is taken."""
+        if server not in self.times_of_names:
+            self.times_of_names[server] = Names(self.paths[server])
+        return self.times_of_names[server]
+
+    def link(self) -> None:
+        """Finds the calls that were sent again on a later connection of the same client and server:
+        they have the same xid, and say the same."""
+        several = defaultdict[tuple[str, str], list[int]](list)
+        for number, part in enumerate(self.parts):
+            if part.client:
+                several[host_of(part.client), part.server].append(number)
+        for numbers in several.values():
+            last = dict[int, int]()  # the last call with each xid
+            for own in map(self.exchanges_of, numbers):
+                xids = self.xids[own.start:own.stop]
+                if not last.keys().isdisjoint(xids):
+                    self.link_calls(own, last)
+                last.update(zip(xids, own))
+
+    def link_calls(self, own: range, last: Mapping[int, int]) -> None:
+        """Links the calls of a connection with those that were sent before."""
+        for at in own:
+            before = last.get(self.xids[at])
+            if before is not None and self.frames[before] <= self.frames[at] and (
+                    self.kinds[before] == self.kinds[at] and self.said[before] == self.said[at]):
+                self.earlier[at], self.later[before] = before, at
+
+    def is_unanswered(self, at: int) -> bool:
+        """Whether a call got no reply on its connection, and neither did the same one on an earlier
+        connection, in whose place it would be."""
+        if self.firsts[at] or self.parts[self.part_of[at]].is_refused:
+            return False
+        before = self.earlier.get(at)
+        return before is None or bool(self.firsts[before])
+
+    def waited(self, at: int) -> int | None:
+        """Returns for how many nanoseconds a call without a reply waited: until it was answered on
+        a later connection, or until the end of the recording."""
+        later = self.answered_later(at)
+        end = self.ended if later is None else self.reply_times[self.firsts[later] - 1]
+        return end - self.times[at] if end and self.times[at] else None
+
+    def answered_later(self, at: int) -> int | None:
+        """Returns the same call on a later connection on which it was answered, if there is one."""
+        later = self.later.get(at)
+        while later is not None and not self.firsts[later]:
+            later = self.later.get(later)
+        return later
 
     def exchange(self, at: int) -> Exchange:
         """Returns an exchange by its number."""
         return Exchange(self, at)
+
+    def position(self, at: int | None) -> str | None:
+        """Returns the position of an exchange, as `7:3182`."""
+        return None if at is None else f'{self.parts[self.part_of[at]].number}:{self.records[at]}'
 
     def exchanges_of(self, number: int) -> range:
         """Returns the exchanges of a connection, by its place among `parts`."""
@@ -277,6 +389,11 @@ def has_all_replies(connection: TakenConnection) -> bool:
     return connection.is_closed and not (connection.missing or lacks)
 
 
+def host_of(end: str) -> str:
+    """The address of an end."""
+    return end.rpartition(':')[0].strip('[]')
+
+
 class Reading:
     """Reads the exchanges of a connection: first its calls, then its replies."""
 
@@ -311,6 +428,13 @@ class Reading:
         if kept.has_texts:
             kept.asking.append(self.cut(text))
 
+    def said(self) -> Iterable[int]:
+        """Returns a hash of what the call of each exchange says."""
+        said = self.rule.said
+        if len(self.kept) - self.kept.starts[-1] == len(said):
+            return said  # none was sent again
+        return dict(zip(self.owners, said)).values()
+
     def kind_of(self, listed: str, text: str) -> int:
         """Returns the number of a call's procedure."""
         kept, name = self.kept, name_of_call(listed, text)
@@ -342,12 +466,16 @@ class Reading:
         error = error_in(name, text)
         if error:
             kept.errors.setdefault(at, []).append(error)
-        elif kept.has_texts and (name in MAKING or name == LISTING or name == MOUNTING):
-            self.learn(at, name, text)
+        elif kept.has_texts and name in TEACHING:
+            self.learn(at, name, text, frame or at + 1)
 
-    def learn(self, at: int, procedure: str, text: str) -> None:
+    def learn(self, at: int, procedure: str, text: str, frame: int) -> None:
         """Learns from a reply which paths handles have."""
         asked = asked_in(procedure, self.kept.asking[at])
+        if procedure == RENAMING:
+            self.paths.moves.append(Move(frame, asked.handle or '', asked.entry or '',
+                                         asked.other or '', asked.other_entry or ''))
+            return
         found = ITEM.findall(text) if procedure == LISTING else HANDLE.findall(text)[:1]
         items: Sequence[Item] = [Item(*item) for item in found if item[0] in ('name', 'fh')]
-        self.paths.take_reply(procedure, asked.handle or '', asked.entry or '', items)
+        self.paths.take_reply(procedure, asked.handle or '', asked.entry or '', items, frame)

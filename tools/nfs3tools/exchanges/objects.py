@@ -6,14 +6,16 @@ together by paths.
 """
 from __future__ import annotations
 
+from collections import defaultdict
 from collections.abc import Iterable, Sequence
 from typing import NamedTuple
 
 from .listing import Exchange, Item
 
-MOUNTING, LISTING = 'MOUNTPROC3_MNT', 'NFSPROC3_READDIRPLUS'
+MOUNTING, LISTING, RENAMING = 'MOUNTPROC3_MNT', 'NFSPROC3_READDIRPLUS', 'NFSPROC3_RENAME'
 MAKING = {
     'NFSPROC3_LOOKUP', 'NFSPROC3_CREATE', 'NFSPROC3_MKDIR', 'NFSPROC3_SYMLINK', 'NFSPROC3_MKNOD'}
+TEACHING = {*MAKING, MOUNTING, LISTING, RENAMING}  # whose replies say of handles what they are
 DOTS = ('.', '..')  # the folder itself, and the one above it
 UNKNOWN = '?'  # a folder whose path is not known
 # Paths are cut in their middle, so that many deep ones take no more memory than their names do.
@@ -42,12 +44,35 @@ class Origin(NamedTuple):
     is_made: bool
 
 
+class Found(NamedTuple):
+    """A handle that a reply gave of a name in a folder, and the frame that completed it."""
+    frame: int
+    folder: str
+    name: str
+    handle: str
+
+
+class Move(NamedTuple):
+    """A RENAME: the frame that completed its reply, and the folder and the name before and
+    after."""
+    frame: int
+    folder: str
+    name: str
+    to_folder: str
+    to_name: str
+
+
 class Paths:
     """The paths of the handles of one run."""
 
     def __init__(self) -> None:
         self.origins: dict[str, Origin] = {}
         self.known: dict[str, str] = {}  # paths so far
+        self.moves: list[Move] = []
+        # The handle that was last found under a name of a folder, and all that were, with the
+        # frame.
+        self.placed: dict[tuple[str, str], str] = {}
+        self.found: list[Found] = []
 
     def of(self, handle: str) -> str | None:
         """Returns the path of a handle, in hexadecimal, if one is known. A folder that is not known
@@ -73,8 +98,13 @@ class Paths:
             return self.known.get(handle, UNKNOWN)
         return origin.name.rstrip('/') or '/'
 
-    def learn(self, handle: str | None, origin: Origin) -> None:
+    def learn(self, handle: str | None, origin: Origin, frame: int = 0) -> None:
         known = self.origins.get(handle or '')
+        if frame and handle and origin.folder is not None:
+            place = origin.folder, origin.name
+            if self.placed.get(place) != handle:
+                self.placed[place] = handle
+                self.found.append(Found(frame, *place, handle))
         if handle and origin.name not in DOTS and (
                 known is None or origin.is_made and not known.is_made):
             self.origins[handle] = origin
@@ -88,17 +118,19 @@ class Paths:
         for reply in exchange.replies:
             self.take_reply(exchange.procedure, folder, name, reply.items)
 
-    def take_reply(self, procedure: str, folder: str, name: str, items: Sequence[Item]) -> None:
+    def take_reply(self, procedure: str, folder: str, name: str, items: Sequence[Item],
+                   frame: int = 0) -> None:
         """Learns from the items of a reply to a call with this folder and this name, or this whole
-        path if it is MNT."""
+        path if it is MNT. If its frame is known, names may be asked for by the time."""
         if procedure == MOUNTING:
-            self.learn(first_handle(items), Origin(None, name, True))
+            self.learn(first_handle(items), Origin(None, name, True), frame)
         elif procedure in MAKING:
-            self.learn(first_handle(items), Origin(folder, name, procedure != 'NFSPROC3_LOOKUP'))
+            self.learn(first_handle(items), Origin(folder, name, procedure != 'NFSPROC3_LOOKUP'),
+                       frame)
         elif procedure == LISTING:
-            self.take_entries(folder, items)
+            self.take_entries(folder, items, frame)
 
-    def take_entries(self, folder: str, items: Iterable[Item]) -> None:
+    def take_entries(self, folder: str, items: Iterable[Item], frame: int = 0) -> None:
         """Learns the handles of a READDIRPLUS reply, each of which comes after the name of its
         entry."""
         name = '.'
@@ -106,7 +138,87 @@ class Paths:
             if item.name == 'name':
                 name = str(item.value).strip('"')
             elif item.name == 'fh':
-                self.learn(str(item.value), Origin(folder, name, False))
+                self.learn(str(item.value), Origin(folder, name, False), frame)
+
+
+class Names:
+    """What objects were called when, after some of them were renamed: a frame says when.
+
+    history: the origins of each handle that was moved, each with the frame from which on it holds
+    """
+
+    def __init__(self, paths: Paths) -> None:
+        self.paths = paths
+        self.history = defaultdict[str, list[tuple[int, Origin]]](list)
+        self.still: dict[str, bool] = {}
+        if paths.moves:
+            self.replay()
+
+    def replay(self) -> None:
+        """Takes all names and moves in the order of their frames."""
+        there = dict[tuple[str, str], str]()
+        events: list[Found | Move] = [*self.paths.found, *self.paths.moves]
+        for event in sorted(events, key=lambda one: one.frame):
+            if isinstance(event, Found):
+                there[event.folder, event.name] = event.handle
+                continue
+            handle = there.pop((event.folder, event.name), None)
+            if handle is not None:
+                there[event.to_folder, event.to_name] = handle
+                origin = Origin(event.to_folder, event.to_name, True)
+                self.history[handle].append((event.frame, origin))
+
+    def path(self, handle: str, frame: int) -> str | None:
+        """Returns the path of a handle at the time of a frame."""
+        if not frame or self.is_still(handle):
+            return self.paths.of(handle)
+        names, at, seen = list[str](), handle, set[str]()
+        while (origin := self.origin(at, frame)) is not None and at not in seen:
+            seen.add(at)
+            if origin.folder is None:
+                break
+            names.append(origin.name)
+            at = origin.folder
+        is_known = origin is not None and origin.folder is None
+        path = (origin.name.rstrip('/') or '/') if is_known and origin else UNKNOWN
+        for name in reversed(names):
+            path = below(path, name)
+        return path
+
+    def origin(self, handle: str, frame: int) -> Origin | None:
+        """Returns where an object is at the time of a frame."""
+        later = self.history.get(handle, ())
+        moved = next((origin for since, origin in reversed(later) if since <= frame), None)
+        return moved or self.paths.origins.get(handle)
+
+    def is_still(self, handle: str) -> bool:
+        """Whether neither an object nor a folder above it was moved."""
+        way, at, found = list[str](), handle, True
+        while at not in self.still and at not in way:
+            way.append(at)
+            origin = self.paths.origins.get(at)
+            if at in self.history or origin is None or origin.folder is None:
+                found = at not in self.history
+                break
+            at = origin.folder
+        found = self.still.get(at, found)
+        self.still.update(dict.fromkeys(way, found))
+        return found
+
+    def all_of(self, handle: str) -> list[str]:
+        """Returns all paths that an object had, in their order."""
+        if self.is_still(handle):
+            return [path for path in (self.paths.of(handle),) if path is not None]
+        frames, waiting, seen = {1}, [handle], set[str]()
+        while waiting:
+            at = waiting.pop()
+            seen.add(at)
+            origins = [self.paths.origins.get(at), *(one for _, one in self.history.get(at, ()))]
+            frames.update(since for since, _ in self.history.get(at, ()))
+            waiting += [one.folder for one in origins
+                        if one and one.folder is not None and one.folder not in seen]
+        paths = dict.fromkeys(self.path(handle, frame) for frame in sorted(frames))
+        return [path for path in paths if path is not None]
 
 
 def first_handle(items: Iterable[Item]) -> str | None:

@@ -40,6 +40,7 @@ from ..shared.outputs import held
 from ..shared.printed import escaped
 from ..shared.programs import CHECKED, Died, run_program
 from ..shared.screens import Screen, Styled, lines_of
+from .unanswered import Unanswered, open_calls
 from .verdict import (
     HEADS, VERSION, Before, Verdict, colour_of, counts_after, error_of, is_row, object_of,
     of_covered, row_of, status_of, tell_notes, verdict_of)
@@ -226,6 +227,7 @@ class Following:
         # By their last segments
         self.open: collections.OrderedDict[int, Open] = collections.OrderedDict()
         self.judged: collections.OrderedDict[int, Connection] = collections.OrderedDict()
+        self.unanswered = Unanswered()
         self.waiting: dict[int, int] = {}  # since when a connection has bytes that are not judged
         self.taken = self.numbered = self.next_turn = self.next_look = self.looked = 0
 
@@ -298,9 +300,9 @@ class Following:
 
     def is_superseded(self, connection: Connection) -> bool:
         """Whether another connection of the same ends has begun, and has had payload."""
-        newest = self.connections.sides.get(connection.key)
-        return (newest is not None and newest[0] is not connection
-                and newest[0].first_payload is not None)
+        newest = self.connections.newest.get(connection.key)
+        return (newest is not None and newest is not connection
+                and newest.first_payload is not None)
 
     # --- Judging ---
 
@@ -366,7 +368,18 @@ class Following:
         selected = select(one.connection, self.options, one.known)
         if not one.number and any(kept.ranges for kept in selected.kept):
             self.give_number(one)
-        self.conclude(one, self.verdict(one, selected))
+        verdict = self.verdict(one, selected)
+        if verdict.connection is not None and verdict.state not in ('refused', 'error'):
+            verdict = verdict._replace(unanswered=self.number_unanswered(one, selected))
+        self.conclude(one, verdict)
+
+    def number_unanswered(self, one: Open, selected: Selected) -> int:
+        """How many calls of a connection that is at its end got no reply."""
+        connection = taken_connection(1, one.connection, selected)
+        carried = one.carried and TakenStream(one.carried, None, whole(one.carried))
+        streams = [*([carried] if carried else []), connection.client]
+        return self.unanswered.number(connection.client_end, connection.server_end,
+                                      open_calls(streams, connection.server, one.answered))
 
     def drop(self, one: Open) -> None:
         """Forgets a connection that is none. The older one of the same ends may have been judged

@@ -7,6 +7,7 @@ messages that are at fault.
 from __future__ import annotations
 
 import contextlib
+from collections import Counter
 from collections.abc import Iterable, Iterator, Sequence
 from typing import NamedTuple
 
@@ -21,6 +22,7 @@ from ..shared.places import NoPlace, Place, parse_place
 from ..shared.printed import printable
 from .tallies import milliseconds
 from .verdict import Verdict
+from .window import ALL, Window
 
 DOTS_AT_MOST = 2_000  # of which none is left out
 ERRORS_AT_MOST = 10_000
@@ -58,14 +60,27 @@ def kept_in(program: str, taken: Taken, verdicts: Iterable[Verdict],
         state = states.get(connection.number, 'error')
         if state != 'error':
             kept.take(program, connection, state == 'refused')
+    kept.ended = taken.ended
+    kept.link()
     return kept
 
 
-def seen_in(kept: Kept, taken: Taken, recording: str, verdicts: list[Verdict]) -> Seen:
-    """Returns what is shown of a recording, by the exchanges of its connections."""
+def count_unanswered(kept: Kept, verdicts: list[Verdict]) -> None:
+    """Gives the verdicts on connections the numbers of their calls without a reply."""
+    unanswered = Counter(kept.parts[kept.part_of[at]].number for at in range(len(kept))
+                         if kept.is_unanswered(at))
+    verdicts[:] = [verdict._replace(unanswered=unanswered[verdict.connection or 0])
+                   for verdict in verdicts]
+
+
+def seen_in(kept: Kept, taken: Taken, recording: str, verdicts: list[Verdict],
+            window: Window = ALL) -> Seen:
+    """Returns what is shown of a recording, by the exchanges of its connections that are in a
+    window."""
     refused = [verdict for verdict in verdicts if verdict.state == 'refused']
     faults = [fault_of(taken, verdict) for verdict in refused[:FAULTS_AT_MOST]]
-    return Seen(recording, verdicts, faults, line_of(kept, taken.begun), tuple(taken.parts))
+    line = line_of(kept, taken.begun, window)
+    return Seen(recording, verdicts, faults, line, tuple(taken.parts))
 
 
 # --- Faults ---
@@ -102,19 +117,21 @@ class Lines:
 
 # --- Dots ---
 
-def line_of(kept: Kept, begun: int) -> TimeLine:
+def line_of(kept: Kept, begun: int, window: Window = ALL) -> TimeLine:
     """Returns the time line of the calls that have a time: all of them if they are few, or else the
-    errors and the slowest of each column."""
-    timed = [at for at in range(len(kept)) if kept.times[at]]
-    untimed = len(kept) - len(timed)
+    errors, those without a reply, and the slowest of each column."""
+    own = [at for at in range(len(kept)) if window.has(kept.times[at])]
+    timed = [at for at in own if kept.times[at]]
+    untimed = len(own) - len(timed)
     if not timed:
-        return TimeLine((), 0, len(kept), untimed=untimed)
-    end = max(kept.times) - begun
+        return TimeLine((), 0, len(own), untimed=untimed)
+    end = max(kept.times[at] for at in timed) - begun
     errors = [at for at in timed if kept.exchange(at).is_error]
     chosen = set(timed) if len(timed) <= DOTS_AT_MOST else {
-        *errors[:ERRORS_AT_MOST], *slowest(kept, timed, begun, end)}
+        *errors[:ERRORS_AT_MOST], *filter(kept.is_unanswered, timed),
+        *slowest(kept, timed, begun, end)}
     dots = [dot_of(kept.exchange(at), begun) for at in sorted(chosen)]
-    return TimeLine(dots, end, len(kept), sum(at not in chosen for at in errors), untimed)
+    return TimeLine(dots, end, len(own), sum(at not in chosen for at in errors), untimed)
 
 
 def slowest(kept: Kept, timed: Sequence[int], begun: int, end: int) -> Iterator[int]:

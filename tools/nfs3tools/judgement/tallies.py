@@ -18,6 +18,7 @@ from typing import NamedTuple
 from ..exchanges.kept import UNTIMED, Kept
 from ..shared.layouts import BY_NAME
 from ..shared.screens import Screen
+from .window import ALL, Window
 
 NANOSECONDS_OF_A_MILLISECOND = 1_000_000
 
@@ -37,8 +38,8 @@ class Tally:
     """What is counted of a procedure.
 
     calls: the records of calls, as `nfs3canon check` counts them
-    again: how many of those are retransmissions: an earlier call of the connection has the same xid
-        and all the same items
+    again: how many of those are retransmissions: an earlier call of the connection, or of an
+        earlier connection of the same client and server, has the same xid and all the same items
     replies: the records of replies
     unanswered: the calls without a reply; a call and its retransmissions are one
     call_bytes, reply_bytes: of the records, with their marks
@@ -117,10 +118,12 @@ def milliseconds(rank: int | None, screen: Screen = Screen()) -> str:
     return f'{number:.3f}' if screen.width is None else f'{number:,.3f}'
 
 
-def tallies_of(kept: Kept, recording: str, number: int) -> Tallies:
-    """Counts the exchanges of a connection, by its place among those that are kept."""
+def tallies_of(kept: Kept, recording: str, number: int, window: Window = ALL) -> Tallies:
+    """Counts the exchanges of a connection that are in a window, by its place among those that are
+    kept."""
     tallies: Tallies = {}
-    for at in kept.exchanges_of(number):
+    own: Iterable[int] = kept.exchanges_of(number)
+    for at in own if window == ALL else (at for at in own if window.has(kept.times[at])):
         name = kept.names[kept.kinds[at]]
         count_exchange(kept, at, tallies.get(name) or tallies.setdefault(name, Tally()), recording)
     return tallies
@@ -129,11 +132,11 @@ def tallies_of(kept: Kept, recording: str, number: int) -> Tallies:
 def count_exchange(kept: Kept, at: int, tally: Tally, recording: str) -> None:
     again, replies = kept.again.get(at, ()), kept.replies_of(at)
     tally.calls += 1 + len(again)
-    tally.again += len(again)
+    tally.again += len(again) + (at in kept.earlier)
     tally.call_bytes += kept.sizes[at] + sum(sent.size for sent in again)
     tally.replies += len(replies)
     tally.reply_bytes += sum(map(kept.reply_sizes.__getitem__, replies))
-    tally.unanswered += not replies
+    tally.unanswered += not replies and (at not in kept.earlier or kept.is_unanswered(at))
     tally.errors.update(kept.errors.get(at, ()))
     latency = kept.latencies[at]
     if latency != UNTIMED:

@@ -33,6 +33,7 @@ class Verdict(typing.NamedTuple):
     missing: how many of its bytes the recording lacks
     lacks: why it is in part, other than for these bytes
     raw: the calls of other programs, by name
+    unanswered: its calls without a reply, if it is not refused
     shows_calls: whether calls may be in it; a connection that is left out and shows none changes no
         status
     """
@@ -50,6 +51,7 @@ class Verdict(typing.NamedTuple):
     missing: int = 0
     lacks: tuple[str, ...] = ()
     raw: Mapping[str, int] = {}
+    unanswered: int = 0
     shows_calls: bool = True
     frames: list[FrameRef] = []
     notes: list[str] = []
@@ -148,7 +150,9 @@ def status_of(verdicts: Iterable[Verdict], allowed: Allowed) -> int:
 
 def counts_after(verdicts: Iterable[Verdict]) -> Counts:
     """How many of the verdicts are under each word."""
-    return counts_of((verdict.state, verdict.shows_calls, verdict.raw) for verdict in verdicts)
+    several = list(verdicts)
+    counts = counts_of((verdict.state, verdict.shows_calls, verdict.raw) for verdict in several)
+    return counts._replace(unanswered=sum(verdict.unanswered for verdict in several))
 
 
 def object_of(verdict: Verdict) -> dict[str, object]:

@@ -6,7 +6,7 @@ is escaped.
 """
 from __future__ import annotations
 
-from collections.abc import Iterable, Iterator, Sequence
+from collections.abc import Container, Iterable, Iterator, Sequence
 from html import escape
 from itertools import zip_longest
 from typing import NamedTuple
@@ -31,12 +31,13 @@ FAULTS_AT_MOST = 500  # on a page
 class Table(NamedTuple):
     """A table as it is printed, below its title: its heads, and its rows as HTML. The columns of
     these numbers are set to the right. One of cards has its rows one below the other in a narrow
-    window, and others can be moved sideways there."""
+    window, and others can be moved sideways there. Valid rows are folded below the others."""
     title: str
     heads: Sequence[str]
-    rows: Iterable[str]
-    numbers: range
+    rows: Sequence[str]
+    numbers: Container[int]
     is_of_cards: bool = False
+    valid: Sequence[str] = ()
 
 
 class Content(NamedTuple):
@@ -96,6 +97,9 @@ def of_counts(counts: Counts) -> Iterator[str]:
     yield f'<ul class=counts>{of_count(counts.judged, "judged" + detail, look)}'
     for word, one in COUNTED:
         yield of_count(counts.numbers()[word], word, one)
+    if counts.unanswered:
+        calls = plural(counts.unanswered, 'call', 'calls')
+        yield of_count(counts.unanswered, f'{calls} without a reply', PART)
     yield '</ul>'
 
 
@@ -129,13 +133,24 @@ def of_table(table: Table, level: str) -> Iterator[str]:
     if table.title:
         yield f'<{level}>{escape(table.title)}</{level}>'
     look = 'cards' if table.is_of_cards else 'wide'
-    yield f'<div class={look}><table>{markup.heads(table.heads)}'
-    yield from table.rows
+    if table.rows or not table.valid:
+        yield from of_rows(look, table.heads, table.rows)
+    if table.valid:
+        is_open = ' open' if not table.rows else ''
+        words = count(len(table.valid), 'connection') + ' ok'
+        yield f'<details class=valid{is_open}><summary>{words}</summary>'
+        yield from of_rows(look, table.heads, table.valid)
+        yield '</details>'
+
+
+def of_rows(look: str, heads: Sequence[str], rows: Iterable[str]) -> Iterator[str]:
+    yield f'<div class={look}><table>{markup.heads(heads)}'
+    yield from rows
     yield '</table></div>'
 
 
-def row_of_cells(cells: Sequence[str], numbers: range, heads: Sequence[str] = (), look: str = '',
-                 link: str = '') -> str:
+def row_of_cells(cells: Sequence[str], numbers: Container[int], heads: Sequence[str] = (),
+                 look: str = '', link: str = '') -> str:
     """A row of a table, the last of whose cells has a look, or leads somewhere. Cells that are
     given their heads are beside them in a narrow window."""
     texts = [escape(cell) for cell in cells]
@@ -147,12 +162,18 @@ def row_of_cells(cells: Sequence[str], numbers: range, heads: Sequence[str] = ()
 
 
 def table_of(seen: Sequence[Seen]) -> Table:
-    """The table of `tools/verdicts`, whose faults lead to what is said of them."""
+    """The table of `tools/verdicts`, whose faults lead to what is said of them. What is refused or
+    could not be read comes first, and what is ok is folded."""
     numbers, links = range(4, 6), links_of(seen)
-    rows = (row_of_cells(row_of(verdict._replace(message=said_of(verdict))), numbers, HEADS,
-                         look_of(verdict), links.get(id(verdict), ''))
-            for one in seen for verdict in one.verdicts if is_row(verdict))
-    return Table('Connections', HEADS, rows, numbers, True)
+    verdicts = [verdict for one in seen for verdict in one.verdicts if is_row(verdict)]
+
+    def rows(some: Iterable[Verdict]) -> list[str]:
+        return [row_of_cells(row_of(verdict._replace(message=said_of(verdict))), numbers, HEADS,
+                             look_of(verdict), links.get(id(verdict), '')) for verdict in some]
+    wrong = sorted((verdict for verdict in verdicts if verdict.state != 'ok'),
+                   key=lambda verdict: LOOKS[verdict.state] != BAD)
+    valid = rows(verdict for verdict in verdicts if verdict.state == 'ok')
+    return Table('Connections', HEADS, rows(wrong), numbers, True, valid)
 
 
 def look_of(verdict: Verdict) -> str:

@@ -1,6 +1,9 @@
 """Connections of TCP: which segments belong to which, also if the same ends have several."""
 from __future__ import annotations
 
+from collections import deque
+from collections.abc import Callable, Iterator, Sequence
+
 from .segments import ACK, FIN, RST, SYN, Segment, ends_of, turned
 from .spool import Frames, Spool
 from .streams import HELD_BY_ALL, NUMBERS, Budget, Stream
@@ -11,32 +14,51 @@ STRAYS_AT_MOST = 10  # frames of a connection that are told
 class Connection:
     """Two ends, 0 the one that sent the first segment, each with its stream.
 
+    A connection of a single segment without payload, as of a SYN alone, keeps just that, since a
+    recording may have many of them: `streams` takes it once more is wanted.
+
     older: the connection of the same ends before this one, of which segments may come yet
     strays: frames of which nothing is taken, and why
     """
-    __slots__ = ('number', 'key', 'client', 'has_syn', 'first_payload', 'is_chosen', 'is_judged',
-                 'is_closed_later', 'reset_at', 'streams', 'older', 'begun_by', 'is_stray',
-                 'strays', 'after', 'shown_after', 'is_told', 'opened_by')
+    __slots__ = ('number', 'key', 'client', 'first_payload', 'is_chosen', 'is_judged', 'make',
+                 'is_closed_later', 'both', 'only', 'older', 'begun_by', 'is_stray',
+                 'strays', 'after', 'shown_after', 'is_told')
 
-    def __init__(self, number: int, key: bytes, spool: Spool, budget: Budget, keeps_frames: bool,
+    def __init__(self, number: int, key: bytes, make: Callable[[], Stream],
                  begun_by: int = 0) -> None:
         # (the number as Wireshark counts tcp.stream, from 0)
-        self.number, self.key, self.begun_by = number, key, begun_by
+        self.number, self.key, self.make, self.begun_by = number, key, make, begun_by
         self.client: int | None = None  # the end that sent SYN
-        self.has_syn = [False, False]  # whether SYN of each end was recorded
-        self.opened_by = [0, 0]  # and its frame
         self.first_payload: int | None = None  # the end that sent payload first
         self.is_chosen = False
         self.is_judged = False  # nothing of it is wanted any more
         self.is_closed_later = False  # after that
         self.after, self.is_told = 0, True  # bytes that came after that, and whether they are told
         self.shown_after = 0  # the first frame after that by which others are missing
-        self.reset_at: list[int | None] = [None, None]  # the position at which each end reset it
         self.older: Connection | None = None
         self.is_stray = False  # the older one went on
-        self.strays: list[str] = []
-        self.streams = [Stream(spool, budget, Frames(spool) if keeps_frames else None)
-                        for _ in range(2)]
+        self.strays: Sequence[str] = ()
+        self.both: tuple[Stream, Stream] | None = None
+        self.only: tuple[Segment, int] | None = None  # its only segment, and the frame's time
+
+    @property
+    def streams(self) -> tuple[Stream, Stream]:
+        if self.both is None:
+            self.both = self.make(), self.make()
+            if self.only is not None:
+                (segment, time), self.only = self.only, None
+                self.take(0, segment, self.begun_by, time)
+        return self.both
+
+    @property
+    def is_bare(self) -> bool:
+        """Whether it has a single segment, which has no payload."""
+        return self.both is None
+
+    @property
+    def opened_by(self) -> tuple[int, ...]:
+        """The frames of the SYN of both ends, as far as they were recorded."""
+        return tuple(stream.opened_by for stream in self.streams if stream.opened_by)
 
     @property
     def ends(self) -> tuple[str, str]:
@@ -51,8 +73,8 @@ class Connection:
 
     def is_reset_by(self, side: int) -> bool:
         """Whether an end reset it, and sent nothing after that."""
-        position, stream = self.reset_at[side], self.streams[side]
-        return position is not None and stream.next <= position
+        stream = self.streams[side]
+        return stream.reset_at is not None and stream.next <= stream.reset_at
 
     def side_of(self, key: bytes) -> int:
         """The end that sends segments with a key."""
@@ -67,7 +89,7 @@ class Connection:
                 (segment.acknowledged - (other.first or 0)) % NUMBERS <= other.next)
             return self.is_judged or self.is_stray or not answers
         if own.first == first:
-            return self.has_syn[side] and self.is_closed and not segment.flags & ACK
+            return bool(own.opened_by) and self.is_closed and not segment.flags & ACK
         return not own.may_begin_at(first)
 
     def distances(self, side: int, segment: Segment) -> tuple[int | None, int | None]:
@@ -83,14 +105,17 @@ class Connection:
         return self.streams[side].first == (segment.sequence + 1) % NUMBERS
 
     def take(self, side: int, segment: Segment, number: int, time: int) -> None:
-        _, sequence, acknowledged, flags, payload, missing = segment
-        own, other = self.streams[side], self.streams[1 - side]
+        _, sequence, acknowledged, flags, payload, missing, differing = segment
+        streams = self.streams
+        own, other = streams[side], streams[1 - side]
+        for frame in differing:
+            own.differs(frame)
         if flags & RST:
             self.reset(side, segment, number)
             return
         if flags & SYN:
-            self.client, self.has_syn[side] = 1 - side if flags & ACK else side, True
-            self.opened_by[side] = self.opened_by[side] or number
+            self.client = 1 - side if flags & ACK else side
+            own.opened_by = own.opened_by or number
             own.begun_late(sequence + 1, number)
             sequence += 1
         if flags & ACK and (acknowledged != other.acknowledged or flags & SYN):
@@ -111,7 +136,7 @@ class Connection:
         if own.first is not None and not (own.acked <= position and own.is_likely(position)):
             self.note_stray(f'frame {number}: a RST that its receiver does not expect')
             return
-        self.reset_at[side] = position
+        own.reset_at = position
         if own.first is not None:
             own.shows(position, number)
         if segment.flags & ACK and other.first is not None:
@@ -119,7 +144,7 @@ class Connection:
 
     def note_stray(self, text: str) -> None:
         if len(self.strays) < STRAYS_AT_MOST:
-            self.strays.append(text)
+            self.strays = [*self.strays, text]
 
     def acknowledge(self, other: Stream, acknowledged: int, is_first: bool, number: int) -> None:
         """Takes what an end says that it received. The first time this tells where the other's
@@ -128,6 +153,8 @@ class Connection:
             other.begun_late(acknowledged, number)
         if other.first is not None:
             other.is_acknowledged(acknowledged, number)
+        else:
+            other.is_heard_of(acknowledged, number)
 
     def pass_by(self, side: int, segment: Segment, number: int) -> None:
         """Counts the bytes of a segment that comes after the connection was judged, but for those
@@ -158,80 +185,97 @@ class Connections:
 
     def __init__(self, keeps_frames: bool, held_by_all: int = HELD_BY_ALL) -> None:
         self.spool, self.budget, self.keeps_frames = Spool(), Budget(held_by_all), keeps_frames
+        self.make = self.stream
         self.count = 0  # of those that were begun
         self.all: dict[int, Connection] = {}
-        self.sides: dict[bytes, tuple[Connection, int]] = {}
+        # By the keys of both directions; the second is there once it has a segment
+        self.newest: dict[bytes, Connection] = {}
+
+    def stream(self) -> Stream:
+        """Returns a new stream."""
+        frames = Frames(self.spool) if self.keeps_frames else None
+        return Stream(self.spool, self.budget, frames)
 
     def take(self, segment: Segment, number: int, time: int, is_chosen: bool) -> Connection:
         """Takes a segment, and returns its connection. One that is not chosen only counts as one of
         its connection."""
-        found = self.sides.get(segment.key)
-        if found is None:
-            found = self.begin(segment.key, number), 0
-        elif segment.flags & SYN or found[0].older is not None:
+        key = segment.key
+        found = self.newest.get(key) or self.answered(key) or self.begin(key, number)
+        if found.begun_by != number and (segment.flags & SYN or found.older is not None):
             found = self.among_two(found, segment, number)
         if is_chosen:
-            found[0].is_chosen = True
-            if found[0].is_judged:
-                found[0].pass_by(found[1], segment, number)
+            found.is_chosen = True
+            if found.is_judged:
+                found.pass_by(found.side_of(key), segment, number)
+            elif found.begun_by == number and not (segment.payload or segment.missing):
+                found.only = segment, time
             else:
-                found[0].take(found[1], segment, number, time)
-        return found[0]
+                found.take(found.side_of(key), segment, number, time)
+        return found
 
-    def among_two(self, found: tuple[Connection, int], segment: Segment,
-                  number: int) -> tuple[Connection, int]:
+    def answered(self, key: bytes) -> Connection | None:
+        """Returns the connection of which this is the first segment of the other direction."""
+        found = self.newest.get(turned(key))
+        if found is not None:
+            self.newest[key] = found
+        return found
+
+    def among_two(self, newer: Connection, segment: Segment, number: int) -> Connection:
         """The connection of a segment that may be one of the older connection of the same ends, or
         begin another."""
-        newer, older = found[0], found[0].older
+        older, at = newer.older, newer.side_of(segment.key)
         side = older.side_of(segment.key) if older is not None else 0
         if segment.flags & SYN:
             if older is not None and older.repeats_syn(side, segment) and (
-                    not newer.repeats_syn(found[1], segment)):
-                return older, side
-            return ((self.begin(segment.key, number, newer), 0)
-                    if newer.is_other(found[1], segment) else found)
+                    not newer.repeats_syn(at, segment)):
+                return older
+            return (self.begin(segment.key, number, newer) if newer.is_other(at, segment)
+                    else newer)
         assert older is not None
-        here, there = newer.distances(found[1], segment), older.distances(side, segment)
+        here, there = newer.distances(at, segment), older.distances(side, segment)
         known = [(one, other) for one, other in zip(here, there)
                  if one is not None and other is not None]
         nearer = sum(one - other for one, other in known) if known else -1
         if nearer < 0 or nearer == 0 and older.is_closed:
-            return found
+            return newer
         newer.is_stray |= bool(segment.payload) and newer.first_payload is None
-        return older, side
+        return older
 
     def begin(self, key: bytes, begun_by: int, older: Connection | None = None) -> Connection:
         """Begins a connection. That of the same ends before it is not forgotten: one that has not
         had any payload gives way to its own."""
-        connection = self.all[self.count] = Connection(
-            self.count, key, self.spool, self.budget, self.keeps_frames, begun_by)
+        connection = self.all[self.count] = Connection(self.count, key, self.make, begun_by)
         if older is not None:
             is_kept = older.first_payload is not None or older.older is None
             connection.older = older if is_kept else older.older
             older.older = None if is_kept else older.older
         self.count += 1
-        self.sides[turned(key)] = connection, 1
-        self.sides[key] = connection, 0
+        self.newest.pop(turned(key), None)
+        self.newest[key] = connection
         return connection
 
     def forget(self, connection: Connection) -> None:
         """Segments of the same ends are those of another connection from now on."""
         self.all.pop(connection.number, None)
         for key in (connection.key, turned(connection.key)):
-            if key in self.sides and self.sides[key][0] is connection:
-                del self.sides[key]
-            elif key in self.sides and self.sides[key][0].older is connection:
-                self.sides[key][0].older = None
+            newest = self.newest.get(key)
+            if newest is connection:
+                del self.newest[key]
+            elif newest is not None and newest.older is connection:
+                newest.older = None
 
-    def finish(self) -> list[Connection]:
-        """The connections of which a segment was chosen, but those of a SYN that fits none. Nothing
-        is taken after this."""
-        chosen = [connection for connection in self.all.values()
-                  if connection.is_chosen and not is_of_stray(connection)]
-        for connection in chosen:
-            connection.streams[0].finish()
-            connection.streams[1].finish()
-        return chosen
+    def finish(self) -> Iterator[Connection]:
+        """Iterates over the connections of which a segment was chosen, but those of a SYN that fits
+        none. Nothing is taken after this, and nothing is kept of those that were passed."""
+        chosen = deque(connection for connection in self.all.values()
+                       if connection.is_chosen and not is_of_stray(connection))
+        self.all, self.newest = {}, {}
+        while chosen:
+            connection = chosen.popleft()
+            if not connection.is_bare:
+                connection.streams[0].finish()
+                connection.streams[1].finish()
+            yield connection
 
 
 def is_of_stray(connection: Connection) -> bool:

@@ -105,6 +105,7 @@ class Counts(typing.NamedTuple):
     that could not be read at all.
 
     without_calls: how many of those that are left out show no call
+    unanswered: how many calls got no reply, `None` if that was not looked for
     raw: the calls of other programs in connections that are taken, by name
     """
     ok: int = 0
@@ -115,6 +116,7 @@ class Counts(typing.NamedTuple):
     errors: int = 0
     without_calls: int = 0
     raw: Mapping[str, int] = {}
+    unanswered: int | None = None
 
     @property
     def judged(self) -> int:
@@ -122,23 +124,28 @@ class Counts(typing.NamedTuple):
 
     def __add__(self, other: 'Counts') -> 'Counts':  # type: ignore[override]
         numbers = {name: getattr(self, name) + getattr(other, name) for name in self._fields
-                   if name != 'raw'}
-        return Counts(**numbers, raw=together(self.raw, other.raw))
+                   if name not in ('raw', 'unanswered')}
+        known = [one.unanswered for one in (self, other) if one.unanswered is not None]
+        return Counts(**numbers, raw=together(self.raw, other.raw),
+                      unanswered=sum(known) if known else None)
 
     def words(self) -> str:
         """The sum as all tools print it."""
         bare = f' ({self.without_calls} without a call)' if self.without_calls else ''
         raw = f'; {named(self.raw)} raw' if self.raw else ''
+        calls = 'call' if self.unanswered == 1 else 'calls'
+        silent = f'; {self.unanswered:,} {calls} without a reply' if self.unanswered else ''
         return (f'{self.judged} judged ({self.ok} ok, {self.refused} refused), '
                 f'{self.in_part} in part, {self.left_out} left out{bare}, '
-                f'{self.not_checked} not checked, {self.errors} errors{raw}')
+                f'{self.not_checked} not checked, {self.errors} errors{silent}{raw}')
 
     def numbers(self) -> dict[str, int]:
         """How many there are under each word, for files that others read."""
         return {'judged': self.judged, 'ok': self.ok, 'refused': self.refused,
                 'in part': self.in_part, 'left out': self.left_out,
                 'without calls': self.without_calls, 'not checked': self.not_checked,
-                'errors': self.errors}
+                'errors': self.errors,
+                **({} if self.unanswered is None else {'without reply': self.unanswered})}
 
     def members(self) -> dict[str, object]:
         """The same for JSON, with the calls of other programs."""

@@ -24,11 +24,32 @@ class Part(typing.NamedTuple):
 
 
 def files_of(path: str) -> list[str]:
-    """Returns the files that an argument names, sorted by their names; itself if no pattern
-    helps."""
+    """Returns the files that an argument names, sorted by their names; itself if no pattern helps.
+    Those that a pattern fits and that are no recordings, as a page beside them, are skipped unless
+    all are."""
     if path == '-' or os.path.lexists(path):
         return [path]
-    return sorted(glob.glob(path)) or [path]
+    found = sorted(glob.glob(path))
+    return list(filter(may_be_recording, found)) or found or [path]
+
+
+def skipped_of(path: str) -> list[str]:
+    """Returns the files that a pattern fits and that are skipped, sorted by their names."""
+    return sorted({*glob.glob(path)} - {*files_of(path)}) if not os.path.lexists(path) else []
+
+
+def may_be_recording(path: str) -> bool:
+    """Whether a file is a recording, also one that cannot be read."""
+    if not os.path.isfile(path):
+        return True
+    try:
+        with opened(path) as file:
+            Recording(Source(file))
+    except NoRecording as refused:
+        return refused.packed_by is not None
+    except (Damaged, OSError):
+        pass
+    return True
 
 
 def in_order(files: list[str]) -> list[str]:

@@ -1,4 +1,4 @@
-"""What is told of frames of which nothing is taken."""
+"""What is said of frames of which nothing is taken."""
 from __future__ import annotations
 
 from .coverage import Covered
@@ -18,14 +18,6 @@ def notes_of(segments: Segments) -> list[str]:
         notes.append(f'{count(segments.lying, "frame")} {plural(segments.lying, "has", "have")} '
                      f'headers that do not fit {plural(segments.lying, "its", "their")} length, '
                      f'and {plural(segments.lying, "is", "are")} passed over')
-    for name, number in sorted(segments.others.items()):
-        if name.endswith(TUNNEL):
-            notes.append(f'{count(number, "frame")} of {name.rstrip(TUNNEL)} '
-                         f'{plural(number, "is", "are")} passed over; '
-                         'what is in them is not known')
-    for link, number in segments.links.items():
-        notes.append(f'{count(number, "frame")} of the link type {link} '
-                     f'{plural(number, "is", "are")} passed over')
     return notes
 
 
@@ -42,7 +34,32 @@ def nothing_in(segments: Segments) -> str:
 def remarks_of(segments: Segments) -> list[Covered]:
     """What is not judged of the frames that are no segments of TCP."""
     segments.finish()
-    return [*fragments_of(segments), *datagrams_of(segments)]
+    return [*unread_of(segments), *fragments_of(segments), *datagrams_of(segments),
+            *unknown_of(segments)]
+
+
+def unread_of(segments: Segments) -> list[Covered]:
+    """Frames of TCP whose headers cannot be read, to or from a port of NFS or of which the port is
+    not known."""
+    several = sorted(segments.unread.items(), key=lambda one: one[0] or 0)
+    return [Covered('in part', unread_words(port, number)) for port, number in several]
+
+
+def unread_words(port: int | None, number: int) -> str:
+    which, its = f' to or from port {port}' if port else '', plural(number, 'its', 'their')
+    return (f'{count(number, "frame")}{which} {plural(number, "is", "are")} not taken, since {its} '
+            f'headers are not whole or do not fit {its} length')
+
+
+def unknown_of(segments: Segments) -> list[Covered]:
+    """Frames that may have segments of TCP in them, of kinds that are not read."""
+    kinds = [*((name.rstrip(TUNNEL), number) for name, number in sorted(segments.others.items())
+               if name.endswith(TUNNEL)),
+             *((f'the link type {link}', number) for link, number in segments.links.items())]
+    return [Covered('not checked',
+                    f'{count(number, "frame")} of {name} {plural(number, "is", "are")} not read; '
+                    f'what is in {plural(number, "it", "them")} is not known')
+            for name, number in kinds]
 
 
 def fragments_of(segments: Segments) -> list[Covered]:

@@ -13,9 +13,12 @@ FIN, SYN, RST, ACK = 1, 2, 4, 16
 ETHERNET = 1
 IPV4, IPV6, ANY_IP = 0x0800, 0x86dd, -1
 BRIDGED, PPPOE = 0x6558, 0x8864  # kinds of what a tunnel carries: Ethernet; PPP over Ethernet
+DISCOVERY = 0x8863  # of a session of PPPoE
 MPLS = {0x8847, 0x8848}
 FIRST_KIND = 0x600  # of Ethernet; a lesser number is a length (IEEE 802.3)
+SNAP = b'\xaa\xaa\x03\0\0\0'  # begins what has a kind of Ethernet after a length (RFC 1042)
 PPP = {0x0021: IPV4, 0x0057: IPV6}
+PPP_CONTROL = 0x8000  # from here on PPP carries nothing but its own messages (RFC 1661)
 PLAIN_IPV4 = b'\x08\0\x45'  # the kind of Ethernet, and the first byte of IPv4 without options
 VLAN_TAGS = {0x8100, 0x88a8, 0x9100}
 IP_IN_IP, TCP, UDP, IPV6_IN_IP, FRAGMENT, GRE, AUTHENTICATION = 4, 6, 17, 41, 44, 47, 51
@@ -29,13 +32,16 @@ DATAGRAM_AT_MOST = 1 << 17
 WAITING_4, WAITING_6 = 30 * NANOSECONDS, 60 * NANOSECONDS
 LONGEST_NAME_4 = 11  # bytes that name a datagram of IPv4: identification, protocol, addresses
 
-# The names of what is no segment of TCP, by the kind of Ethernet and by the protocol of IP. What
-# may have segments in it has a star.
-KINDS = {0x0806: 'ARP', 0x88cc: 'LLDP', 0x8863: 'PPPoE', PPPOE: 'PPPoE*', 0x8847: 'MPLS*',
-         0x8848: 'MPLS*', 0x88e5: 'MACsec*'}
+# The names of what is no segment of TCP, by the kind of Ethernet, by the protocol of IP and by the
+# port of UDP. What may have segments in it has a star.
+KINDS = {0x0806: 'ARP', 0x88cc: 'LLDP', DISCOVERY: 'PPPoE', PPPOE: 'PPPoE*', 0x8847: 'MPLS*',
+         0x8848: 'MPLS*', 0x88e5: 'MACsec*', 0x88be: 'ERSPAN*', 0x22eb: 'ERSPAN*'}
 PROTOCOLS = {1: 'ICMP', 2: 'IGMP', 58: 'ICMP', IP_IN_IP: 'IP in IP*', UDP: 'UDP',
              IPV6_IN_IP: 'IP in IP*', GRE: 'GRE*', 50: 'ESP*',
-             AUTHENTICATION: 'AH*', 115: 'L2TP*', 132: 'SCTP'}
+             AUTHENTICATION: 'AH*', 97: 'EtherIP*', 108: 'IPComp*', 115: 'L2TP*', 132: 'SCTP',
+             137: 'MPLS in IP*'}
+PORTS = {2152: 'GTP-U*', 1701: 'L2TP*', 4500: 'ESP in UDP*', 3544: 'Teredo*', GENEVE: 'Geneve*',
+         **dict.fromkeys(VXLAN, 'VXLAN*')}
 
 # Where the kind of the network layer stands (None: in the datagram itself), and where the datagram
 # begins, by link type.
@@ -59,7 +65,8 @@ class Segment(typing.NamedTuple):
     """A segment: the addresses and ports of its source and target as they stand in its headers, and
     what it carries.
 
-    `missing` is the number of bytes of payload that were on the wire and are not in the recording.
+    missing: how many bytes of payload were on the wire and are not in the recording
+    differing: the frames of its fragments that repeat bytes with other content
     """
     key: bytes
     sequence: int
@@ -67,6 +74,7 @@ class Segment(typing.NamedTuple):
     flags: int
     payload: bytes
     missing: int
+    differing: tuple[int, ...] = ()
 
     def has_port(self, ports: frozenset[int]) -> bool:
         """Whether the port of its source or target is one of these."""
@@ -102,6 +110,7 @@ class Pending:
         self.size: int | None = None
         self.count = 0  # of the fragments that came
         self.there = 0  # bytes of the datagram
+        self.differing: list[int] = []  # the frames that repeat bytes with other content
         self.is_done = False
 
     @property
@@ -120,17 +129,23 @@ class Pending:
         return (self.is_done and (end == self.size) == is_last and end <= (self.size or 0)
                 and self.held.add(begin, piece, 0, 0))
 
-    def add(self, begin: int, piece: bytes, is_last: bool) -> None:
+    def add(self, begin: int, piece: bytes, is_last: bool, number: int) -> None:
+        """Takes a fragment. Bytes after the end of the datagram are other content."""
         self.count += 1
+        is_other = self.size is not None and (
+            begin + len(piece) > self.size or is_last and begin + len(piece) < self.size)
         if is_last and self.size is None:
             self.size = begin + len(piece)
+            is_other = self.held.end > self.size
             self.there = sum(max(0, min(at + len(held), self.size) - at)
                              for at, (held, _, _) in zip(self.held.begins, self.held.pieces))
         if self.size is not None:
             piece = piece[:max(0, self.size - begin)]
         before = self.held.size
-        self.held.add(begin, piece, 0, 0)
+        is_other |= not self.held.add(begin, piece, 0, 0)
         self.there += self.held.size - before
+        if is_other:
+            self.differing.append(number)
 
     def whole(self) -> bytes | None:
         """The datagram's payload, once no byte of it is missing."""
@@ -145,7 +160,9 @@ class Segments:
 
     cut: frames of which the recording has fewer bytes than were on the wire, and which lack payload
         or headers for it
-    lying: frames whose headers claim more bytes than were on the wire
+    unread: frames of TCP whose headers are not whole or do not fit their length, by their port of
+        NFS, `None` if it is not known
+    lying: the same to and from other ports
     given_up: datagrams with TCP that never were whole: not in time, or of more fragments than an
         eighth of their bytes
     links: frames whose link type is not known, by link type
@@ -157,12 +174,14 @@ class Segments:
     def __init__(self, ports: frozenset[int] = frozenset()) -> None:
         self.ports, self.is_chosen = ports, True  # of NFS; whether datagrams of this frame count
         self.cut = self.lying = self.given_up = 0
+        self.unread: dict[int | None, int] = {}
         self.links: dict[int, int] = {}
         self.datagrams: dict[int, int] = {}
         self.others: dict[str, int] = {}
         self.pending: dict[bytes, Pending] = {}
-        # Bytes of fragments; tunnels round what is read; the time of the frame
-        self.held = self.tunnels = self.time = 0
+        # Bytes of fragments; tunnels round what is read; the frame, and its time
+        self.held = self.tunnels = self.number = self.time = 0
+        self.differing: tuple[int, ...] = ()  # as of the segment
 
     def segment(self, frame: Frame, is_chosen: bool = True) -> Segment | None:
         """Returns the segment that the frame carries, or completes as the last fragment, if there
@@ -181,9 +200,10 @@ class Segments:
         as most are."""
         data, link = frame.data, LINKS.get(frame.link)
         if link is None:
-            self.links[frame.link] = self.links.get(frame.link, 0) + 1
+            if self.is_chosen:
+                self.links[frame.link] = self.links.get(frame.link, 0) + 1
             return None
-        self.tunnels, self.time = 0, frame.time
+        self.tunnels, self.number, self.time, self.differing = 0, frame.number, frame.time, ()
         return self.of_kind(*network_layer(data, *link), data, frame.length)
 
     def of_kind(self, kind: int, at: int, data: bytes, length: int) -> Segment | None:
@@ -191,12 +211,15 @@ class Segments:
         if kind == BRIDGED:
             kind, at = network_layer(data, at + 12, at + 14)
         kind, at = in_labels(data, kind, at)
+        if at > len(data) or at == len(data) and kind in (IPV4, IPV6, ANY_IP):
+            self.count_unread(data, at)
+            return None
         version = data[at] >> 4 if at < len(data) else 0
         if version == 4 and kind in (IPV4, ANY_IP):
             return self.of_ipv4(data, at, length)
         if version == 6 and kind in (IPV6, ANY_IP):
             return self.of_ipv6(data, at, length)
-        self.other(kind_named(kind))
+        self.other('LLC/SNAP*' if is_snap(kind, data, at) else kind_named(kind))
         return None
 
     def other(self, name: str) -> None:
@@ -207,15 +230,17 @@ class Segments:
     def of_ipv4(self, data: bytes, at: int, length: int) -> Segment | None:
         if at + 20 > len(data):
             self.shortened(at + 20, len(data), length)
+            self.count_unread(data, len(data))
             return None
         head, total, _, fragment, protocol = IPV4_HEADER.unpack_from(data, at)
         begin = at + (head & 15) * 4
         end = at + total if total else length
-        if begin < at + 20 or end < begin or end > length:
-            self.lying += protocol == TCP
-            return None
         if protocol == UDP and not fragment & 0x1fff:
             self.count_datagram(data, begin)
+        if begin < at + 20 or end < begin or end > length:
+            is_first = begin >= at + 20 and not fragment & 0x1fff
+            self.count_unfit(protocol, data, begin if is_first else len(data))
+            return None
         if fragment & 0x3fff:
             name = data[at + 4:at + 6] + data[at + 9:at + 10] + data[at + 12:at + 20]
             piece = data[begin:end]
@@ -230,15 +255,20 @@ class Segments:
     def of_ipv6(self, data: bytes, at: int, length: int) -> Segment | None:
         if at + 40 > len(data):
             self.shortened(at + 40, len(data), length)
+            self.count_unread(data, len(data))
             return None
         size, following = IPV6_HEADER.unpack_from(data, at + 4)
         addresses, begin = data[at + 8:at + 40], at + 40
         end = begin + size if size else length
         following, begin = after_extensions(data, following, begin)
-        if end < begin or end > length:
-            self.lying += following == TCP
+        if following in EXTENSIONS or following == FRAGMENT and begin + 8 > len(data):
+            self.shortened(begin + 8, len(data), length)
+            self.count_unread(data, len(data))
             return None
-        if following == FRAGMENT and begin + 8 <= len(data):
+        if end < begin or end > length:
+            self.count_unfit(following, data, begin)
+            return None
+        if following == FRAGMENT:
             following, place = data[begin], int.from_bytes(data[begin + 2:begin + 4], 'big')
             if following == UDP and not place & 0xfff8:
                 self.count_datagram(data, begin + 8)
@@ -261,7 +291,7 @@ class Segments:
             return self.of_tcp(data, begin, end, length, addresses)
         carried = in_tunnel(protocol, data, begin, end)
         if carried is None or self.tunnels == TUNNELS_AT_MOST:
-            self.other(PROTOCOLS.get(protocol, f'the protocol {protocol} of IP') if carried is None
+            self.other(protocol_named(protocol, data, begin) if carried is None
                        else 'many tunnels*')
             return None
         self.tunnels += 1
@@ -272,24 +302,44 @@ class Segments:
         there = min(end, len(data))
         if at + 20 > there:
             self.shortened(at + 20, there, end)
+            self.count_unread(data[:there], at)
             return None
         sequence, acknowledged, size, flags = TCP_HEADER.unpack_from(data, at + 4)
         begin = at + (size >> 4) * 4
         if begin < at + 20 or begin > end:
-            self.lying += 1
+            self.count_unfit(TCP, data, at)
             return None
         missing = end - max(there, begin)
         self.cut += missing > 0
         return Segment(addresses + data[at:at + 4], sequence, acknowledged, flags,
-                       data[begin:there], missing)
+                       data[begin:there], missing, self.differing)
 
     def count_datagram(self, data: bytes, at: int) -> None:
         """Counts a datagram of UDP, or the first fragment of one, if it has a port of NFS."""
-        for port in (int.from_bytes(data[at:at + 2], 'big'),
-                     int.from_bytes(data[at + 2:at + 4], 'big')):
-            if port in self.ports and self.is_chosen:
-                self.datagrams[port] = self.datagrams.get(port, 0) + 1
-                return
+        port = self.port_in(data, at)
+        if port is not None and self.is_chosen:
+            self.datagrams[port] = self.datagrams.get(port, 0) + 1
+
+    def port_in(self, data: bytes, at: int) -> int | None:
+        """Returns the port of NFS at which a header of TCP or UDP begins, if it has one."""
+        ports = (int.from_bytes(data[begin:begin + 2], 'big') for begin in (at, at + 2))
+        return next((port for port in ports if port in self.ports), None)
+
+    def count_unfit(self, protocol: int, data: bytes, at: int) -> None:
+        """Counts a frame whose headers do not fit its length, of which that of TCP is at `at`."""
+        if protocol != TCP:
+            self.other(protocol_named(protocol, data, at))
+        elif not self.count_unread(data, at):
+            self.lying += 1
+
+    def count_unread(self, data: bytes, at: int) -> bool:
+        """Counts a frame of which no segment is read, if it has a port of NFS or its ports are not
+        there. Returns whether it does."""
+        port = self.port_in(data, at)
+        is_counted = port is not None or at + 4 > len(data)
+        if is_counted and self.is_chosen:
+            self.unread[port] = self.unread.get(port, 0) + 1
+        return is_counted
 
     def shortened(self, wanted: int, there: int, on_the_wire: int) -> None:
         """Counts a frame whose headers are not whole."""
@@ -299,18 +349,19 @@ class Segments:
                is_last: bool) -> bytes | None:
         """Takes a fragment, and returns the datagram's payload if this completes it."""
         self.cut += is_cut
+        pending = self.pending_of(protocol, name)
         if is_cut or begin + len(piece) > DATAGRAM_AT_MOST:
             return None
-        pending = self.pending_of(protocol, name)
         if pending.has(begin, piece, is_last):
             return None
         if pending.is_done:
             self.forget(name)
             pending = self.pending_of(protocol, name)
         cost = pending.cost
-        pending.add(begin, piece, is_last)
+        pending.add(begin, piece, is_last, self.number)
         self.held += pending.cost - cost
         whole = pending.whole()
+        self.differing = tuple(pending.differing)
         if whole is None and pending.has_too_many:
             self.forget(name)
         while self.held > PENDING_AT_MOST:
@@ -357,16 +408,31 @@ def network_layer(data: bytes, kind_at: int | None, at: int) -> tuple[int, int]:
 def kind_named(kind: int) -> str:
     """The name of what a link layer or a tunnel carries, if that is neither IPv4 nor IPv6."""
     if kind in (ANY_IP, IPV4, IPV6):
-        return 'an unknown version of IP'
+        return 'an unknown version of IP*'
     return KINDS.get(kind, f'the kind 0x{kind:04x}' if kind >= FIRST_KIND else 'IEEE 802.3')
+
+
+def is_snap(kind: int, data: bytes, at: int) -> bool:
+    """Whether IEEE 802.3 carries IP behind the headers LLC and SNAP."""
+    carried = int.from_bytes(data[at + 6:at + 8], 'big')
+    return kind < FIRST_KIND and data[at:at + 6] == SNAP and carried in (IPV4, IPV6)
+
+
+def protocol_named(protocol: int, data: bytes, at: int) -> str:
+    """The name of a protocol of IP, or of what is known by a port of UDP, whose header is at
+    `at`."""
+    ports = (int.from_bytes(data[begin:begin + 2], 'big') for begin in (at + 2, at))
+    known = [PORTS[port] for port in ports if protocol == UDP and port in PORTS]
+    return known[0] if known else PROTOCOLS.get(protocol, f'the protocol {protocol} of IP')
 
 
 def in_labels(data: bytes, kind: int, at: int) -> tuple[int, int]:
     """The kind of what is in MPLS (RFC 3032) or in a session of PPPoE (RFC 2516), and where it
     begins; of anything else its own."""
     if kind == PPPOE:
-        carried = PPP.get(int.from_bytes(data[at + 6:at + 8], 'big'))
-        return (kind, at) if carried is None else (carried, at + 8)
+        protocol = int.from_bytes(data[at + 6:at + 8], 'big')
+        own = DISCOVERY if protocol >= PPP_CONTROL else kind
+        return (PPP[protocol], at + 8) if protocol in PPP else (own, at)
     if kind not in MPLS:
         return kind, at
     while at + 4 < len(data) and not data[at + 2] & 1:

@@ -51,12 +51,16 @@ class Stream:
     __slots__ = ('stored', 'budget', 'frames', 'first', 'is_begin', 'begin', 'compared', 'lacks',
                  'next', 'expected', 'acknowledged',
                  'acked', 'runs', 'held', 'end', 'beyond', 'known_end', 'known_by', 'far',
-                 'far_by', 'far_fin', 'conflicts', 'conflict',
+                 'far_by', 'far_fin', 'conflicts', 'conflict', 'opened_by', 'reset_at', 'heard',
                  'unplaced', 'unplaced_by', 'tail', 'tail_end')
 
     def __init__(self, spool: Spool, budget: Budget, frames: Frames | None) -> None:
         self.stored, self.budget, self.frames = Stored(spool), budget, frames
         self.first: int | None = None  # the sequence number of position 0
+        # That which was acknowledged first, from which positions count until the first is known
+        self.heard: int | None = None
+        self.opened_by = 0  # the frame of SYN, if it was recorded
+        self.reset_at: int | None = None  # the position at which this end reset the connection
         # The bytes at `begin` are the first that were sent, or the first of a record
         self.is_begin = False
         self.begin = 0  # the stored bytes before it are forgotten
@@ -85,13 +89,21 @@ class Stream:
         """The position of a sequence number, which wraps: the first one that is not long before
         what was acknowledged."""
         low = max(min(self.acked, self.next), self.next - IN_FLIGHT_AT_MOST) - LIKELY_AT_MOST
-        return low + (sequence - (self.first or 0) - low) % NUMBERS
+        first = self.first if self.first is not None else self.heard
+        return low + (sequence - (first or 0) - low) % NUMBERS
 
     def begins_at(self, sequence: int) -> None:
         """The sequence number of the first byte is known."""
         if self.first is None:
-            self.first = self.expected = sequence % NUMBERS
+            self.set_first(sequence)
             self.is_begin = True
+
+    def set_first(self, sequence: int) -> None:
+        """Positions count from a sequence number, and no more from what was acknowledged first."""
+        if self.heard is not None:
+            self.known_end = max(0, self.known_end - self.position(sequence))
+            self.far = self.heard = None
+        self.first = self.expected = sequence % NUMBERS
 
     def begun_late(self, sequence: int, number: int) -> None:
         """The same by SYN, which may be recorded after some bytes."""
@@ -162,6 +174,14 @@ class Stream:
         self.acked = max(self.acked, min(position, self.next))
         self.shows(position, number)
 
+    def is_heard_of(self, acknowledged: int, number: int) -> None:
+        """The same while nothing else of the stream is known: bytes after those that were
+        acknowledged first were sent."""
+        if self.heard is None:
+            self.heard = acknowledged
+        self.acknowledged = acknowledged
+        self.shows(self.position(acknowledged), number)
+
     def is_beyond(self, acknowledged: int) -> bool:
         """Whether an acknowledgement shows bytes after all that are known. FIN is acknowledged as
         one more."""
@@ -191,7 +211,7 @@ class Stream:
         if sequence == self.expected and not (missing or self.held.begins) and self.end is None:
             return self.append(payload, number, time)
         if self.first is None:
-            self.first = self.expected = sequence % NUMBERS
+            self.set_first(sequence)
         position = self.position(sequence)
         if missing:
             self.shows(position + len(payload) + missing, number)

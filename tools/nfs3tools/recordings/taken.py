@@ -23,10 +23,12 @@ import os
 import sys
 import tempfile
 import typing
+from collections.abc import Sequence
 
 from ..shared.kinds import MAGICS
 from ..shared.outputs import CAPTURE, write_file
 from ..shared.places import SIDES, FilePlace, NoPlace, Place, Side
+from ..shared.printed import escaped
 from ..shared.programs import chosen_frames
 from ..shared.progress import Progress, Share
 from .connections import Connection, Connections
@@ -35,12 +37,13 @@ from .container import (
 from .coverage import NFS_PORTS, PORT_MAPPER, Covered, called_in, of_connection
 from .frames import NoRecording, Recording, Source, opened
 from .keys import Keys
-from .parts import Part, files_of, in_order, pattern_beside
+from .parts import Part, files_of, in_order, pattern_beside, skipped_of
 from .passed_over import notes_of, nothing_in, remarks_of
 from .records import Extent, Window, body_of, extent_of, extents, fragments
 from .segments import Segments
-from .selection import Options, Selected, count, is_of_rpc, select
+from .selection import Options, Selected, count, is_of_rpc, missing_of, select
 from .spool import Brought, Frames, Spool, Stored
+from .streams import NUMBERS, Run
 from .unpacking import READ_AT_ONCE, Damaged, Readable
 
 FRAMES_A_STEP = 1_000
@@ -82,12 +85,14 @@ class Record(typing.NamedTuple):
 
 class TakenStream:
     """The bytes of one side that are taken. They stay in memory if they are few, else in a
-    temporary file."""
-    __slots__ = 'stored', 'noted', 'ranges', 'begins', 'size', 'index'
+    temporary file. `runs` are those of the stream in a recording, and `first` is its first sequence
+    number."""
+    __slots__ = 'stored', 'noted', 'ranges', 'begins', 'size', 'index', 'runs', 'first'
 
-    def __init__(self, stored: Stored, frames: Frames | None,
-                 ranges: list[tuple[int, int]]) -> None:
+    def __init__(self, stored: Stored, frames: Frames | None, ranges: list[tuple[int, int]],
+                 runs: Sequence[Run] = (), first: int = 0) -> None:
         self.stored, self.noted, self.ranges = stored, frames, ranges
+        self.runs, self.first = runs, first
         self.begins = list(itertools.accumulate((end - begin for begin, end in ranges), initial=0))
         self.size = self.begins[-1]  # bytes
         self.index: array.array[int] | None = None  # where the records begin
@@ -110,7 +115,15 @@ class TakenStream:
         """Returns a stream of some of the bytes: of runs from where each begins to where it ends,
         in their order."""
         ranges = [piece for begin, end in runs for piece in self.ranges_of(begin, end)]
-        return TakenStream(self.stored, self.noted, ranges)
+        return TakenStream(self.stored, self.noted, ranges, self.runs, self.first)
+
+    def sequences(self, begin: int, end: int) -> typing.Iterator[tuple[int, int]]:
+        """Iterates over the pieces of some bytes of a recording, each by the sequence number of its
+        first byte and its size."""
+        for low, high in self.ranges_of(begin, end):
+            at = bisect.bisect_right(Keys(self.runs, lambda run: run.begin), low) - 1
+            position = self.runs[at].position + low - self.runs[at].begin
+            yield (self.first + position) % NUMBERS, high - low
 
     def blocks(self) -> typing.Iterator[bytes]:
         """Iterates over all bytes in order, in blocks of 65,536 and a last one."""
@@ -251,7 +264,8 @@ class Taken:
     has_frames: whether the frames of bytes are noted
     parts: those of a recording that has several, in order
     ports: those of NFS
-    begun: the time of the first frame of a recording that has one, in nanoseconds since 1970
+    begun, ended: the times of the first and of the last frame of a recording that has some, in
+        nanoseconds since 1970
     """
 
     def __init__(self, spool: Spool, is_recording: bool, has_frames: bool,
@@ -265,7 +279,7 @@ class Taken:
         self.damage: str | None = None
         self.nothing = 'no connection to judge'
         self.parts: list[Part] = []
-        self.begun = 0
+        self.begun = self.ended = 0
 
     @property
     def missing(self) -> int:
@@ -398,14 +412,20 @@ def take(path: str, options: Options = Options(), frames: bool = True,
     be read or a temporary file not be written.
     """
     progress, files = Progress(shows_progress), files_of(path)
-    if len(files) > 1:
-        return take_parts(files, options, frames, progress)
+    taken = (take_parts(files, options, frames, progress) if len(files) > 1
+             else take_file(files[0], options, frames, progress))
+    taken.notes += [f'{escaped(name)} is no recording, and is skipped' for name in skipped_of(path)]
+    return taken
+
+
+def take_file(path: str, options: Options, keeps_frames: bool, progress: Progress) -> Taken:
+    """Takes a recording or capture of one file."""
     with contextlib.ExitStack() as stack:
-        source, chosen = opened_for(files[0], options, stack)
-        taken = take_from(source, chosen, options, frames, progress,
-                          share_of(source, 0, size_of(files)))
+        source, chosen = opened_for(path, options, stack)
+        taken = take_from(source, chosen, options, keeps_frames, progress,
+                          share_of(source, 0, size_of([path])))
     begun = sum(left_out.is_begun_before for left_out in taken.left_out)
-    pattern = pattern_beside(files[0]) if begun else None
+    pattern = pattern_beside(path) if begun else None
     if pattern:
         taken.notes.append(f'it begins in the middle of {count(begun, "connection")}: if it is a '
                            'part of a recording, as of `tcpdump -C`, name all parts in its place, '
@@ -520,6 +540,7 @@ class Taking:
         name stands before what is told."""
         before, segments, connections, ports = (
             self.count, self.segments, self.connections, self.options.ports)
+        frame = None
         for frame in recording.frames():
             self.taken.begun = self.taken.begun or frame.time
             is_chosen = chosen is None or frame.number in chosen
@@ -530,6 +551,7 @@ class Taking:
             if not frame.number % FRAMES_A_STEP:
                 self.progress.step(f'{before + frame.number:,} frames', share)
         self.count += recording.count
+        self.taken.ended = frame.time if frame else self.taken.ended
         if recording.cut:
             self.taken.remarks.append(Covered('in part', name + recording.cut))
         if recording.damage:
@@ -543,7 +565,7 @@ class Taking:
         self.taken.remarks += remarks_of(self.segments)
         self.taken.nothing = nothing_in(self.segments)
         for connection in self.connections.finish():
-            add(self.taken, connection, select(connection, self.options), self.options)
+            add(self.taken, connection, self.options)
         return self.taken
 
 
@@ -552,8 +574,12 @@ def ports_of(options: Options) -> frozenset[int]:
     return (options.ports or NFS_PORTS) - {PORT_MAPPER}
 
 
-def add(taken: Taken, connection: Connection, selected: Selected, options: Options) -> None:
+def add(taken: Taken, connection: Connection, options: Options) -> None:
     """Takes a connection, or says why it is left out."""
+    if connection.is_bare:
+        taken.left_out.append(without_payload(connection))
+        return
+    selected = select(connection, options)
     left_out = left_out_of(connection, selected, options)
     if left_out:
         taken.left_out.append(left_out)
@@ -566,7 +592,7 @@ def left_out_of(connection: Connection, selected: Selected, options: Options) ->
     ends = ' and '.join(connection.ends)
     if connection.first_payload is None and not any(
             stream.gap_at_end() for stream in connection.streams):
-        return LeftOut(ends, 'no payload', shows_calls=False)
+        return without_payload(connection)
     if not is_of_rpc(connection, options.ports):
         return LeftOut(ends, NO_RPC, shows_calls=False)
     if any(kept.ranges for kept in selected.kept):
@@ -576,19 +602,29 @@ def left_out_of(connection: Connection, selected: Selected, options: Options) ->
                    selected.missing if is_for_losses else 0, connection.client is None)
 
 
+def without_payload(connection: Connection) -> LeftOut:
+    """What is said of a connection that shows neither payload nor that some is missing."""
+    return LeftOut(' and '.join(connection.ends), 'no payload', shows_calls=False)
+
+
 def taken_connection(number: int, connection: Connection, selected: Selected) -> TakenConnection:
     """What is taken of a connection."""
     streams = connection.streams[selected.client], connection.streams[1 - selected.client]
-    client, server = (TakenStream(stream.stored, stream.frames, kept.ranges)
+    client, server = (TakenStream(stream.stored, stream.frames, kept.ranges, stream.runs,
+                                  stream.first or 0)
                       for stream, kept in zip(streams, selected.kept))
     return TakenConnection(
         number, connection.number, connection.ends[selected.client],
         connection.ends[1 - selected.client], ' and '.join(connection.ends), selected.why, client,
         server, [*selected.notes, *connection.strays], selected.missing, selected.lacks,
-        connection.is_closed, tuple(filter(None, connection.opened_by)))
+        connection.is_closed, connection.opened_by)
 
 
 def why_left_out(connection: Connection, options: Options) -> str:
+    """Why nothing of a connection is taken in which there may be calls."""
+    missing = sum(map(missing_of, connection.streams))
+    if missing and not any(stream.stored.size for stream in connection.streams):
+        return f'{count(missing, "byte")} acknowledged and not recorded'
     if connection.client is None and not options.midstream:
         return ('no SYN in the recording, so its streams may begin inside a record '
                 '(--no-midstream leaves it out)')

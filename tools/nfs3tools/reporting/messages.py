@@ -5,6 +5,7 @@ import argparse
 import os
 import re
 import shlex
+import shutil
 import signal
 import sys
 import textwrap
@@ -19,7 +20,7 @@ from ..shared.outputs import ENDING, Refused
 from ..shared.places import NoPlace
 from ..shared.printed import escaped, printable
 from ..shared.programs import Died, FilterRefused, Missing
-from ..shared.version import version
+from ..shared.version import TOP, version
 
 ABSENT, REFUSED, FAILED, INTERRUPTED = 1, 2, 3, 130  # ABSENT: no such position
 # How a tool reads a recording from standard input.
@@ -28,7 +29,7 @@ READING = {'from_pcap': '- OUT', 'where': '- POSITION', 'explain': '- POSITION',
            'cut': '- POSITION OUT'}
 OPTION = re.compile(r' \[-[^]]*\]')  # in a usage
 STATUS = 'The status is 0'  # begins what is said of it
-COLUMNS = 100  # of help
+NEEDED = re.compile(r'argument (\S+): expected one argument')
 PAGES = Path(__file__).resolve().parents[2] / 'man'
 
 
@@ -165,7 +166,14 @@ class Parser(argparse.ArgumentParser):
     print."""
 
     def error(self, message: str) -> typing.NoReturn:
-        """Prints the usage as one line, which leaves the options to the help, and what is wrong."""
+        """Prints the usage as one line, which leaves the options to the help, and what is wrong. Of
+        a word that is taken for an option, since it begins with a hyphen, that is all."""
+        needed = NEEDED.fullmatch(message)
+        option = needed[1].split('/')[-1] if needed else ''
+        word = next((after for one, after in zip(sys.argv, sys.argv[1:]) if one == option), '')
+        if word.startswith('-'):
+            told = f'{message}, and {word} is none, since it begins with `-`'
+            self.exit(REFUSED, f'{self.prog}: error: {printable(told)}\n')
         operands = OPTION.sub('', ' '.join(self.format_usage().split()))
         usage = operands.replace(self.prog, f'{self.prog} [OPTION ..]', 1)
         self.exit(REFUSED, f'{usage}\n{self.prog}: error: {printable(message)}\n')
@@ -189,9 +197,27 @@ def help_of(text: str, name: str) -> str:
         return text
     what, lines, *_ = text.strip('\n').split('\n\n')
     status = STATUS + text.partition(STATUS)[2].partition('\n\n')[0]
-    words = textwrap.fill(' '.join(status.split()), COLUMNS, break_on_hyphens=False)
-    page = called(name) if is_installed() else f'-l {shlex.quote(str(PAGES / name))}.1'
-    return '\n\n'.join([what, lines, words, f'The manual page has more: man {page}'])
+    usages = '\n'.join(map(fitted, re.sub(r'\n {5,}', ' ', lines).split('\n')))
+    more = fitted(f'The manual page has more: {page_of(name)}')
+    return '\n\n'.join([fitted(what), usages, fitted(status), more])
+
+
+def fitted(text: str) -> str:
+    """Returns a text in lines that fit the terminal, as argparse has its own."""
+    indent = '    ' if text.startswith('    ') else ''
+    width = shutil.get_terminal_size().columns - 2
+    return textwrap.fill(' '.join(text.split()), width, initial_indent=indent,
+                         subsequent_indent=indent * 2, break_on_hyphens=False,
+                         break_long_words=False)
+
+
+def page_of(name: str) -> str:
+    """Returns where the manual page of a tool is. A Python package has none."""
+    if not is_installed():
+        return f'man -l {shlex.quote(str(PAGES / name))}.1'
+    pages = Path(TOP.parent, 'man/man1').glob(f'{called(name)}.1*')
+    return (f'man {called(name)}' if any(pages)
+            else f'man/{name}.1 of the tools in a clone of nfs3canon')
 
 
 def add_options(parser: argparse.ArgumentParser) -> None:

@@ -106,6 +106,10 @@ article.here, article:target, .row:target { outline: 2px solid var(--here); outl
 .cards { overflow-x: auto }
 .cards td:not(:first-child):not(:last-child) { overflow-wrap: normal }
 td.minus a { color: var(--minus) }
+.js .wide th { cursor: pointer }
+.wide th[aria-sort]::after { content: " \\2193" }
+.wide th[aria-sort=ascending]::after { content: " \\2191" }
+.valid { margin: 8px 0 }
 pre { overflow-x: auto; font-size: 13px; margin: 6px 0; line-height: 1.4; white-space: pre-wrap }
 .line {
   display: block; width: calc(100% - 84px); margin: 10px 20px 0 64px; overflow: visible;
@@ -192,7 +196,7 @@ function search() {
   for (const one of [...findings, ...rows]) one.hidden = !isAll && !has(one, text);
   for (const one of every('.gap, #more')) one.hidden = !isAll;
   for (const one of every('.connection, section')) one.hidden = !isAll && !isFound(one, text);
-  for (const one of every('.uncounted')) {
+  for (const one of every('.uncounted, .valid')) {
     one.hidden = !isAll && !isFound(one, text);
     one.open ||= !isAll && !one.hidden;
   }
@@ -242,6 +246,26 @@ function copy(button) {
   button.classList.toggle('copied', document.execCommand('copy'));
 }
 
+// A number without its separators, or a text; what there is none of comes last.
+function worth(row, at) {
+  const text = row.cells[at].textContent, number = Number(text.replaceAll(',', ''));
+  return text === '-' ? -Infinity : Number.isNaN(number) ? text : number;
+}
+
+// The largest first, or after another click the smallest. The row of sums stays the last.
+function sort(head) {
+  const at = head.cellIndex, body = head.closest('table').tBodies[0], \
+    isUp = head.getAttribute('aria-sort') === 'descending', \
+    isSum = row => row.cells[0].textContent === 'in all';
+  const compared = (one, other) => typeof one === typeof other \
+    ? (one < other) - (one > other) : (typeof one === 'number') - (typeof other === 'number');
+  const ordered = [...body.rows].sort((one, other) => isSum(one) - isSum(other) \
+    || compared(worth(one, at), worth(other, at)) * (isUp ? -1 : 1));
+  for (const one of head.parentElement.cells) one.removeAttribute('aria-sort');
+  head.setAttribute('aria-sort', isUp ? 'ascending' : 'descending');
+  body.append(...ordered);
+}
+
 function follow() {
   const target = document.getElementById(location.hash.slice(1));
   if (!target) return;
@@ -253,6 +277,11 @@ function follow() {
   if (target.matches('article')) stay(target);
 }
 
+for (const head of every('.wide th')) {
+  head.tabIndex = 0;
+  head.addEventListener('click', () => sort(head));
+  head.addEventListener('keydown', event => event.key === 'Enter' && sort(head));
+}
 if (find) {
   for (const one of every('#next, #previous')) one.hidden = !findings.length;
   find.addEventListener('input', search);

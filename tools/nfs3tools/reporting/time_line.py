@@ -76,8 +76,9 @@ def words_of(line: TimeLine) -> Iterator[str]:
         yield f'{count(drawn, "call")} {plural(drawn, "is", "are")} drawn.'
     elif drawn:
         errors = f', {line.errors:,} of them errors' if line.errors else ''
-        yield (f'{drawn:,} of {count(line.calls - line.untimed, "call")} are drawn: errors, and '
-               f'the slowest call of each pixel column. {left:,} are left out{errors}.')
+        yield (f'{drawn:,} of {count(line.calls - line.untimed, "call")} are drawn: errors, calls '
+               f'without a reply, and the slowest call of each pixel column. {left:,} are left '
+               f'out{errors}.')
 
 
 class Scale:

@@ -54,14 +54,15 @@ class Fault(typing.NamedTuple):
 PLACE = re.compile(r'(?:first: |second: |differ at )?'
                    r'(?:connection (\d{1,18}) (client|server) record (\d{1,18})'
                    r'(?: byte (\d{1,18}))?|file (\d{1,18}))(?:: (\w+))?')
+COUNTED = re.compile(r'(\d{1,18}):(\d{1,18})(?: frame \d{1,18})?')
 LISTED = re.compile(r'(\d{1,18}) (client|server) (\d{1,18})(?: xid=.*)?')
 FRAME = re.compile(r'frame (\d{1,18})')
 EXAMPLE = "as in 'connection 1 server record 7 byte 24'"
 
 
 def parse_place(text: str) -> Place | FilePlace | FramePlace:
-    """Reads a position from a line of `check`, of `same`, or of `show`, or a frame. Of several
-    lines the first that is one counts.
+    """Reads a position from a line of `check`, of `same`, or of `show`, a call as tools/calls
+    prints it (`7:3182`), or a frame. Of several lines the first that is one counts.
 
     A line of `check` or `same` may have `first: `, `second: ` or `differ at ` before the position,
     and a reason after it. A line of `show` begins with the numbers of its connection and record.
@@ -71,6 +72,9 @@ def parse_place(text: str) -> Place | FilePlace | FramePlace:
     """
     for line in map(str.strip, text.splitlines()):
         listed, found, frame = LISTED.fullmatch(line), PLACE.fullmatch(line), FRAME.fullmatch(line)
+        counted = COUNTED.fullmatch(line)
+        if counted:
+            return Place(int(counted[1]), 'client', int(counted[2]))
         if listed:
             return Place(int(listed[1]), side_of(listed[2]), int(listed[3]))
         if found:

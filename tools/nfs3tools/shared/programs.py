@@ -19,6 +19,8 @@ TOP = pathlib.Path(__file__).resolve().parents[3]
 CHECKED, COMPARED, MASKED = {0: 'ok ', 2: ''}, {0: 'same\n', 1: 'differ at '}, {0: 'ok '}
 COMMANDS = ('check', 'same', 'show')
 PIPE_SIZE = 1 << 16  # of Linux
+NOT_FOUND = ('nfs3canon is missing: it is neither beside the tools nor on the PATH; '
+             '`tools/install` in a clone of nfs3canon installs it')
 Stream = typing.Union[typing.IO[bytes], int]
 # Of a program itself; a shell and a loader have those above for one that cannot run
 MOST_STATUS = 125
@@ -51,7 +53,7 @@ def program_path(named: str | None = None) -> str:
         found = shutil.which(name)
         if found:
             return found
-    raise Missing(f'{escaped(named or "nfs3canon")} is missing')
+    raise Missing(f'{escaped(named)} is missing' if named else NOT_FOUND)
 
 
 @functools.cache
@@ -61,13 +63,19 @@ def program_beside(program: str, name: str) -> str:
 
     Raises `Missing`.
     """
-    path = pathlib.Path(program).resolve()
-    own = path.parents[2] / name / 'out' / name if path.parent.name == 'out' else path.parent / name
-    for place in (str(own), str(TOP / name), name):
+    for place in (str(path_beside(pathlib.Path(program), name)), str(TOP / name), name):
         found = shutil.which(place)
         if found:
             return found
     raise Missing(f'{name} is missing')
+
+
+def path_beside(program: pathlib.Path, name: str) -> pathlib.Path:
+    """Where another program is that was built with a given one: beside it, or in its own crate's
+    folder."""
+    path = program.resolve()
+    return (path.parents[2] / name / 'out' / name if path.parent.name == 'out'
+            else path.parent / name)
 
 
 def made_programs(names: typing.Iterable[str]) -> None:

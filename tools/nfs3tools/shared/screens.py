@@ -56,6 +56,18 @@ def add_colour(parser: argparse.ArgumentParser) -> None:
                              'if NO_COLOR is not set')
 
 
+def add_width(parser: argparse.ArgumentParser) -> None:
+    """The option that says how wide lines may be."""
+    parser.add_argument('--width', metavar='N', type=positive,
+                        help='prints no line wider than N columns; by default those of a terminal')
+
+
+def positive(word: str) -> int:
+    if int(word) < 1:
+        raise ValueError
+    return int(word)
+
+
 def screen_of(when: str, width: int | None = None) -> Screen:
     """Returns what standard output is now: it may be standard error in its place. `width` is the
     one that a user wants."""
@@ -100,11 +112,20 @@ def wrapped_lines(rows: Sequence[Styled], heads: Sequence[str], screen: Screen) 
         yield from (*first, *(' ' * indent + cell for cell in cells))
 
 
-def panels(rows: Sequence[Styled], screen: Screen, right: Container[int] = ()) -> Iterator[str]:
+def panels(rows: Sequence[Styled], screen: Screen, right: Container[int] = (),
+           text: int = 0) -> Iterator[str]:
     """Returns the lines of a table as `lines_of` does. If it is too wide for the terminal, it has
-    panels below each other, each with the first column and as many of the others as fit."""
-    for numbers in panels_of([row.cells for row in rows], screen.width):
-        is_last = numbers[-1] == len(rows[0].cells) - 1
+    panels below each other, each with the first column and as many of the others as fit. If `text`
+    is given, the first panel has so many columns, of which the last is the coloured text."""
+    is_narrow = screen.width is not None and not is_as_wide(rows, screen.width)
+    first = text if is_narrow else 0
+    found = panels_of([[*row.cells[:1], *row.cells[first or 1:]] for row in rows], screen.width)
+    if first:
+        found = [list(range(first)), *([number and number + first - 1 for number in numbers]
+                                       for numbers in found)]
+    last = first - 1 if first else len(rows[0].cells) - 1
+    for numbers in found:
+        is_last = numbers[-1] == last
         some = [Styled([row.cells[number] for number in numbers], row.colour if is_last else None)
                 for row in rows]
         yield from lines_of(some if is_last else padded(some, numbers[-1] in right), screen,

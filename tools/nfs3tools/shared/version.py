@@ -1,4 +1,5 @@
-"""The version of what is here: that of the newest section of CHANGELOG.md, its only place.
+"""The version of what is here: that of the newest section of the tools' CHANGELOG.md, which is that
+of the repository's.
 
 An installed Python package has it in its metadata.
 """
@@ -8,17 +9,15 @@ import re
 from pathlib import Path
 
 TOP = Path(__file__).resolve().parents[3]
-SECTION = re.compile(r'^## (\d+\.\d+\.\d+\S*)', re.MULTILINE)
+CHANGES = Path(__file__).resolve().parents[2] / 'CHANGELOG.md'
+SECTION = re.compile(r'# Changelog of the tools\n.*?^## (\d+\.\d+\.\d+\S*)',
+                     re.MULTILINE | re.DOTALL)
 
 
 def version() -> str:
     """Returns the version, as `1.2.0`."""
-    try:
-        text = (TOP / 'CHANGELOG.md').read_text(encoding='utf-8')
-    except FileNotFoundError:
-        import importlib.metadata  # only here, since it takes 30 ms
-        return importlib.metadata.version('nfs3tools')
-    found = SECTION.search(text)
-    if not found:
-        raise ValueError('CHANGELOG.md names no version')
-    return found[1]
+    found = SECTION.match(CHANGES.read_text(encoding='utf-8')) if CHANGES.is_file() else None
+    if found:
+        return found[1]
+    import importlib.metadata  # only here, since it takes 30 ms
+    return importlib.metadata.version('nfs3tools')

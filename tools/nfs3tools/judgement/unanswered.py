@@ -1,0 +1,68 @@
+"""How many calls of a recording got no reply.
+
+    unanswered = Unanswered()
+    unanswered.number('192.0.2.7:700', '192.0.2.1:2049', open_calls([client], server))
+"""
+from __future__ import annotations
+
+import itertools
+from array import array
+from bisect import bisect_left
+from collections import defaultdict
+from collections.abc import Collection, Iterator, Sequence
+
+from ..exchanges.answering import Answers, calls_in
+from ..exchanges.kept import host_of
+from ..recordings.records import Window, xids
+from ..recordings.taken import TakenStream
+
+KEPT_AT_MOST = 1 << 16  # calls without a reply; then those so far are forgotten
+Said = tuple[int, int]  # the xid of a call, and a hash of what it says
+
+
+class Unanswered:
+    """Counts calls without a reply, connection by connection. One that was sent again on another
+    connection of the same client and server, and got no reply there either, is counted once."""
+
+    def __init__(self) -> None:
+        self.known = defaultdict[tuple[str, str], set[Said]](set)  # by both ends
+
+    def number(self, client: str, server: str, found: set[Said]) -> int:
+        """Returns how many of the calls of a connection without a reply were not counted before. Of
+        a capture the ends are not known."""
+        if not client or not found:
+            return len(found)
+        if sum(map(len, self.known.values())) > KEPT_AT_MOST:
+            self.known.clear()
+        known = self.known[host_of(client), server]
+        new = len(found - known)
+        known |= found
+        return new
+
+
+def open_calls(clients: Sequence[TakenStream], server: TakenStream,
+               answered_before: Collection[int] = ()) -> set[Said]:
+    """Returns the calls of a client without a reply. What they say is read of these alone, unless
+    several calls have one xid."""
+    calls, replies = sorted_xids(clients), sorted_xids([server])
+    sent = itertools.chain.from_iterable(map(calls_in, clients))
+    if answered_before or any(map(int.__eq__, calls, calls[1:])):
+        answers = Answers(sent, server, answered_before)
+        return {(answers.calls[at].xid, answers.calls[at].said()) for at in answers.unanswered()}
+    wanted = set(missing_from(replies, calls))
+    return {(call.xid, call.said()) for call in sent if call.xid in wanted} if wanted else set()
+
+
+def sorted_xids(streams: Sequence[TakenStream]) -> array[int]:
+    """Returns the xids of all records of some streams. An array takes little memory."""
+    return array('I', sorted(xid for stream in streams
+                             for _, xid, _ in xids(Window(stream), 0, stream.size)))
+
+
+def missing_from(several: array[int], wanted: array[int]) -> Iterator[int]:
+    """Iterates over the numbers that are not among others, both sorted."""
+    at = 0
+    for number in wanted:
+        at = bisect_left(several, number, at)
+        if several[at:at + 1] != array('I', [number]):
+            yield number

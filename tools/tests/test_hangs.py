@@ -1,0 +1,199 @@
+"""Tests of calls without a reply, of calls that were sent again on a later connection, of windows of
+time, and of names that change."""
+import json
+import re
+import struct
+import tracemalloc
+import xml.etree.ElementTree
+from collections.abc import Iterable
+
+from examples.messages import MOUNT, NFS, call, dirop, fh, fragment, ok, opaque, success, wcc, word
+from examples.packets import ACK, RST, SERVER, SYN, Talk, datagram, ethernet, segment
+
+from ..nfs3tools.commands.verdicts import Judge
+from ..nfs3tools.recordings.selection import Options
+from .cases import FolderTest
+from .scripts import Tools, sums, taken_of
+
+BEGUN = 1_600_000_000  # 12:26:40 UTC
+ROOT, FOLDER, FILE = b'root', b'folder', b'file'
+GETATTR, LOOKUP, READ, CREATE, RENAME = 1, 3, 6, 8, 14
+
+
+def timed(frames: Iterable[tuple[float, bytes]]) -> bytes:
+    """A recording of frames, each so many seconds after it began."""
+    header = struct.pack('<IHHiIII', 0xa1b2c3d4, 2, 4, 0, 0, 65_535, 1)
+    return header + b''.join(
+        struct.pack('<IIII', BEGUN + int(at), round(at % 1 * 1_000_000), len(frame), len(frame)) + frame
+        for at, frame in frames)
+
+
+def hung() -> bytes:
+    """A server that stops: of three calls one is answered. The client sends two again on another
+    connection, where one is answered; the last frame is 20 seconds after the first."""
+    first, second = Talk(700), Talk(701)
+    calls = [fragment(call(xid, NFS, 3, 1, fh(bytes([xid])))) for xid in (1, 2, 3)]
+    frames = [(0.0, frame) for frame in first.opened()]
+    frames += [(1.0 + at, first.sent(0, content)) for at, content in enumerate(calls)]
+    frames += [(2.5, first.sent(1, fragment(success(1, word(70))))), (5.0, first.frame(0, RST | ACK))]
+    frames += [(6.0, frame) for frame in second.opened()]
+    frames += [(7.0, second.sent(0, calls[1] + calls[2])),
+               (9.0, second.sent(1, fragment(success(2, word(70))))), (20.0, second.frame(0, ACK))]
+    return timed(sorted(frames, key=lambda one: one[0]))
+
+
+def rows_of(tools: Tools, *words: str) -> list[list[str]]:
+    """The cells of what tools/calls lists."""
+    status, out, error = tools.tool('calls', '--program', tools.program, *words)
+    tools.want(f'calls {words}', (status, error), (0, ''))
+    return [re.split('  +', line.strip()) for line in out.splitlines()[1:-2]]
+
+
+# --- Calls without a reply ---
+
+LINE = sums(2, silent=2)
+
+
+def listed_without_a_reply(tools: Tools) -> None:
+    """--no-reply lists those that never got one, and those that got it on a later connection, with how
+    long each waited; --slow counts that as well."""
+    tools.write('a.pcap', hung())
+    wanted = [['2.000000', '1:2', 'GETATTR ?', 'no reply in 7.000 s, answered as 2:1'],
+              ['3.000000', '1:3', 'GETATTR ?', 'no reply in 17.000 s, sent again as 2:2']]
+    found = rows_of(tools, '--no-reply', 'a.pcap')
+    tools.want('--no-reply', [row[:1] + row[3:] for row in found], wanted)
+    for slow, some in (('5s', ['1:2', '1:3', '2:2']), ('15s', ['1:3'])):
+        tools.want(slow, [row[3] for row in rows_of(tools, '--slow', slow, 'a.pcap')], some)
+    tools.want('all', [row[4] for row in rows_of(tools, 'a.pcap')],
+               ['GETATTR ?', 'GETATTR ?', 'GETATTR ?', 'GETATTR ? (again, as 1:2)',
+                'GETATTR ? (again, as 1:3)'])
+
+
+def counted_in_each_form(tools: Tools) -> None:
+    """Their number is the same in each form of output, and changes no status."""
+    tools.write('a.pcap', hung())
+    words = '--json', 'x.json', '--junit', 'x.xml', '--html', 'x.html', 'a.pcap'
+    status, out, _ = tools.tool('verdicts', '--program', tools.program, *words)
+    tools.want('text', (status, out.splitlines()[-1]), (0, LINE))
+    written = json.loads(tools.read('x.json') or b'')
+    tools.want('JSON', (written['counts']['without reply'], [row['unanswered'] for row in written['rows']]),
+               (2, [2, 0]))
+    suite = xml.etree.ElementTree.fromstring((tools.read('x.xml') or b'').decode())
+    tools.want('JUnit', [one.get('value') for one in suite.iter('property')
+                         if one.get('name') == 'without reply'], ['2'])
+    tools.want('page', b'<b>2</b> calls without a reply' in (tools.read('x.html') or b''), True)
+    for tool, more in (('verdicts', ['--follow']), ('procedures', ['--total']), ('calls', [])):
+        out = tools.tool(tool, '--program', tools.program, *more, '-' if more == ['--follow'] else 'a.pcap',
+                         stdin=tools.read('a.pcap'))[1]
+        tools.want(tool, LINE in out, True)
+
+
+def sent_again_later(tools: Tools) -> None:
+    """An equal call with the same xid on a later connection of the same ends is a retransmission; one
+    with other bytes, of another client or of another server is none."""
+    tools.write('a.pcap', hung())
+    tools.tool('procedures', '--program', tools.program, '--json', 'x.json', 'a.pcap')
+    tables = json.loads(tools.read('x.json') or b'')['tables']
+    tools.want('again', [table['procedures'][-1]['again'] for table in tables], [0, 2, 2])
+    tools.want('no reply', [table['procedures'][-1]['unanswered'] for table in tables], [2, 0, 2])
+    others = [Talk(701, hosts=('192.0.2.9', SERVER)), Talk(701, hosts=('192.0.2.7', '192.0.2.2')), Talk(701)]
+    for other, handle in zip(others, (b'a', b'a', b'b')):
+        first = Talk(700)
+        frames = [*first.opened(), first.sent(0, fragment(call(1, NFS, 3, 1, fh(b'a')))),
+                  first.frame(0, RST | ACK), *other.opened(),
+                  other.sent(0, fragment(call(1, NFS, 3, 1, fh(handle))))]
+        tools.write('b.pcap', timed((at, frame) for at, frame in enumerate(frames)))
+        tools.want('none', [row[3] for row in rows_of(tools, '--no-reply', 'b.pcap')], ['1:1', '2:1'])
+
+
+# --- Positions, and windows of time ---
+
+def positions_of_calls(tools: Tools) -> None:
+    """`where`, `explain` and `cut` take a position as `calls` and `procedures` print it."""
+    tools.write('a.pcap', hung())
+    for text in ('2:1', '2:1 frame 14'):
+        status, out, _ = tools.tool('where', 'a.pcap', text)
+        tools.want(text, (status, out.split(':')[0]), (0, 'connection 2 client record 1'))
+    tools.want('explain', tools.tool('explain', 'a.pcap', '1:2')[0], 0)
+    tools.want('cut', tools.tool('cut', '--program', tools.program, 'a.pcap', '1:2', 'out')[0], 0)
+    tools.want('none', tools.tool('where', 'a.pcap', '2:')[0], 2)
+
+
+def windows(tools: Tools) -> None:
+    """--from and --to take seconds, or a time of day; --utc prints that."""
+    tools.write('a.pcap', hung())
+    tools.want('utc', [row[0] for row in rows_of(tools, '--utc', 'a.pcap')][:2],
+               ['12:26:41.000000', '12:26:42.000000'])
+    for words in (['--from', '2', '--to', '3.5'], ['--from', '12:26:42', '--to', '12:26:43.5'],
+                  ['--from', '1.5', '--to', '12:26:43']):
+        tools.want(' '.join(words), [row[3] for row in rows_of(tools, *words, 'a.pcap')], ['1:2', '1:3'])
+        tools.tool('procedures', '--program', tools.program, *words, '--json', 'x.json', 'a.pcap')
+        tables = json.loads(tools.read('x.json') or b'')['tables']
+        tools.want('procedures', tables[-1]['procedures'][-1]['calls'], 2)
+    tools.want('no time', tools.tool('calls', '--from', '25:00', 'a.pcap')[0], 2)
+
+
+# --- Names ---
+
+def renamed() -> bytes:
+    """A file that is made in a folder, and renamed twice; then the folder is."""
+    talk = Talk()
+    none = wcc()
+    asked = [
+        (MOUNT, 1, opaque(b'/x'), word(0) + fh(ROOT) + word(1) + word(1)),
+        (NFS, LOOKUP, dirop(ROOT, b'd'), ok(fh(FOLDER), word(0), word(0))),
+        (NFS, CREATE, dirop(FOLDER, b'tmp') + word(0) + bytes(24), ok(word(1), fh(FILE), word(0), none)),
+        (NFS, GETATTR, fh(FILE), word(70)),
+        (NFS, RENAME, dirop(FOLDER, b'tmp') + dirop(FOLDER, b'final'), ok(none, none)),
+        (NFS, GETATTR, fh(FILE), word(70)),
+        (NFS, RENAME, dirop(ROOT, b'd') + dirop(ROOT, b'e'), ok(none, none)),
+        (NFS, GETATTR, fh(FILE), word(70))]
+    frames = talk.opened()
+    for xid, (program, procedure, arguments, results) in enumerate(asked):
+        frames.append(talk.sent(0, fragment(call(xid, program, 3, procedure, arguments))))
+        frames.append(talk.sent(1, fragment(success(xid, results))))
+    return timed((at, frame) for at, frame in enumerate(frames))
+
+
+def names_at_the_time(tools: Tools) -> None:
+    """A file has the name that it had when it was called, and --path fits each name; so in a capture."""
+    tools.write('a.pcap', renamed())
+    tools.want('from_pcap', tools.tool('from_pcap', 'a.pcap', 'a.nfs3cap')[0], 0)
+    wanted = ['/x/d/tmp', '/x/d/final', '/x/e/final']
+    for name in ('a.pcap', 'a.nfs3cap'):
+        found = rows_of(tools, '--procedure', 'GETATTR', name)
+        tools.want(name, [row[-2].split()[-1] for row in found], wanted)
+    for pattern in ('tmp', 'final', '*/d/final', '/x/d/tmp'):
+        found = rows_of(tools, '--path', pattern, '--procedure', 'GETATTR', 'a.pcap')
+        tools.want(pattern, len(found), 3)
+    tools.want('made', rows_of(tools, '--path', 'final', 'a.pcap')[0][4:6], ['CREATE', '/x/d/tmp UNCHECKED'])
+    out = tools.tool('calls', '--program', tools.program, '--json', '--procedure', 'GETATTR', 'a.pcap')[1]
+    tools.want('JSON', [(one['path'], one['other_names']) for one in json.loads(out)['calls']],
+               [(path, [other for other in wanted if other != path]) for path in wanted])
+    told = tools.tool('calls', '--user', 'root', 'a.pcap')[2]
+    tools.want('--user', 'no uid: root (a number, as `id -u` prints it)' in told, True)
+
+
+# --- Memory ---
+
+def memory_of_connections(tools: Tools) -> None:
+    """A connection of a SYN alone takes a few hundred bytes, from its frame to its verdict."""
+    number = 4_000
+    frames = (ethernet(datagram(f'10.1.{at // 256}.{at % 256}', SERVER, segment((700, 2049), 1 << 31, 0, SYN)))
+              for at in range(number))
+    recording = timed((0.0, frame) for frame in frames)
+    tracemalloc.start()
+    try:
+        with taken_of(recording) as taken:
+            verdicts = Judge(tools.program, Options(), 1, False).of_taken('a', taken)
+        most = tracemalloc.get_traced_memory()[1]
+    finally:
+        tracemalloc.stop()
+    tools.want('verdicts', {verdict.state for verdict in verdicts[:number]}, {'left out'})
+    tools.want('bytes of each', most / number < 1_200 or most / number, True)
+
+
+class HangsTest(FolderTest, make=Tools, tests=[
+        listed_without_a_reply, counted_in_each_form, sent_again_later, positions_of_calls, windows,
+        names_at_the_time, memory_of_connections]):
+    """Each test has a folder of its own."""
