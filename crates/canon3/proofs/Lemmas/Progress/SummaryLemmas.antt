@@ -1,9 +1,9 @@
 -- From what was handed out to what a capture has.
-use Rattle.std.proofs.Common.{◌≡◌, ℕ, min, Result, Ok, Err, List, [], ◌∷◌, ◌++◌, length, refl, subst, sym, append-nil, arith}
-use Rattle.canon3.proofs.Common.{bytes_eq, Gave, Observed, IsPrefixOf, shown_of_all, flat_map-append, Error, Entry, items_of, Typed, distinct, number_limit, handles, Summary}
+use Rattle.std.proofs.Common.{◌≡◌, ℕ, min, Result, Ok, Err, List, [], ◌∷◌, ◌++◌, length, refl, subst, sym, append-nil, arith, inl, inr}
+use Rattle.canon3.proofs.Common.{bytes_eq, Gave, Observed, IsPrefixOf, flat_map-append, Error, Entry, items_of, Typed, distinct, number_limit, handles, Summary}
 use Rattle.std.specs.Cmp.Lexicographic.{nat_list_eq_equiv}
 use Rattle.capture3.specs.declared.fault.Error.TheVariants as errors
-use Rattle.capture3.specs.Reached.{Reached}
+use Rattle.capture3.specs.FirstFault.{FirstFault}
 use Rattle.std.specs.Prelude.{IfErr, Option, ◌≢◌}
 use Rattle.canon3.specs.EntryWriter.{WritesGiven}
 use Rattle.canon3.specs.HandleTable.{all_items, nothing}
@@ -33,8 +33,11 @@ pub concluded : (bytes : List ℕ) (old new : Observed) (result : Result Summary
     → ConcludesGiven old new result → ConcludesAll bytes result
 concluded bytes old new (Ok summary) prefix (given, gave, (ended, is)) =
     (rw ((prefix given gave).all ended) at is, tt)
-concluded bytes old new (Err (errors.Refused fault)) prefix (given, gave, (entries, met)) =
-    (tt, (shown_of_all new given bytes entries fault (prefix given gave) met).0)
+concluded bytes old new (Err (errors.Refused fault)) prefix (given, gave, inl whatever) =
+    let p = prefix given gave in
+    (tt, subst (λ (b : List ℕ). FirstFault b fault) (sym p.split) (whatever p.rest))
+concluded bytes old new (Err (errors.Refused fault)) prefix (given, gave, inr (ended, first)) =
+    (tt, subst (λ (b : List ℕ). FirstFault b fault) ((prefix given gave).all ended) first)
 concluded bytes old new (Err _) prefix c = (tt, tt)
 
 -- what is concluded where nothing was written
@@ -43,14 +46,13 @@ pub concludes : (old new : Observed) (result : Result Summary Error) (written : 
     → WritesGiven nothing (old, new) (written, written) result → ConcludesGiven old new result
 concludes old new (Ok summary) written never (entries, all, is, appends) =
     (all.given, all.gave, (all.ended, is))
-concludes old new (Err (errors.Refused fault)) written never (given, gave, (entries, met, appends))
-    =
-    (given, gave, (entries, met))
-concludes old new (Err errors.Read) written never (given, gave, (entries, met, appends)) =
-    (given, gave, (entries, met))
+concludes old new (Err (errors.Refused fault)) written never
+    (given, gave, (entries, inl whatever, appends)) = (given, gave, inl (λ rest. (whatever rest).0))
+concludes old new (Err (errors.Refused fault)) written never
+    (given, gave, (entries, inr (ended, first, reached), appends)) = (given, gave, inr (ended, first))
+concludes old new (Err errors.Read) written never (given, gave, met) = (given, gave, tt)
 concludes old new (Err errors.Write) written never w = absurd (never refl)
-concludes old new (Err errors.Memory) written never (given, gave, (entries, reached, appends)) =
-    (given, gave, (entries, ([], subst (Reached given) (sym (append-nil entries)) reached)))
+concludes old new (Err errors.Memory) written never (given, gave, met) = (given, gave, tt)
 
 -- where no write failed
 pub no_write : {X : Type 0} (result : Result X Error) → CountsWriting 0 0 result
