@@ -3,6 +3,7 @@ use Rattle.std.specs.Prelude.{◌≡◌, ◌⊎◌, ◌++◌, ℕ, List, IfOk, b
 use Rattle.capture3.specs.Observed.{Gave, IsSpent, Observed}
 use Rattle.capture3.specs.declared.fault.Error.{Error}
 use Rattle.capture3.specs.declared.fault.Error.TheVariants as errors
+use Rattle.capture3.specs.declared.fault.Fault.{Fault}
 use Rattle.capture3.specs.Entries.{OnRefused}
 use Rattle.capture3.specs.Entry.{Entry}
 use Rattle.capture3.specs.FirstFault.{FirstFault}
@@ -45,14 +46,16 @@ pub record IsSummary (bytes : List ℕ) (summary : Summary) : Type 0 where
 abbrev pub AreCountedHandles : ℕ → List Entry → Type 0
 AreCountedHandles n entries = n ≡ min (length (distinct bytes_eq (handles entries))) number_limit
 
+-- the bytes given show this fault: it is the first whatever follows them, or since nothing does
+abbrev pub IsFirstGiven : (observed : Observed) (given : List ℕ) → Fault → Type 0
+IsFirstGiven observed given fault = ((rest : List ℕ) → FirstFault (given ++ rest) fault)
+    ⊎ (IsSpent observed × FirstFault given fault)
+
 -- What is concluded of the bytes that the source gave, where it is observed so: all were a
--- capture's, and this is its summary; or the fault is the first, whatever follows them or since
--- nothing does. No other error says anything.
+-- capture's, and this is its summary; or they show the fault. No other error says anything.
 abbrev pub Concludes : (observed : Observed) (given : List ℕ) → Result Summary Error → Type 0
 Concludes observed given (Ok summary) = IsSpent observed × IsSummary given summary
-Concludes observed given (Err (errors.Refused fault)) =
-    ((rest : List ℕ) → FirstFault (given ++ rest) fault)
-    ⊎ (IsSpent observed × FirstFault given fault)
+Concludes observed given (Err (errors.Refused fault)) = IsFirstGiven observed given fault
 Concludes observed given (Err _) = Unit {0}
 
 -- the source gave some bytes, and this is concluded of them
