@@ -105,7 +105,7 @@ def drawn_mixed(seed: int) -> bytes:
 
 
 def of_long_lines() -> bytes:
-    """A capture whose lines have more text than is held of one, or data and a string of many bytes."""
+    """A capture whose lines have more than a megabyte of text, or data and a string of many bytes."""
     entries = messages.entries(None, bytes(8), (messages.entry(number, b'name', number) for number in range(26_000)), True)
     calls = [call(1, NFS, 3, 16, messages.fh(b'd') + bytes(20)), call(2, NFS, 3, 3, messages.dirop(b'd', b'"' * 20_000)),
              call(3, NFSACL, 3, 1, bytes(20_000))]

@@ -25,7 +25,7 @@ from typing import IO
 sys.path.insert(0, str(pathlib.Path(__file__).resolve().parents[2]))
 from examples import messages
 from examples.messages import (
-    CLIENT, MAGIC_2, NFS, NFSACL, call, dirop, fh, fragment, hyper, in_turn, interleaved, success,
+    CLIENT, MAGIC_2, MOUNT, NFS, NFSACL, call, dirop, fh, fragment, hyper, in_turn, interleaved, success,
     word)
 from tests.shared.outputs import PART
 from tests.shared.running import (
@@ -37,6 +37,7 @@ NOBODY = 65_534
 MOST_RATIO, ROUNDS = 2.6, 8  # of the time that twice as much takes; it is 4 if time grows by the square
 MOST_IN_ANOTHER_ORDER = 3  # of the time that the same connections take if the large one is the last
 MOST_CONNECTIONS = 65_535
+LONGEST = 1 << 24  # the bytes that a record's body may have
 KNOWN_WORD = 0x9e3779b97f4a7c15  # of the kit's `FoldHasher`
 NULL = ([call(1, NFS, 3, 0)], [success(1)])
 GOOD = messages.capture(NULL)  # its own canonical form
@@ -217,18 +218,26 @@ def memory_of_one_connection(place: Place) -> None:
 
 
 def memory_of_a_long_line(place: Place) -> None:
-    """At most 1 MiB of a line's text is held. A directory's 250,000 entries in a record of 7 MB, whose line has 12 MB, take 12 MB at most
-    beside what the smallest capture takes; with its text they would take 29. A name of 1 MB, whose text has 4, and then 120,000 calls of
-    another connection take 7.5 MB at most."""
-    entries = messages.entries(None, bytes(8), (messages.entry(number, b'n', number) for number in range(250_000)), True)
-    place.write('list', messages.capture(([call(1, NFS, 3, 16, fh(b'd') + bytes(20))], [success(1, messages.ok(entries))])))
+    """The text of a line is given back when its stream ends: one of 4 MB, and then 120,000 calls of another connection, take 9.5 MB at
+    most beside what the smallest capture takes. Both at once would take 11."""
     long = [call(1, NFS, 3, 3, dirop(b'', bytes(1_000_000)))]
     others = [call(number * 0x9e3779b1 % 2 ** 32, NFS, 3, 0) for number in range(120_000)]
-    place.write('name', messages.capture((long, []), (others, [])))
-    for name, most, lines in (('list', 12_000, 2), ('name', 7_500, 120_001)):
-        answer = place.limited('-v %d' % (place.least_memory() + most), 'show', name)
-        place.want('show ' + name, answer == place.run('show', name), True)
-        place.want('lines of ' + name, (answer[0], answer[1].count('\n')), (0, lines))
+    place.write('a', messages.capture((long, []), (others, [])))
+    answer = place.limited('-v %d' % (place.least_memory() + 9_500), 'show', 'a')
+    place.want('show', answer == place.run('show', 'a'), True)
+    place.want('lines', (answer[0], answer[1].count('\n')), (0, 120_001))
+
+
+def memory_of_the_longest_line(place: Place) -> None:
+    """A line is held until its record is judged. One of 16 MiB of words with the most digits each takes at most six times its record
+    beside what the smallest capture takes."""
+    head = success(1, word(0) + fh(b'root'))
+    count = (LONGEST - len(head) - 4) // 4
+    replies = [head + word(count) + b'\xff' * (4 * count)]
+    place.write('a', messages.capture(([call(1, MOUNT, 3, 1, fh(b'/d'))], replies)))
+    answer = place.limited('-v %d' % (place.least_memory() + 6 * LONGEST // 1024), 'show', 'a')
+    place.want('status', answer[::2], (0, ''))
+    place.want('words', answer[1].count(' flavor=4294967295'), count)
 
 
 def streams_without_an_end(place: Place) -> None:
@@ -975,6 +984,7 @@ TESTS: list[Test] = [
     linear(xids, 1_000_000), linear(handles, 1_000_000), linear(empty_fragments, 2_000_000), linear(single_bytes, 2_000_000),
     linear_in_version_2(in_turns, 500_000), linear_in_version_2(bytes_in_turns, 2_000_000),
     memory_that_is_refused, memory_that_is_refused_to_version_2, memory_of_one_connection, memory_of_a_long_line,
+    memory_of_the_longest_line,
     streams_without_an_end, lengths_with_nothing_after_them, disks_that_are_full_in_the_middle, readers_that_go_away,
     standard_error_that_nobody_reads, standard_files_that_are_closed, signals_in_the_middle,
     names_that_are_taken_in_the_middle, files_that_get_the_name_in_the_middle, runs_at_once, pipes_that_do_not_wait,

@@ -179,9 +179,8 @@ def links_in_messages(place: Place) -> None:
         % escaped(path)])
 
 
-# --- Lines longer than what is held of one ---
+# --- Long lines of many items ---
 
-HELD = 1 << 20  # so many bytes of a line's text are held before its record is judged
 ATTRIBUTES = messages.fattr(1, 7)
 SHOWN_ATTRIBUTES = (
     b' attr=1 type=1 mode=420 nlink=1 uid=1000 gid=1000 size=0 used=0 rdev1=0 rdev2=0 fsid=66 fileid=7'
@@ -223,11 +222,11 @@ def entries_listed(xid: int, count: int) -> tuple[bytes, bytes]:
 
 
 def lists_in_messages(place: Place) -> None:
-    """From half of the text that is held to ten times as much."""
+    """Lines of half a megabyte to ten."""
     replies = [names_listed(xid, count) for xid, count in enumerate((6_000, 11_000, 12_000, 13_000, 140_000), 1)]
     replies += [entries_listed(xid, count) for xid, count in enumerate((1_500, 2_500, 2_700, 2_900, 30_000), 6)]
     sizes = [len(line) for _, line in replies]
-    place.want('sizes', [min(sizes) < HELD / 1.5, max(sizes) > 9 * HELD, len({size > HELD for size in sizes})], [True, True, 2])
+    place.want('sizes', [min(sizes) < 700_000, max(sizes) > 9_000_000], [True, True])
     calls = [call(xid, NFS, 3, 16, fh(b'd') + bytes(20)) for xid in range(1, 6)]
     calls += [call(xid, NFS, 3, 17, fh(b'd') + bytes(24)) for xid in range(6, 11)]
     place.write('a', capture(calls, [reply for reply, _ in replies]))
@@ -240,7 +239,7 @@ def lists_in_messages(place: Place) -> None:
 
 
 def two_names_in_one_message(place: Place) -> None:
-    """Each is longer than what is composed at once, and a handle of one byte comes between them."""
+    """Each is long, and a handle of one byte comes between them."""
     first, second = bytes(range(256)) * 300, b'n' * 100_000
     place.write('a', capture([call(1, NFS, 3, 14, dirop(b'a', first) + dirop(b'b', second))], []))
     place.listed('a', [

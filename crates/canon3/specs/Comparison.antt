@@ -4,7 +4,6 @@ use Rattle.capture3.specs.Observed.{Gave, Observed}
 use Rattle.capture3.specs.declared.fault.Error.{Error}
 use Rattle.capture3.specs.declared.fault.Error.TheVariants as errors
 use Rattle.capture3.specs.declared.fault.Fault.{Fault}
-use Rattle.capture3.specs.Entries.{IsShownBy}
 use Rattle.capture3.specs.Entry.{Entry}
 use Rattle.capture3.specs.FirstFault.{FirstFault}
 use Rattle.capture3.specs.Typed.{IsWellFormed, Typed}
@@ -15,7 +14,7 @@ use Rattle.canon3.specs.declared.comparison.verdict.Which.{Which}
 use Rattle.canon3.specs.declared.comparison.verdict.Which.TheVariants.{First, Second}
 use Rattle.canon3.specs.Parting.{Parting}
 use Rattle.canon3.specs.Renaming.{Same}
-use Rattle.canon3.specs.Summary.{GaveAll}
+use Rattle.canon3.specs.Summary.{GaveAll, IsFirstGiven}
 
 -- The fault is the first of the first file, or of the second where the first is well formed. No
 -- other error says anything of them.
@@ -36,9 +35,8 @@ DecidesSame file other (Err error) = StopsComparing file other error.error error
 -- the source gave bytes that show this fault
 pub record GaveFault (source : Observed × Observed) (fault : Fault) : Type 0 where
   pub given : List ℕ
-  pub handed : List Entry
   pub gave : Gave source.0 source.1 given
-  pub shown : IsShownBy source.1 given handed fault
+  pub first : IsFirstGiven source.1 given fault
 
 -- two sources, each as it was observed before the call, and as it is now
 module _ (first second : Observed × Observed) where

@@ -1,8 +1,10 @@
 -- A source that gave a capture, and what a capture has of each kind.
-use Rattle.std.specs.Prelude.{◌≡◌, ℕ, List, IfOk, bytes_eq, length, min, Result, Ok, Err}
+use Rattle.std.specs.Prelude.{◌≡◌, ◌⊎◌, ◌++◌, ℕ, List, IfOk, bytes_eq, length, min, Result, Ok, Err}
 use Rattle.capture3.specs.Observed.{Gave, IsSpent, Observed}
 use Rattle.capture3.specs.declared.fault.Error.{Error}
-use Rattle.capture3.specs.Entries.{IsMetBy, OnRefused}
+use Rattle.capture3.specs.declared.fault.Error.TheVariants as errors
+use Rattle.capture3.specs.declared.fault.Fault.{Fault}
+use Rattle.capture3.specs.Entries.{OnRefused}
 use Rattle.capture3.specs.Entry.{Entry}
 use Rattle.capture3.specs.FirstFault.{FirstFault}
 use Rattle.capture3.specs.Laws.{begins}
@@ -44,11 +46,17 @@ pub record IsSummary (bytes : List ℕ) (summary : Summary) : Type 0 where
 abbrev pub AreCountedHandles : ℕ → List Entry → Type 0
 AreCountedHandles n entries = n ≡ min (length (distinct bytes_eq (handles entries))) number_limit
 
+-- the bytes given show this fault: it is the first whatever follows them, or since nothing does
+abbrev pub IsFirstGiven : (observed : Observed) (given : List ℕ) → Fault → Type 0
+IsFirstGiven observed given fault = ((rest : List ℕ) → FirstFault (given ++ rest) fault)
+    ⊎ (IsSpent observed × FirstFault given fault)
+
 -- What is concluded of the bytes that the source gave, where it is observed so: all were a
--- capture's, and this is its summary; or they met the error, after just these entries.
+-- capture's, and this is its summary; or they show the fault. No other error says anything.
 abbrev pub Concludes : (observed : Observed) (given : List ℕ) → Result Summary Error → Type 0
 Concludes observed given (Ok summary) = IsSpent observed × IsSummary given summary
-Concludes observed given (Err error) = (entries : List Entry) × IsMetBy error observed given entries
+Concludes observed given (Err (errors.Refused fault)) = IsFirstGiven observed given fault
+Concludes observed given (Err _) = Unit {0}
 
 -- the source gave some bytes, and this is concluded of them
 abbrev pub ConcludesGiven : (before observed : Observed) → Result Summary Error → Type 0

@@ -50,17 +50,17 @@ unfoldable pub use Rattle.capture3.specs.BodyProgram.{judge_call, judge_reply}
 pub use Rattle.capture3.specs.Capture.{AreStreams, IsCapture, IsConnection, One, Two, Version, digit, magic, magic_front, max_connections, total_size, AreInTurn}
 pub use Rattle.capture3.specs.Chunks.{AreChunks, BeginsStream, IsChunk, IsStream, max_bytes, WithinChunk}
 pub use Rattle.capture3.specs.ConnectionMachine.{Closes, Closing, InClient, InMixed, InServer, Opening, Refuses, after_client, conversing, ending, judge_replies, opened, opening_next, after_server, turning, opening_entries}
-pub use Rattle.capture3.specs.Connections.{BadSide, ConnectionShows, Context, InClientStream, InServerStream, MixedShows, NoLength, ShownFault, StreamsShow, TooMuch, calls_in_turn, client_position, client_refusal, refusal, replies_to, server_position, server_refusal, AfterLength, ServerShows}
+pub use Rattle.capture3.specs.Connections.{BadSide, ConnectionShows, InCalls, InClientStream, InReplies, InServerStream, InTurnShows, MixedShows, NoLength, ShownFault, StreamsShow, TooMuch, calls_in_turn, client_refusal, refusal, replies_to, server_position, server_refusal}
 pub use Rattle.capture3.specs.Entry.{End, Entry}
 pub use Rattle.capture3.specs.FileMachine.{Parsing, concluded, emitted, file_next, file_start, last_entries, parsed, parsing_in, reached, verdict, verdict_of, marked}
-pub use Rattle.capture3.specs.FirstFault.{AfterConnections, ByteAfterEnd, ConnectionIsTooMany, DiffersFromMagic, FirstFault, IsClean, MagicDiffers, MarkIsBad, Rule, Shows, WithinConnection}
+pub use Rattle.capture3.specs.FirstFault.{AfterConnections, ByteAfterEnd, ConnectionIsTooMany, FirstFault, IsClean, MagicDiffers, MarkIsBad, Rule, Shows, WithinConnection, next_position}
 pub use Rattle.capture3.specs.Laws.{AreWithinLimits, begins, most_bytes, HasItsPlace, HasOneVerdict, HaveSameEntries, IsCutShort, IsJudgedInTurn, IsJudgedOnce, IsOfVersion, IsWithinVersion, spelled}
 pub use Rattle.capture3.specs.Reached.{AreFirstReached, AreWhole, BetweenConnections, InConnection, InMagic, IsLongestClean, Opens, Reached, ReachesInside}
-pub use Rattle.capture3.specs.Records.{AreMessages, FirstRecordFault, Holds, HoldsSoFar, Judgement, NextIsCut, NextIsTooLong, RecordFault, RefusesNext, StreamShows, fault_at, IsCut, RefusesRecord}
+pub use Rattle.capture3.specs.Records.{AreMessages, CutsOpen, FirstRecordFault, Holds, HoldsSoFar, IsCut, Judgement, PassesLimit, RecordFault, RefusesRecord, StreamShows, fault_at}
 pub use Rattle.capture3.specs.SideMachine.{SideCloses, SideEnd, SideRefuses, Siding, side_next, siding_from, siding_in, awaiting, closing, counted}
 pub use Rattle.capture3.specs.SidedChunks.{AreMixed, BeginsMixed, IsSidedChunk, SidedChunk, Streams, carried_by, gathered, of_side, side_word, size, with_more, AfterSideWord, WithinSided}
 pub use Rattle.capture3.specs.SidedChunksMachine.{MixedCloses, MixedEnd, MixedRefuses, Mixing, SideChunk, SideLength, SideWord, awaiting_side, measured, mixed_next, mixed_step, mixing_from, mixing_in, sided}
-pub use Rattle.capture3.specs.Sides.{Position, SideShows, file_fault, place_at, place_in, CutsRecord, ShowsRecord}
+pub use Rattle.capture3.specs.Sides.{CutsRecord, PassesBytes, Position, ShowsRecord, SideShows, file_fault, place_at}
 pub use Rattle.capture3.specs.StreamMachine.{Faulty, Held, Judge, Reading, StreamEnd, end_of, judged, left_in, reading_with, recorded, rest_end, stream_end, stream_next, unread}
 pub use Rattle.capture3.specs.Observed.{Gave, IsSpent, Observed}
 pub use Rattle.capture3.specs.Typed.{Converses, HaveEntries, IsWellFormed, Typed, connection_entries, reply_entry, AnswerCalls, AreEach, HaveOneProcedure, IsIn}

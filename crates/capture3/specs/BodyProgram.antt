@@ -44,11 +44,8 @@ judge_call before body = reading message_start body 0 >>= call_after before body
 abbrev pub answering : List ℕ → Option ProcId → Result ReplyItems Stop
 answering body None = refused 0 NoCall
 answering body (Some id) =
-    read_whole (reply_layout (results_of id)) body >>= λ items. Ok (record {
-      id = id;
-      items =
-          items;
-    })
+    read_whole (reply_layout (results_of id)) body
+    >>= λ items. Ok (record { id = id; items = items })
 
 abbrev pub reply_after : List (List Item) → List ℕ → List Item × ℕ → Result ReplyItems Stop
 reply_after calls body start =

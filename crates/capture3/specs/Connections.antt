@@ -22,33 +22,10 @@ calls_in_turn = record { accepts = AcceptsCall; refuses = RefusesCall }
 abbrev pub replies_to : List (List Item) → Judgement ReplyItems
 replies_to calls = record { accepts = λ _. AcceptsReply calls; refuses = λ _. RefusesReply calls }
 
--- where a connection stands: its number, the file's byte after its word 1, and the capture's stream
--- bytes before it
-pub record Context : Type 0 where
-  pub number : ℕ
-  pub start : ℕ
-  pub before : ℕ
-
-abbrev pub client_position : Context → Position
-client_position context =
-    record {
-      connection = context.number;
-      side = Client;
-      start = context.start;
-      before =
-          context.before;
-    }
-
--- after the bytes of the client stream in the file, which carry `client`
-abbrev pub server_position : Context → List ℕ → List ℕ → Position
-server_position context front client =
-    record {
-      connection = context.number;
-      side = Server;
-      start =
-          context.start + length front;
-      before = context.before + length client;
-    }
+-- the server stream's, after the bytes of the client stream in the file, which carry `client`
+abbrev pub server_position : Position → List ℕ → List ℕ → Position
+server_position at front client =
+    record at { start = at.start + length front; before = at.before + length client }
 
 -- a fault, and the entries that the byte which shows it still reaches
 pub record ShownFault : Type 0 where
@@ -58,50 +35,28 @@ pub record ShownFault : Type 0 where
 abbrev pub refusal : Fault → ShownFault
 refusal fault = record { fault = fault; more = [] }
 
--- a fault in the server side, after the client side with these calls
-pub record ServerShows (context : Context) (bytes : List ℕ) (fault : Fault) : Type 0 where
-  pub front : List ℕ
-  pub last : List ℕ
-  pub client : List ℕ
-  pub calls : List (List Item)
-  pub split : bytes ≡ front ++ last
-  pub first : IsStream front client
-  pub holds : Holds calls_in_turn client calls
-  pub shows : SideShows (replies_to calls) (server_position context front client) last fault
+-- version 1: the last byte of a connection's bytes shows this fault of its two streams
+pub data InTurnShows (at : Position) (bytes : List ℕ) (fault : Fault) : Type 0 where
+  InCalls : SideShows calls_in_turn Client at bytes fault → InTurnShows at bytes fault
+  -- after the client stream with these calls
+  InReplies : (front last client : List ℕ) (calls : List (List Item)) → bytes ≡ front ++ last
+      → IsStream front client → Holds calls_in_turn client calls
+      → SideShows (replies_to calls) Server (server_position at front client) last fault
+      → InTurnShows at bytes fault
 
--- ---- version 2
-
--- whole chunks of both sides, and a side word that is not 0, 1 or 2
-pub record SideIsBad (context : Context) (bytes : List ℕ) (fault : Fault) : Type 0 where
-  pub chunks : List SidedChunk
-  pub front : List ℕ
-  pub word : List ℕ
-  pub count : ℕ
-  pub split : bytes ≡ front ++ word
-  pub joined : Joins IsSidedChunk front chunks
-  pub is_word : IsWord word count
-  pub bad : 2 < count
-  pub is : fault ≡ file_fault (context.start + length front) BadMark
-
--- whole chunks of both sides, a side word, and a length word
-pub record AfterLength (bytes : List ℕ) : Type 0 where
-  pub here : AfterSideWord bytes
-  pub count : ℕ
-  pub counts : IsWord here.rest count
-
--- the last byte of a connection's bytes shows this fault of its chunks
-pub data MixedShows (context : Context) (bytes : List ℕ) (fault : Fault) : Type 0 where
+-- version 2: the last byte of a connection's bytes shows this fault of its chunks
+pub data MixedShows (at : Position) (bytes : List ℕ) (fault : Fault) : Type 0 where
   -- a side word other than 0, 1 and 2
-  BadSide : SideIsBad context bytes fault → MixedShows context bytes fault
+  BadSide : (chunks : List SidedChunk) (front word : List ℕ) (count : ℕ) → bytes ≡ front ++ word
+      → Joins IsSidedChunk front chunks → IsWord word count → 2 < count
+      → fault ≡ file_fault (at.start + length front) BadMark → MixedShows at bytes fault
   -- a length word 0
-  NoLength : (b : AfterLength bytes) → b.count ≡ 0
-      → fault ≡ file_fault (context.start + length b.here.front + 4) BadMark
-      → MixedShows context bytes fault
+  NoLength : (b : AfterSideWord bytes) → IsWord b.rest 0
+      → fault ≡ file_fault (at.start + length b.front + 4) BadMark → MixedShows at bytes fault
   -- a length word with which the capture's stream bytes would pass the limit
-  TooMuch : (b : AfterLength bytes) → 0 < b.count
-      → max_bytes < context.before + size (gathered b.here.chunks) + b.count
-      → fault ≡ file_fault (context.start + length b.here.front + 4) TooManyBytes
-      → MixedShows context bytes fault
+  TooMuch : (b : AfterSideWord bytes) (count : ℕ) → IsWord b.rest count → 0 < count
+      → max_bytes < at.before + size (gathered b.chunks) + count
+      → fault ≡ file_fault (at.start + length b.front + 4) TooManyBytes → MixedShows at bytes fault
 
 -- a fault in the client stream: the calls before it are reached
 abbrev pub client_refusal : ℕ → List (List Item) → RecordFault → ShownFault
@@ -110,12 +65,10 @@ client_refusal number calls fault =
 
 -- a fault in the server stream: all calls and the replies before it are reached
 abbrev pub server_refusal : ℕ → List (List Item) → List ReplyItems → RecordFault → ShownFault
-server_refusal number calls replies fault =
-    record {
-      fault = place_at number Server fault;
-      more =
-          map Call calls ++ (Turn ∷ map reply_entry replies);
-    }
+server_refusal number calls replies fault = record {
+  fault = place_at number Server fault;
+  more = map Call calls ++ (Turn ∷ map reply_entry replies);
+}
 
 -- The side word 0 shows this fault of the streams, which are whole with it: the first fault of the
 -- client stream, or, where that has none, of the server stream.
@@ -130,10 +83,9 @@ pub data StreamsShow (number : ℕ) (bytes : List ℕ) (shown : ShownFault) : Ty
 
 -- The last byte of a connection's bytes, after its word 1, shows this fault. In version 2 a fault
 -- of a record is shown by the side word 0 alone.
-abbrev pub ConnectionShows : Version → Context → List ℕ → ShownFault → Type 0
-ConnectionShows One context bytes shown = (shown ≡ refusal shown.fault)
-    × (SideShows calls_in_turn (client_position context) bytes shown.fault
-    ⊎ ServerShows context bytes shown.fault)
-ConnectionShows Two context bytes shown =
-    ((shown ≡ refusal shown.fault) × MixedShows context bytes shown.fault)
-    ⊎ StreamsShow context.number bytes shown
+abbrev pub ConnectionShows : Version → Position → List ℕ → ShownFault → Type 0
+ConnectionShows One at bytes shown =
+    (shown ≡ refusal shown.fault) × InTurnShows at bytes shown.fault
+ConnectionShows Two at bytes shown =
+    ((shown ≡ refusal shown.fault) × MixedShows at bytes shown.fault)
+    ⊎ StreamsShow at.connection bytes shown

@@ -6,22 +6,8 @@ use Rattle.capture3.specs.declared.fault.Fault.{Fault}
 use Rattle.capture3.specs.Capture.{Version, magic, max_connections, total_size, IsConnection}
 use Rattle.capture3.specs.SidedChunks.{Streams}
 use Rattle.capture3.specs.Connections.{ShownFault, refusal, ConnectionShows}
-use Rattle.capture3.specs.Sides.{file_fault}
+use Rattle.capture3.specs.Sides.{Position, file_fault}
 use Rattle.capture3.specs.Typed.{IsWellFormed}
-
--- a byte among the first 8, after the front of a magic, which differs from the next byte of each
--- magic with that front
-pub record DiffersFromMagic (bytes : List ℕ) (fault : Fault) : Type 0 where
-  pub front : List ℕ
-  pub byte : ℕ
-  pub split : bytes ≡ front ++ byte ∷ []
-  pub version : Version
-  pub due : ℕ
-  pub more : List ℕ
-  pub begins : magic version ≡ front ++ due ∷ more
-  pub differs : (other : Version) (expected : ℕ) (rest : List ℕ)
-      → magic other ≡ front ++ expected ∷ rest → byte ≢ expected
-  pub is : fault ≡ file_fault (length front) BadMagic
 
 -- the magic, whole connections, a connection word, and what comes after it
 pub record AfterConnections (bytes : List ℕ) : Type 0 where
@@ -37,10 +23,23 @@ pub record AfterConnections (bytes : List ℕ) : Type 0 where
   pub joined : Joins (IsConnection version) whole connections
   pub is_word : IsWord word mark
 
+-- where the next connection stands, after its word 1
+abbrev pub next_position : List ℕ → List Streams → Position
+next_position front connections = record {
+  connection = suc (length connections);
+  start = length front + 4;
+  before = total_size connections;
+}
+
 -- the rules: the last byte of these bytes shows this fault
 pub data Rule (bytes : List ℕ) (shown : ShownFault) : Type 0 where
-  -- a byte among the first 8 differs from that of both magics
-  MagicDiffers : DiffersFromMagic bytes shown.fault → shown ≡ refusal shown.fault → Rule bytes shown
+  -- a byte among the first 8, after the front of a magic, differs from the next byte of each magic
+  -- with that front
+  MagicDiffers : (version : Version) (front more : List ℕ) (byte due : ℕ)
+      → bytes ≡ front ++ byte ∷ [] → magic version ≡ front ++ due ∷ more
+      → ((other : Version) (expected : ℕ) (rest : List ℕ) → magic other ≡ front ++ expected ∷ rest
+      → byte ≢ expected)
+      → shown ≡ refusal (file_fault (length front) BadMagic) → Rule bytes shown
   -- a whole connection word is not 0 or 1
   MarkIsBad : (b : AfterConnections bytes) → b.rest ≡ [] → 1 < b.mark
       → shown ≡ refusal (file_fault (length b.front) BadMark) → Rule bytes shown
@@ -50,12 +49,8 @@ pub data Rule (bytes : List ℕ) (shown : ShownFault) : Type 0 where
       → shown ≡ refusal (file_fault (length b.front) TooManyConnections) → Rule bytes shown
   -- in a connection
   WithinConnection : (b : AfterConnections bytes) → b.mark ≡ 1
-      → ConnectionShows b.version (record {
-        number = suc (length b.connections);
-        start =
-            length b.front + 4;
-        before = total_size b.connections;
-      }) b.rest shown → Rule bytes shown
+      → ConnectionShows b.version (next_position b.front b.connections) b.rest shown
+      → Rule bytes shown
   -- a byte after the last word 0
   ByteAfterEnd : (b : AfterConnections bytes) → b.mark ≡ 0 → length b.rest ≡ 1
       → shown ≡ refusal (file_fault (length b.front + 4) AfterEnd) → Rule bytes shown

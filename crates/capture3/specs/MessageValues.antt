@@ -16,11 +16,8 @@ use Rattle.procs3.specs.Items.{args_items, results_items}
 -- a call's items (RFC 5531, section 9)
 abbrev pub call_items : CallMsg → List Item
 call_items m =
-    followed_by (start_items (record {
-      xid = m.xid;
-      is_reply =
-          false;
-    })) (followed_by (call_head_items m.head) (args_items m.args))
+    followed_by (start_items (record { xid = m.xid; is_reply = false }))
+    (followed_by (call_head_items m.head) (args_items m.args))
 
 -- the items of the results, where there are some
 abbrev pub items_after_head : Option Results → List Item
@@ -30,11 +27,8 @@ items_after_head (Some results) = results_items results
 -- a reply's items (RFC 5531, section 9)
 abbrev pub reply_items : ReplyMsg → List Item
 reply_items m =
-    followed_by (start_items (record {
-      xid = m.xid;
-      is_reply =
-          true;
-    })) (followed_by (reply_head_items m.head) (items_after_head m.results))
+    followed_by (start_items (record { xid = m.xid; is_reply = true }))
+    (followed_by (reply_head_items m.head) (items_after_head m.results))
 
 abbrev pub answered_items : ReplyMsg → ReplyItems
 answered_items m = record { id = m.id; items = reply_items m }

@@ -44,59 +44,29 @@ abbrev pub fault_at : {M : Type 0} → List M → ℕ → Reason → RecordFault
 fault_at messages byte reason =
     record { number = suc (length messages); byte = byte; reason = reason }
 
--- the stream ends with the last byte of a record that is refused
-pub record RefusesRecord {M : Type 0} (judge : Judgement M) (stream : List ℕ)
+-- the last byte of the stream shows this fault, after these messages
+pub data StreamShows {M : Type 0} (judge : Judgement M) (stream : List ℕ) (messages : List M)
     (fault : RecordFault) : Type 0 where
-  pub front : List ℕ
-  pub last : List ℕ
-  pub messages : List M
-  pub body : List ℕ
-  pub stop : Stop
-  pub split : stream ≡ front ++ last
-  pub holds : Holds judge front messages
-  pub whole : IsRecord last body
-  pub refused : judge.refuses messages body stop
-  pub is : fault ≡ fault_at messages stop.at stop.reason
+  -- it is the last of a record that is refused
+  RefusesRecord : (front last body : List ℕ) (stop : Stop) → stream ≡ front ++ last
+      → Holds judge front messages → IsRecord last body → judge.refuses messages body stop
+      → fault ≡ fault_at messages stop.at stop.reason → StreamShows judge stream messages fault
+  -- it is the last of a fragment header with which the body would pass the limit
+  PassesLimit : (front last : List ℕ) (at : ℕ) → stream ≡ front ++ last
+      → Holds judge front messages → IsTooLong last at
+      → fault ≡ fault_at messages at RecordTooLong → StreamShows judge stream messages fault
 
--- the stream ends with a whole fragment header, with which the body would pass the limit
-pub record PassesLimit (stream : List ℕ) (fault : RecordFault) : Type 0 where
-  pub front : List ℕ
-  pub last : List ℕ
-  pub bodies : List (List ℕ)
-  pub at : ℕ
-  pub split : stream ≡ front ++ last
-  pub marks : Marks front bodies
-  pub long : IsTooLong last at
-  pub is : fault ≡ record { number = suc (length bodies); byte = at; reason = RecordTooLong }
-
--- the last byte of the stream shows this fault
-abbrev pub StreamShows : {M : Type 0} → Judgement M → List ℕ → RecordFault → Type 0
-StreamShows judge stream fault = RefusesRecord judge stream fault ⊎ PassesLimit stream fault
-
--- the stream ends while a record is open: RecordCut, after as many bytes of its body as have come
-pub record IsCut (stream : List ℕ) (fault : RecordFault) : Type 0 where
-  pub front : List ℕ
-  pub last : List ℕ
-  pub bodies : List (List ℕ)
-  pub body : List ℕ
-  pub split : stream ≡ front ++ last
-  pub marks : Marks front bodies
-  pub is_open : IsOpen last body
-  pub is : fault ≡ record { number = suc (length bodies); byte = length body; reason = RecordCut }
+-- The stream ends while a record is open, after these messages: RecordCut, after as many bytes of
+-- its body as have come.
+pub data IsCut {M : Type 0} (judge : Judgement M) (stream : List ℕ) (messages : List M)
+    (fault : RecordFault) : Type 0 where
+  CutsOpen : (front last body : List ℕ) → stream ≡ front ++ last → Holds judge front messages
+      → IsOpen last body → fault ≡ fault_at messages (length body) RecordCut
+      → IsCut judge stream messages fault
 
 -- the first fault of a whole stream, after the messages of the records before it
-pub data FirstRecordFault {M : Type 0} (judge : Judgement M) (stream : List ℕ) (messages : List M)
-    (fault : RecordFault) : Type 0 where
-  -- the next record is refused
-  RefusesNext : (front last rest body : List ℕ) (stop : Stop) → stream ≡ front ++ last ++ rest
-      → Holds judge front messages → IsRecord last body → judge.refuses messages body stop
-      → fault ≡ fault_at messages stop.at stop.reason → FirstRecordFault judge stream messages fault
-  -- its body passes the limit
-  NextIsTooLong : (front last rest : List ℕ) (at : ℕ) → stream ≡ front ++ last ++ rest
-      → Holds judge front messages → IsTooLong last at
-      → fault ≡ fault_at messages at RecordTooLong → FirstRecordFault judge stream messages fault
-  -- it is open where the stream ends: RecordCut, after as many bytes of its body as have come
-  NextIsCut : (front last body : List ℕ) → stream ≡ front ++ last → Holds judge front messages
-      → IsOpen last body
-      → fault ≡ fault_at messages (length body) RecordCut
-      → FirstRecordFault judge stream messages fault
+abbrev pub FirstRecordFault : {M : Type 0} → Judgement M → List ℕ → List M → RecordFault → Type 0
+FirstRecordFault judge stream messages fault =
+    ((front : List ℕ) × (rest : List ℕ) × (stream ≡ front ++ rest)
+    × StreamShows judge front messages fault)
+    ⊎ IsCut judge stream messages fault

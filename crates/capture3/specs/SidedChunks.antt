@@ -40,12 +40,10 @@ of_side _ _ bytes = []
 
 -- the streams with a chunk's bytes at the end of its side's
 abbrev pub with_more : Streams → Side → List ℕ → Streams
-with_more streams side bytes =
-    record {
-      client = streams.client ++ of_side Client side bytes;
-      server =
-          streams.server ++ of_side Server side bytes;
-    }
+with_more streams side bytes = record {
+  client = streams.client ++ of_side Client side bytes;
+  server = streams.server ++ of_side Server side bytes;
+}
 
 -- the stream of one side: its chunks' bytes joined, in order
 abbrev pub carried_by : Side → List SidedChunk → List ℕ

@@ -1,7 +1,8 @@
 //! The command line.
 
-ghost use Rattle.std.specs.Prelude.{◌≡◌, ◌≤◌, ◌∷◌, ℕ, List, [], IfErr, IfOk, codes, length, map, string_bytes};
-ghost use Rattle.clap.specs.Words.{app_of, kind_of};
+ghost use Rattle.std.specs.Prelude.{◌≡◌, ◌≤◌, ◌∷◌, ℕ, List, [], IfErr, IfOk, OnOk, codes, length, map, string_bytes, true};
+ghost use Rattle.clap.specs.Words.{app_of, fault_of, is_simple_and_free, kind_of};
+ghost use Rattle.line3.specs.Grammar.{app};
 ghost use Rattle.line3.specs.Asked.{AreRefused, Asks, IsLine, IsRefusedBy, IsUsage, without_end};
 
 use crate::asked::{Job, LineFault};
@@ -19,6 +20,7 @@ const NO_FORM: &str = "error: the line has none of the forms of the program\n";
 pub fn take_words(alloc: Global, words: Vec<String>) -> Result<Vec<String>, LineFault>
     ensures taken { IfOk result (λ said.
         map string_bytes said.items ≡ without_end 2 (map string_bytes words.items)) }
+    ensures accepted { OnOk result (fault_of app (map string_bytes words.items) ≡ []) }
     ensures refused { IfErr result (AreRefused (map string_bytes words.items)) }
 {
     let command = match command(alloc) {
@@ -32,12 +34,15 @@ pub fn take_words(alloc: Global, words: Vec<String>) -> Result<Vec<String>, Line
 }
 
 /// Returns an error if clap does not take these words as a line of `command`: the text that clap writes, or
-/// that memory ran out.
+/// that memory ran out. If the command is simple, and no argument has a rule on another, `Ok` is returned only
+/// if clap finds no fault in the words.
 pub fn try_words<'a>(
     alloc: Global,
     command: Command<'a>,
     words: &'a [String],
 ) -> Result<(), LineFault>
+    ensures accepted { is_simple_and_free (app_of command.entry) ≡ true → OnOk result
+        (fault_of (app_of command.entry) (map string_bytes words.entry.now) ≡ []) }
     ensures refused { IfErr result
         (IsRefusedBy (app_of command.entry) (map string_bytes words.entry.now)) }
 {

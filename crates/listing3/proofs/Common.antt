@@ -31,10 +31,10 @@ pub use Rattle.xdr3.specs.Plain.{plain_item, run_items, run_size, width}
 unfoldable pub use Rattle.xdr3.specs.Visit.{Adds, Keeps}
 pub use Rattle.xdr3.specs.declared.plain.PlainField.{PlainField}
 pub use Rattle.listing3.specs.Listing.{client, entry_line, is_plain, item_name, line, lines_after, message_text, named, opening, prefix, procedure_name, quoted, quoted_byte, server, shown, shown_item, shown_items, value_of}
+pub use Rattle.listing3.specs.declared.line_writer.items_text.Gap.{Gap}
 pub use Rattle.listing3.specs.declared.line_writer.items_text.ItemsText.{ItemsText}
 pub use Rattle.listing3.specs.machinery.Fields.{HasShortName, field_name}
 pub use Rattle.listing3.specs.machinery.Digits.{AreHalves, halves_in_order}
-pub use Rattle.listing3.specs.machinery.ItemsText.{TextStands, full, labelled}
-pub use Rattle.listing3.specs.machinery.Labels.{field_label, shown_kind, label_at, label_of, labels_at, labels_of, named_kind, no_label, run_in, size_in, text_in, shown_in}
+pub use Rattle.listing3.specs.machinery.ItemsText.{HasData, IsTextOfBody, IsWithin, TextStands, filled}
 pub use Rattle.listing3.specs.machinery.LineWriter.{HasLineUnderWay, LineRests, LineStands, SkipsOthers, after_front, always, items_before}
-pub use Rattle.listing3.specs.machinery.WritesText.{AddsText, IsAppended, WritesText}
+pub use Rattle.listing3.specs.machinery.WritesText.{WritesText}

@@ -1,6 +1,5 @@
 -- Lemmas of the lines of a listing.
 pub mod LineLemmas
 pub mod LineTexts
-pub mod LabelsLemmas
-pub mod LongLines
+pub mod GapLemmas
 pub mod ItemsTexts

@@ -3,6 +3,5 @@ pub mod LineWriter
 pub mod Digits
 pub mod Fields
 pub mod ItemsText
-pub mod Labels
 pub mod PutsBytes
 pub mod WritesText

@@ -7,16 +7,15 @@ mod quotes;
 mod run;
 
 ghost use Rattle.std.specs.Prelude.{◌≡◌, ◌≤◌, ◌+◌, ◌*◌, ◌++◌, ◌∷◌, [], codes, length, take, decimal, OnOk, OnErr};
-ghost use Rattle.std.specs.List.{flat_map};
 ghost use Rattle.hex.specs.Hex.{encode_lower};
 ghost use Rattle.xdr3.specs.Visit.{body_limit};
-ghost use Rattle.listing3.specs.Listing.{opening, prefix, quoted, quoted_byte};
+ghost use Rattle.listing3.specs.Listing.{opening, prefix, quoted};
 ghost use Rattle.listing3.specs.machinery.PutsBytes.{PutsBytes};
 
 use crate::line_text::decimal::{DIGITS, put_decimal, put_number};
 use crate::line_text::hexadecimal::put_hex;
 use crate::line_text::names::{put_name, put_short};
-use crate::line_text::quotes::{put_pieces, put_quoted};
+use crate::line_text::quotes::put_quoted;
 use crate::line_text::run::put_run;
 use std::alloc::{AllocError, Global};
 use std::marker::Model;
@@ -59,14 +58,6 @@ impl LineText {
         ensures { result.now ≡ self.now }
     {
         &self.room[..self.end]
-    }
-
-    /// Returns how many bytes the text has.
-    #[inline(always)]
-    pub(crate) fn len(&self) -> usize
-        ensures { result ≡ length self.now }
-    {
-        self.end
     }
 
     /// Drops the text and keeps its memory.
@@ -138,23 +129,13 @@ impl LineText {
         Ok(())
     }
 
-    /// Appends a byte as it is.
-    #[inline(always)]
-    pub(crate) fn append_byte(&mut self, byte: u8) -> Result<(), AllocError>
-        ensures ok { OnOk result (self.new ≡ self.old ++ byte ∷ []) }
+    /// Ends the line.
+    pub(crate) fn end_line(&mut self) -> Result<(), AllocError>
+        ensures ok { OnOk result (self.new ≡ self.old ++ 10 ∷ []) }
         ensures err { OnErr result (self.new ≡ self.old) }
     {
         make_room(&mut self.room, self.end, 1)?;
-        self.end = put_bytes(&mut self.room, self.end, &[byte]);
-        Ok(())
-    }
-
-    /// Appends the text of bytes between quotation marks, without these.
-    pub(crate) fn append_inside(&mut self, bytes: &[u8]) -> Result<(), AllocError>
-        ensures ok { OnOk result (self.new ≡ self.old ++ flat_map quoted_byte bytes.now) }
-        ensures err { OnErr result (self.new ≡ self.old) }
-    {
-        self.end = put_pieces(&mut self.room, self.end, bytes)?;
+        self.end = put_bytes(&mut self.room, self.end, b"\n");
         Ok(())
     }
 
@@ -168,9 +149,7 @@ impl LineText {
         Ok(())
     }
 
-    /// Appends ` name=` and a number.
-    #[inline(always)]
-    pub(crate) fn append_decimal(&mut self, name: &'static str, n: u64) -> Result<(), AllocError>
+    fn append_decimal(&mut self, name: &'static str, n: u64) -> Result<(), AllocError>
         ensures ok { OnOk result (self.new ≡ self.old ++ (opening name.now ++ decimal n)) }
         ensures err { OnErr result (self.new ≡ self.old) }
     {

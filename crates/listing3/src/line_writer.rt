@@ -2,8 +2,7 @@
 
 mod gathering;
 mod items_text;
-mod labels;
-mod long_line;
+mod large_data;
 
 ghost use Rattle.std.specs.Prelude.{◌≡◌, ◌≤◌, ◌<◌, ◌+◌, ◌*◌, ◌^◌, ◌++◌, ◌∷◌, ℕ, List, [], codes, decimal, drop, length, take, None, IfErr, OnErr, OnOk};
 ghost use Rattle.std.specs.Io.KnownBytes.{Appends};
@@ -19,16 +18,15 @@ ghost use Rattle.canon3.specs.Laws.{AreFirst};
 ghost use Rattle.capture3.specs.Progress.{HasPassed};
 ghost use Rattle.canon3.specs.WriteErrors.{CountsWriting, IsOfWriting};
 ghost use Rattle.canon3.specs.SinkWrites.{AppendsFront};
-ghost use Rattle.listing3.specs.machinery.ItemsText.{TextStands};
+ghost use Rattle.listing3.specs.machinery.ItemsText.{filled};
 ghost use Rattle.listing3.specs.machinery.LineWriter.{after_front, items_before, LineRests, LineStands};
 ghost use Rattle.listing3.specs.machinery.WritesText.{WritesText};
-ghost use Rattle.listing3.specs.Listing.{entry_line, line, opening, prefix, procedure_name, shown_items};
+ghost use Rattle.listing3.specs.Listing.{entry_line, line, opening, prefix, procedure_name};
 
 use crate::line_text::LineText;
 use crate::line_writer::gathering::{Counting, Gathering};
 use crate::line_writer::items_text::{ItemsText, encoded_size};
-use crate::line_writer::labels::ValueKind;
-use crate::line_writer::long_line::write_long;
+use crate::line_writer::large_data::write_filled;
 use canon3::{EntryWriter, Sink, write_both};
 use capture3::{Error, Kind, LentEntry, MessageVisit, Progress};
 use procs3::proc_name;
@@ -106,41 +104,17 @@ impl<H: Gathering + Drop> LineWriter<H> {
             (Opaque HandleKind name.now bytes.now ∷ [])) }
         ensures err { OnErr result (Keeps (LineStands H.stands) self.old self.new) }
     {
-        if self.items.is_full() {
-            return self.note_handle(name, bytes);
-        }
-        let before = self.items.text.len();
+        let before = self.items.text.bytes().len();
         self.items.text.append_hex(name, bytes)?;
         let gathered = self.handles.handle(name, bytes);
-        self.items.text.truncate_on_error(before, gathered)
+        self.items.text.truncate_on_error(before, gathered)?;
+        self.items.seen = self.items.seen.wrapping_add(encoded_size(bytes.len()));
+        Ok(())
     }
 
-    /// Notes the label of a handle, and then passes the handle on.
-    #[inline(never)]
-    fn note_handle(&mut self, name: &'static str, bytes: &[u8]) -> Result<(), AllocError>
-        requires { length bytes.now ≤ 64 }
-        ensures ok { OnOk result
-            (Adds (LineStands H.stands) self.old self.new
-            (Opaque HandleKind name.now bytes.now ∷ [])) }
-        ensures err { OnErr result (Keeps (LineStands H.stands) self.old self.new) }
-    {
-        let count = self.items.labels.len();
-        let left = self.items.left;
-        self.items
-            .note(name, ValueKind::Data, encoded_size(bytes.len()))?;
-        match self.handles.handle(name, bytes) {
-            Ok(()) => Ok(()),
-            Err(error) => {
-                self.items.labels.truncate(count);
-                self.items.left = left;
-                Err(error)
-            }
-        }
-    }
-
-    /// Composes the part of a line that is before the items.
+    /// Composes the line of the message whose items were visited.
     #[inline(always)]
-    fn compose_head(
+    fn compose(
         &mut self,
         progress: Progress,
         side: &'static str,
@@ -151,7 +125,8 @@ impl<H: Gathering + Drop> LineWriter<H> {
             (self.new.head ≡
             prefix progress.connections side.now (progress.records + 1)
             ++ ((opening (codes "xid") ++ decimal self.old.xid) ++ (32 ∷ procedure_name id))) }
-        ensures items { self.new.items ≡ self.old.items }
+        ensures items { OnOk result (self.new.items.text ≡ self.old.items.text ++ 10 ∷ []) }
+        ensures gap { self.new.items.gap ≡ self.old.items.gap }
     {
         self.head.forget();
         self.head.append_prefix(
@@ -160,30 +135,30 @@ impl<H: Gathering + Drop> LineWriter<H> {
             progress.records.saturating_add(1),
         )?;
         self.head
-            .append_xid_and_name(self.xid, name_of_procedure(id))
+            .append_xid_and_name(self.xid, name_of_procedure(id))?;
+        self.items.text.end_line()
     }
 
-    /// Writes the line whose head is composed to a sink. What follows the xid in the message's body
-    /// spells the items.
+    /// Writes the composed line to a sink. What follows the xid in the message's body spells the
+    /// items.
     #[inline(always)]
     fn hand_over<W: Sink>(&mut self, sink: &mut W, body: &[u8]) -> Result<(), Error>
         ensures handles { self.new.handles ≡ self.old.handles }
-        ensures writes { (rest : List Item) → TextStands self.old.items rest
-            → Spells rest (drop 4 body.now)
-            → WritesText (W.written sink.old) (W.written sink.new)
-            (self.old.head ++ (shown_items rest ++ 10 ∷ [])) result }
+        ensures writes { WritesText (W.written sink.old) (W.written sink.new)
+            (self.old.head ++ filled self.old.items.gap self.old.items.text (drop 4 body.now))
+            result }
         ensures count { CountsWriting (W.failures sink.old) (W.failures sink.new) result }
         ensures error { IfErr result IsOfWriting }
     {
-        if self.items.labels.is_empty() {
-            return match self.items.text.append_byte(b'\n') {
-                Ok(()) => write_both(sink, self.head.bytes(), self.items.text.bytes()),
-                Err(_) => Err(Error::Memory),
-            };
-        }
-        match write_long(sink, &mut self.head, &self.items, after_xid(body)) {
-            Ok(()) => Ok(()),
-            Err(error) => Err(of_writing(error)),
+        match self.items.gap {
+            None => write_both(sink, self.head.bytes(), self.items.text.bytes()),
+            Some(gap) => {
+                let items = self.items.text.bytes();
+                match write_filled(sink, &mut self.head, items, gap, after_xid(body)) {
+                    Ok(()) => Ok(()),
+                    Err(error) => Err(of_writing(error)),
+                }
+            }
         }
     }
 
@@ -207,7 +182,7 @@ impl<H: Gathering + Drop> LineWriter<H> {
         ensures count { CountsWriting (W.failures sink.old) (W.failures sink.new) result }
         ensures error { IfErr result IsOfWriting }
     {
-        match self.compose_head(progress, side, id) {
+        match self.compose(progress, side, id) {
             Ok(()) => self.hand_over(sink, body),
             Err(_) => Err(Error::Memory),
         }
@@ -237,7 +212,7 @@ impl<H: Gathering + Drop> LineWriter<H> {
             Kind::Call(id) => self.write_line(progress, sink, "client", id, body),
             Kind::Reply(id) => self.write_line(progress, sink, "server", id, body),
             Kind::Begin | Kind::Turn | Kind::Close | Kind::End => {
-                self.items.release();
+                self.items.text.release();
                 Ok(())
             }
         }

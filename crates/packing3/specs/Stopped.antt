@@ -49,9 +49,5 @@ pub record HasNoRoom (old new : Option (List ℕ)) (pairs : List Streams)
   pub packed : ArePacked front pairs
   pub appended : Appends old new front
   pub full : length pairs ≡ max_connections
-  pub is : error
-      ≡ errors.Refused (record {
-        place = places.File (length front);
-        reason =
-            reasons.TooManyConnections;
-      })
+  pub is : error ≡ errors.Refused
+      (record { place = places.File (length front); reason = reasons.TooManyConnections })

@@ -1,6 +1,6 @@
 -- The items of arguments and results of the procedures on names in directories (RFC 1813, section
 -- 3.3).
-use Rattle.std.specs.Prelude.{List, [], ◌∷◌}
+use Rattle.std.specs.Prelude.{ℕ, Bool, List, [], ◌∷◌}
 use Rattle.xdr3.specs.Combined.{linked_items}
 use Rattle.xdr3.specs.Item.{Item, followed_by, Fixed, Handle, Hyper, Opaque, Text, Word}
 use Rattle.xdr3.specs.View.{word_of}
@@ -18,6 +18,15 @@ use Rattle.procs3.specs.declared.values.directories.ReadDirOk.{ReadDirOk}
 use Rattle.procs3.specs.declared.values.directories.ReadDirPlusArgs.{ReadDirPlusArgs}
 use Rattle.procs3.specs.declared.values.directories.EntryPlus.{EntryPlus}
 use Rattle.procs3.specs.declared.values.directories.ReadDirPlusOk.{ReadDirPlusOk}
+
+-- a dirlist3 or a dirlistplus3 after the directory's attributes
+abbrev pub listing_items : {E : Type 0} → List Item → List ℕ → (E → List Item) → List E → Bool
+    → List Item
+listing_items attr cookieverf items entries eof =
+    followed_by attr
+    (followed_by (Fixed names.cookieverf cookieverf ∷ [])
+    (followed_by (linked_items names.entry items entries)
+    (Word names.eof (word_of eof) ∷ [])))
 
 abbrev pub lookup_ok_items : LookupOk → List Item
 lookup_ok_items l =
@@ -57,10 +66,7 @@ entry_items e =
 
 abbrev pub readdir_ok_items : ReadDirOk → List Item
 readdir_ok_items r =
-    followed_by (post_op_attr_items r.attr)
-    (followed_by (Fixed names.cookieverf r.cookieverf ∷ [])
-    (followed_by (linked_items names.entry entry_items r.entries.items)
-    (Word names.eof (word_of r.eof) ∷ [])))
+    listing_items (post_op_attr_items r.attr) r.cookieverf entry_items r.entries.items r.eof
 
 abbrev pub readdirplus_args_items : ReadDirPlusArgs → List Item
 readdirplus_args_items r =
@@ -77,7 +83,4 @@ entry_plus_items e =
 
 abbrev pub readdirplus_ok_items : ReadDirPlusOk → List Item
 readdirplus_ok_items r =
-    followed_by (post_op_attr_items r.attr)
-    (followed_by (Fixed names.cookieverf r.cookieverf ∷ [])
-    (followed_by (linked_items names.entry entry_plus_items r.entries.items)
-    (Word names.eof (word_of r.eof) ∷ [])))
+    listing_items (post_op_attr_items r.attr) r.cookieverf entry_plus_items r.entries.items r.eof

@@ -8,3 +8,4 @@ pub(crate) mod files;
 pub(crate) mod mounts;
 pub(crate) mod results;
 pub(crate) mod tagged;
+pub(crate) mod walks;

@@ -1,8 +1,6 @@
--- One item more in a text of items, or in the labels after it.
-use Rattle.listing3.proofs.Common.{◌≡◌, ◌≢◌, ℕ, ◌+◌, ◌%◌, ◌<◌, List, [], ◌∷◌, ◌++◌, length, map, take, drop, drop-append_seam, ◌-◌, refl, sym, ap, ◌∙◌, subst, append_assoc, append-nil, arith, flat_map-append, map-append, Item, Word, Hyper, Fixed, WriteVerf, Opaque, Rest, PlainField, run_items, shown_item, shown_items, ◌^◌, length-append, take-append_seam, Kind, Spells, residue, run_size, Adds, Keeps, ItemsText, TextStands, full, labelled, labels_of, field_label}
+-- One item more in a text of items.
+use Rattle.listing3.proofs.Common.{◌≡◌, ℕ, ◌+◌, ◌%◌, ◌<◌, List, [], ◌∷◌, ◌++◌, length, take, drop, refl, sym, ap, ◌∙◌, subst, append_assoc, append-nil, arith, flat_map-append, encode_lower, encode_with, Item, Word, Hyper, Fixed, WriteVerf, Opaque, Rest, PlainField, run_items, opening, shown_item, shown_items, ◌^◌, Option, None, Some, drop-append-le, length-append, length-drop, take-append-le, take_all, drop_all, drop-append_seam, take-append_seam, Kind, Spells, Var, residue, word_bytes, run_size, Adds, Keeps, Gap, ItemsText, filled, HasData, IsTextOfBody, IsWithin, TextStands}
 use Rattle.xdr3.proofs.Lemmas.Reading.Items.{Spells-single, Spells-split}
-use Rattle.xdr3.specs.declared.plain.PlainField.TheVariants as fields
-use Rattle.listing3.specs.declared.line_writer.labels.ValueKind.{ValueKind}
 use Rattle.canon3.proofs.Lemmas.Writing.Noting.{bytes_fixed, hyper_fixed, opaque_size, plain_fixed, rest_fixed, word_fixed}
 
 -- the text as it is
@@ -13,122 +11,155 @@ TextOf text items = text ≡ shown_items items
 abbrev pub HasSize : List Item → (count : ℕ) → Type 0
 HasSize items count = (bytes : List ℕ) → Spells items bytes → length bytes ≡ count
 
-no_labels : (items : List Item) → labels_of items ≡ [] → items ≡ []
-no_labels [] none = refl
-no_labels (i ∷ items) none = absurd (omega (arith, ap length none))
+-- ---- text after a gap
+
+within_more : (gap : Option Gap) (text more body rest : List ℕ) → IsWithin gap text body
+    → IsWithin gap (text ++ more) (body ++ rest)
+within_more None text more body rest within = tt
+within_more (Some gap) text more body rest within = (
+  omega (arith, within.0, length-append text more),
+  omega (arith, within.1, length-append body rest),
+)
+
+pub filled_more : (gap : Option Gap) (text more body rest : List ℕ) → IsWithin gap text body
+    → filled gap (text ++ more) (body ++ rest) ≡ filled gap text body ++ more
+filled_more None text more body rest within = refl
+filled_more (Some gap) text more body rest within =
+    let front = take gap.at text in
+    let back = drop gap.at text in
+    let digits = encode_lower (take gap.len (drop gap.skipped body)) in
+    let kept : take gap.len (drop gap.skipped (body ++ rest)) ≡ take gap.len (drop gap.skipped body)
+    =
+    ap (take gap.len) (drop-append-le gap.skipped body rest (omega (arith, within.1)))
+    ∙ take-append-le gap.len (drop gap.skipped body) rest
+    (omega (arith, within.1, length-drop gap.skipped body)) in
+    rw (take-append-le gap.at text more within.0, drop-append-le gap.at text more within.0, kept)
+    (ap (λ (l : List ℕ). front ++ l) (sym (append_assoc digits back more))
+    ∙ sym (append_assoc front (digits ++ back) more))
 
 -- ---- items whose text is there
 
 module _ (old : ItemsText) (text : List ℕ) where
-  abbrev with_text : ItemsText
-  with_text = record old { text = text }
-
-  pub adds_text : (more : List Item) → old.most ≢ 0 → Adds TextOf old.text text more
-      → Adds TextStands old with_text more
+  pub adds_text : (seen count : ℕ) (more : List Item) → HasSize more count
+      → Adds TextOf old.text text more → seen ≡ (old.seen + count) % 2 ^ 64
+      → Adds TextStands old (record { text = text; seen = seen; gap = old.gap }) more
   unfolding Adds
-  adds_text more free write items stands =
-      let none : stands.others ≡ [] =
-      no_labels stands.others (sym stands.labels ∙ stands.grows free) in
+  adds_text seen count more size write next items stands body spells few =
+      let (a, b, front, back, split) = Spells-split items more body spells in
+      let all : length (a ++ b) < 2 ^ 64 = subst (λ (k : List ℕ). length k < 2 ^ 64) split few in
+      let o = stands a front (omega (arith, all, length-append a b)) in
+      let is = write o.others o.text in
+      let grown : text ≡ old.text ++ shown_items more =
+      is
+      ∙ (flat_map-append shown_item o.others more
+      ∙ ap (λ (l : List ℕ). l ++ shown_items more) (sym o.text)) in
+      let now : ItemsText = record { text = text; seen = seen; gap = old.gap } in
+      subst (IsTextOfBody now (items ++ more)) (sym split) (record {
+        others = o.others ++ more;
+        text = is;
+        shows =
+            ap (λ (l : List ℕ). filled old.gap l (a ++ b)) grown
+            ∙ (filled_more old.gap old.text (shown_items more) a b o.within
+            ∙ (ap (λ (l : List ℕ). l ++ shown_items more) o.shows
+            ∙ sym (flat_map-append shown_item items more)));
+        within =
+            subst (λ (l : List ℕ). IsWithin old.gap l (a ++ b)) (sym grown)
+            (within_more old.gap old.text (shown_items more) a b o.within);
+        seen = omega (arith, next, o.seen, size b back, length-append a b, all);
+      })
+
+  pub keeps_still : Keeps TextOf old.text text
+      → Keeps TextStands old (record { text = text; seen = old.seen; gap = old.gap })
+  unfolding Keeps
+  keeps_still kept items stands body spells few =
+      let o = stands body spells few in
+      let same : text ≡ old.text = kept o.others o.text ∙ sym o.text in
       record {
-        first = stands.first ++ more;
-        others = [];
-        split =
-            ap (λ (l : List Item). l ++ more) stands.split
-            ∙ (ap (λ (l : List Item). (stands.first ++ l) ++ more) none
-            ∙ (ap (λ (l : List Item). l ++ more) (append-nil stands.first)
-            ∙ sym (append-nil (stands.first ++ more))));
-        text = write stands.first stands.text;
-        labels = stands.grows free;
-        left = subst (λ (l : List Item). (bytes : List ℕ) → Spells l bytes
-            → length bytes < 2 ^ 64 → length bytes ≡ old.left) none stands.left;
-        grows = stands.grows;
+        others = o.others;
+        text = kept o.others o.text;
+        shows = ap (λ (l : List ℕ). filled old.gap l body) same ∙ o.shows;
+        within = subst (λ (l : List ℕ). IsWithin old.gap l body) (sym same) o.within;
+        seen = o.seen;
       }
 
-  pub keeps_still : Keeps TextOf old.text text → Keeps TextStands old with_text
-  unfolding Keeps
-  keeps_still kept items stands = record {
-    first = stands.first;
-    others = stands.others;
-    split = stands.split;
-    text = kept stands.first stands.text;
-    labels = stands.labels;
-    left = stands.left;
-    grows = stands.grows;
-  }
+  -- ---- an item whose digits are left out
 
--- ---- items whose labels are there
-
-pub keeps_full : (old : ItemsText) → Keeps TextStands old (full old)
-unfolding Keeps
-keeps_full old items stands = record {
-  first = stands.first;
-  others = stands.others;
-  split = stands.split;
-  text = stands.text;
-  labels = stands.labels;
-  left = stands.left;
-  grows = λ n. absurd (n refl);
-}
-
-pub adds_labels : (old : ItemsText) (more : List Item) (size : ℕ) → HasSize more size
-    → Adds TextStands old (labelled old (labels_of more) size) more
-unfolding Adds
-adds_labels old more size has items stands = record {
-  first = stands.first;
-  others = stands.others ++ more;
-  split =
-      ap (λ (l : List Item). l ++ more) stands.split
-      ∙ append_assoc stands.first stands.others more;
-  text = stands.text;
-  labels =
-      ap (λ l. l ++ labels_of more) stands.labels ∙ sym (map-append _ stands.others more);
-  left = both;
-  grows = λ n. absurd (n refl);
-}
-  where
-    both : (bytes : List ℕ) → Spells (stands.others ++ more) bytes → length bytes < 2 ^ 64
-        → length bytes ≡ (old.left + size) % 2 ^ 64
-    both bytes spells few =
-        let (a, b, front, back, split) = Spells-split stands.others more bytes spells in
-        let sizes : length bytes ≡ length a + length b = ap length split ∙ length-append a b in
-        let so_far : length a ≡ old.left = stands.left a front (omega (arith, few, sizes)) in
-        omega (arith, few, sizes, so_far, has b back)
-
--- what was noted is this
-pub noted_adds : (old new : ItemsText) (more : List Item) (size : ℕ) → HasSize more size
-    → new ≡ labelled old (labels_of more) size → Adds TextStands old new more
-noted_adds old new more size has is =
-    subst (λ t. Adds TextStands old t more) (sym is) (adds_labels old more size has)
-
-pub full_keeps : (old new : ItemsText) → new ≡ full old → Keeps TextStands old new
-full_keeps old new is = subst (Keeps TextStands old) (sym is) (keeps_full old)
-
--- a label that was noted is dropped again
-pub restored : (old between : ItemsText) (label : List ℕ × ValueKind)
-    (labels : List (List ℕ × ValueKind)) (count size : ℕ)
-    → between ≡ labelled old (label ∷ []) size → count ≡ length old.labels
-    → labels ≡ take count between.labels
-    → record between { labels = labels; left = old.left } ≡ full old
-restored old between label labels count size is count_is cut =
-    let same : labels ≡ old.labels =
-    cut
-    ∙ (ap (λ (t : ItemsText). take count t.labels) is
-    ∙ (ap (λ n. take n (old.labels ++ label ∷ [])) count_is
-    ∙ take-append_seam old.labels (label ∷ []))) in
-    ap (λ (t : ItemsText). record t { labels = labels; left = old.left }) is
-    ∙ ap (λ (l : List (List ℕ × ValueKind)). record (full old) { labels = l }) same
+  pub adds_gap : (i : Item) (name bytes : List ℕ) (before size place skipped seen : ℕ)
+      → HasData i name bytes before size → old.gap ≡ None
+      → text ≡ old.text ++ opening name → place ≡ length text
+      → skipped ≡ (old.seen + before) % 2 ^ 64 → seen ≡ (old.seen + size) % 2 ^ 64
+      → Adds TextStands old
+      (record {
+        text = text;
+        seen = seen;
+        gap = Some (record { at = place; skipped = skipped; len = length bytes });
+      }) (i ∷ [])
+  unfolding Adds encode_with
+  adds_gap i name bytes before size place skipped seen holds none grown last begins next items
+      stands
+      body spells few =
+      let (a, b, front, back, split) = Spells-split items (i ∷ []) body spells in
+      let all : length (a ++ b) < 2 ^ 64 = subst (λ (k : List ℕ). length k < 2 ^ 64) split few in
+      let o = stands a front (omega (arith, all, length-append a b)) in
+      let (word, residual, cut, start_is, size_is) = holds.spelled b back in
+      let ahead = a ++ word in
+      let left = bytes ++ residual in
+      let whole : body ≡ ahead ++ left =
+      split ∙ (ap (λ (l : List ℕ). a ++ l) cut ∙ sym (append_assoc a word left)) in
+      let long : length body ≡ length a + length b = ap length split ∙ length-append a b in
+      let within : length b ≡ length word + length left = ap length cut ∙ length-append word left in
+      let start : skipped ≡ length ahead =
+      omega (arith, begins, o.seen, start_is, long, within, few, length-append a word) in
+      let kept : take (length bytes) (drop skipped body) ≡ bytes =
+      ap (λ n. take (length bytes) (drop n body)) start
+      ∙ (ap (λ (l : List ℕ). take (length bytes) (drop (length ahead) l)) whole
+      ∙ (ap (take (length bytes)) (drop-append_seam ahead left)
+      ∙ take-append_seam bytes residual)) in
+      let so_far : old.text ≡ shown_items items =
+      ap (λ g. filled g old.text a) (sym none) ∙ o.shows in
+      record {
+        others = o.others ++ Opaque Var name [] ∷ [];
+        text =
+            grown
+            ∙ (ap (λ (l : List ℕ). l ++ opening name) o.text
+            ∙ (ap (λ (l : List ℕ). shown_items o.others ++ l)
+            (sym (append-nil (opening name ++ []) ∙ append-nil (opening name)))
+            ∙ sym (flat_map-append shown_item o.others (Opaque Var name [] ∷ []))));
+        shows =
+            rw (
+              take_all place text (omega (arith, last)),
+              drop_all place text (omega (arith, last)),
+              kept,
+            )
+            (ap (λ (l : List ℕ). text ++ l) (append-nil (encode_lower bytes))
+            ∙ (ap (λ (l : List ℕ). l ++ encode_lower bytes)
+            (grown ∙ ap (λ (l : List ℕ). l ++ opening name) so_far)
+            ∙ (append_assoc (shown_items items) (opening name) (encode_lower bytes)
+            ∙ (ap (λ (l : List ℕ). shown_items items ++ l)
+            (sym holds.shown ∙ sym (append-nil (shown_item i)))
+            ∙ sym (flat_map-append shown_item items (i ∷ []))))));
+        within = (
+          omega (arith, last),
+          omega (
+            arith,
+            start,
+            ap length whole,
+            length-append ahead left,
+            length-append bytes residual,
+          ),
+        );
+        seen = omega (arith, next, o.seen, size_is, long, few);
+      }
 
 -- ---- no items
 
-pub no_text : (of : ItemsText) → of.text ≡ [] → of.labels ≡ [] → of.left ≡ 0 → TextStands of []
-no_text of text labels left = record {
-  first = [];
+pub no_text : (of : ItemsText) → of.text ≡ [] → of.seen ≡ 0 → of.gap ≡ None → TextStands of []
+no_text of text seen gap body none few = record {
   others = [];
-  split = refl;
   text = text;
-  labels = labels;
-  left = λ bytes none few. ap length none ∙ sym left;
-  grows = λ n. labels;
+  shows = ap (λ g. filled g of.text body) gap ∙ text;
+  within = subst (λ g. IsWithin g of.text body) (sym gap) tt;
+  seen = seen ∙ sym (ap length none);
 }
 
 -- ---- how many bytes spell items
@@ -159,22 +190,40 @@ pub plain_size : (all : List PlainField) (run : List ℕ) (count : ℕ) → coun
     → HasSize (run_items all run) count
 plain_size all run count is bytes spells = (plain_fixed all run bytes spells).1 ∙ sym is
 
--- ---- the labels of a run
+-- ---- where their data begin
 
-pub run_labels : (all : List PlainField) (run : List ℕ)
-    → labels_of (run_items all run) ≡ map field_label all
-run_labels [] run = refl
-run_labels (fields.Word name ∷ all) run =
-    ap (λ l. field_label (fields.Word name) ∷ l) (run_labels all _)
-run_labels (fields.Hyper name ∷ all) run =
-    ap (λ l. field_label (fields.Hyper name) ∷ l) (run_labels all _)
+pub var_data : (name bytes : List ℕ) (size : ℕ)
+    → size ≡ 4 + (length bytes + residue (length bytes))
+    → HasData (Opaque Var name bytes) name bytes 4 size
+var_data name bytes size is = record {
+  shown = refl;
+  spelled = data_of;
+}
+  where
+    data_of : (body : List ℕ) → Spells (Opaque Var name bytes ∷ []) body
+        → (front : List ℕ) × (back : List ℕ) × (body ≡ front ++ (bytes ++ back))
+        × (length front ≡ 4) × (length body ≡ size)
+    data_of body spells =
+        let one = Spells-single (Opaque Var name bytes) body spells in (
+          word_bytes (length bytes),
+          one.0,
+          one.5,
+          refl,
+          opaque_size Var name bytes body one ∙ sym is,
+        )
 
-pub noted_run_adds : (old new : ItemsText) (all : List PlainField) (run : List ℕ) (size : ℕ)
-    → size ≡ run_size all → new ≡ labelled old (map field_label all) size
-    → Adds TextStands old new (run_items all run)
-noted_run_adds old new all run size is noted_is =
-    noted_adds old new (run_items all run) size (plain_size all run size is)
-    (noted_is ∙ ap (λ l. labelled old l size) (sym (run_labels all run)))
+pub rest_data : (name bytes : List ℕ) → HasData (Rest name bytes) name bytes 0 (length bytes)
+rest_data name bytes = record {
+  shown = refl;
+  spelled = data_of;
+}
+  where
+    data_of : (body : List ℕ) → Spells (Rest name bytes ∷ []) body
+        → (front : List ℕ) × (back : List ℕ) × (body ≡ front ++ (bytes ++ back))
+        × (length front ≡ 0) × (length body ≡ length bytes)
+    data_of body spells =
+        let is = (Spells-single (Rest name bytes) body spells).1 in
+        ([], [], is ∙ sym (append-nil bytes), refl, ap length is)
 
 -- ---- text that was appended, and after an error
 
@@ -198,45 +247,3 @@ text_cut old between more new before cut size is =
 pub same_text : (old new : List ℕ) → new ≡ old → Keeps TextOf old new
 unfolding Keeps
 same_text old new same items t = same ∙ t
-
--- ---- the text of all items
-
--- with no labels it is there
-pub whole_text : (of : ItemsText) (items : List Item) (text : List ℕ) → TextStands of items
-    → of.labels ≡ [] → text ≡ of.text ++ 10 ∷ [] → text ≡ shown_items items ++ 10 ∷ []
-whole_text of items text stands none is =
-    let no_others : stands.others ≡ [] = no_labels stands.others (sym stands.labels ∙ none) in
-    let all : items ≡ stands.first =
-    stands.split
-    ∙ (ap (λ (l : List Item). stands.first ++ l) no_others ∙ append-nil stands.first) in
-    is ∙ ap (λ (l : List ℕ). l ++ 10 ∷ []) (stands.text ∙ ap shown_items (sym all))
-
--- the values of the items with labels are at the end of the body
-pub record HasOthers (of : ItemsText) (items : List Item) (body : List ℕ) : Type 0 where
-  pub others : List Item
-  pub labels : of.labels ≡ labels_of others
-  pub spells : Spells others (drop (length body - of.left) body)
-  pub shows : of.text ++ (shown_items others ++ 10 ∷ []) ≡ shown_items items ++ 10 ∷ []
-
-pub has_others : (of : ItemsText) (items : List Item) (body : List ℕ) → TextStands of items
-    → Spells items body → length body < 2 ^ 64 → HasOthers of items body
-has_others of items body stands spells few =
-    let (a, b, front, back, split) =
-    Spells-split stands.first stands.others body
-    (subst (λ (l : List Item). Spells l body) stands.split spells) in
-    let sizes : length body ≡ length a + length b = ap length split ∙ length-append a b in
-    let left : length b ≡ of.left = stands.left b back (omega (arith, few, sizes)) in
-    let start : length body - of.left ≡ length a = omega (arith, sizes, left) in
-    let values : drop (length body - of.left) body ≡ b =
-    ap (λ n. drop n body) start ∙ (ap (drop (length a)) split ∙ drop-append_seam a b) in
-    record {
-      others = stands.others;
-      labels = stands.labels;
-      spells = subst (Spells stands.others) (sym values) back;
-      shows =
-          sym (append_assoc of.text (shown_items stands.others) (10 ∷ []))
-          ∙ ap (λ (l : List ℕ). l ++ 10 ∷ [])
-          (ap (λ (l : List ℕ). l ++ shown_items stands.others) stands.text
-          ∙ (sym (flat_map-append shown_item stands.first stands.others)
-          ∙ ap shown_items (sym stands.split)));
-    }

@@ -1,6 +1,6 @@
 -- A line, and what is held after it.
 use Rattle.std.proofs.Common.{◌+◌}
-use Rattle.listing3.proofs.Common.{◌≡◌, ◌⊎◌, inl, inr, ℕ, List, [], ◌∷◌, ◌++◌, ◌<◌, length, drop, refl, sym, ap, ◌∙◌, subst, append_assoc, append-nil, length-append, arith, Result, Ok, Err, Appends, AppendsFront, PlainField, Item, Word, Opaque, Handle, run_items, ProcId, head_names, ◌^◌, Option, codes, decimal, OnErr, OnOk, Appends-trans, Spells, Adds, Keeps, procedure_in, Entry, Begin, Call, Turn, Reply, Close, End, ItemsText, is_headed_call, is_headed_reply, front_of_second, TextStands, always, after_front, HasLineUnderWay, LineRests, items_before, LineStands, SkipsOthers, entry_line, line, opening, prefix, procedure_name, shown, shown_items, WritesText}
+use Rattle.listing3.proofs.Common.{◌≡◌, ◌⊎◌, inl, inr, ℕ, List, [], ◌∷◌, ◌++◌, ◌<◌, length, drop, refl, sym, ap, ap₂, ◌∙◌, subst, append_assoc, append-nil, length-append, arith, Result, Ok, Err, Appends, AppendsFront, PlainField, Item, Word, Opaque, Handle, run_items, ProcId, head_names, ◌^◌, Option, codes, decimal, OnErr, OnOk, Appends-trans, Spells, Adds, Keeps, procedure_in, Entry, Begin, Call, Turn, Reply, Close, End, Gap, ItemsText, is_headed_call, is_headed_reply, front_of_second, filled, IsTextOfBody, TextStands, always, after_front, HasLineUnderWay, LineRests, items_before, LineStands, SkipsOthers, entry_line, line, opening, prefix, procedure_name, shown, shown_items, WritesText}
 use Rattle.capture3.specs.declared.reader.entry.Kind.{Kind}
 use Rattle.capture3.specs.declared.reader.entry.Kind.TheVariants as kinds
 use Rattle.capture3.specs.declared.fault.Error.{Error}
@@ -22,6 +22,7 @@ use Rattle.canon3.proofs.Lemmas.Numbers.HandleTableLemmas.{none_in_run}
 use Rattle.canon3.proofs.Lemmas.WellFormed.Laid.{IsLaidOut, last_laid}
 use Rattle.xdr3.specs.Visit.{AddsSome}
 use Rattle.xdr3.proofs.Lemmas.Shapes.Walks.{some_none}
+use Rattle.listing3.proofs.Lines.ItemsTexts.{filled_more}
 use Rattle.listing3.proofs.ListingLemmas.{shown_push}
 
 -- ---- pieces of a line
@@ -170,12 +171,12 @@ keeps_text gathers writer text = kept_both gathers writer writer.handles text (�
 
 -- a run that fails
 pub run_kept : {H : Type 0} (gathers : H → List Item → Type 0) (writer : LineWriter H)
-    (text : ItemsText) (items : List Item) → Keeps TextStands writer.items text
+    (text : ItemsText) (items : List Item) → text ≡ writer.items
     → AddsSome (LineStands gathers) writer (with_both gathers writer writer.handles text) items
 unfolding Keeps
-run_kept gathers writer text items kept =
+run_kept gathers writer text items same =
     some_none (LineStands gathers) writer (with_both gathers writer writer.handles text) items
-    (keeps_text gathers writer text kept)
+    (keeps_text gathers writer text (rw same (λ before h. h)))
 
 -- ---- what a result says
 
@@ -185,16 +186,12 @@ pub writes_same : {X : Type 0} {old new : Option (List ℕ)} {text other : List 
 writes_same {X} {old} {new} result same =
     subst (λ (l : List ℕ). WritesText old new l result) same
 
--- what two calls say of one result
-pub on_ok_both : {T E P Q R : Type 0} (result : Result T E) → (P → Q → R) → OnOk result P
-    → OnOk result Q → OnOk result R
-on_ok_both (Ok x) both p q = both p q
-on_ok_both (Err e) both p q = tt
+module _ {T E : Type 0} (result : Result T E) (P : Type 0) where
+  pub told_ok : (x : T) → Ok x ≡ result → OnOk result P → P
+  told_ok x is p = subst (λ (r : Result T E). OnOk r P) (sym is) p
 
-pub on_err_both : {T E P Q R : Type 0} (result : Result T E) → (P → Q → R) → OnErr result P
-    → OnErr result Q → OnErr result R
-on_err_both (Ok x) both p q = tt
-on_err_both (Err e) both p q = both p q
+  pub told_err : (e : E) → Err e ≡ result → OnErr result P → P
+  told_err e is p = subst (λ (r : Result T E). OnErr r P) (sym is) p
 
 -- ---- an entry's line
 
@@ -216,28 +213,42 @@ module _ {H : Type 0} (gathers : H → List Item → Type 0) (writer : LineWrite
   gathered_after _ told =
       rw append-nil (gathered_between gathers writer (all_items entries) told)
 
+-- the text with its gap filled, and the end of the line
+line_ends : (items : ItemsText) (rest : List Item) (gap : Option Gap) (text body back : List ℕ)
+    → IsTextOfBody items rest back → text ≡ items.text ++ 10 ∷ [] → gap ≡ items.gap → body ≡ back
+    → filled gap text body ≡ shown_items rest ++ 10 ∷ []
+line_ends items rest gap text body back of text_is gap_is body_is =
+    ap (λ g. filled g text body) gap_is
+    ∙ (ap₂ (λ (t b : List ℕ). filled items.gap t b) text_is (body_is ∙ sym (append-nil back))
+    ∙ (filled_more items.gap items.text (10 ∷ []) back [] of.within
+    ∙ ap (λ (l : List ℕ). l ++ 10 ∷ []) of.shows))
+
 pub is_line : {H : Type 0} (gathers : H → List Item → Type 0) (writer : LineWriter H)
     (connection : ℕ) (side : List ℕ) (number : ℕ) (id : ProcId) (front rest : List Item)
-    (n : ℕ) (head body : List ℕ) → Spells (Word head_names.xid n ∷ rest) body
+    (n : ℕ) (head text body : List ℕ) (gap : Option Gap) → Spells (Word head_names.xid n ∷ rest)
+    body → length body < 2 ^ 64
     → LineStands gathers writer (after_front front (Word head_names.xid n ∷ rest))
     → head ≡ prefix connection side number ++ (xid_text writer.xid ++ (32 ∷ procedure_name id))
-    → TextStands writer.items rest × Spells rest (drop 4 body)
-    × (head ++ (shown_items rest ++ 10 ∷ [])
-    ≡ line connection side number id (Word head_names.xid n ∷ rest))
-is_line gathers writer connection side number id front rest n head body
-    (first, back, word, spells, split) stands head_is =
+    → text ≡ writer.items.text ++ 10 ∷ [] → gap ≡ writer.items.gap
+    → head ++ filled gap text (drop 4 body)
+    ≡ line connection side number id (Word head_names.xid n ∷ rest)
+is_line gathers writer connection side number id front rest n head text body gap
+    (first, back, word, spells, split) few stands head_is text_is gap_is =
     let u = is_after gathers writer front (Word head_names.xid n ∷ rest) stands in
     let same : writer.xid ≡ n = cc (u.begins) in
     let after : u.rest ≡ rest = cc (u.begins) in
+    let text_of = subst (TextStands writer.items) after u.text in
     let left : drop 4 body ≡ back =
-    ap (drop 4) (split ∙ ap (λ (k : List ℕ). k ++ back) word.1) in (
-      subst (TextStands writer.items) after u.text,
-      subst (Spells rest) (sym left) spells,
-      composed connection side number n id rest head (shown_items rest ++ 10 ∷ [])
-          (head_is
-          ∙ ap (λ k. prefix connection side number ++ (xid_text k ++ (32 ∷ procedure_name id)))
-          same) refl,
-    )
+    ap (drop 4) (split ∙ ap (λ (k : List ℕ). k ++ back) word.1) in
+    let short : length back < 2 ^ 64 = omega (arith, few, ap length split, length-append first back)
+    in
+    composed connection side number n id rest head (filled gap text (drop 4 body))
+    (head_is
+    ∙ ap (λ k. prefix connection side number ++ (xid_text k ++ (32 ∷ procedure_name id)))
+    same)
+    (line_ends writer.items rest gap text (drop 4 body) back (text_of back spells short) text_is
+    gap_is
+    left)
 
 module _ (P : Entry → Type 0) (entries : List Entry) (one : Entry) (kind : Kind)
     (of : IsOfKind kind one) (first : AreFirst (entries ++ one ∷ [])) where

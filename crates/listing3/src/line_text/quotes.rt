@@ -27,30 +27,26 @@ pub(crate) fn put_quoted(room: &mut Vec<u8>, at: usize, bytes: &[u8]) -> Result<
         make_room(room, at, 2 * PIECE + 2)?;
         return Ok(put_plain(room, at, bytes));
     }
-    make_room(room, at, 1)?;
-    let start = put_bytes(room, at, b"\"");
-    let end = put_pieces(room, start, bytes)?;
-    make_room(room, end, 1)?;
-    Ok(put_bytes(room, end, b"\""))
+    put_pieces(room, at, bytes)
 }
 
-/// Writes the text of the bytes between quotation marks, without these, a piece after another.
-#[inline(always)]
-pub(crate) fn put_pieces(room: &mut Vec<u8>, at: usize, bytes: &[u8]) -> Result<usize, AllocError>
+/// Writes the text of the bytes between quotation marks, a piece after another.
+fn put_pieces(room: &mut Vec<u8>, at: usize, bytes: &[u8]) -> Result<usize, AllocError>
     requires { at ≤ vec_len room.old }
-    ensures after { IfOk result (λ end. at ≤ end) }
     ensures within { IfOk result (λ end. end ≤ vec_len room.new) }
     ensures ok { IfOk result (λ end. take end room.new.items
-        ≡ take at room.old.items ++ flat_map quoted_byte bytes.now) }
+        ≡ take at room.old.items ++ quoted bytes.now) }
     ensures kept { take at room.new.items ≡ take at room.old.items }
     ensures len { vec_len room.old ≤ vec_len room.new }
 {
-    let mut end = at;
+    make_room(room, at, 1)?;
+    let mut end = put_bytes(room, at, b"\"");
     for piece in bytes.chunks(PIECE) {
         make_room(room, end, 4 * piece.len())?;
         end = put_piece(room, end, piece);
     }
-    Ok(end)
+    make_room(room, end, 1)?;
+    Ok(put_bytes(room, end, b"\""))
 }
 
 /// Writes quotation marks around bytes that stand for themselves. Most names are such, and are copied by

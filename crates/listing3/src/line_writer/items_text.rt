@@ -1,33 +1,36 @@
 //! The text of a message's items, as it grows.
 
-ghost use Rattle.std.specs.Prelude.{◌≡◌, ◌≢◌, ◌≤◌, ◌+◌, ◌∷◌, [], length, map, OnOk, OnErr, IsFalse};
-ghost use Rattle.xdr3.specs.Item.{residue};
+ghost use Rattle.std.specs.Prelude.{◌≡◌, ◌≤◌, ◌<◌, ◌+◌, ◌^◌, ◌∷◌, [], length, true, None, OnOk, OnErr};
+ghost use Rattle.xdr3.specs.Item.{Item, residue};
 ghost use Rattle.xdr3.specs.Visit.{Adds, Keeps, body_limit};
-ghost use Rattle.listing3.specs.machinery.ItemsText.{TextStands, full, labelled};
-ghost use Rattle.listing3.specs.machinery.Labels.{field_label};
+ghost use Rattle.listing3.specs.machinery.ItemsText.{HasData, TextStands};
 
 use crate::line_text::LineText;
-use crate::line_writer::labels::{Labels, ValueKind};
 use std::alloc::{AllocError, Global};
 use xdr3::{PlainField, Visit};
 
 /// The digits of so many bytes leave the near caches before they are written.
 const MANY: usize = 16_384;
 
-/// How many bytes of text are held before a message is judged, and then those of one item more.
-const MOST: usize = 1_048_576;
+/// A position in a text where the digits of data are left out.
+#[derive(Clone, Copy)]
+pub(crate) struct Gap {
+    /// How many bytes of the text are before the digits.
+    pub(crate) at: usize,
+    /// How many bytes of the body are before the data.
+    pub(crate) skipped: usize,
+    /// How many bytes the data has.
+    pub(crate) len: usize,
+}
 
-/// The text of the items of a body that were visited, ` name=value` for each. Once it is long, or an item
-/// has many bytes, only the labels of the items that follow are noted: when the text is written, the body
-/// with their values is at hand.
+/// The text of the items of a body that were visited, ` name=value` for each. The digits of one
+/// item of many bytes are left out: when the text is written, the body is at hand.
 #[derive(Drop)]
 pub(crate) struct ItemsText {
     pub(crate) text: LineText,
-    /// At this length of the text the labels begin.
-    pub(crate) most: usize,
-    pub(crate) labels: Labels,
-    /// How many bytes of the body spell the items with these labels.
-    pub(crate) left: usize,
+    /// How many bytes of the body spell the items.
+    pub(crate) seen: usize,
+    pub(crate) gap: Option<Gap>,
 }
 
 /// Returns how many bytes encode opaque data of `len` bytes.
@@ -46,9 +49,8 @@ impl ItemsText {
     {
         ItemsText {
             text: LineText::new(alloc),
-            most: MOST,
-            labels: Labels::new(alloc),
-            left: 0,
+            seen: 0,
+            gap: None,
         }
     }
 
@@ -57,67 +59,41 @@ impl ItemsText {
         ensures { TextStands self.new [] }
     {
         self.text.forget();
-        self.most = MOST;
-        self.left = 0;
-        if !self.labels.is_empty() {
-            self.labels.forget();
-        }
+        self.seen = 0;
+        self.gap = None;
     }
 
-    /// Drops all items, and the memory too if that is large.
-    #[cold]
-    pub(crate) fn release(&mut self)
-        ensures { TextStands self.new [] }
-    {
-        self.text.release();
-        self.most = MOST;
-        self.left = 0;
-        self.labels.release();
-    }
-
-    /// Returns whether no more text is composed.
-    #[inline(always)]
-    pub(crate) fn is_full(&self) -> bool
-        ensures { IsFalse result → self.now.most ≢ 0 }
-    {
-        self.text.len() >= self.most
-    }
-
-    /// Notes the label of an item that has `size` bytes. No more text is composed.
+    /// Appends ` name=`, and leaves the digits of the data out. The item has `size` bytes, and `before`
+    /// of them are before the data.
     #[inline(never)]
-    pub(crate) fn note(
+    fn leave_out(
         &mut self,
         name: &'static str,
-        kind: ValueKind,
+        bytes: &[u8],
+        before: usize,
         size: usize,
     ) -> Result<(), AllocError>
-        ensures ok { OnOk result (self.new ≡ labelled self.old ((name.now, kind) ∷ []) size) }
-        ensures err { OnErr result (self.new ≡ full self.old) }
+        requires { self.old.gap ≡ None }
+        ensures ok { (item : Item) → HasData item name.now bytes.now before size
+            → OnOk result (Adds TextStands self.old self.new (item ∷ [])) }
+        ensures err { OnErr result (Keeps TextStands self.old self.new) }
     {
-        self.most = 0;
-        self.labels.push(name, kind)?;
-        self.left = self.left.wrapping_add(size);
+        self.text.append_name(name)?;
+        self.gap = Some(Gap {
+            at: self.text.bytes().len(),
+            skipped: self.seen.wrapping_add(before),
+            len: bytes.len(),
+        });
+        self.seen = self.seen.wrapping_add(size);
         Ok(())
     }
 
-    /// Notes the labels of a run that has `size` bytes. No more text is composed.
-    #[inline(never)]
-    fn note_run(&mut self, fields: &[PlainField], size: usize) -> Result<(), AllocError>
-        ensures ok { OnOk result (self.new ≡ labelled self.old (map field_label fields.now) size) }
-        ensures err { OnErr result (self.new ≡ full self.old) }
-    {
-        self.most = 0;
-        self.labels.push_run(fields)?;
-        self.left = self.left.wrapping_add(size);
-        Ok(())
-    }
-
-    /// Returns whether the value of an item with so many bytes of data is left in the body.
+    /// Returns whether the digits of data of `len` bytes are left out. Only those of one item are.
     #[inline(always)]
     fn leaves_out(&self, len: usize) -> bool
-        ensures { IsFalse result → self.now.most ≢ 0 }
+        ensures { result ≡ true → self.now.gap ≡ None }
     {
-        len >= MANY || self.is_full()
+        len >= MANY && self.gap.is_none()
     }
 }
 
@@ -130,60 +106,58 @@ impl Visit for ItemsText {
     ghost stands = { TextStands };
 
     fn word(&mut self, name: &'static str, n: u32) -> Result<(), AllocError> {
-        if self.is_full() {
-            return self.note(name, ValueKind::Word, 4);
-        }
-        self.text.word(name, n)
+        self.text.word(name, n)?;
+        self.seen = self.seen.wrapping_add(4);
+        Ok(())
     }
 
     fn hyper(&mut self, name: &'static str, n: u64) -> Result<(), AllocError> {
-        if self.is_full() {
-            return self.note(name, ValueKind::Hyper, 8);
-        }
-        self.text.hyper(name, n)
+        self.text.hyper(name, n)?;
+        self.seen = self.seen.wrapping_add(8);
+        Ok(())
     }
 
     fn fixed(&mut self, name: &'static str, bytes: &[u8; 8]) -> Result<(), AllocError> {
-        if self.is_full() {
-            return self.note(name, ValueKind::Bytes(8), 8);
-        }
-        self.text.fixed(name, bytes)
+        self.text.fixed(name, bytes)?;
+        self.seen = self.seen.wrapping_add(8);
+        Ok(())
     }
 
     fn write_verf(&mut self, name: &'static str, bytes: &[u8; 8]) -> Result<(), AllocError> {
-        if self.is_full() {
-            return self.note(name, ValueKind::Bytes(8), 8);
-        }
-        self.text.write_verf(name, bytes)
+        self.text.write_verf(name, bytes)?;
+        self.seen = self.seen.wrapping_add(8);
+        Ok(())
     }
 
     #[inline(always)]
     fn var(&mut self, name: &'static str, bytes: &[u8]) -> Result<(), AllocError> {
         if self.leaves_out(bytes.len()) {
-            return self.note(name, ValueKind::Data, encoded_size(bytes.len()));
+            return self.leave_out(name, bytes, 4, encoded_size(bytes.len()));
         }
-        self.text.var(name, bytes)
+        self.text.var(name, bytes)?;
+        self.seen = self.seen.wrapping_add(encoded_size(bytes.len()));
+        Ok(())
     }
 
     fn text(&mut self, name: &'static str, bytes: &[u8]) -> Result<(), AllocError> {
-        if self.leaves_out(bytes.len()) {
-            return self.note(name, ValueKind::Text, encoded_size(bytes.len()));
-        }
-        self.text.text(name, bytes)
+        self.text.text(name, bytes)?;
+        self.seen = self.seen.wrapping_add(encoded_size(bytes.len()));
+        Ok(())
     }
 
     fn handle(&mut self, name: &'static str, bytes: &[u8]) -> Result<(), AllocError> {
-        if self.is_full() {
-            return self.note(name, ValueKind::Data, encoded_size(bytes.len()));
-        }
-        self.text.handle(name, bytes)
+        self.text.handle(name, bytes)?;
+        self.seen = self.seen.wrapping_add(encoded_size(bytes.len()));
+        Ok(())
     }
 
     fn rest(&mut self, name: &'static str, bytes: &[u8]) -> Result<(), AllocError> {
         if self.leaves_out(bytes.len()) {
-            return self.note(name, ValueKind::Bytes(bytes.len()), bytes.len());
+            return self.leave_out(name, bytes, 0, bytes.len());
         }
-        self.text.rest(name, bytes)
+        self.text.rest(name, bytes)?;
+        self.seen = self.seen.wrapping_add(bytes.len());
+        Ok(())
     }
 
     #[inline(always)]
@@ -193,11 +167,10 @@ impl Visit for ItemsText {
             (Adds TextStands self.old self.new (run_items fields.now bytes.now)) }
         ensures err { OnErr result
             (AddsSome TextStands self.old self.new (run_items fields.now bytes.now)) }
-        ensures keeps { OnErr result (Keeps TextStands self.old self.new) }
+        ensures stays { OnErr result (self.new ≡ self.old) }
     {
-        if self.is_full() {
-            return self.note_run(fields, bytes.len());
-        }
-        self.text.plain(fields, bytes)
+        self.text.plain(fields, bytes)?;
+        self.seen = self.seen.wrapping_add(bytes.len());
+        Ok(())
     }
 }

@@ -2,15 +2,13 @@
 //! directories (RFC 1813, sections 3.3.8 to 3.3.11).
 #![tactic(auto, using(xdr3::proofs::Lemmas::Scans::ScanLemmas::scans), unfolding(crate::specs::Shapes::create_how, crate::specs::Shapes::mknod_what, crate::specs::Shapes::device, nfs3_types::specs::Names::names))]
 
-ghost use Rattle.nfs3_types.specs.Names.{names};
 ghost use Rattle.procs3.specs.Shapes.{create_how, mknod_what};
 ghost use Rattle.xdr3.specs.Scan.{Scans};
-ghost use Rattle.xdr3.specs.Shape.{◌then◌, word};
 
 use crate::scans::both::Both;
-use crate::scans::items::{CreateVerf, Path};
+use crate::scans::items::{CreateVerf, Path, Spec1, Spec2};
 use nfs3_types::{DirOp, PostOpAttr, PostOpFh, Sattr, Wcc};
-use xdr3::{GetError, Input, Scan, Visit, scan_listed, scan_word};
+use xdr3::{GetError, Input, Scan, Visit, scan_listed};
 
 /// createhow3 (RFC 1813, section 3.3.8).
 pub(crate) struct CreateHow;
@@ -37,18 +35,7 @@ pub(crate) type MkDirArgs = Both<DirOp<'static>, Sattr>;
 pub(crate) type SymLinkArgs = Both<DirOp<'static>, Both<Sattr, Path>>;
 
 /// specdata3, in a devicedata3 (RFC 1813, section 3.3.11).
-pub(crate) struct SpecData;
-
-impl Scan for SpecData {
-    ghost shape = { word names.spec1 then word names.spec2 };
-
-    #[inline]
-    fn scan<V: Visit>(input: &mut Input, visitor: &mut V) -> Result<(), GetError> {
-        scan_word("spec1", input, visitor)?;
-        scan_word("spec2", input, visitor)?;
-        Ok(())
-    }
-}
+type SpecData = Both<Spec1, Spec2>;
 
 /// devicedata3 (RFC 1813, section 3.3.11).
 type Device = Both<Sattr, SpecData>;

@@ -4,13 +4,13 @@
 
 ghost use Rattle.nfs3_types.specs.Names.{names};
 ghost use Rattle.xdr3.specs.Scan.{Scans};
-ghost use Rattle.xdr3.specs.Shape.{◌then◌, linked, word};
+ghost use Rattle.xdr3.specs.Shape.{linked};
 
 use crate::scans::both::Both;
-use crate::scans::items::{Cookie, CookieVerf, Count, Eof, FileId, FileName};
+use crate::scans::items::{Cookie, CookieVerf, Count, DirCount, Eof, FileId, FileName, MaxCount};
 use nfs3_types::{DirOp, Handle, PostOpAttr, PostOpFh, Wcc};
 use std::marker::PhantomData;
-use xdr3::{GetError, Input, Scan, Visit, scan_linked, scan_word};
+use xdr3::{GetError, Input, Scan, Visit, scan_linked};
 
 /// LOOKUP3resok (RFC 1813, section 3.3.3).
 pub(crate) type LookupOk = Both<Handle, Both<PostOpAttr, PostOpAttr>>;
@@ -52,18 +52,7 @@ pub(crate) type ReadDirOk = Both<PostOpAttr, Both<CookieVerf, Both<EntryList<Ent
 pub(crate) type ReadDirPlusArgs = Both<Handle, Both<Cookie, Both<CookieVerf, DirCounts>>>;
 
 /// How many bytes the results of READDIRPLUS may have (RFC 1813, section 3.3.17).
-pub(crate) struct DirCounts;
-
-impl Scan for DirCounts {
-    ghost shape = { word names.dircount then word names.maxcount };
-
-    #[inline]
-    fn scan<V: Visit>(input: &mut Input, visitor: &mut V) -> Result<(), GetError> {
-        scan_word("dircount", input, visitor)?;
-        scan_word("maxcount", input, visitor)?;
-        Ok(())
-    }
-}
+type DirCounts = Both<DirCount, MaxCount>;
 
 /// entryplus3 (RFC 1813, section 3.3.17).
 type EntryPlus = Both<FileId, Both<FileName, Both<Cookie, Both<PostOpAttr, PostOpFh>>>>;

@@ -2,17 +2,64 @@
 //! made of besides the parts in `nfs3_types` (RFC 1813, section 3.3).
 #![tactic(auto, using(xdr3::proofs::Lemmas::Scans::ScanLemmas::scans), unfolding(nfs3_types::specs::Names::names))]
 
+ghost use Rattle.std.specs.Prelude.{IfErr, OnOk};
 ghost use Rattle.nfs3_types.specs.Names.{names};
 ghost use Rattle.nfs3_types.specs.Shapes.{no_maximum};
 ghost use Rattle.nfs3_types.specs.Stable.{stable_words};
 ghost use Rattle.xdr3.specs.Item.{Text, Var};
-ghost use Rattle.xdr3.specs.Scan.{Scans};
+ghost use Rattle.xdr3.specs.Scan.{Scans, Stops};
 ghost use Rattle.xdr3.specs.Shape.{boolean, fixed, hyper, listed, opaque, word, write_verf};
 
 use xdr3::{
     GetError, Input, Scan, Visit, scan_boolean, scan_fixed, scan_hyper, scan_listed, scan_text,
     scan_var, scan_word, scan_write_verf,
 };
+
+/// Passes on any word.
+#[inline(always)]
+fn pass_word<V: Visit>(
+    name: &'static str,
+    input: &mut Input,
+    visitor: &mut V,
+) -> Result<(), GetError>
+    ensures ok { OnOk result
+        (Scans V.stands (word name.now) (input.old, visitor.old) (input.new, visitor.new)) }
+    ensures err { IfErr result (λ error. Stops (word name.now) input.old error) }
+{
+    scan_word(name, input, visitor)?;
+    Ok(())
+}
+
+/// Passes on a bool.
+#[inline(always)]
+fn pass_boolean<V: Visit>(
+    name: &'static str,
+    input: &mut Input,
+    visitor: &mut V,
+) -> Result<(), GetError>
+    ensures ok { OnOk result
+        (Scans V.stands (boolean name.now) (input.old, visitor.old) (input.new, visitor.new)) }
+    ensures err { IfErr result (λ error. Stops (boolean name.now) input.old error) }
+{
+    scan_boolean(name, input, visitor)?;
+    Ok(())
+}
+
+/// Passes on a word that says how data is kept.
+#[inline(always)]
+fn pass_stable<V: Visit>(
+    name: &'static str,
+    input: &mut Input,
+    visitor: &mut V,
+) -> Result<(), GetError>
+    ensures ok { OnOk result
+        (Scans V.stands (listed name.now stable_words)
+        (input.old, visitor.old) (input.new, visitor.new)) }
+    ensures err { IfErr result (λ error. Stops (listed name.now stable_words) input.old error) }
+{
+    scan_listed(name, &[0, 1, 2], input, visitor)?;
+    Ok(())
+}
 
 /// Which accesses are asked for, or granted (RFC 1813, section 3.3.4).
 pub(crate) struct Access;
@@ -22,8 +69,7 @@ impl Scan for Access {
 
     #[inline]
     fn scan<V: Visit>(input: &mut Input, visitor: &mut V) -> Result<(), GetError> {
-        scan_word("access", input, visitor)?;
-        Ok(())
+        pass_word("access", input, visitor)
     }
 }
 
@@ -59,8 +105,7 @@ impl Scan for Count {
 
     #[inline]
     fn scan<V: Visit>(input: &mut Input, visitor: &mut V) -> Result<(), GetError> {
-        scan_word("count", input, visitor)?;
-        Ok(())
+        pass_word("count", input, visitor)
     }
 }
 
@@ -72,8 +117,7 @@ impl Scan for Eof {
 
     #[inline]
     fn scan<V: Visit>(input: &mut Input, visitor: &mut V) -> Result<(), GetError> {
-        scan_boolean("eof", input, visitor)?;
-        Ok(())
+        pass_boolean("eof", input, visitor)
     }
 }
 
@@ -97,8 +141,7 @@ impl Scan for StableHow {
 
     #[inline]
     fn scan<V: Visit>(input: &mut Input, visitor: &mut V) -> Result<(), GetError> {
-        scan_listed("stable", &[0, 1, 2], input, visitor)?;
-        Ok(())
+        pass_stable("stable", input, visitor)
     }
 }
 
@@ -110,8 +153,7 @@ impl Scan for Committed {
 
     #[inline]
     fn scan<V: Visit>(input: &mut Input, visitor: &mut V) -> Result<(), GetError> {
-        scan_listed("committed", &[0, 1, 2], input, visitor)?;
-        Ok(())
+        pass_stable("committed", input, visitor)
     }
 }
 
@@ -195,8 +237,7 @@ impl Scan for LinkMax {
 
     #[inline]
     fn scan<V: Visit>(input: &mut Input, visitor: &mut V) -> Result<(), GetError> {
-        scan_word("linkmax", input, visitor)?;
-        Ok(())
+        pass_word("linkmax", input, visitor)
     }
 }
 
@@ -208,8 +249,7 @@ impl Scan for NameMax {
 
     #[inline]
     fn scan<V: Visit>(input: &mut Input, visitor: &mut V) -> Result<(), GetError> {
-        scan_word("name_max", input, visitor)?;
-        Ok(())
+        pass_word("name_max", input, visitor)
     }
 }
 
@@ -221,8 +261,7 @@ impl Scan for NoTrunc {
 
     #[inline]
     fn scan<V: Visit>(input: &mut Input, visitor: &mut V) -> Result<(), GetError> {
-        scan_boolean("no_trunc", input, visitor)?;
-        Ok(())
+        pass_boolean("no_trunc", input, visitor)
     }
 }
 
@@ -234,8 +273,7 @@ impl Scan for ChownRestricted {
 
     #[inline]
     fn scan<V: Visit>(input: &mut Input, visitor: &mut V) -> Result<(), GetError> {
-        scan_boolean("chown_restricted", input, visitor)?;
-        Ok(())
+        pass_boolean("chown_restricted", input, visitor)
     }
 }
 
@@ -247,8 +285,7 @@ impl Scan for CaseInsensitive {
 
     #[inline]
     fn scan<V: Visit>(input: &mut Input, visitor: &mut V) -> Result<(), GetError> {
-        scan_boolean("case_insensitive", input, visitor)?;
-        Ok(())
+        pass_boolean("case_insensitive", input, visitor)
     }
 }
 
@@ -260,7 +297,54 @@ impl Scan for CasePreserving {
 
     #[inline]
     fn scan<V: Visit>(input: &mut Input, visitor: &mut V) -> Result<(), GetError> {
-        scan_boolean("case_preserving", input, visitor)?;
-        Ok(())
+        pass_boolean("case_preserving", input, visitor)
+    }
+}
+
+/// The most bytes of names (RFC 1813, section 3.3.17).
+pub(crate) struct DirCount;
+
+impl Scan for DirCount {
+    ghost shape = { word names.dircount };
+
+    #[inline]
+    fn scan<V: Visit>(input: &mut Input, visitor: &mut V) -> Result<(), GetError> {
+        pass_word("dircount", input, visitor)
+    }
+}
+
+/// The most bytes of the results (RFC 1813, section 3.3.17).
+pub(crate) struct MaxCount;
+
+impl Scan for MaxCount {
+    ghost shape = { word names.maxcount };
+
+    #[inline]
+    fn scan<V: Visit>(input: &mut Input, visitor: &mut V) -> Result<(), GetError> {
+        pass_word("maxcount", input, visitor)
+    }
+}
+
+/// The major number of a device (RFC 1813, section 3.3.11).
+pub(crate) struct Spec1;
+
+impl Scan for Spec1 {
+    ghost shape = { word names.spec1 };
+
+    #[inline]
+    fn scan<V: Visit>(input: &mut Input, visitor: &mut V) -> Result<(), GetError> {
+        pass_word("spec1", input, visitor)
+    }
+}
+
+/// The minor number of a device (RFC 1813, section 3.3.11).
+pub(crate) struct Spec2;
+
+impl Scan for Spec2 {
+    ghost shape = { word names.spec2 };
+
+    #[inline]
+    fn scan<V: Visit>(input: &mut Input, visitor: &mut V) -> Result<(), GetError> {
+        pass_word("spec2", input, visitor)
     }
 }

@@ -2,6 +2,7 @@
 #![tactic(auto, using(xdr3::proofs::Lemmas::Shapes::Walks::steps), unfolding(xdr3::specs::Reading::reading, nfs3_types::specs::Names::names))]
 
 use crate::values::tagged::walk_tagged;
+use crate::values::walks::{walk_three, walk_two, walk_with_fields};
 use nfs3_types::{DirOp, PostOpAttr, PostOpFh, Sattr, Wcc};
 use std::alloc::{AllocError, Global};
 use xdr3::{Field, GetError, Input, Visit, Walk, Xdr, walk_fields};
@@ -32,9 +33,7 @@ impl<'a> Walk for CreateArgs<'a> {
     ghost items = { create_args_items };
 
     fn walk<V: Visit>(&self, visitor: &mut V) -> Result<(), AllocError> {
-        self.place.walk(visitor)?;
-        self.how.walk(visitor)?;
-        Ok(())
+        walk_two(&self.place, &self.how, visitor)
     }
 }
 
@@ -64,9 +63,7 @@ impl<'a> Walk for MkDirArgs<'a> {
     ghost items = { mkdir_args_items };
 
     fn walk<V: Visit>(&self, visitor: &mut V) -> Result<(), AllocError> {
-        self.place.walk(visitor)?;
-        self.attr.walk(visitor)?;
-        Ok(())
+        walk_two(&self.place, &self.attr, visitor)
     }
 }
 
@@ -100,8 +97,7 @@ impl<'a> Walk for SymLinkArgs<'a> {
 
     fn walk<V: Visit>(&self, visitor: &mut V) -> Result<(), AllocError> {
         self.place.walk(visitor)?;
-        self.attr.walk(visitor)?;
-        walk_fields(&[Field::Text("path", self.path)], visitor)?;
+        walk_with_fields(&self.attr, &[Field::Text("path", self.path)], visitor)?;
         Ok(())
     }
 }
@@ -135,13 +131,11 @@ impl Walk for Device {
     ghost items = { device_items };
 
     fn walk<V: Visit>(&self, visitor: &mut V) -> Result<(), AllocError> {
-        self.attr.walk(visitor)?;
         let all = [
             Field::Word("spec1", self.spec1),
             Field::Word("spec2", self.spec2),
         ];
-        walk_fields(&all, visitor)?;
-        Ok(())
+        walk_with_fields(&self.attr, &all, visitor)
     }
 }
 
@@ -171,9 +165,7 @@ impl<'a> Walk for MkNodArgs<'a> {
     ghost items = { mknod_args_items };
 
     fn walk<V: Visit>(&self, visitor: &mut V) -> Result<(), AllocError> {
-        self.place.walk(visitor)?;
-        self.what.walk(visitor)?;
-        Ok(())
+        walk_two(&self.place, &self.what, visitor)
     }
 }
 
@@ -206,10 +198,7 @@ impl Walk for CreateOk {
     ghost items = { create_ok_items };
 
     fn walk<V: Visit>(&self, visitor: &mut V) -> Result<(), AllocError> {
-        self.handle.walk(visitor)?;
-        self.attr.walk(visitor)?;
-        self.dir.walk(visitor)?;
-        Ok(())
+        walk_three(&self.handle, &self.attr, &self.dir, visitor)
     }
 }
 

@@ -1,9 +1,10 @@
 //! Arguments and results of the procedures on names in directories (RFC 1813, section 3.3).
 #![tactic(auto, using(xdr3::proofs::Lemmas::Shapes::Walks::steps), unfolding(xdr3::specs::Reading::reading, crate::specs::Shapes::readdir_args, crate::specs::Shapes::readdirplus_args, nfs3_types::specs::Names::names))]
 
+use crate::values::walks::{walk_listing, walk_three, walk_two};
 use nfs3_types::{DirOp, Handle, PostOpAttr, PostOpFh, Wcc};
 use std::alloc::{AllocError, Global};
-use xdr3::{Field, GetError, Input, Visit, Walk, Xdr, get_linked, walk_fields, walk_linked};
+use xdr3::{Field, GetError, Input, Visit, Walk, Xdr, get_linked, walk_fields};
 
 /// The results of a successful LOOKUP: `LOOKUP3resok` (RFC 1813, section 3.3.3). It has the
 /// attributes of what was found, and those of the directory.
@@ -34,10 +35,7 @@ impl Walk for LookupOk {
     ghost items = { lookup_ok_items };
 
     fn walk<V: Visit>(&self, visitor: &mut V) -> Result<(), AllocError> {
-        self.handle.walk(visitor)?;
-        self.attr.walk(visitor)?;
-        self.dir.walk(visitor)?;
-        Ok(())
+        walk_three(&self.handle, &self.attr, &self.dir, visitor)
     }
 }
 
@@ -67,9 +65,7 @@ impl<'a> Walk for RenameArgs<'a> {
     ghost items = { rename_args_items };
 
     fn walk<V: Visit>(&self, visitor: &mut V) -> Result<(), AllocError> {
-        self.from.walk(visitor)?;
-        self.to.walk(visitor)?;
-        Ok(())
+        walk_two(&self.from, &self.to, visitor)
     }
 }
 
@@ -100,9 +96,7 @@ impl Walk for RenameWcc {
     ghost items = { rename_wcc_items };
 
     fn walk<V: Visit>(&self, visitor: &mut V) -> Result<(), AllocError> {
-        self.from.walk(visitor)?;
-        self.to.walk(visitor)?;
-        Ok(())
+        walk_two(&self.from, &self.to, visitor)
     }
 }
 
@@ -132,9 +126,7 @@ impl<'a> Walk for LinkArgs<'a> {
     ghost items = { link_args_items };
 
     fn walk<V: Visit>(&self, visitor: &mut V) -> Result<(), AllocError> {
-        self.handle.walk(visitor)?;
-        self.place.walk(visitor)?;
-        Ok(())
+        walk_two(&self.handle, &self.place, visitor)
     }
 }
 
@@ -165,9 +157,7 @@ impl Walk for LinkWcc {
     ghost items = { link_wcc_items };
 
     fn walk<V: Visit>(&self, visitor: &mut V) -> Result<(), AllocError> {
-        self.attr.walk(visitor)?;
-        self.dir.walk(visitor)?;
-        Ok(())
+        walk_two(&self.attr, &self.dir, visitor)
     }
 }
 
@@ -291,11 +281,13 @@ impl<'a> Walk for ReadDirOk<'a> {
     ghost items = { readdir_ok_items };
 
     fn walk<V: Visit>(&self, visitor: &mut V) -> Result<(), AllocError> {
-        self.attr.walk(visitor)?;
-        walk_fields(&[Field::Fixed("cookieverf", self.cookieverf)], visitor)?;
-        walk_linked("entry", self.entries.as_slice(), visitor)?;
-        walk_fields(&[Field::Word("eof", u32::from(self.eof))], visitor)?;
-        Ok(())
+        walk_listing(
+            &self.attr,
+            self.cookieverf,
+            self.entries.as_slice(),
+            self.eof,
+            visitor,
+        )
     }
 }
 
@@ -392,8 +384,7 @@ impl<'a> Walk for EntryPlus<'a> {
             Field::Hyper("cookie", self.cookie),
         ];
         walk_fields(&all, visitor)?;
-        self.attr.walk(visitor)?;
-        self.handle.walk(visitor)?;
+        walk_two(&self.attr, &self.handle, visitor)?;
         Ok(())
     }
 }
@@ -433,10 +424,12 @@ impl<'a> Walk for ReadDirPlusOk<'a> {
     ghost items = { readdirplus_ok_items };
 
     fn walk<V: Visit>(&self, visitor: &mut V) -> Result<(), AllocError> {
-        self.attr.walk(visitor)?;
-        walk_fields(&[Field::Fixed("cookieverf", self.cookieverf)], visitor)?;
-        walk_linked("entry", self.entries.as_slice(), visitor)?;
-        walk_fields(&[Field::Word("eof", u32::from(self.eof))], visitor)?;
-        Ok(())
+        walk_listing(
+            &self.attr,
+            self.cookieverf,
+            self.entries.as_slice(),
+            self.eof,
+            visitor,
+        )
     }
 }

@@ -1,9 +1,10 @@
 //! The results of the procedures on a file system (RFC 1813, sections 3.3.18 to 3.3.20).
 #![tactic(auto, using(xdr3::proofs::Lemmas::Shapes::Walks::steps), unfolding(xdr3::specs::Reading::reading, nfs3_types::specs::Names::names))]
 
+use crate::values::walks::walk_with_fields;
 use nfs3_types::{PostOpAttr, Time};
 use std::alloc::{AllocError, Global};
-use xdr3::{Field, GetError, Input, Visit, Walk, Xdr, walk_fields};
+use xdr3::{Field, GetError, Input, Visit, Walk, Xdr};
 
 /// The results of a successful FSSTAT: `FSSTAT3resok` (RFC 1813, section 3.3.18). It has sizes in
 /// bytes, numbers of files, and seconds.
@@ -53,7 +54,6 @@ impl Walk for FsStatOk {
     ghost items = { fsstat_ok_items };
 
     fn walk<V: Visit>(&self, visitor: &mut V) -> Result<(), AllocError> {
-        self.attr.walk(visitor)?;
         let all = [
             Field::Hyper("tbytes", self.tbytes),
             Field::Hyper("fbytes", self.fbytes),
@@ -63,8 +63,7 @@ impl Walk for FsStatOk {
             Field::Hyper("afiles", self.afiles),
             Field::Word("invarsec", self.invarsec),
         ];
-        walk_fields(&all, visitor)?;
-        Ok(())
+        walk_with_fields(&self.attr, &all, visitor)
     }
 }
 
@@ -125,7 +124,6 @@ impl Walk for FsInfoOk {
     ghost items = { fsinfo_ok_items };
 
     fn walk<V: Visit>(&self, visitor: &mut V) -> Result<(), AllocError> {
-        self.attr.walk(visitor)?;
         let all = [
             Field::Word("rtmax", self.rtmax),
             Field::Word("rtpref", self.rtpref),
@@ -139,8 +137,7 @@ impl Walk for FsInfoOk {
             Field::Word("delta_nsec", self.delta.nsec),
             Field::Word("properties", self.properties),
         ];
-        walk_fields(&all, visitor)?;
-        Ok(())
+        walk_with_fields(&self.attr, &all, visitor)
     }
 }
 
@@ -188,7 +185,6 @@ impl Walk for PathConfOk {
     ghost items = { pathconf_ok_items };
 
     fn walk<V: Visit>(&self, visitor: &mut V) -> Result<(), AllocError> {
-        self.attr.walk(visitor)?;
         let all = [
             Field::Word("linkmax", self.linkmax),
             Field::Word("name_max", self.name_max),
@@ -197,7 +193,6 @@ impl Walk for PathConfOk {
             Field::Word("case_insensitive", u32::from(self.case_insensitive)),
             Field::Word("case_preserving", u32::from(self.case_preserving)),
         ];
-        walk_fields(&all, visitor)?;
-        Ok(())
+        walk_with_fields(&self.attr, &all, visitor)
     }
 }

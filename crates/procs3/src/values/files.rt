@@ -1,6 +1,7 @@
 //! Arguments and results of the procedures on a file (RFC 1813, section 3.3).
 #![tactic(auto, using(xdr3::proofs::Lemmas::Shapes::Walks::steps, crate::proofs::ItemLemmas::followed_items), unfolding(xdr3::specs::Reading::reading, crate::specs::Shapes::access_args, crate::specs::Shapes::file_range, crate::specs::Shapes::write_args, crate::specs::Shapes::setattr_args, crate::specs::Shapes::access_ok, crate::specs::Shapes::readlink_ok, crate::specs::Shapes::read_ok, crate::specs::Shapes::write_ok, crate::specs::Shapes::commit_ok, nfs3_types::specs::Names::names))]
 
+use crate::values::walks::{walk_three, walk_with_fields};
 use nfs3_types::{Guard, Handle, PostOpAttr, Sattr, Stable, Wcc};
 use std::alloc::{AllocError, Global};
 use xdr3::{Field, GetError, Input, Visit, Walk, Xdr, walk_fields};
@@ -18,6 +19,7 @@ impl<'a> Xdr<'a> for SetAttrArgs {
 
     ghost shape = { setattr_args };
 
+    #[tactic(auto, unfolding(xdr3::specs::Reading::reading, crate::specs::Shapes::setattr_args, xdr3::specs::Item::followed_by))]
     fn get(alloc: Global, input: &mut Input<'a>) -> Result<SetAttrArgs, GetError> {
         let handle = Handle::get(alloc, input)?;
         let attr = Sattr::get(alloc, input)?;
@@ -36,10 +38,7 @@ impl Walk for SetAttrArgs {
     ghost items = { setattr_args_items };
 
     fn walk<V: Visit>(&self, visitor: &mut V) -> Result<(), AllocError> {
-        self.handle.walk(visitor)?;
-        self.attr.walk(visitor)?;
-        self.guard.walk(visitor)?;
-        Ok(())
+        walk_three(&self.handle, &self.attr, &self.guard, visitor)
     }
 }
 
@@ -101,9 +100,7 @@ impl Walk for AccessOk {
     ghost items = { access_ok_items };
 
     fn walk<V: Visit>(&self, visitor: &mut V) -> Result<(), AllocError> {
-        self.attr.walk(visitor)?;
-        walk_fields(&[Field::Word("access", self.access)], visitor)?;
-        Ok(())
+        walk_with_fields(&self.attr, &[Field::Word("access", self.access)], visitor)
     }
 }
 
@@ -133,9 +130,7 @@ impl<'a> Walk for ReadLinkOk<'a> {
     ghost items = { readlink_ok_items };
 
     fn walk<V: Visit>(&self, visitor: &mut V) -> Result<(), AllocError> {
-        self.attr.walk(visitor)?;
-        walk_fields(&[Field::Text("path", self.path)], visitor)?;
-        Ok(())
+        walk_with_fields(&self.attr, &[Field::Text("path", self.path)], visitor)
     }
 }
 
@@ -215,14 +210,12 @@ impl<'a> Walk for ReadOk<'a> {
     ghost items = { read_ok_items };
 
     fn walk<V: Visit>(&self, visitor: &mut V) -> Result<(), AllocError> {
-        self.attr.walk(visitor)?;
         let all = [
             Field::Word("count", self.count),
             Field::Word("eof", u32::from(self.eof)),
             Field::Var("data", self.content),
         ];
-        walk_fields(&all, visitor)?;
-        Ok(())
+        walk_with_fields(&self.attr, &all, visitor)
     }
 }
 
@@ -308,14 +301,12 @@ impl Walk for WriteOk {
     ghost items = { write_ok_items };
 
     fn walk<V: Visit>(&self, visitor: &mut V) -> Result<(), AllocError> {
-        self.wcc.walk(visitor)?;
         let all = [
             Field::Word("count", self.count),
             Field::Word("committed", self.committed.number()),
             Field::WriteVerf("verf", self.verf),
         ];
-        walk_fields(&all, visitor)?;
-        Ok(())
+        walk_with_fields(&self.wcc, &all, visitor)
     }
 }
 
@@ -344,8 +335,6 @@ impl Walk for CommitOk {
     ghost items = { commit_ok_items };
 
     fn walk<V: Visit>(&self, visitor: &mut V) -> Result<(), AllocError> {
-        self.wcc.walk(visitor)?;
-        walk_fields(&[Field::WriteVerf("verf", self.verf)], visitor)?;
-        Ok(())
+        walk_with_fields(&self.wcc, &[Field::WriteVerf("verf", self.verf)], visitor)
     }
 }

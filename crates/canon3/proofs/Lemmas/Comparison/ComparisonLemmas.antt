@@ -1,5 +1,5 @@
 -- A comparison of two captures, entry by entry.
-use Rattle.canon3.proofs.Common.{◌≡◌, ◌≢◌, ℕ, List, [], ◌∷◌, ◌++◌, append-nil, Option, None, Some, Result, Ok, Err, refl, sym, ap, ◌∙◌, Gave, Observed, IsPrefixOf, shown_of_all, Error, Place, Entry, Typed, MessageWriter, AreFirst, WriterRests, WriterStands, values_before, Same, HasPassed, place_from, IsMetBy, Progress, SameError, bytes_after, HasSpelled, spelling_of, ◌+◌, ◌≤◌, ◌<◌, ◌^◌, length, length-append, arith}
+use Rattle.canon3.proofs.Common.{◌≡◌, ◌≢◌, ℕ, List, [], ◌∷◌, ◌++◌, append-nil, Option, None, Some, Result, Ok, Err, refl, sym, ap, ◌∙◌, Gave, Observed, IsPrefixOf, Error, Place, Entry, Typed, MessageWriter, AreFirst, WriterRests, WriterStands, values_before, Same, HasPassed, place_from, IsMetBy, Progress, SameError, bytes_after, HasSpelled, spelling_of, ◌+◌, ◌≤◌, ◌<◌, ◌^◌, length, length-append, arith}
 use Rattle.std.specs.Option.{IsSomeAnd, MatchOption}
 use Rattle.std.specs.declared.hash.BuildHasher as BuildHasher
 use Rattle.std.specs.declared.hash.Hasher as Hasher
@@ -24,6 +24,7 @@ use Rattle.canon3.specs.machinery.ComparisonSteps.{Agree, Compares, HaveEnded, H
 use Rattle.canon3.proofs.Lemmas.Renaming.AgreementLemmas.{agree_more, differ_here, mark_alike, no_more, not_same, parting, place_there, typed_first}
 use Rattle.canon3.proofs.Lemmas.Order.First.{same_from_bytes}
 use Rattle.canon3.proofs.Lemmas.Progress.ProgressLemmas.{place_is, side_in}
+use Rattle.canon3.proofs.Lemmas.Progress.SummaryLemmas.{first_given, first_of_all}
 
 -- ---- an entry of each
 
@@ -86,7 +87,7 @@ pub gave_error : (source : Observed × Observed) (handed : List Entry) (error : 
     → (given : List ℕ) × Gave source.0 source.1 given × IsMetBy error source.1 given handed
     → GaveError source error
 gave_error source handed (errors.Refused fault) (given, gave, met) =
-    record { given = given; handed = handed; gave = gave; shown = met }
+    record { given = given; gave = gave; first = first_given source.1 given handed fault met }
 gave_error source handed _ met = tt
 
 module _ (first second : Observed × Observed) where
@@ -114,9 +115,11 @@ module _ (first second : Observed × Observed) (file other : List ℕ)
   stops_all : (error : Error) (which : Which) → StopsGiven first second error which
       → StopsComparing file other error which
   stops_all (errors.Refused fault) First f =
-      (shown_of_all _ _ file _ _ (prefix f.given f.gave) f.shown).0
-  stops_all (errors.Refused fault) Second ((a, whole), f) =
-      ((a, all_typed a whole), (shown_of_all _ _ other _ _ (other_prefix f.given f.gave) f.shown).0)
+      first_of_all first.1 f.given file fault (prefix f.given f.gave) f.first
+  stops_all (errors.Refused fault) Second ((a, whole), f) = (
+    (a, all_typed a whole),
+    first_of_all second.1 f.given other fault (other_prefix f.given f.gave) f.first,
+  )
   stops_all _ which s = tt
 
   pub decides_all : (result : Result Verdict SameError) → DecidesGiven first second result
@@ -138,7 +141,11 @@ pub read_out : {R S H X : Type 0} {builds : BuildHasher.Ghosts S H} {hashes : Ha
     → IsReadOut (source_since r) handed result
 read_out r Wrote handed (Ok x) d = (d.more, d.all)
 read_out r Wrote handed (Err (errors.Refused fault)) (given, gave, (entries, met, appends)) =
-    record { given = given; handed = entries; gave = gave; shown = met }
+    record {
+      given = given;
+      gave = gave;
+      first = first_given (source_since r).1 given entries fault met;
+    }
 read_out r Wrote handed (Err _) s = tt
 
 -- so many entries were handed out, and more may be left

@@ -1,5 +1,5 @@
 -- The machine for a connection against its two sides.
-use Rattle.capture3.proofs.Common.{lengths, Ends, Run, Runs, Stops, after, Leads, leads_within, Item, AreBytes, Client, Server, ReplyItems, Version, One, Two, AreStreams, Streams, size, max_bytes, IsStream, Context, client_position, server_position, calls_in_turn, refusal, replies_to, ConnectionShows, InClientStream, InServerStream, Entry, judge_call, MixedEnd, MixedCloses, MixedRefuses, mixed_next, mixing_from, judge_replies, Opening, InClient, InServer, InMixed, Closing, Closes, Refuses, turning, ending, after_server, after_client, conversing, opening_next, opened, StreamEnd, Held, Faulty, stream_end, Holds, place_at, Converses, connection_entries, Siding, SideEnd, SideCloses, SideRefuses, side_next, siding_from, ◌≡◌, inl, inr, ℕ, ◌+◌, ◌≤◌, List, [], ◌∷◌, ◌++◌, length, refl, sym, ap, ◌∙◌, append_assoc, append-nil, arith}
+use Rattle.capture3.proofs.Common.{lengths, Ends, Run, Runs, Stops, after, Leads, leads_within, Item, AreBytes, Client, Server, ReplyItems, Version, One, Two, AreStreams, Streams, size, max_bytes, IsStream, Position, server_position, calls_in_turn, refusal, replies_to, ConnectionShows, InCalls, InReplies, InClientStream, InServerStream, Entry, judge_call, MixedEnd, MixedCloses, MixedRefuses, mixed_next, mixing_from, judge_replies, Opening, InClient, InServer, InMixed, Closing, Closes, Refuses, turning, ending, after_server, after_client, conversing, opening_next, opened, StreamEnd, Held, Faulty, stream_end, Holds, place_at, Converses, connection_entries, Siding, SideEnd, SideCloses, SideRefuses, side_next, siding_from, ◌≡◌, inl, inr, ℕ, ◌+◌, ◌≤◌, List, [], ◌∷◌, ◌++◌, length, refl, sym, ap, ◌∙◌, append_assoc, append-nil, arith}
 use Rattle.capture3.proofs.Lemmas.Messages.BodiesLemmas.{the_calls, the_replies}
 use Rattle.capture3.proofs.Lemmas.Container.BytesOf.{split_bytes, mixed_bytes}
 use Rattle.capture3.proofs.Lemmas.Connections.JudgedInTurn.{conversed, calls_hold, replies_hold}
@@ -9,7 +9,7 @@ use Rattle.capture3.proofs.Lemmas.Sides.SideMachineLemmas.{HasSide, EndsSide, Re
 use Rattle.capture3.proofs.Lemmas.Sides.StreamEnds.{EndsStream, ends_stream, stream_ends}
 
 -- after the client side
-pub record InServerSide (context : Context) (bytes : List ℕ) (calls : List (List Item))
+pub record InServerSide (context : Position) (bytes : List ℕ) (calls : List (List Item))
     (s : Siding ReplyItems) : Type 0 where
   pub front : List ℕ
   pub last : List ℕ
@@ -21,14 +21,14 @@ pub record InServerSide (context : Context) (bytes : List ℕ) (calls : List (Li
   pub rest : HasSide (replies_to calls) (server_position context front client) last s
 
 -- what has come of a connection
-abbrev pub HasOpening : Version → Context → List ℕ → Opening → Type 0
-HasOpening One context bytes (InClient s) = HasSide calls_in_turn (client_position context) bytes s
+abbrev pub HasOpening : Version → Position → List ℕ → Opening → Type 0
+HasOpening One context bytes (InClient s) = HasSide calls_in_turn context bytes s
 HasOpening One context bytes (InServer calls s) = InServerSide context bytes calls s
 HasOpening Two context bytes (InMixed s) = HasMixed context bytes s
 HasOpening version context bytes o = ⊥
 
 -- a connection is whole, with these entries
-pub record ClosesConnection (version : Version) (context : Context) (bytes : List ℕ) (at total : ℕ)
+pub record ClosesConnection (version : Version) (context : Position) (bytes : List ℕ) (at total : ℕ)
     (entries : List Entry) : Type 0 where
   pub streams : Streams
   pub calls : List (List Item)
@@ -40,7 +40,7 @@ pub record ClosesConnection (version : Version) (context : Context) (bytes : Lis
   pub fits : total ≤ max_bytes
   pub entries_are : entries ≡ connection_entries calls replies
 
-abbrev pub EndsConnection : Version → Context → List ℕ → Closing → Type 0
+abbrev pub EndsConnection : Version → Position → List ℕ → Closing → Type 0
 EndsConnection version context bytes (Closes at total entries) =
     ClosesConnection version context bytes at total entries
 EndsConnection version context bytes (Refuses shown) = ConnectionShows version context bytes shown
@@ -81,15 +81,15 @@ module _ (number : ℕ) where
       refused (MixedRefuses fault) h = (Refuses (refusal fault), tt, refl)
 
 -- the machine for a connection, from its start
-abbrev pub opening_taken : Version → Context → List ℕ → Run Opening Closing
+abbrev pub opening_taken : Version → Position → List ℕ → Run Opening Closing
 opening_taken version context =
-    after (opening_next context.number) (Runs (opened version context.start context.before))
+    after (opening_next context.connection) (Runs (opened version context.start context.before))
 
-module _ (context : Context) where
+module _ (context : Position) where
   -- ---- version 1
 
   turning_leads : (bytes : List ℕ) (x : SideEnd (List Item))
-      → EndsSide calls_in_turn (client_position context) bytes x
+      → EndsSide calls_in_turn Client context bytes x
       → Leads (HasOpening One context) (EndsConnection One context) bytes (turning x)
   turning_leads bytes (SideCloses at total calls) h =
       record {
@@ -101,15 +101,15 @@ module _ (context : Context) where
         holds = h.holds;
         fits = omega (arith, h.fits, h.total_is);
         rest =
-            rw (h.at_is, h.total_is) (nothing_taken (the_replies calls)
+            rw (h.at_is, h.total_is) (nothing_taken (the_replies calls) Server
             (server_position context bytes h.stream) (omega (arith, h.fits, h.total_is)));
       }
-  turning_leads bytes (SideRefuses fault) h = (refl, inl h)
+  turning_leads bytes (SideRefuses fault) h = (refl, InCalls h)
 
   ending_leads : (bytes front last client : List ℕ) (calls : List (List Item))
       → bytes ≡ front ++ last → IsStream front client → Holds calls_in_turn client calls
       → (x : SideEnd ReplyItems)
-      → EndsSide (replies_to calls) (server_position context front client) last x
+      → EndsSide (replies_to calls) Server (server_position context front client) last x
       → Leads (HasOpening One context) (EndsConnection One context) bytes (ending calls x)
   ending_leads bytes front last client calls split first holds (SideCloses at total replies) h =
       let streams : Streams = record { client = client; server = h.stream } in
@@ -125,19 +125,8 @@ module _ (context : Context) where
         fits = h.fits;
         entries_are = refl;
       }
-  ending_leads bytes front last client calls split first holds (SideRefuses fault) h = (
-    refl,
-    inr (record {
-      front = front;
-      last = last;
-      client = client;
-      calls = calls;
-      split = split;
-      first = first;
-      holds = holds;
-      shows = h;
-    }),
-  )
+  ending_leads bytes front last client calls split first holds (SideRefuses fault) h =
+      (refl, InReplies front last client calls split first holds h)
 
   -- after the client side
   turned : (front client : List ℕ) (calls : List (List Item)) → IsStream front client
@@ -146,8 +135,8 @@ module _ (context : Context) where
       ≡ Runs (InServer calls
       (siding_from (context.start + length front) (context.before + length client)))
   turned front client calls first holds fits =
-      stops_inside (in_client context.number) front 0 (siding_from context.start context.before)
-      (side_closes the_calls (client_position context) front (context.start + length front)
+      stops_inside (in_client context.connection) front 0 (siding_from context.start context.before)
+      (side_closes the_calls Client context front (context.start + length front)
       (context.before + length client) calls
       (record {
         stream = client;
@@ -165,7 +154,7 @@ module _ (context : Context) where
       → Holds calls_in_turn streams.client calls
       → (x : StreamEnd ReplyItems) → EndsStream (replies_to calls) streams.server x
       → Leads (HasOpening Two context) (EndsConnection Two context) bytes
-      (after_server context.number at total calls x)
+      (after_server context.connection at total calls x)
   after_server_ends bytes at total streams calls h holds (Held replies) ends =
       record {
         streams = streams;
@@ -185,7 +174,7 @@ module _ (context : Context) where
       → AreBytes streams.server → ClosesMixed context bytes at total streams
       → (x : StreamEnd (List Item)) → EndsStream calls_in_turn streams.client x
       → Leads (HasOpening Two context) (EndsConnection Two context) bytes
-      (after_client context.number at total streams.server x)
+      (after_client context.connection at total streams.server x)
   after_client_ends bytes at total streams are h (Held calls) ends =
       after_server_ends bytes at total streams calls h ends
       (stream_end (judge_replies calls) streams.server)
@@ -195,7 +184,7 @@ module _ (context : Context) where
 
   conversing_ends : (bytes : List ℕ) (x : MixedEnd) → AreBytes bytes → EndsMixed context bytes x
       → Leads (HasOpening Two context) (EndsConnection Two context) bytes
-      (conversing context.number x)
+      (conversing context.connection x)
   conversing_ends bytes (MixedCloses at total streams) are h =
       let both = mixed_bytes bytes streams h.mixed are in
       after_client_ends bytes at total streams both.1 h (stream_end judge_call streams.client)
@@ -207,19 +196,19 @@ module _ (context : Context) where
   pub opening_leads : (version : Version) (bytes : List ℕ) (o : Opening) (byte : ℕ)
       → AreBytes (bytes ++ byte ∷ []) → HasOpening version context bytes o
       → Leads (HasOpening version context) (EndsConnection version context) (bytes ++ byte ∷ [])
-      (opening_next context.number o byte)
+      (opening_next context.connection o byte)
   opening_leads One bytes (InClient s) byte are h =
-      leads_within (HasSide calls_in_turn (client_position context))
-      (EndsSide calls_in_turn (client_position context)) (HasOpening One context)
+      leads_within (HasSide calls_in_turn context)
+      (EndsSide calls_in_turn Client context) (HasOpening One context)
       (EndsConnection One context) InClient turning (bytes ++ byte ∷ []) (bytes ++ byte ∷ [])
       (λ t side. side) (turning_leads (bytes ++ byte ∷ []))
-      (side_next judge_call (place_at context.number Client) s byte)
-      (side_leads the_calls (client_position context) bytes s byte are h)
+      (side_next judge_call (place_at context.connection Client) s byte)
+      (side_leads the_calls Client context bytes s byte are h)
   opening_leads One bytes (InServer calls s) byte are h =
       let split : bytes ++ byte ∷ [] ≡ h.front ++ (h.last ++ byte ∷ []) =
       rw (h.split, append_assoc) in
       leads_within (HasSide (replies_to calls) (server_position context h.front h.client))
-      (EndsSide (replies_to calls) (server_position context h.front h.client))
+      (EndsSide (replies_to calls) Server (server_position context h.front h.client))
       (HasOpening One context) (EndsConnection One context) (InServer calls) (ending calls)
       (h.last ++ byte ∷ []) (bytes ++ byte ∷ [])
       (λ t side.
@@ -235,12 +224,12 @@ module _ (context : Context) where
       })
       (ending_leads (bytes ++ byte ∷ []) h.front (h.last ++ byte ∷ []) h.client calls split h.first
       h.holds)
-      (side_next (judge_replies calls) (place_at context.number Server) s byte) (side_leads
-      (the_replies calls) (server_position context h.front h.client) h.last s byte
+      (side_next (judge_replies calls) (place_at context.connection Server) s byte) (side_leads
+      (the_replies calls) Server (server_position context h.front h.client) h.last s byte
       (split_bytes (bytes ++ byte ∷ []) h.front (h.last ++ byte ∷ []) split are).1 h.rest)
   opening_leads Two bytes (InMixed s) byte are h =
       leads_within (HasMixed context) (EndsMixed context) (HasOpening Two context)
-      (EndsConnection Two context) InMixed (conversing context.number) (bytes ++ byte ∷ [])
+      (EndsConnection Two context) InMixed (conversing context.connection) (bytes ++ byte ∷ [])
       (bytes ++ byte ∷ [])
       (λ t mixed. mixed) (λ x ends. conversing_ends (bytes ++ byte ∷ []) x are ends)
       (mixed_next s byte) (mixed_leads context bytes s byte h)
@@ -249,15 +238,16 @@ module _ (context : Context) where
   pub opening_runs : (version : Version) (bytes : List ℕ) (o : Opening)
       → HasOpening version context bytes o → opening_taken version context bytes ≡ Runs o
   opening_runs One bytes (InClient s) h =
-      runs_inside (in_client context.number) bytes 0 (siding_from context.start context.before)
-      (side_runs the_calls (client_position context) bytes s h)
+      runs_inside (in_client context.connection) bytes 0 (siding_from context.start context.before)
+      (side_runs the_calls Client context bytes s h)
   opening_runs One bytes (InServer calls s) h =
       after_two _ _ h.front h.last h.split (turned h.front h.client calls h.first h.holds h.fits)
-      (runs_inside (in_server context.number calls) h.last 0
+      (runs_inside (in_server context.connection calls) h.last 0
       (siding_from (context.start + length h.front) (context.before + length h.client))
-      (side_runs (the_replies calls) (server_position context h.front h.client) h.last s h.rest))
+      (side_runs (the_replies calls) Server (server_position context h.front h.client) h.last s
+      h.rest))
   opening_runs Two bytes (InMixed s) h =
-      runs_inside (in_mixed context.number) bytes 0 (mixing_from context.start context.before)
+      runs_inside (in_mixed context.connection) bytes 0 (mixing_from context.start context.before)
       (mixed_runs context bytes s h)
   opening_runs version bytes o h = absurd h
 
@@ -269,9 +259,10 @@ module _ (context : Context) where
       let holds = calls_hold h.streams h.calls h.replies h.converses in
       rw h.entries_are (after_two _ _ w.front w.last w.split
       (turned w.front h.streams.client h.calls w.client holds (omega (arith, h.fits, h.total_is)))
-      (stops_inside (in_server context.number h.calls) w.last 0
+      (stops_inside (in_server context.connection h.calls) w.last 0
       (siding_from (context.start + length w.front) (context.before + length h.streams.client))
-      (side_closes (the_replies h.calls) (server_position context w.front h.streams.client) w.last
+      (side_closes (the_replies h.calls) Server (server_position context w.front h.streams.client)
+      w.last
       at total h.replies
       (record {
         stream = h.streams.server;
@@ -282,7 +273,7 @@ module _ (context : Context) where
         total_is = omega (arith, h.total_is);
       }))))
   opening_closes Two bytes at total entries h =
-      stops_inside (in_mixed context.number) bytes 0 (mixing_from context.start context.before)
+      stops_inside (in_mixed context.connection) bytes 0 (mixing_from context.start context.before)
       (mixed_closes context bytes at total h.streams
       (record { mixed = h.whole; at_is = h.at_is; total_is = h.total_is; fits = h.fits }))
       ∙ rw (
@@ -295,5 +286,5 @@ module _ (context : Context) where
 
   pub nothing_opened : (version : Version) → context.before ≤ max_bytes
       → HasOpening version context [] (opened version context.start context.before)
-  nothing_opened One fits = nothing_taken the_calls (client_position context) fits
+  nothing_opened One fits = nothing_taken the_calls Client context fits
   nothing_opened Two fits = nothing_gathered context fits

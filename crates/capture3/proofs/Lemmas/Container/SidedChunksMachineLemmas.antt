@@ -1,10 +1,10 @@
 -- The machine that gathers the chunks of both sides.
-use Rattle.capture3.proofs.Common.{lengths, ◌≡◌, inl, inr, ℕ, zero, suc, ◌+◌, ◌<◌, ◌≤◌, List, [], ◌∷◌, ◌++◌, length, refl, sym, ap, ◌∙◌, append_assoc, append-nil, arith, length-append, nat_lt, ltb-true, ltb-false, le-ltb, Run, Runs, Stops, landed, after, IsWord, Joins, word_next, Leads, leads_within, IsPart, word_leads, Joins-snoc, BadMark, Side, Client, Server, max_bytes, Context, MixedShows, BadSide, NoLength, TooMuch, file_fault, SideWord, SideLength, SideChunk, Mixing, MixedEnd, MixedCloses, MixedRefuses, awaiting_side, sided, measured, mixed_next, mixing_from, Streams, size, SidedChunk, IsSidedChunk, side_word, of_side, gathered, carried_by, with_more, AreMixed, BeginsMixed, mixing_in, AfterLength, AfterSideWord, WithinSided}
+use Rattle.capture3.proofs.Common.{lengths, ◌≡◌, inl, inr, ℕ, zero, suc, ◌+◌, ◌<◌, ◌≤◌, List, [], ◌∷◌, ◌++◌, length, refl, sym, ap, ◌∙◌, append_assoc, append-nil, arith, length-append, nat_lt, ltb-true, ltb-false, le-ltb, Run, Runs, Stops, landed, after, IsWord, Joins, word_next, Leads, leads_within, IsPart, word_leads, Joins-snoc, BadMark, Side, Client, Server, max_bytes, Position, MixedShows, BadSide, NoLength, TooMuch, file_fault, SideWord, SideLength, SideChunk, Mixing, MixedEnd, MixedCloses, MixedRefuses, awaiting_side, sided, measured, mixed_next, mixing_from, Streams, size, SidedChunk, IsSidedChunk, side_word, of_side, gathered, carried_by, with_more, AreMixed, BeginsMixed, mixing_in, AfterSideWord, WithinSided}
 use Rattle.capture3.proofs.Lemmas.Connections.RankLemmas.{by_test}
 use Rattle.capture3.proofs.Lemmas.Files.EndedMachines.{after_two, word_ends, word_goes}
 
 -- the machine after the bytes of a connection that is not whole
-abbrev pub mixed_state : (context : Context) (bytes : List ℕ) → BeginsMixed context.before bytes
+abbrev pub mixed_state : (context : Position) (bytes : List ℕ) → BeginsMixed context.before bytes
     → Mixing
 mixed_state context bytes (inl b) =
     mixing_in (context.start + length b.front) (context.before + size (gathered b.chunks))
@@ -18,19 +18,19 @@ mixed_state context bytes (inr (inr b)) =
     (context.before + size (gathered b.here.chunks) + (length b.got + suc b.left))
     (with_more (gathered b.here.chunks) b.here.side b.got) (SideChunk b.here.side b.left)
 
-abbrev pub HasMixed : Context → List ℕ → Mixing → Type 0
+abbrev pub HasMixed : Position → List ℕ → Mixing → Type 0
 HasMixed context bytes s =
     (b : BeginsMixed context.before bytes) × (s ≡ mixed_state context bytes b)
 
 -- all chunks of a connection are whole
-pub record ClosesMixed (context : Context) (bytes : List ℕ) (at total : ℕ) (streams : Streams) :
+pub record ClosesMixed (context : Position) (bytes : List ℕ) (at total : ℕ) (streams : Streams) :
     Type 0 where
   pub mixed : AreMixed bytes streams
   pub at_is : at ≡ context.start + length bytes
   pub total_is : total ≡ context.before + size streams
   pub fits : total ≤ max_bytes
 
-abbrev pub EndsMixed : Context → List ℕ → MixedEnd → Type 0
+abbrev pub EndsMixed : Position → List ℕ → MixedEnd → Type 0
 EndsMixed context bytes (MixedCloses at total streams) = ClosesMixed context bytes at total streams
 EndsMixed context bytes (MixedRefuses fault) = MixedShows context bytes fault
 
@@ -94,7 +94,7 @@ gathered-snoc chunks chunk =
       server = carried_by-snoc Server chunks chunk i;
     }
 
-module _ (context : Context) where
+module _ (context : Position) where
   goes_sided : (bytes front word : List ℕ) (chunks : List SidedChunk) (side : Side)
       → bytes ≡ front ++ word → Joins IsSidedChunk front chunks → IsWord word (side_word side)
       → context.before + size (gathered chunks) ≤ max_bytes
@@ -146,42 +146,32 @@ module _ (context : Context) where
   sided_leads bytes front word chunks (suc (suc zero)) split joined is fits =
       goes_sided bytes front word chunks Server split joined is fits
   sided_leads bytes front word chunks (suc (suc (suc other))) split joined is fits =
-      BadSide (record {
-        chunks = chunks;
-        front = front;
-        word = word;
-        count = suc (suc (suc other));
-        split = split;
-        joined = joined;
-        is_word = is;
-        bad = omega arith;
-        is = refl;
-      })
+      BadSide chunks front word (suc (suc (suc other))) split joined is (omega arith) refl
 
-  measured_leads : (bytes : List ℕ) (b : AfterLength bytes)
-      → context.before + size (gathered b.here.chunks) ≤ max_bytes → (n : ℕ) → b.count ≡ n
+  measured_leads : (bytes : List ℕ) (b : AfterSideWord bytes)
+      → context.before + size (gathered b.chunks) ≤ max_bytes → (n : ℕ) → IsWord b.rest n
       → Leads (HasMixed context) (EndsMixed context) bytes
-      (measured (context.start + length b.here.front + 4)
-      (context.before + size (gathered b.here.chunks)) (gathered b.here.chunks) b.here.side n)
-  measured_leads bytes b fits zero none = NoLength b none refl
-  measured_leads bytes b fits (suc left) is =
-      let total : ℕ = context.before + size (gathered b.here.chunks) in
+      (measured (context.start + length b.front + 4)
+      (context.before + size (gathered b.chunks)) (gathered b.chunks) b.side n)
+  measured_leads bytes b fits zero word = NoLength b word refl
+  measured_leads bytes b fits (suc left) word =
+      let total : ℕ = context.before + size (gathered b.chunks) in
       by_test (nat_lt max_bytes (total + suc left))
       (λ over.
       let passes = ltb-true max_bytes (total + suc left) over in
-      rw over (TooMuch b (omega arith) (omega arith) refl))
+      rw over (TooMuch b (suc left) word (omega arith) passes refl))
       (λ over. rw over (
         inr (inr (record {
-          here = b.here;
-          header = b.here.rest;
+          here = b;
+          header = b.rest;
           got = [];
           left = left;
-          split = sym (append-nil b.here.rest);
-          counts = (b.counts.0, b.counts.1 ∙ is ∙ omega arith);
+          split = sym (append-nil b.rest);
+          counts = (word.0, word.1 ∙ omega arith);
           fits = omega (arith, ltb-false max_bytes (total + suc left) over);
         })),
-        same_mixing _ (omega (lengths, ap length b.here.split, b.here.sided.0, b.counts.0))
-            (omega arith) (sym (with_more-nil (gathered b.here.chunks) b.here.side)),
+        same_mixing _ (omega (lengths, ap length b.split, b.sided.0, word.0))
+            (omega arith) (sym (with_more-nil (gathered b.chunks) b.side)),
       ))
 
   -- one byte more after a side word
@@ -305,13 +295,8 @@ module _ (context : Context) where
         refl,
       ))
       (λ n is.
-      measured_leads (bytes ++ byte ∷ [])
-      (record {
-        here = one_byte_more bytes byte b.here (part ++ byte ∷ []) refl;
-        count = n;
-        counts = is;
-      })
-      b.fits n refl)
+      measured_leads (bytes ++ byte ∷ []) (one_byte_more bytes byte b.here (part ++ byte ∷ []) refl)
+      b.fits n is)
       (word_next part byte) (word_leads part byte b.short)
   begun_leads bytes (inr (inr w)) byte = more_mixed bytes byte w w.left refl
 
@@ -340,7 +325,7 @@ module _ (context : Context) where
 abbrev pub mixed_after : Mixing → List ℕ → Run Mixing MixedEnd
 mixed_after s = after mixed_next (Runs s)
 
-abbrev pub mixed_taken : Context → List ℕ → Run Mixing MixedEnd
+abbrev pub mixed_taken : Position → List ℕ → Run Mixing MixedEnd
 mixed_taken context = mixed_after (mixing_from context.start context.before)
 
 -- at a side word
@@ -466,7 +451,7 @@ chunks_land (chunk ∷ chunks) at total end sum streams front h fits end_is sum_
     (omega (lengths, ap length h.2, ap length h.3.split, ap length c.split))
     (omega lengths))
 
-module _ (context : Context) where
+module _ (context : Position) where
   -- after whole chunks
   front_lands : (front : List ℕ) (chunks : List SidedChunk) → Joins IsSidedChunk front chunks
       → context.before + size (gathered chunks) ≤ max_bytes

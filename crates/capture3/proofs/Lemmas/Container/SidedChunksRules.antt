@@ -1,6 +1,6 @@
 -- A rule of the chunks of both sides: where it holds of bytes, the machine stops with its fault, or
 -- had stopped before.
-use Rattle.capture3.proofs.Common.{lengths, ◌≡◌, ℕ, zero, suc, ◌+◌, ◌<◌, List, [], ◌∷◌, ◌++◌, length, inl, refl, sym, ap, ap₂, ◌∙◌, append_assoc, arith, nat_lt, lt-ltb, Run, Runs, Stops, landed, IsWord, Joins, TooManyBytes, Fault, Side, max_bytes, Mixing, MixedEnd, MixedCloses, MixedRefuses, SideLength, awaiting_side, measured, Streams, size, SidedChunk, IsSidedChunk, gathered, with_more, AreMixed, file_fault, mixing_in, Context, AfterLength, MixedShows, BadSide, NoLength, TooMuch}
+use Rattle.capture3.proofs.Common.{lengths, ◌≡◌, ℕ, zero, suc, ◌+◌, ◌<◌, List, [], ◌∷◌, ◌++◌, length, inl, refl, sym, ap, ap₂, ◌∙◌, append_assoc, arith, nat_lt, lt-ltb, Run, Runs, Stops, landed, IsWord, Joins, TooManyBytes, Fault, Side, max_bytes, Mixing, MixedEnd, MixedCloses, MixedRefuses, SideLength, awaiting_side, measured, Streams, size, SidedChunk, IsSidedChunk, gathered, with_more, AreMixed, file_fault, mixing_in, Position, AfterSideWord, MixedShows, BadSide, NoLength, TooMuch}
 use Rattle.capture3.proofs.Lemmas.Connections.RankLemmas.{by_test}
 use Rattle.capture3.proofs.Lemmas.Container.SidedChunksMachineLemmas.{RefusedMixed, with_chunks, with_chunks_all, size_of, chunk_bytes, word_lands, header_lands, after_side, bad_side, mixed_after, mixed_taken, mixing_at}
 use Rattle.capture3.proofs.Lemmas.Files.EndedMachines.{Over, Comes, At, Fails, comes_on, over_on}
@@ -57,7 +57,7 @@ chunks_or (chunk ∷ chunks) at total end sum streams front h end_is sum_is =
     (omega (lengths, end_is, ap length h.2))
     (omega (lengths, sum_is, size_of chunk.side chunk.bytes)))
 
-module _ (context : Context) where
+module _ (context : Position) where
   -- after whole chunks comes more
   after_or : (chunks : List SidedChunk) (bytes front back : List ℕ) (x : MixedEnd)
       → bytes ≡ front ++ back → 0 < length back → Joins IsSidedChunk front chunks
@@ -85,20 +85,20 @@ module _ (context : Context) where
       (gathered h.chunks) h.last h.closes
       ∙ rw at_is))
 
-  header_over : (bytes : List ℕ) (b : AfterLength bytes) (fault : Fault)
-      → landed (measured (context.start + length b.here.front + 4)
-      (context.before + size (gathered b.here.chunks)) (gathered b.here.chunks) b.here.side b.count)
+  header_over : (bytes : List ℕ) (b : AfterSideWord bytes) (n : ℕ) (fault : Fault)
+      → IsWord b.rest n
+      → landed (measured (context.start + length b.front + 4)
+      (context.before + size (gathered b.chunks)) (gathered b.chunks) b.side n)
       ≡ Stops (MixedRefuses fault)
       → Over RefusedMixed (mixed_taken context bytes) (MixedRefuses fault)
-  header_over bytes h fault stops =
-      let b = h.here in
+  header_over bytes b n fault counts stops =
       let at : ℕ = context.start + length b.front in
       let total : ℕ = context.before + size (gathered b.chunks) in
       after_or b.chunks bytes b.front (b.word ++ b.rest) (MixedRefuses fault)
       (b.split ∙ append_assoc b.front b.word b.rest)
       (omega (lengths, b.sided.0)) b.joined
       (after_side at total (gathered b.chunks) b.side b.word b.rest b.sided
-      ∙ header_lands (at + 4) total h.count (gathered b.chunks) b.side b.rest h.counts ∙ stops)
+      ∙ header_lands (at + 4) total n (gathered b.chunks) b.side b.rest counts ∙ stops)
 
   too_much_stops : (at total n : ℕ) (streams : Streams) (side : Side) → 0 < n
       → max_bytes < total + n
@@ -110,27 +110,24 @@ module _ (context : Context) where
 
   pub mixed_over : (bytes : List ℕ) (fault : Fault) → MixedShows context bytes fault
       → Over RefusedMixed (mixed_taken context bytes) (MixedRefuses fault)
-  mixed_over bytes fault (BadSide h) =
-      let at : ℕ = context.start + length h.front in
-      let total : ℕ = context.before + size (gathered h.chunks) in
-      after_or h.chunks bytes h.front h.word (MixedRefuses fault) h.split
-      (omega (arith, h.is_word.0)) h.joined
-      (word_lands at total h.count (gathered h.chunks) h.word h.is_word
-      ∙ bad_side at total h.count (gathered h.chunks) h.bad
-      ∙ ap (λ f. Stops (MixedRefuses f)) (sym h.is))
-  mixed_over bytes fault (NoLength b none is) = header_over bytes b fault (rw (none, is))
-  mixed_over bytes fault (TooMuch b some passes is) =
-      header_over bytes b fault
-      (rw is (too_much_stops (context.start + length b.here.front + 4)
-      (context.before + size (gathered b.here.chunks)) b.count (gathered b.here.chunks) b.here.side
-      some passes))
+  mixed_over bytes fault (BadSide chunks front word count split joined is_word bad is) =
+      let at : ℕ = context.start + length front in
+      let total : ℕ = context.before + size (gathered chunks) in
+      after_or chunks bytes front word (MixedRefuses fault) split (omega (arith, is_word.0)) joined
+      (word_lands at total count (gathered chunks) word is_word
+      ∙ bad_side at total count (gathered chunks) bad
+      ∙ ap (λ f. Stops (MixedRefuses f)) (sym is))
+  mixed_over bytes fault (NoLength b counts is) = header_over bytes b 0 fault counts (rw is refl)
+  mixed_over bytes fault (TooMuch b count counts some passes is) =
+      header_over bytes b count fault counts
+      (rw is (too_much_stops (context.start + length b.front + 4)
+      (context.before + size (gathered b.chunks)) count (gathered b.chunks) b.side some passes))
 
   -- a fault's bytes are not none
   pub mixed_some : (bytes : List ℕ) (fault : Fault) → MixedShows context bytes fault
       → 0 < length bytes
-  mixed_some bytes fault (BadSide h) =
-      omega (lengths, ap length h.split)
-  mixed_some bytes fault (NoLength b none is) =
-      omega (lengths, ap length b.here.split, b.counts.0)
-  mixed_some bytes fault (TooMuch b some passes is) =
-      omega (lengths, ap length b.here.split, b.counts.0)
+  mixed_some bytes fault (BadSide chunks front word count split joined is_word bad is) =
+      omega (lengths, ap length split, is_word.0)
+  mixed_some bytes fault (NoLength b counts is) = omega (lengths, ap length b.split, counts.0)
+  mixed_some bytes fault (TooMuch b count counts some passes is) =
+      omega (lengths, ap length b.split, counts.0)

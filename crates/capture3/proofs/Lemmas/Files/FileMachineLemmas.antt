@@ -1,5 +1,5 @@
 -- The machine for a file against connections, entries and rules.
-use Rattle.capture3.proofs.Common.{lengths, eqb-false, append_cancel_left, Ends, Runs, Stops, landed, after, IsWord, Joins, word_next, Leads, leads_within, Tells, IsPart, word_leads, Joins-snoc, AreBytes, BadMagic, BadMark, AfterEnd, Fault, Streams, size, max_bytes, Context, ShownFault, refusal, Entry, Opening, Closing, Closes, Refuses, opening_next, opened, file_fault, connection_entries, HaveEntries, Version, One, Two, digit, magic_front, magic, max_connections, total_size, IsConnection, DiffersFromMagic, AfterConnections, Rule, MagicDiffers, MarkIsBad, ConnectionIsTooMany, WithinConnection, ByteAfterEnd, Opens, parsing_in, ◌≡◌, ◌≢◌, ◌⊎◌, inl, inr, ℕ, zero, suc, ◌+◌, ◌<◌, ◌≤◌, List, [], ◌∷◌, ◌++◌, length, refl, sym, ap, ap₂, ⊎_elim, ◌∙◌, append_assoc, append-nil, arith, length-append, nat_lt, nat_eq, ltb-true, ltb-false, lt-ltb, eqb-true, eq-eqb, ne_eqb, false}
+use Rattle.capture3.proofs.Common.{lengths, eqb-false, append_cancel_left, Ends, Runs, Stops, landed, after, IsWord, Joins, word_next, Leads, leads_within, Tells, IsPart, word_leads, Joins-snoc, AreBytes, BadMagic, BadMark, AfterEnd, Streams, size, max_bytes, Position, ShownFault, refusal, Entry, Opening, Closing, Closes, Refuses, opening_next, opened, file_fault, connection_entries, HaveEntries, Version, One, Two, digit, magic_front, magic, max_connections, total_size, IsConnection, next_position, AfterConnections, Rule, MagicDiffers, MarkIsBad, ConnectionIsTooMany, WithinConnection, ByteAfterEnd, Opens, parsing_in, ◌≡◌, ◌≢◌, ◌⊎◌, inl, inr, ℕ, zero, suc, ◌+◌, ◌<◌, ◌≤◌, List, [], ◌∷◌, ◌++◌, length, refl, sym, ap, ap₂, ⊎_elim, ◌∙◌, append_assoc, append-nil, arith, length-append, nat_lt, nat_eq, ltb-true, ltb-false, lt-ltb, eqb-true, eq-eqb, ne_eqb, false}
 use Rattle.capture3.specs.FileMachine.{Mark, Inside, Ended, Parsing, magic_left, marked, closed, file_next, file_start, parsed}
 use Rattle.capture3.proofs.Lemmas.Connections.RankLemmas.{by_test}
 use Rattle.capture3.proofs.Lemmas.Container.BytesOf.{split_bytes}
@@ -7,13 +7,9 @@ use Rattle.capture3.proofs.Lemmas.Connections.ConnectionMachineLemmas.{HasOpenin
 use Rattle.capture3.proofs.Lemmas.Files.EndedMachines.{Nested, after_two, runs_inside, stops_inside, word_ends, word_goes}
 use Rattle.capture3.proofs.Lemmas.Files.Telling.{tells_bytes}
 
-abbrev pub context_at : (number start before : ℕ) → Context
-context_at number start before = record { number = number; start = start; before = before }
-
--- in a connection after these
-abbrev pub context_after : List ℕ → List Streams → Context
-context_after front connections =
-    context_at (suc (length connections)) (length front + 4) (total_size connections)
+abbrev pub context_at : (number start before : ℕ) → Position
+context_at number start before =
+    record { connection = number; start = start; before = before }
 
 -- at a connection word, and in a connection
 abbrev pub at_mark : Version → ℕ → ℕ → ℕ → List Entry → Parsing
@@ -38,7 +34,7 @@ pub data Stands (bytes : List ℕ) (s : Parsing) : Type 0 where
       (entries : List Entry) (o : Opening) → bytes ≡ front ++ mark ++ rest
       → Opens version front connections entries → IsWord mark 1
       → length connections < max_connections
-      → HasOpening version (context_after front connections) rest o
+      → HasOpening version (next_position front connections) rest o
       → s ≡ inside_at version (length front + 4) (total_size connections)
       (suc (length connections)) entries o → Stands bytes s
   -- after whole connections and the last word 0
@@ -114,43 +110,24 @@ module _ (bytes : List ℕ) (byte : ℕ) where
       (λ one.
       by_test (nat_eq byte (digit Two))
       (λ e. rw (one, e) (whole_magic Two begins (eqb-true _ _ e)))
-      (λ two. rw (one, two) (MagicDiffers (record {
-        front = bytes;
-        byte = byte;
-        split = refl;
-        version = One;
-        due = digit One;
-        more = [];
-        begins = ap (λ (b : List ℕ). b ++ digit One ∷ []) (begins ∙ append-nil bytes);
-        differs =
-            λ other expected rest others. other_digits other expected rest begins others one two;
-        is = refl;
-      }) refl)))
+      (λ two. rw (one, two) (MagicDiffers One bytes [] byte (digit One) refl
+      (ap (λ (b : List ℕ). b ++ digit One ∷ []) (begins ∙ append-nil bytes))
+      (λ other expected rest others. other_digits other expected rest begins others one two) refl)))
   magic_leads (due ∷ more) begins =
       by_test (nat_eq byte due)
       (λ e.
       let is = eqb-true byte due e in
       rw e (AtMagic more (rw (is, append_assoc) begins)
       (ap (λ n. parsing_in One n 0 0 [] (magic_left more)) at_more)))
-      (λ e. rw e (MagicDiffers (record {
-        front = bytes;
-        byte = byte;
-        split = refl;
-        version = One;
-        due = due;
-        more = more ++ digit One ∷ [];
-        begins =
-            ap (λ (b : List ℕ). b ++ digit One ∷ []) begins
-            ∙ append_assoc bytes (due ∷ more) (digit One ∷ []);
-        differs =
-            λ other expected rest others is.
-            eqb-false byte due e (is ∙ sym (due_is due expected more rest other begins others));
-        is = refl;
-      }) refl))
+      (λ e. rw e (MagicDiffers One bytes (more ++ digit One ∷ []) byte due refl
+      (ap (λ (b : List ℕ). b ++ digit One ∷ []) begins
+      ∙ append_assoc bytes (due ∷ more) (digit One ∷ []))
+      (λ other expected rest others is.
+      eqb-false byte due e (is ∙ sym (due_is due expected more rest other begins others))) refl))
 
 -- ---- after whole connections
 
-HaveEntries-snoc : (version : Version) (context : Context) (connections : List Streams)
+HaveEntries-snoc : (version : Version) (context : Position) (connections : List Streams)
     (entries more : List Entry) (bytes : List ℕ) (at total : ℕ)
     → HaveEntries connections entries → (h : ClosesConnection version context bytes at total more)
     → HaveEntries (connections ++ h.streams ∷ []) (entries ++ more)
@@ -206,7 +183,7 @@ module _ (version : Version) (front : List ℕ) (connections : List Streams) (en
       by_test (nat_lt (length connections) max_connections)
       (λ e. rw e (AtInside version front word [] connections entries
       (opened version (length front + 4) (total_size connections)) none opens is (ltb-true _ _ e)
-      (nothing_opened (context_after front connections) version opens.small) refl))
+      (nothing_opened (next_position front connections) version opens.small) refl))
       (λ e. rw e (ConnectionIsTooMany (word_after word [] 1 none is) refl refl
       (omega (arith, opens.few, ltb-false (length connections) max_connections e)) refl))
   marked_leads bytes word (suc (suc other)) split is =
@@ -215,7 +192,7 @@ module _ (version : Version) (front : List ℕ) (connections : List Streams) (en
 
   closed_leads : (bytes mark rest : List ℕ) → bytes ≡ front ++ mark ++ rest → IsWord mark 1
       → length connections < max_connections → (x : Closing)
-      → EndsConnection version (context_after front connections) rest x
+      → EndsConnection version (next_position front connections) rest x
       → Leads Stands Rule bytes (closed version (suc (length connections)) entries x)
   closed_leads bytes mark rest split one few (Closes end sum more) c =
       let all : List Streams = connections ++ c.streams ∷ [] in
@@ -234,7 +211,7 @@ module _ (version : Version) (front : List ℕ) (connections : List Streams) (en
         split = simp (split, opens.split, append_assoc);
         joined = joined;
         messages =
-            HaveEntries-snoc version (context_after front connections) connections entries more rest
+            HaveEntries-snoc version (next_position front connections) connections entries more rest
             end sum opens.messages c;
         few = omega arith;
         small = omega (arith, c.fits);
@@ -265,7 +242,7 @@ begun_leads bytes s byte are
     (AtInside version front mark rest connections entries o split opens one few inside is) =
     let more : bytes ++ byte ∷ [] ≡ front ++ mark ++ (rest ++ byte ∷ []) =
     simp (split, append_assoc) in
-    let context : Context = context_after front connections in
+    let context : Position = next_position front connections in
     rw is (leads_within (HasOpening version context) (EndsConnection version context) Stands Rule
     (inside_at version (length front + 4) (total_size connections) (suc (length connections))
     entries)
@@ -415,7 +392,7 @@ file_runs bytes s
     (after_two _ _ mark rest refl (begins version at total number entries mark one few)
     (runs_inside (in_file version (at + 4) total (suc number) entries) rest 0
     (opened version (at + 4) total)
-    (opening_runs (context_after front connections) version rest o inside))))
+    (opening_runs (next_position front connections) version rest o inside))))
 file_runs bytes s (AtEnd version front last connections entries split opens closes is) =
     let at_is : length front + 4 ≡ length bytes =
     omega (lengths, ap length split) in
@@ -443,23 +420,24 @@ magic_split (x ∷ xs) (f ∷ front) y due more e =
     ⊎_elim (λ l. inl (l.0, ap₂ (λ n (b : List ℕ). n ∷ b) first l.1))
     (λ r. inr (ap₂ (λ n (b : List ℕ). n ∷ b) first r)) (magic_split xs front y due more rest)
 
-pub magic_stops : (bytes : List ℕ) (fault : Fault) (d : DiffersFromMagic bytes fault)
-    → parsed bytes ≡ Stops (refusal fault)
-magic_stops bytes fault d =
-    let at_is : 0 + length d.front ≡ length d.front = omega arith in
-    let fault_is =
-    ap (λ n. Stops (refusal (file_fault n BadMagic))) at_is
-    ∙ ap (λ f. Stops (refusal f)) (sym d.is) in
-    elim (magic_split magic_front d.front (digit d.version) d.due d.more d.begins) [
+pub magic_stops : (version : Version) (bytes front more : List ℕ) (byte due : ℕ)
+    → bytes ≡ front ++ byte ∷ [] → magic version ≡ front ++ due ∷ more
+    → ((other : Version) (expected : ℕ) (rest : List ℕ) → magic other ≡ front ++ expected ∷ rest
+    → byte ≢ expected)
+    → parsed bytes ≡ Stops (refusal (file_fault (length front) BadMagic))
+magic_stops version bytes front more byte due split begins differs =
+    let at_is : 0 + length front ≡ length front = omega arith in
+    let fault_is = ap (λ n. Stops (refusal (file_fault n BadMagic))) at_is in
+    elim (magic_split magic_front front (digit version) due more begins) [
       | inl l ↦
-          after_two _ _ d.front (d.byte ∷ []) d.split
-          (magic_runs d.front (d.due ∷ l.0) 0 magic_front l.1)
-          (rw (ne_eqb d.byte d.due (d.differs d.version d.due d.more d.begins)) fault_is)
+          after_two _ _ front (byte ∷ []) split
+          (magic_runs front (due ∷ l.0) 0 magic_front l.1)
+          (rw (ne_eqb byte due (differs version due more begins)) fault_is)
       | inr r ↦
-          after_two _ _ d.front (d.byte ∷ []) d.split
-          (magic_runs d.front [] 0 magic_front (r ∙ sym (append-nil d.front)))
+          after_two _ _ front (byte ∷ []) split
+          (magic_runs front [] 0 magic_front (r ∙ sym (append-nil front)))
           (rw (
-            ne_eqb d.byte 49 (d.differs One 49 [] (ap (λ (b : List ℕ). b ++ 49 ∷ []) r)),
-            ne_eqb d.byte 50 (d.differs Two 50 [] (ap (λ (b : List ℕ). b ++ 50 ∷ []) r)),
+            ne_eqb byte 49 (differs One 49 [] (ap (λ (b : List ℕ). b ++ 49 ∷ []) r)),
+            ne_eqb byte 50 (differs Two 50 [] (ap (λ (b : List ℕ). b ++ 50 ∷ []) r)),
           ) fault_is)
     ]

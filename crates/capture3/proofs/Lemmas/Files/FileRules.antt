@@ -1,5 +1,5 @@
 -- The same of the rules of connections and of files.
-use Rattle.capture3.proofs.Common.{lengths, ◌≡◌, ◌⊎◌, inl, inr, ℕ, suc, ◌+◌, ◌<◌, List, [], ◌∷◌, ◌++◌, length, refl, sym, ap, ap₂, ◌∙◌, append_assoc, append-nil, arith, nat_lt, le-ltb, Run, Runs, Stops, landed, after, Between, IsWord, Joins, Item, TooManyConnections, AfterEnd, Fault, ReplyItems, Version, One, Two, magic, max_connections, total_size, AreStreams, IsConnection, Streams, size, AreMixed, IsStream, Entry, AfterConnections, Rule, MagicDiffers, MarkIsBad, ConnectionIsTooMany, WithinConnection, ByteAfterEnd, judge_call, mixing_from, judge_replies, Opening, InServer, Closing, Closes, Refuses, after_server, after_client, opened, Judgement, StreamEnd, Held, Faulty, stream_end, unread, Position, Reading, file_fault, SideShows, connection_entries, siding_from, reading_with, Context, ShownFault, refusal, client_refusal, server_refusal, client_position, server_position, calls_in_turn, replies_to, ServerShows, StreamsShow, InClientStream, InServerStream, ConnectionShows, Parsing, marked, file_next, parsed}
+use Rattle.capture3.proofs.Common.{lengths, ◌≡◌, ◌⊎◌, inl, inr, ℕ, suc, ◌+◌, ◌<◌, List, [], ◌∷◌, ◌++◌, length, refl, sym, ap, ap₂, ◌∙◌, append_assoc, append-nil, arith, nat_lt, le-ltb, Run, Runs, Stops, landed, after, Between, IsWord, Joins, Item, TooManyConnections, AfterEnd, Fault, Side, Client, Server, ReplyItems, Version, One, Two, magic, max_connections, total_size, AreStreams, IsConnection, Streams, size, AreMixed, IsStream, Entry, AfterConnections, Rule, MagicDiffers, MarkIsBad, ConnectionIsTooMany, WithinConnection, ByteAfterEnd, judge_call, mixing_from, judge_replies, Opening, InServer, Closing, Closes, Refuses, after_server, after_client, opened, Judgement, StreamEnd, Held, Faulty, stream_end, unread, Position, Reading, file_fault, SideShows, PassesBytes, CutsRecord, ShowsRecord, connection_entries, siding_from, reading_with, ShownFault, refusal, client_refusal, server_refusal, server_position, calls_in_turn, replies_to, InTurnShows, InCalls, InReplies, StreamsShow, InClientStream, InServerStream, ConnectionShows, Parsing, marked, file_next, parsed}
 use Rattle.capture3.proofs.Lemmas.Connections.ConnectionMachineLemmas.{RefusedClosing, in_client, in_mixed, in_server, opening_taken}
 use Rattle.capture3.proofs.Lemmas.Connections.RankLemmas.{by_test}
 use Rattle.capture3.proofs.Lemmas.Sides.SideRules.{side_closed_or, side_over}
@@ -12,15 +12,17 @@ use Rattle.capture3.proofs.Lemmas.Sides.StreamMachineLemmas.{held_runs, stream_a
 
 -- ---- a fault's bytes are not none
 
-side_some : {M : Type 0} (judge : Judgement M) (position : Position) (bytes : List ℕ)
-    (fault : Fault) → SideShows judge position bytes fault → 0 < length bytes
-side_some judge position bytes fault (inl h) =
-    omega (lengths, ap length h.split)
-side_some judge position bytes fault (inr (inl h)) =
-    let c = h.closed in
-    omega (lengths, ap length c.split)
-side_some judge position bytes fault (inr (inr h)) =
-    omega (lengths, ap length h.split)
+side_some : {M : Type 0} (judge : Judgement M) (side : Side) (position : Position)
+    (bytes : List ℕ) (fault : Fault) → SideShows judge side position bytes fault
+    → 0 < length bytes
+side_some judge side position bytes fault
+    (PassesBytes front last stream count split chunks word some passes is) =
+    omega (lengths, ap length split, word.0)
+side_some judge side position bytes fault (CutsRecord stream messages shown closed cut is) =
+    omega (lengths, ap length closed.split, closed.closes.0)
+side_some judge side position bytes fault
+    (ShowsRecord front header got stream left messages shown split chunks word some shows is) =
+    omega (lengths, ap length split)
 
 pub shown_mixed : (number : ℕ) (bytes : List ℕ) (shown : ShownFault)
     → StreamsShow number bytes shown → (streams : Streams) × AreMixed bytes streams
@@ -43,7 +45,7 @@ abbrev ClosedConnection : ℕ → ℕ → Run Opening Closing → Type 0
 ClosedConnection end sum run =
     Comes {A = List Entry} RefusedClosing (λ entries. Stops (Closes end sum entries)) run
 
-module _ (context : Context) where
+module _ (context : Position) where
   -- ---- a connection of version 1
 
   -- after the client stream
@@ -55,40 +57,52 @@ module _ (context : Context) where
       (siding_from (context.start + length front) (context.before + length client))))
       (opening_taken One context front)
   turned_or front client h =
-      comes_inside (in_client context.number) front 0 (siding_from context.start context.before)
-      (side_closed_or the_calls (client_position context) front client h) (λ calls. At calls refl)
+      comes_inside (in_client context.connection) front 0 (siding_from context.start context.before)
+      (side_closed_or the_calls Client context front client h) (λ calls. At calls refl)
 
-  server_over : (bytes : List ℕ) (fault : Fault) → ServerShows context bytes fault
+  in_turn_over : (bytes : List ℕ) (fault : Fault) → InTurnShows context bytes fault
       → Over RefusedClosing (opening_taken One context bytes) (Refuses (refusal fault))
-  server_over bytes fault h =
-      over_on _ _ h.front h.last h.split (turned_or h.front h.client h.first)
-      (side_some (replies_to h.calls) (server_position context h.front h.client) h.last fault
-      h.shows)
-      (λ calls.
-      let held = held_runs the_calls h.client h.calls h.holds in
-      let read : reading_with calls.0 Between ≡ reading_with h.calls Between = cc (calls.1) in
+  in_turn_over bytes fault (InCalls h) =
+      over_inside (in_client context.connection) bytes 0 (siding_from context.start context.before)
+      refl
+      (side_over the_calls Client context bytes fault h)
+  in_turn_over bytes fault (InReplies front last client calls split first holds h) =
+      over_on _ _ front last split (turned_or front client first)
+      (side_some (replies_to calls) Server (server_position context front client) last fault h)
+      (λ others.
+      let held = held_runs the_calls client calls holds in
+      let read : reading_with others.0 Between ≡ reading_with calls Between = cc (others.1) in
       rw (ap (λ (r : Reading (List Item)). r.messages) read)
-      (over_inside (in_server context.number h.calls) h.last 0
-      (siding_from (context.start + length h.front) (context.before + length h.client)) refl
-      (side_over (the_replies h.calls) (server_position context h.front h.client) h.last fault
-      h.shows)))
+      (over_inside (in_server context.connection calls) last 0
+      (siding_from (context.start + length front) (context.before + length client)) refl
+      (side_over (the_replies calls) Server (server_position context front client) last fault h)))
+
+  in_turn_some : (bytes : List ℕ) (fault : Fault) → InTurnShows context bytes fault
+      → 0 < length bytes
+  in_turn_some bytes fault (InCalls h) = side_some calls_in_turn Client context bytes fault h
+  in_turn_some bytes fault (InReplies front last client calls split first holds h) =
+      omega (
+        lengths,
+        ap length split,
+        side_some (replies_to calls) Server (server_position context front client) last fault h,
+      )
 
   -- ---- version 2
 
   -- after the streams, which are gathered
   gathered_or : (bytes : List ℕ) (streams : Streams) → AreMixed bytes streams
       → (opening_taken Two context bytes
-      ≡ landed (after_client context.number (context.start + length bytes)
+      ≡ landed (after_client context.connection (context.start + length bytes)
       (context.before + size streams) streams.server (stream_end judge_call streams.client)))
       ⊎ Past RefusedClosing (opening_taken Two context bytes)
   gathered_or bytes streams h =
       let start = mixing_from context.start context.before in
       elim (closes_over context bytes streams h) [
-        | inl e ↦ inl (stops_inside (in_mixed context.number) bytes 0 start e)
-        | inr past ↦ inr (past_inside (in_mixed context.number) bytes 0 start past)
+        | inl e ↦ inl (stops_inside (in_mixed context.connection) bytes 0 start e)
+        | inr past ↦ inr (past_inside (in_mixed context.connection) bytes 0 start past)
       ]
 
-  streams_over : (bytes : List ℕ) (shown : ShownFault) → StreamsShow context.number bytes shown
+  streams_over : (bytes : List ℕ) (shown : ShownFault) → StreamsShow context.connection bytes shown
       → Over RefusedClosing (opening_taken Two context bytes) (Refuses shown)
   streams_over bytes shown (InClientStream streams calls fault mixed first same) =
       elim (gathered_or bytes streams mixed) [
@@ -108,46 +122,34 @@ module _ (context : Context) where
       ]
 
   server_or : (end sum : ℕ) (calls : List (List Item)) (x : StreamEnd ReplyItems)
-      → ClosedConnection end sum (landed (after_server context.number end sum calls x))
+      → ClosedConnection end sum (landed (after_server context.connection end sum calls x))
   server_or end sum calls (Held replies) = At (connection_entries calls replies) refl
   server_or end sum calls (Faulty replies fault) =
-      Fails (Refuses (server_refusal context.number calls replies fault), tt, inl refl)
+      Fails (Refuses (server_refusal context.connection calls replies fault), tt, inl refl)
 
   client_or : (end sum : ℕ) (server : List ℕ) (x : StreamEnd (List Item))
-      → ClosedConnection end sum (landed (after_client context.number end sum server x))
+      → ClosedConnection end sum (landed (after_client context.connection end sum server x))
   client_or end sum server (Held calls) =
       server_or end sum calls (stream_end (judge_replies calls) server)
   client_or end sum server (Faulty calls fault) =
-      Fails (Refuses (client_refusal context.number calls fault), tt, inl refl)
+      Fails (Refuses (client_refusal context.connection calls fault), tt, inl refl)
 
   -- ---- by version
 
   connection_over : (version : Version) (bytes : List ℕ) (shown : ShownFault)
       → ConnectionShows version context bytes shown
       → Over RefusedClosing (opening_taken version context bytes) (Refuses shown)
-  connection_over One bytes shown (same, inl h) =
-      rw same (over_inside (in_client context.number) bytes 0
-      (siding_from context.start context.before) refl
-      (side_over the_calls (client_position context) bytes shown.fault h))
-  connection_over One bytes shown (same, inr h) = rw same (server_over bytes shown.fault h)
+  connection_over One bytes shown (same, h) = rw same (in_turn_over bytes shown.fault h)
   connection_over Two bytes shown (inl (same, h)) =
-      rw same (over_inside (in_mixed context.number) bytes 0
+      rw same (over_inside (in_mixed context.connection) bytes 0
       (mixing_from context.start context.before) refl (mixed_over context bytes shown.fault h))
   connection_over Two bytes shown (inr h) = streams_over bytes shown h
 
   connection_some : (version : Version) (bytes : List ℕ) (shown : ShownFault)
       → ConnectionShows version context bytes shown → 0 < length bytes
-  connection_some One bytes shown (same, inl h) =
-      side_some calls_in_turn (client_position context) bytes shown.fault h
-  connection_some One bytes shown (same, inr h) =
-      omega (
-        lengths,
-        ap length h.split,
-        side_some (replies_to h.calls) (server_position context h.front h.client) h.last
-            shown.fault h.shows,
-      )
+  connection_some One bytes shown (same, h) = in_turn_some bytes shown.fault h
   connection_some Two bytes shown (inl (same, h)) = mixed_some context bytes shown.fault h
-  connection_some Two bytes shown (inr h) = streams_some context.number bytes shown h
+  connection_some Two bytes shown (inr h) = streams_some context.connection bytes shown h
 
   connection_or : (version : Version) (bytes : List ℕ) (streams : Streams)
       → AreStreams version bytes streams
@@ -161,9 +163,10 @@ module _ (context : Context) where
       omega arith in
       comes_on _ _ h.front h.last h.split (turned_or h.front streams.client h.client)
       (λ calls.
-      comes_inside (in_server context.number calls.0) h.last 0
+      comes_inside (in_server context.connection calls.0) h.last 0
       (siding_from (context.start + length h.front) (context.before + length streams.client))
-      (side_closed_or (the_replies calls.0) (server_position context h.front streams.client) h.last
+      (side_closed_or (the_replies calls.0) Server (server_position context h.front streams.client)
+      h.last
       streams.server h.server)
       (λ replies.
       At (connection_entries calls.0 replies.0)
@@ -297,7 +300,8 @@ end_over version at total number entries word (byte ∷ other ∷ more) mark is 
 
 pub rule_over : (bytes : List ℕ) (shown : ShownFault) → Rule bytes shown
     → Over AnyRefusal (parsed bytes) shown
-rule_over bytes shown (MagicDiffers d same) = inl (rw same (magic_stops bytes shown.fault d))
+rule_over bytes shown (MagicDiffers version front more byte due split begins differs is) =
+    inl (rw is (magic_stops version bytes front more byte due split begins differs))
 rule_over bytes shown (MarkIsBad b none bad is) =
     word_over bytes b shown none
     (λ entries.

@@ -1,5 +1,5 @@
 -- The first fault of a file stands where its reason says.
-use Rattle.capture3.proofs.Common.{lengths, ◌≡◌, ◌⊎◌, ◌+◌, ◌≤◌, inl, inr, ap, arith, ℕ, List, length, refl, Reason, Stop, Item, Fault, Side, Client, Server, Version, One, Two, calls_in_turn, client_position, ConnectionShows, Context, MixedShows, BadSide, NoLength, TooMuch, ShownFault, replies_to, server_position, StreamsShow, InClientStream, InServerStream, FirstRecordFault, Judgement, NextIsCut, NextIsTooLong, RecordFault, RefusesNext, StreamShows, place_at, place_in, Position, SideShows, IsOfItem, AReply, BadCall, LongCall, OtherCall, ACall, Unasked, BadReply, LongReply, AfterConnections, DiffersFromMagic, FirstFault, Rule, MagicDiffers, MarkIsBad, ConnectionIsTooMany, WithinConnection, ByteAfterEnd, HasItsPlace}
+use Rattle.capture3.proofs.Common.{lengths, ◌≡◌, ◌⊎◌, ◌+◌, ◌≤◌, inl, inr, ap, arith, ℕ, List, length, refl, Reason, Stop, Item, Fault, Side, Client, Server, Version, One, Two, calls_in_turn, ConnectionShows, InTurnShows, InCalls, InReplies, MixedShows, BadSide, NoLength, TooMuch, ShownFault, replies_to, server_position, StreamsShow, InClientStream, InServerStream, FirstRecordFault, Judgement, RecordFault, RefusesRecord, PassesLimit, StreamShows, IsCut, CutsOpen, place_at, Position, SideShows, PassesBytes, CutsRecord, ShowsRecord, IsOfItem, AReply, BadCall, LongCall, OtherCall, ACall, Unasked, BadReply, LongReply, AfterConnections, FirstFault, Rule, MagicDiffers, MarkIsBad, ConnectionIsTooMany, WithinConnection, ByteAfterEnd, HasItsPlace}
 use Rattle.xdr3.specs.declared.reason.Reason.TheVariants.{Short, Trailing, BadBool, BadEnum, TooLong, RpcVersion, Flavor, AuthLength}
 use Rattle.capture3.specs.declared.fault.Place.TheVariants.{Record}
 use Rattle.capture3.specs.Bodies as bodies
@@ -67,49 +67,57 @@ replies_in_place calls before body stop (LongReply xid id s p l) = left_over Ser
 
 -- ---- the file
 
-record_in_place : {M : Type 0} (judge : Judgement M) (position : Position) (file stream : List ℕ)
-    (shown : RecordFault) → RefusesInPlace judge position.side → StreamShows judge stream shown
-    → IsInPlace file (place_in position shown)
-record_in_place judge position file stream shown h (inl r) =
-    rw r.is (h r.messages r.body r.stop r.refused file position.connection _)
-record_in_place judge position file stream shown h (inr r) = rw r.is tt
+record_in_place : {M : Type 0} (judge : Judgement M) (connection : ℕ) (side : Side)
+    (file stream : List ℕ) (messages : List M) (shown : RecordFault) → RefusesInPlace judge side
+    → StreamShows judge stream messages shown → IsInPlace file (place_at connection side shown)
+record_in_place judge connection side file stream messages shown h
+    (RefusesRecord front last body stop split holds whole refused is) =
+    rw is (h messages body stop refused file connection _)
+record_in_place judge connection side file stream messages shown h
+    (PassesLimit front last at split holds long is) =
+    rw is tt
 
-side_in_place : {M : Type 0} (judge : Judgement M) (position : Position) (file bytes : List ℕ)
-    (fault : Fault) → position.start + length bytes ≤ length file
-    → RefusesInPlace judge position.side → SideShows judge position bytes fault
+cut_in_place : {M : Type 0} (judge : Judgement M) (connection : ℕ) (side : Side)
+    (file stream : List ℕ) (messages : List M) (shown : RecordFault)
+    → IsCut judge stream messages shown → IsInPlace file (place_at connection side shown)
+cut_in_place judge connection side file stream messages shown
+    (CutsOpen front last body split holds is_open is) =
+    rw is tt
+
+side_in_place : {M : Type 0} (judge : Judgement M) (side : Side) (position : Position)
+    (file bytes : List ℕ) (fault : Fault) → position.start + length bytes ≤ length file
+    → RefusesInPlace judge side → SideShows judge side position bytes fault
     → IsInPlace file fault
-side_in_place judge position file bytes fault within h (inl s) =
-    rw s.is
-    (omega (lengths, within, ap length s.split))
-side_in_place judge position file bytes fault within h (inr (inl s)) =
-    rw (s.is, s.cut.is) tt
-side_in_place judge position file bytes fault within h (inr (inr s)) =
-    rw s.is (record_in_place judge position file _ s.shown h s.shows)
+side_in_place judge side position file bytes fault within h
+    (PassesBytes front last stream count split chunks word some passes is) =
+    rw is (omega (lengths, within, ap length split, word.0))
+side_in_place judge side position file bytes fault within h
+    (CutsRecord stream messages shown closed cut is) =
+    rw is (cut_in_place judge position.connection side file stream messages shown cut)
+side_in_place judge side position file bytes fault within h
+    (ShowsRecord front header got stream left messages shown split chunks word some shows is) =
+    rw is (record_in_place judge position.connection side file _ messages shown h shows)
 
-mixed_in_place : (context : Context) (file bytes : List ℕ) (fault : Fault)
+mixed_in_place : (context : Position) (file bytes : List ℕ) (fault : Fault)
     → context.start + length bytes ≤ length file → MixedShows context bytes fault
     → IsInPlace file fault
-mixed_in_place context file bytes fault within (BadSide s) =
-    rw s.is
-    (omega (lengths, within, ap length s.split))
-mixed_in_place context file bytes fault within (NoLength b none e) =
-    rw e (omega (lengths, within, ap length b.here.split, b.here.sided.0, b.counts.0))
-mixed_in_place context file bytes fault within (TooMuch b some passes e) =
-    rw e (omega (lengths, within, ap length b.here.split, b.here.sided.0, b.counts.0))
+mixed_in_place context file bytes fault within
+    (BadSide chunks front word count split joined is_word bad is) =
+    rw is (omega (lengths, within, ap length split, is_word.0))
+mixed_in_place context file bytes fault within (NoLength b counts e) =
+    rw e (omega (lengths, within, ap length b.split, b.sided.0, counts.0))
+mixed_in_place context file bytes fault within (TooMuch b count counts some passes e) =
+    rw e (omega (lengths, within, ap length b.split, b.sided.0, counts.0))
 
 first_in_place : {M : Type 0} (judge : Judgement M) (connection : ℕ) (side : Side)
     (file stream : List ℕ) (messages : List M) (fault : RecordFault) → RefusesInPlace judge side
     → FirstRecordFault judge stream messages fault
     → IsInPlace file (place_at connection side fault)
 first_in_place judge connection side file stream messages fault h
-    (RefusesNext front last rest body stop split holds record_is refused is) =
-    rw is (h messages body stop refused file connection _)
-first_in_place judge connection side file stream messages fault h
-    (NextIsTooLong front last rest at split holds long is) =
-    rw is tt
-first_in_place judge connection side file stream messages fault h
-    (NextIsCut front last body split holds cut is) =
-    rw is tt
+    (inl (front, rest, split, shows)) =
+    record_in_place judge connection side file front messages fault h shows
+first_in_place judge connection side file stream messages fault h (inr cut) =
+    cut_in_place judge connection side file stream messages fault cut
 
 streams_in_place : (number : ℕ) (file bytes : List ℕ) (shown : ShownFault)
     → StreamsShow number bytes shown → IsInPlace file shown.fault
@@ -122,28 +130,25 @@ streams_in_place number file bytes shown
     (replies_to calls) number Server file streams.server replies fault
     (replies_in_place calls) first)
 
-connection_in_place : (version : Version) (context : Context) (file bytes : List ℕ)
+in_turn_in_place : (context : Position) (file bytes : List ℕ) (fault : Fault)
+    → context.start + length bytes ≤ length file → InTurnShows context bytes fault
+    → IsInPlace file fault
+in_turn_in_place context file bytes fault within (InCalls h) =
+    side_in_place calls_in_turn Client context file bytes fault within calls_in_place h
+in_turn_in_place context file bytes fault within
+    (InReplies front last client calls split first holds h) =
+    side_in_place (replies_to calls) Server (server_position context front client) file last fault
+    (omega (lengths, within, ap length split)) (replies_in_place calls) h
+
+connection_in_place : (version : Version) (context : Position) (file bytes : List ℕ)
     (shown : ShownFault) → context.start + length bytes ≤ length file
     → ConnectionShows version context bytes shown → IsInPlace file shown.fault
-connection_in_place One context file bytes shown within (same, inl h) =
-    side_in_place calls_in_turn (client_position context) file bytes shown.fault within
-    calls_in_place h
-connection_in_place One context file bytes shown within (same, inr h) =
-    side_in_place (replies_to h.calls) (server_position context h.front h.client) file h.last
-    shown.fault (omega (lengths, within, ap length h.split))
-    (replies_in_place h.calls) h.shows
+connection_in_place One context file bytes shown within (same, h) =
+    in_turn_in_place context file bytes shown.fault within h
 connection_in_place Two context file bytes shown within (inl (same, h)) =
     mixed_in_place context file bytes shown.fault within h
 connection_in_place Two context file bytes shown within (inr h) =
-    streams_in_place context.number file bytes shown h
-
-magic_in_place : (file bytes : List ℕ) (fault : Fault) → length bytes ≤ length file
-    → DiffersFromMagic bytes fault → IsInPlace file fault
-magic_in_place file bytes fault within d =
-    rw d.is (
-      omega (lengths, length_magic d.version, ap length d.begins),
-      omega (lengths, within, ap length d.split),
-    )
+    streams_in_place context.connection file bytes shown h
 
 -- a connection word stands in the file, and what comes after it
 word_within : (file bytes : List ℕ) (b : AfterConnections bytes) → length bytes ≤ length file
@@ -153,8 +158,12 @@ word_within file bytes b within =
 
 rule_in_place : (file bytes : List ℕ) (shown : ShownFault) → length bytes ≤ length file
     → Rule bytes shown → IsInPlace file shown.fault
-rule_in_place file bytes shown within (MagicDiffers d e) =
-    magic_in_place file bytes shown.fault within d
+rule_in_place file bytes shown within
+    (MagicDiffers version front more byte due split begins differs e) =
+    rw e (
+      omega (lengths, length_magic version, ap length begins),
+      omega (lengths, within, ap length split),
+    )
 rule_in_place file bytes shown within (MarkIsBad b rest bad e) =
     rw e
     (omega (arith, word_within file bytes b within))

@@ -1,5 +1,5 @@
 -- The entries that bytes reach are within the limits.
-use Rattle.capture3.proofs.Common.{lengths, ◌≡◌, ◌⊎◌, inl, inr, ℕ, ◌+◌, ◌<◌, ◌≤◌, List, [], ◌∷◌, ◌++◌, length, map, refl, ap, ◌∙◌, append_assoc, arith, false, concat, Joins, Item, Version, One, Two, max_connections, total_size, Streams, size, AreMixed, BeginsMixed, max_bytes, BeginsStream, Context, ShownFault, calls_in_turn, replies_to, ConnectionShows, StreamsShow, InClientStream, InServerStream, ReachesInside, AreWhole, InMagic, BetweenConnections, InConnection, Judgement, AreMessages, Holds, HoldsSoFar, RecordFault, FirstRecordFault, RefusesNext, NextIsTooLong, NextIsCut, Converses, reply_entry, connection_entries, HaveEntries, Typed, IsFragment, IsRecord, Marks, length_of_spelling, ReplyItems, AcceptsCall, AcceptsReply, begins, spelled, AreWithinLimits}
+use Rattle.capture3.proofs.Common.{lengths, ◌≡◌, ◌⊎◌, inl, inr, ℕ, ◌+◌, ◌<◌, ◌≤◌, List, [], ◌∷◌, ◌++◌, length, map, refl, ap, ◌∙◌, append_assoc, arith, false, concat, Joins, Item, Version, One, Two, max_connections, total_size, Streams, size, AreMixed, BeginsMixed, max_bytes, BeginsStream, Position, ShownFault, calls_in_turn, replies_to, ConnectionShows, StreamsShow, InClientStream, InServerStream, ReachesInside, AreWhole, InMagic, BetweenConnections, InConnection, Judgement, AreMessages, Holds, HoldsSoFar, RecordFault, FirstRecordFault, Converses, reply_entry, connection_entries, HaveEntries, Typed, IsFragment, IsRecord, Marks, length_of_spelling, ReplyItems, AcceptsCall, AcceptsReply, begins, spelled, AreWithinLimits, RefusesRecord, PassesLimit, CutsOpen}
 use Rattle.capture3.specs.Entry.{Entry, Begin, Call, Turn, Reply, Close, End}
 use Rattle.capture3.proofs.Lemmas.Connections.JudgedInTurn.{calls_hold, conversed, replies_hold}
 
@@ -278,9 +278,9 @@ after_within entries h = record {
 }
 
 -- a refusal's entries are none, or those of streams that are gathered
-pub refused_more : (version : Version) (context : Context) (bytes : List ℕ) (shown : ShownFault)
+pub refused_more : (version : Version) (context : Position) (bytes : List ℕ) (shown : ShownFault)
     → ConnectionShows version context bytes shown
-    → (shown.more ≡ []) ⊎ ((version ≡ Two) × StreamsShow context.number bytes shown)
+    → (shown.more ≡ []) ⊎ ((version ≡ Two) × StreamsShow context.connection bytes shown)
 refused_more One context bytes shown h = inl (ap (λ (r : ShownFault). r.more) h.0)
 refused_more Two context bytes shown (inl h) = inl (ap (λ (r : ShownFault). r.more) h.0)
 refused_more Two context bytes shown (inr h) = inr (refl, h)
@@ -289,12 +289,21 @@ refused_more Two context bytes shown (inr h) = inr (refl, h)
 cut_front : {M : Type 0} (judge : Judgement M) (stream : List ℕ) (messages : List M)
     (fault : RecordFault) → FirstRecordFault judge stream messages fault
     → (front : List ℕ) × Holds judge front messages × (length front ≤ length stream)
-cut_front judge stream messages fault
-    (RefusesNext front last rest body stop split holds whole refused is) =
-    (front, holds, omega (lengths, ap length split))
-cut_front judge stream messages fault (NextIsTooLong front last rest at split holds long is) =
-    (front, holds, omega (lengths, ap length split))
-cut_front judge stream messages fault (NextIsCut front last body split holds is_open is) =
+cut_front judge stream messages fault (inl (
+  before,
+  rest,
+  split,
+  RefusesRecord front last body stop within holds whole refused is,
+)) =
+    (front, holds, omega (lengths, ap length split, ap length within))
+cut_front judge stream messages fault (inl (
+  before,
+  rest,
+  split,
+  PassesLimit front last at within holds long is,
+)) =
+    (front, holds, omega (lengths, ap length split, ap length within))
+cut_front judge stream messages fault (inr (CutsOpen front last body split holds is_open is)) =
     (front, holds, omega (lengths, ap length split))
 
 pub streams_after : (number : ℕ) (connections : List Streams) (before : List Entry) (bytes : List ℕ)

@@ -1,8 +1,8 @@
 -- What a clean prefix reaches, by its parts and by the machine.
-use Rattle.capture3.proofs.Common.{◌≡◌, inl, inr, ℕ, suc, ◌+◌, List, [], ◌∷◌, ◌++◌, length, map, refl, sym, ap, ◌∙◌, append_assoc, append-nil, arith, BeginsStream, Context, client_position, server_position, calls_in_turn, replies_to, ReachesInside, AreWhole, InMagic, BetweenConnections, InConnection, Reading, Judgement, HoldsSoFar, Position, reply_entry, Version, One, Two, digit, magic_front, magic, total_size, parsing_in, reading_with, Opening, InClient, InServer, InMixed, opening_entries, Siding}
+use Rattle.capture3.proofs.Common.{◌≡◌, inl, inr, ℕ, suc, ◌+◌, List, [], ◌∷◌, ◌++◌, length, map, refl, sym, ap, ◌∙◌, append_assoc, append-nil, arith, BeginsStream, next_position, server_position, calls_in_turn, replies_to, ReachesInside, AreWhole, InMagic, BetweenConnections, InConnection, Reading, Judgement, HoldsSoFar, Position, reply_entry, Version, One, Two, digit, magic_front, magic, total_size, parsing_in, reading_with, Opening, InClient, InServer, InMixed, opening_entries, Siding}
 use Rattle.capture3.specs.Entry.{Entry, Begin, Call, Turn}
 use Rattle.capture3.specs.FileMachine.{Mark, Ended, Parsing, emitted, magic_left, spot_entries}
-use Rattle.capture3.proofs.Lemmas.Files.FileMachineLemmas.{Stands, AtMagic, AtMark, AtInside, AtEnd, at_mark, context_after, inside_at, magic_split}
+use Rattle.capture3.proofs.Lemmas.Files.FileMachineLemmas.{Stands, AtMagic, AtMark, AtInside, AtEnd, at_mark, inside_at, magic_split}
 use Rattle.capture3.proofs.Lemmas.Container.SidedChunksMachineLemmas.{mixed_state}
 use Rattle.capture3.proofs.Lemmas.Connections.ConnectionMachineLemmas.{HasOpening}
 use Rattle.capture3.proofs.Lemmas.Sides.SideMachineLemmas.{HasSide, side_state}
@@ -43,12 +43,12 @@ begun_side judge position bytes s h = (
 
 -- ---- a connection
 
-opening_begun : (version : Version) (context : Context) (bytes : List ℕ) (more : List Entry)
+opening_begun : (version : Version) (context : Position) (bytes : List ℕ) (more : List Entry)
     → ReachesInside version context.before bytes more
     → (o : Opening) × HasOpening version context bytes o × (opening_entries o ≡ more)
 opening_begun One context bytes more (inl r) =
     let s =
-    side_begun calls_in_turn (client_position context) bytes r.stream r.calls r.begins r.holds in
+    side_begun calls_in_turn context bytes r.stream r.calls r.begins r.holds in
     (InClient s.0, s.1, ap (λ calls. Begin ∷ map Call calls) s.2 ∙ sym r.entries_are)
 opening_begun One context bytes more (inr r) =
     let s =
@@ -71,11 +71,11 @@ opening_begun One context bytes more (inr r) =
 opening_begun Two context bytes more r =
     (InMixed (mixed_state context bytes r.0), (r.0, refl), sym r.1)
 
-begun_opening : (version : Version) (context : Context) (bytes : List ℕ) (o : Opening)
+begun_opening : (version : Version) (context : Position) (bytes : List ℕ) (o : Opening)
     → HasOpening version context bytes o
     → ReachesInside version context.before bytes (opening_entries o)
 begun_opening One context bytes (InClient s) h =
-    let b = begun_side calls_in_turn (client_position context) bytes s h in
+    let b = begun_side calls_in_turn context bytes s h in
     inl (record {
       stream = b.0;
       calls = s.reading.messages;
@@ -168,7 +168,7 @@ whole_stands bytes entries
     }
 whole_stands bytes entries
     (InConnection version front mark rest connections before more split opens one few inside are) =
-    let o = opening_begun version (context_after front connections) rest more inside in
+    let o = opening_begun version (next_position front connections) rest more inside in
     record {
       state =
           inside_at version (length front + 4) (total_size connections) (suc (length connections))
@@ -189,7 +189,7 @@ stands_whole bytes s (AtMark version front part connections entries split short 
 stands_whole bytes s
     (AtInside version front mark rest connections entries o split opens one few inside is) =
     rw is (InConnection version front mark rest connections entries (opening_entries o) split opens
-    one few (begun_opening version (context_after front connections) rest o inside) refl)
+    one few (begun_opening version (next_position front connections) rest o inside) refl)
 stands_whole bytes s (AtEnd version front last connections entries split opens closes is) =
     rw (is, append-nil)
     (BetweenConnections version front last connections split opens (inr closes))

@@ -1,6 +1,6 @@
 -- What the byte of a fault still reaches, in a file of version 2: the entries of the connection
 -- before a record at fault.
-use Rattle.capture3.proofs.Common.{lengths, ◌≡◌, ◌⊎◌, inl, inr, ℕ, suc, ◌+◌, ◌<◌, ◌≤◌, List, [], ◌∷◌, ◌++◌, length, refl, sym, ap, subst, ◌∙◌, append-nil, arith, Next, Goes, Ends, Run, Runs, landed, after, Two, total_size, max_bytes, max_connections, Context, HaveEntries, ShownFault, StreamsShow, Rule, Shows, AfterConnections, MagicDiffers, MarkIsBad, ConnectionIsTooMany, WithinConnection, ByteAfterEnd, Mixing, MixedCloses, mixed_next, mixing_from, InMixed, Opening, opened, Version, Parsing, emitted, file_next, parsed, Streams, size, AreMixed, Tells, ran_before, tells, AreWithinLimits, AreWhole, IsLongestClean, Reached}
+use Rattle.capture3.proofs.Common.{lengths, ◌≡◌, ◌⊎◌, inl, inr, ℕ, suc, ◌+◌, ◌<◌, ◌≤◌, List, [], ◌∷◌, ◌++◌, length, refl, sym, ap, subst, ◌∙◌, append-nil, arith, Next, Goes, Ends, Run, Runs, landed, after, Two, total_size, max_bytes, max_connections, Position, HaveEntries, ShownFault, StreamsShow, Rule, Shows, AfterConnections, MagicDiffers, MarkIsBad, ConnectionIsTooMany, WithinConnection, ByteAfterEnd, Mixing, MixedCloses, mixed_next, mixing_from, InMixed, Opening, opened, Version, Parsing, emitted, file_next, parsed, Streams, size, AreMixed, Tells, ran_before, tells, AreWithinLimits, AreWhole, IsLongestClean, Reached}
 use Rattle.capture3.specs.Entry.{Entry, Begin}
 use Rattle.capture3.proofs.Lemmas.Connections.ConnectionMachineLemmas.{in_mixed}
 use Rattle.capture3.proofs.Lemmas.Files.FileRules.{inside_or, shown_mixed, streams_some}
@@ -69,7 +69,7 @@ module _ (front : List ℕ) (byte : ℕ) (state : Parsing) (whole : List Entry)
   number : ℕ
   number = length b.connections
 
-  context : Context
+  context : Position
   context = context_at (suc number) (at + 4) total
 
   the_mixed : (streams : Streams) × AreMixed b.rest streams
@@ -175,7 +175,8 @@ reached_more bytes front whole more h is_whole = by_end h.longest
 
     by_rule : (byte : ℕ) (shown : ShownFault) → more ≡ shown.more → Rule (front ++ byte ∷ []) shown
         → (more ≡ []) ⊎ IsAfter (whole ++ more)
-    by_rule byte shown is (MagicDiffers d same) = inl (is ∙ ap (λ (r : ShownFault). r.more) same)
+    by_rule byte shown is (MagicDiffers version first rest other due split begins differs same) =
+        inl (is ∙ ap (λ (r : ShownFault). r.more) same)
     by_rule byte shown is (MarkIsBad b none bad same) =
         inl (is ∙ ap (λ (r : ShownFault). r.more) same)
     by_rule byte shown is (ConnectionIsTooMany b none one full same) =

@@ -1,11 +1,11 @@
 -- The machine for one side against chunks, records and messages.
-use Rattle.capture3.proofs.Common.{lengths, ◌≡◌, inl, inr, ℕ, zero, suc, ◌+◌, ◌<◌, ◌≤◌, List, [], ◌∷◌, ◌++◌, length, refl, sym, ap, ap₂, ◌∙◌, append_assoc, append-nil, arith, nat_lt, ltb-true, ltb-false, le-ltb, concat, Ends, Run, Runs, Stops, landed, after, IsWord, Joins, word_next, Joining, Between, Header, Bytes, IsOpen, AreBytes, RecordCut, max_bytes, IsChunk, AreChunks, BeginsStream, IsStream, Judgement, Holds, RecordFault, SideShows, fault_at, Reading, stream_next, unread, Position, place_in, Leads, leads_within, after-append, ran_to, IsPart, word_leads, Joins-snoc, siding_from, siding_in, reading_with, concat-snoc, WithinChunk}
+use Rattle.capture3.proofs.Common.{lengths, ◌≡◌, inl, inr, ℕ, zero, suc, ◌+◌, ◌<◌, ◌≤◌, List, [], ◌∷◌, ◌++◌, length, refl, sym, ap, ap₂, ◌∙◌, append_assoc, append-nil, arith, nat_lt, ltb-true, ltb-false, le-ltb, concat, Ends, Run, Runs, Stops, landed, after, IsWord, Joins, word_next, Joining, Between, Header, Bytes, IsOpen, AreBytes, RecordCut, max_bytes, IsChunk, AreChunks, BeginsStream, IsStream, Judgement, Holds, RecordFault, Side, Fault, SideShows, PassesBytes, CutsRecord, ShowsRecord, CutsOpen, fault_at, Reading, stream_next, unread, Position, place_at, Leads, leads_within, after-append, ran_to, IsPart, word_leads, Joins-snoc, siding_from, siding_in, reading_with, concat-snoc, WithinChunk}
 use Rattle.capture3.specs.SideMachine.{Length, Chunk, Siding, SideEnd, SideCloses, SideRefuses, awaiting, closing, counted, side_next}
 use Rattle.capture3.proofs.Lemmas.Connections.RankLemmas.{by_test}
 use Rattle.capture3.proofs.Lemmas.Container.BytesOf.{split_bytes, AreBytes-append, chunk_bytes}
 use Rattle.capture3.proofs.Lemmas.Files.EndedMachines.{Nested, after_two, runs_inside, word_ends, word_goes}
 use Rattle.capture3.proofs.Lemmas.Messages.BodyProgramLemmas.{Judged}
-use Rattle.capture3.proofs.Lemmas.Sides.StreamMachineLemmas.{HasRead, ShowsAsFirst, fault_after, stream_after, stream_leads, between_holds, nothing_read, held_runs, stream_runs}
+use Rattle.capture3.proofs.Lemmas.Sides.StreamMachineLemmas.{HasRead, ShowsFault, stream_after, stream_leads, between_holds, nothing_read, held_runs, stream_runs}
 
 -- the machine after the bytes of a stream that is not whole
 abbrev pub side_state : {M : Type 0} (position : Position) (bytes stream : List ℕ) → Reading M
@@ -36,10 +36,10 @@ pub record ClosesSide {M : Type 0} (judge : Judgement M) (position : Position) (
   pub total_is : total ≡ position.before + length stream
   pub fits : total ≤ max_bytes
 
-abbrev pub EndsSide : {M : Type 0} → Judgement M → Position → List ℕ → SideEnd M → Type 0
-EndsSide judge position bytes (SideCloses at total messages) =
+abbrev pub EndsSide : {M : Type 0} → Judgement M → Side → Position → List ℕ → SideEnd M → Type 0
+EndsSide judge side position bytes (SideCloses at total messages) =
     ClosesSide judge position bytes at total messages
-EndsSide judge position bytes (SideRefuses fault) = SideShows judge position bytes fault
+EndsSide judge side position bytes (SideRefuses fault) = SideShows judge side position bytes fault
 
 -- a stream's machine ends with faults alone
 abbrev pub AnyFault : RecordFault → Type 0
@@ -77,37 +77,25 @@ AreChunks-snoc bytes stream front carried header chunk split is h word some =
       carried = rw (is, h.carried, concat-snoc);
     }
 
-module _ {M : Type 0} (judge : Judged M) (position : Position) where
+module _ {M : Type 0} (judge : Judged M) (side : Side) (position : Position) where
+  abbrev place : RecordFault → Fault
+  place = place_at position.connection side
+
   -- the word 0 in an open record
   open_cut : {messages : List M} {joining : Joining} (bytes stream body : List ℕ)
       → IsStream bytes stream → (read : HasRead judge.says stream (reading_with messages joining))
       → IsOpen read.last body
-      → EndsSide judge.says position bytes
-      (SideRefuses (place_in position (fault_at messages (length body) RecordCut)))
+      → EndsSide judge.says side position bytes
+      (SideRefuses (place (fault_at messages (length body) RecordCut)))
   open_cut {messages} bytes stream body closed read is_open =
-      inr (inl (record {
-        stream = stream;
-        shown = fault_at messages (length body) RecordCut;
-        closed = closed;
-        cut =
-            record {
-              front = read.front;
-              last = read.last;
-              bodies = read.holds.0;
-              body = body;
-              split = read.split;
-              marks = read.holds.1;
-              is_open = is_open;
-              is = fault_after judge.says read.front messages (length body) RecordCut read.holds;
-            };
-        is = refl;
-      }))
+      CutsRecord stream messages (fault_at messages (length body) RecordCut) closed
+      (CutsOpen read.front read.last body read.split read.holds is_open refl) refl
 
   closing_ends : (bytes stream : List ℕ) (closed : IsStream bytes stream) (messages : List M)
       (joining : Joining) → HasRead judge.says stream (reading_with messages joining)
       → position.before + length stream ≤ max_bytes
-      → EndsSide judge.says position bytes
-      (closing (place_in position) (position.start + length closed.front)
+      → EndsSide judge.says side position bytes
+      (closing place (position.start + length closed.front)
       (position.before + length stream) messages joining)
   closing_ends bytes stream closed messages Between read fits =
       record {
@@ -128,8 +116,8 @@ module _ {M : Type 0} (judge : Judged M) (position : Position) where
       → bytes ≡ front ++ header → AreChunks front stream
       → position.before + length stream ≤ max_bytes → HasRead judge.says stream reading
       → IsWord header n
-      → Leads (HasSide judge.says position) (EndsSide judge.says position) bytes
-      (counted (place_in position) (position.start + length front)
+      → Leads (HasSide judge.says position) (EndsSide judge.says side position) bytes
+      (counted place (position.start + length front)
       (position.before + length stream) reading n)
   counted_leads bytes front header stream reading zero split chunks fits read word =
       closing_ends bytes stream
@@ -140,18 +128,8 @@ module _ {M : Type 0} (judge : Judged M) (position : Position) where
       ≡ position.start + length bytes + suc left =
       omega (lengths, ap length split) in
       by_test (nat_lt max_bytes (position.before + length stream + suc left))
-      (λ over. rw over (inl (record {
-        front = front;
-        last = header;
-        stream = stream;
-        count = suc left;
-        split = split;
-        chunks = chunks;
-        word = word;
-        some = omega arith;
-        passes = ltb-true _ _ over;
-        is = refl;
-      })))
+      (λ over. rw over (PassesBytes front header stream (suc left) split chunks word (omega arith)
+      (ltb-true _ _ over) refl))
       (λ over. rw over (record {
         stream = stream;
         reading = reading;
@@ -227,16 +205,16 @@ module _ {M : Type 0} (judge : Judged M) (position : Position) where
   begun_leads : (bytes stream : List ℕ) (b : BeginsStream position.before bytes stream)
       (reading : Reading M) (byte : ℕ) → AreBytes (bytes ++ byte ∷ [])
       → HasRead judge.says stream reading
-      → Leads (HasSide judge.says position) (EndsSide judge.says position) (bytes ++ byte ∷ [])
-      (side_next judge.decide (place_in position) (side_state position bytes stream reading b) byte)
+      → Leads (HasSide judge.says position) (EndsSide judge.says side position) (bytes ++ byte ∷ [])
+      (side_next judge.decide place (side_state position bytes stream reading b) byte)
   begun_leads bytes stream (inl b) reading byte are read =
       let more : bytes ++ byte ∷ [] ≡ b.front ++ (b.part ++ byte ∷ []) =
       rw (b.split, append_assoc) in
-      leads_within IsPart IsWord (HasSide judge.says position) (EndsSide judge.says position)
+      leads_within IsPart IsWord (HasSide judge.says position) (EndsSide judge.says side position)
       (λ p.
       siding_in (position.start + length b.front) (position.before + length stream) reading
       (Length p))
-      (counted (place_in position) (position.start + length b.front)
+      (counted place (position.start + length b.front)
       (position.before + length stream) reading)
       (b.part ++ byte ∷ []) (bytes ++ byte ∷ [])
       (λ p is.
@@ -262,35 +240,25 @@ module _ {M : Type 0} (judge : Judged M) (position : Position) where
   begun_leads bytes stream (inr w) reading byte are read =
       let same : stream ++ byte ∷ [] ≡ w.carried ++ (w.got ++ byte ∷ []) =
       rw (w.stream_is, append_assoc) in
-      leads_within (HasRead judge.says) (ShowsAsFirst judge.says) (HasSide judge.says position)
-      (EndsSide judge.says position)
+      leads_within (HasRead judge.says) (ShowsFault judge.says) (HasSide judge.says position)
+      (EndsSide judge.says side position)
       (λ r.
       siding_in (position.start + length bytes + suc w.left)
       (position.before + length stream + suc w.left) r (awaiting w.left))
-      (λ shown. Ends (SideRefuses (place_in position shown)))
+      (λ shown. Ends (SideRefuses (place shown)))
       (stream ++ byte ∷ []) (bytes ++ byte ∷ [])
       (λ r more. more_read bytes stream byte w r more w.left refl)
-      (λ shown shows. inr (inr (record {
-        front = w.front;
-        header = w.header;
-        got = w.got ++ byte ∷ [];
-        stream = w.carried;
-        left = w.left;
-        split = simp (w.split, append_assoc);
-        chunks = w.chunks;
-        word = (w.word.0, w.word.1 ∙ omega lengths);
-        some = omega lengths;
-        shown = shown;
-        shows = rw same at shows.0;
-        is = refl;
-      })))
+      (λ shown shows.
+      ShowsRecord w.front w.header (w.got ++ byte ∷ []) w.carried w.left shows.0 shown
+      (simp (w.split, append_assoc)) w.chunks (w.word.0, w.word.1 ∙ omega lengths) (omega lengths)
+      (rw same at shows.1) refl)
       (stream_next judge.decide reading byte)
       (stream_leads judge stream reading byte (carried_bytes bytes stream byte w are) read)
 
   pub side_leads : (bytes : List ℕ) (s : Siding M) (byte : ℕ) → AreBytes (bytes ++ byte ∷ [])
       → HasSide judge.says position bytes s
-      → Leads (HasSide judge.says position) (EndsSide judge.says position) (bytes ++ byte ∷ [])
-      (side_next judge.decide (place_in position) s byte)
+      → Leads (HasSide judge.says position) (EndsSide judge.says side position) (bytes ++ byte ∷ [])
+      (side_next judge.decide place s byte)
   side_leads bytes s byte are h =
       rw h.is (begun_leads bytes h.stream h.begins h.reading byte are h.read)
 
@@ -317,7 +285,7 @@ module _ {M : Type 0} (judge : Judged M) (position : Position) where
 
   -- the machine, from a state and from a side's start
   abbrev pub side_after : Siding M → List ℕ → Run (Siding M) (SideEnd M)
-  side_after s = after (side_next judge.decide (place_in position)) (Runs s)
+  side_after s = after (side_next judge.decide place) (Runs s)
 
   abbrev pub side_taken : List ℕ → Run (Siding M) (SideEnd M)
   side_taken = side_after (siding_from position.start position.before)
@@ -328,10 +296,10 @@ module _ {M : Type 0} (judge : Judged M) (position : Position) where
 
   pub length_runs : (at total n : ℕ) (reading : Reading M) (header : List ℕ) → IsWord header n
       → side_after (at_length at total reading) header
-      ≡ landed (counted (place_in position) at total reading n)
+      ≡ landed (counted place at total reading n)
   length_runs at total n reading =
-      word_ends (side_next judge.decide (place_in position))
-      (λ p. siding_in at total reading (Length p)) (counted (place_in position) at total reading)
+      word_ends (side_next judge.decide place)
+      (λ p. siding_in at total reading (Length p)) (counted place at total reading)
       (λ s byte. refl)
 
   -- a chunk's length word within the limit
@@ -346,13 +314,13 @@ module _ {M : Type 0} (judge : Judged M) (position : Position) where
 
   -- a stream's machine in a chunk
   pub in_chunk : (at total : ℕ)
-      → Nested (stream_next judge.decide) (side_next judge.decide (place_in position))
+      → Nested (stream_next judge.decide) (side_next judge.decide place)
       (λ n r. siding_in at total r (awaiting n))
-      (λ n shown. Ends (SideRefuses (place_in position shown))) AnyFault RefusedSide
+      (λ n shown. Ends (SideRefuses (place shown))) AnyFault RefusedSide
   in_chunk at total =
       record {
         commutes = λ n r byte. refl;
-        ends = λ n shown any. (SideRefuses (place_in position shown), tt, refl);
+        ends = λ n shown any. (SideRefuses (place shown), tt, refl);
       }
 
   chunk_runs : (at total : ℕ) (r t : Reading M) (bytes header got : List ℕ) (left : ℕ)
@@ -403,8 +371,8 @@ module _ {M : Type 0} (judge : Judged M) (position : Position) where
       let total : ℕ = position.before + length stream in
       after_two _ _ b.front b.part b.split
       (stream_front b.front stream reading b.chunks (stream_runs judge stream reading read) b.fits)
-      (word_goes (side_next judge.decide (place_in position))
-      (λ p. siding_in at total reading (Length p)) (counted (place_in position) at total reading)
+      (word_goes (side_next judge.decide place)
+      (λ p. siding_in at total reading (Length p)) (counted place at total reading)
       (λ s byte. refl) b.part b.short)
   begun_runs bytes stream (inr w) reading read =
       let all : stream_after judge unread (w.carried ++ w.got) ≡ Runs reading =

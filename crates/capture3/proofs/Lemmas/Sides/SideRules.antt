@@ -1,15 +1,11 @@
 -- A rule of one side: where it holds of bytes, the machine stops with its fault, or had stopped
 -- before.
-use Rattle.capture3.proofs.Common.{lengths, ◌≡◌, inl, inr, ℕ, zero, suc, ◌+◌, ◌<◌, ◌≤◌, List, [], ◌∷◌, ◌++◌, length, refl, sym, ap, ap₂, ◌∙◌, append_assoc, arith, length-append, Ok, Err, nat_lt, ltb-false, lt-ltb, concat, Run, Runs, Stops, Stopped, landed, after, Joining, Between, Header, Bytes, Whole, TooLong, join_next, IsWord, Joins, after-append, nested_runs, TooManyBytes, RecordTooLong, RecordCut, Fault, max_bytes, IsChunk, AreChunks, IsStream, Reading, judged, recorded, stream_next, unread, record_stops, too_long_stops, joining_runs, siding_in, reading_with, Marks, IsOpen, IsRecord, IsTooLong, RecordFault, fault_at, StreamShows, IsCut, Position, file_fault, place_in, CutsRecord, ShowsRecord, SideShows, Siding, SideEnd, SideCloses, SideRefuses, awaiting, closing, counted}
+use Rattle.capture3.proofs.Common.{lengths, ◌≡◌, inl, inr, ℕ, zero, suc, ◌+◌, ◌<◌, ◌≤◌, List, [], ◌∷◌, ◌++◌, length, refl, sym, ap, ap₂, ◌∙◌, append_assoc, arith, nat_lt, ltb-false, lt-ltb, concat, Run, Runs, Stops, Stopped, landed, Joining, Between, Header, Bytes, IsWord, Joins, after-append, TooManyBytes, RecordCut, Fault, max_bytes, IsChunk, AreChunks, IsStream, Reading, unread, siding_in, reading_with, IsOpen, HasJoined, RecordFault, fault_at, IsCut, CutsOpen, Position, Side, file_fault, place_at, PassesBytes, CutsRecord, ShowsRecord, SideShows, Siding, SideEnd, SideCloses, SideRefuses, awaiting, closing, counted}
 use Rattle.capture3.proofs.Lemmas.Messages.BodyProgramLemmas.{Judged}
 use Rattle.capture3.proofs.Lemmas.Connections.RankLemmas.{by_test}
 use Rattle.capture3.proofs.Lemmas.Files.EndedMachines.{Over, Comes, At, Fails, after_two, comes_on, over_on, gone_inside, over_inside, runs_inside, runs_not_gone}
 use Rattle.capture3.proofs.Lemmas.Sides.SideMachineLemmas.{AnyFault, RefusedSide, at_length, in_chunk, length_runs, side_after, side_taken}
-use Rattle.capture3.proofs.Lemmas.Sides.StreamMachineLemmas.{record_closes, refusal_stops, stream_after}
-
-too_long_some : (last : List ℕ) (at : ℕ) → IsTooLong last at → 0 < length last
-too_long_some last at h =
-    omega (lengths, ap length h.split)
+use Rattle.capture3.proofs.Lemmas.Sides.StreamMachineLemmas.{shown_stops, stream_after, stream_runs}
 
 word_some : (word : List ℕ) (n : ℕ) → IsWord word n → 0 < length word
 word_some word n h = omega (arith, h.0)
@@ -20,22 +16,9 @@ IsIn body Between = ⊥
 IsIn body (Header other part) = other ≡ body
 IsIn body (Bytes other last left) = other ≡ body
 
-open_in : (last body : List ℕ) → IsOpen last body
-    → (j : Joining) × IsIn body j × (after join_next (Runs Between) last ≡ Runs j)
-open_in last body (inl o) = (Header body o.0, refl, joining_runs last (Header body o.0) o.1)
-open_in last body (inr o) = (Bytes body o.0 o.1, refl, joining_runs last (Bytes body o.0 o.1) o.2)
-
--- after so many records
-abbrev Recorded : {M : Type 0} → ℕ → Run (Reading M) RecordFault → Type 0
-Recorded {M} n run =
-    Comes {A = (messages : List M) × (length messages ≡ n)} AnyFault
-    (λ m. Runs (reading_with m.0 Between)) run
-
--- after a stream that is cut, a record is open
-abbrev Opened : {M : Type 0} → ℕ → List ℕ → Run (Reading M) RecordFault → Type 0
-Opened {M} n body run =
-    Comes {A = (messages : List M) × (j : Joining) × (length messages ≡ n) × IsIn body j} AnyFault
-    (λ m. Runs (reading_with m.0 m.1)) run
+open_in : (last body : List ℕ) → IsOpen last body → (j : Joining) × IsIn body j × HasJoined last j
+open_in last body (inl o) = (Header body o.0, refl, o.1)
+open_in last body (inr o) = (Bytes body o.0 o.1, refl, o.2)
 
 -- a stream's machine runs, or it has stopped
 reads_or : {M : Type 0} (run : Run (Reading M) RecordFault)
@@ -44,65 +27,20 @@ reads_or (Runs t) = At t refl
 reads_or (Stops fault) = Fails (fault, tt, inl refl)
 reads_or (Stopped fault) = Fails (fault, tt, inr refl)
 
-module _ {M : Type 0} (judge : Judged M) where
-  -- ---- a stream
+module _ {M : Type 0} (judge : Judged M) (side : Side) (position : Position) where
+  abbrev place : RecordFault → Fault
+  place = place_at position.connection side
 
-  record_or : (before : List M) (bytes body : List ℕ) → IsRecord bytes body
-      → Comes {A = M} AnyFault (λ m. Runs (reading_with (before ++ m ∷ []) Between))
-      (stream_after judge (reading_with before Between) bytes)
-  record_or before bytes body whole =
-      rw (record_closes judge before bytes (Whole body) (record_stops bytes body whole))
-      (elim (judge.decide before body) as (λ r.
-      Comes {A = M} AnyFault (λ m. Runs (reading_with (before ++ m ∷ []) Between))
-      (landed (judged before r))) [
-        | Ok m ↦ At m refl
-        | Err stop ↦ Fails (fault_at before stop.at stop.reason, tt, inl refl)
-      ])
-
-  records_or : (bodies : List (List ℕ)) (before : List M) (stream : List ℕ) (n : ℕ)
-      → n ≡ length before + length bodies → Marks stream bodies
-      → Recorded n (stream_after judge (reading_with before Between) stream)
-  records_or [] before stream n size h = rw h (At (before, omega arith) refl)
-  records_or (body ∷ bodies) before stream n size h =
-      comes_on _ _ h.0 h.1 h.2 (record_or before h.0 body h.3)
-      (λ m.
-      records_or bodies (before ++ m ∷ []) h.1 n (omega (arith, length-append before (m ∷ [])))
-      h.4)
-
-  stream_over : (stream : List ℕ) (fault : RecordFault) → StreamShows judge.says stream fault
-      → Over AnyFault (stream_after judge unread stream) fault
-  stream_over stream fault (inl h) = inl (refusal_stops judge stream fault h)
-  stream_over stream fault (inr h) =
-      over_on _ _ h.front h.last h.split
-      (records_or h.bodies [] h.front (length h.bodies) (omega arith) h.marks)
-      (too_long_some h.last h.at h.long)
-      (λ m.
-      inl (record_closes judge m.0 h.last (TooLong h.at) (too_long_stops h.last h.at h.long)
-      ∙ ap (λ n. Stops (record { number = suc n; byte = h.at; reason = RecordTooLong })) m.1
-      ∙ ap (λ f. Stops f) (sym h.is)))
-
-  cut_or : (stream : List ℕ) (fault : RecordFault) (h : IsCut stream fault)
-      → Opened (length h.bodies) h.body (stream_after judge unread stream)
-  cut_or stream fault h =
-      let o = open_in h.last h.body h.is_open in
-      comes_on _ _ h.front h.last h.split
-      (records_or h.bodies [] h.front (length h.bodies) (omega arith) h.marks)
-      (λ m.
-      At (m.0, o.0, m.1, o.1)
-      (nested_runs join_next (stream_next judge.decide) (reading_with m.0)
-      (recorded judge.decide m.0) (λ j byte. refl) h.last Between o.0 o.2))
-
-module _ {M : Type 0} (judge : Judged M) (position : Position) where
   -- ---- one side
 
   -- a length word within the limit, or past it
   header_or : (at total n : ℕ) (r : Reading M) (header : List ℕ) → IsWord header n → 0 < n
       → Comes {A = total + n ≤ max_bytes} RefusedSide
       (λ fits. Runs (siding_in (at + 4 + n) (total + n) r (awaiting n)))
-      (side_after judge position (at_length judge position at total r) header)
+      (side_after judge side position (at_length judge side position at total r) header)
   header_or at total zero r header word some = absurd (omega arith)
   header_or at total (suc left) r header word some =
-      rw (length_runs judge position at total (suc left) r header word)
+      rw (length_runs judge side position at total (suc left) r header word)
       (by_test (nat_lt max_bytes (total + suc left))
       (λ e. Fails (SideRefuses (file_fault at TooManyBytes), tt, inl (rw e)))
       (λ e. At (ltb-false max_bytes (total + suc left) e) (rw e)))
@@ -114,12 +52,12 @@ module _ {M : Type 0} (judge : Judged M) (position : Position) where
       (λ t.
       Runs (siding_in (at + 4 + (length got + left)) (total + (length got + left)) t.0
       (awaiting left)))
-      (side_after judge position (at_length judge position at total r) bytes)
+      (side_after judge side position (at_length judge side position at total r) bytes)
   chunk_or at total r bytes header got left split word some =
       comes_on _ _ header got split (header_or at total (length got + left) r header word some)
       (λ fits.
       let within =
-      in_chunk judge position (at + 4 + (length got + left)) (total + (length got + left)) in
+      in_chunk judge side position (at + 4 + (length got + left)) (total + (length got + left)) in
       elim (reads_or (stream_after judge r got)) [
         | At t e ↦ At (t, e) (runs_inside within got left r e)
         | Fails gone ↦ Fails (gone_inside within got left r gone)
@@ -129,17 +67,17 @@ module _ {M : Type 0} (judge : Judged M) (position : Position) where
   abbrev AfterChunks : Reading M → List ℕ → ℕ → ℕ → Run (Siding M) (SideEnd M) → Type 0
   AfterChunks r stream end sum run =
       Comes {A = (t : Reading M) × (stream_after judge r stream ≡ Runs t)} RefusedSide
-      (λ t. Runs (at_length judge position end sum t.0)) run
+      (λ t. Runs (at_length judge side position end sum t.0)) run
 
   chunks_or : (chunks : List (List ℕ)) (front : List ℕ) (at total end sum : ℕ) (r : Reading M)
       → Joins IsChunk front chunks → end ≡ at + length front
       → sum ≡ total + length (concat chunks)
       → AfterChunks r (concat chunks) end sum
-      (side_after judge position (at_length judge position at total r) front)
+      (side_after judge side position (at_length judge side position at total r) front)
   chunks_or [] front at total end sum r h end_is sum_is =
       let at_end : at ≡ end = omega (arith, ap length h) in
       let all : total ≡ sum = omega arith in
-      rw h (At (r, refl) (ap₂ (λ n m. Runs (at_length judge position n m r)) at_end all))
+      rw h (At (r, refl) (ap₂ (λ n m. Runs (at_length judge side position n m r)) at_end all))
   chunks_or (chunk ∷ chunks) front at total end sum r h end_is sum_is =
       let whole : length chunk ≡ length chunk + 0 = omega arith in
       comes_on _ _ h.0 h.1 h.2
@@ -160,7 +98,7 @@ module _ {M : Type 0} (judge : Judged M) (position : Position) where
 
   front_or : (front stream : List ℕ) → AreChunks front stream
       → AfterChunks unread stream (position.start + length front)
-      (position.before + length stream) (side_taken judge position front)
+      (position.before + length stream) (side_taken judge side position front)
   front_or front stream h =
       rw h.carried (chunks_or h.chunks front position.start position.before
       (position.start + length front) (position.before + length (concat h.chunks)) unread h.joined
@@ -176,25 +114,25 @@ module _ {M : Type 0} (judge : Judged M) (position : Position) where
   closing_or : (stream : List ℕ) (at total end : ℕ) (messages : List M) (joining : Joining)
       → end ≡ at + 4 → stream_after judge unread stream ≡ Runs (reading_with messages joining)
       → ClosedSide stream end total
-      (Stops (closing (place_in position) at total messages joining))
+      (Stops (closing place at total messages joining))
   closing_or stream at total end messages Between is e =
       At (messages, e) (ap (λ n. Stops (SideCloses n total messages)) (sym is))
   closing_or stream at total end messages (Header body part) is e =
       Fails
-      (SideRefuses (place_in position (fault_at messages (length body) RecordCut)), tt, inl refl)
+      (SideRefuses (place (fault_at messages (length body) RecordCut)), tt, inl refl)
   closing_or stream at total end messages (Bytes body last left) is e =
       Fails
-      (SideRefuses (place_in position (fault_at messages (length body) RecordCut)), tt, inl refl)
+      (SideRefuses (place (fault_at messages (length body) RecordCut)), tt, inl refl)
 
   pub side_closed_or : (bytes stream : List ℕ) → IsStream bytes stream
       → ClosedSide stream (position.start + length bytes) (position.before + length stream)
-      (side_taken judge position bytes)
+      (side_taken judge side position bytes)
   side_closed_or bytes stream h =
       let at : ℕ = position.start + length h.front in
       let total : ℕ = position.before + length stream in
       comes_on _ _ h.front h.last h.split (front_or h.front stream h.chunks)
       (λ r.
-      rw (length_runs judge position at total 0 r.0 h.last h.closes)
+      rw (length_runs judge side position at total 0 r.0 h.last h.closes)
       (closing_or stream at total (position.start + length bytes) r.0.messages r.0.joining
       (omega (lengths, ap length h.split)) r.1))
 
@@ -202,18 +140,18 @@ module _ {M : Type 0} (judge : Judged M) (position : Position) where
   after_word : (bytes front last stream : List ℕ) (n : ℕ) (fault : Fault) → bytes ≡ front ++ last
       → AreChunks front stream → IsWord last n
       → ((r : Reading M) → stream_after judge unread stream ≡ Runs r
-      → landed (counted (place_in position) (position.start + length front)
+      → landed (counted place (position.start + length front)
       (position.before + length stream) r n) ≡ Stops (SideRefuses fault))
-      → Over RefusedSide (side_taken judge position bytes) (SideRefuses fault)
+      → Over RefusedSide (side_taken judge side position bytes) (SideRefuses fault)
   after_word bytes front last stream n fault split chunks word stops =
       over_on _ _ front last split (front_or front stream chunks) (word_some last n word)
       (λ r.
-      inl (length_runs judge position (position.start + length front)
+      inl (length_runs judge side position (position.start + length front)
       (position.before + length stream) n r.0 last word ∙ stops r.0 r.1))
 
   -- past the limit
   counted_passes : (at total n : ℕ) (r : Reading M) → 0 < n → max_bytes < total + n
-      → landed (counted (place_in position) at total r n)
+      → landed (counted place at total r n)
       ≡ Stops (SideRefuses (file_fault at TooManyBytes))
   counted_passes at total zero r some passes = absurd (omega arith)
   counted_passes at total (suc left) r some passes =
@@ -221,60 +159,58 @@ module _ {M : Type 0} (judge : Judged M) (position : Position) where
 
   -- an open record at the stream's end
   open_closing : (at total : ℕ) (messages : List M) (j : Joining) (body : List ℕ) → IsIn body j
-      → closing (place_in position) at total messages j
-      ≡ SideRefuses (place_in position (fault_at messages (length body) RecordCut))
+      → closing place at total messages j
+      ≡ SideRefuses (place (fault_at messages (length body) RecordCut))
   open_closing at total messages Between body h = absurd h
   open_closing at total messages (Header other part) body h = rw h
   open_closing at total messages (Bytes other last left) body h = rw h
 
-  cuts_over : (bytes : List ℕ) (fault : Fault) → CutsRecord position bytes fault
-      → Over RefusedSide (side_taken judge position bytes) (SideRefuses fault)
-  cuts_over bytes fault h =
-      let c = h.closed in
+  cuts_over : (bytes stream : List ℕ) (messages : List M) (shown : RecordFault) (fault : Fault)
+      → IsStream bytes stream → IsCut judge.says stream messages shown → fault ≡ place shown
+      → Over RefusedSide (side_taken judge side position bytes) (SideRefuses fault)
+  cuts_over bytes stream messages shown fault c
+      (CutsOpen front last body split holds is_open same) is =
       let at : ℕ = position.start + length c.front in
-      let total : ℕ = position.before + length h.stream in
-      after_word bytes c.front c.last h.stream 0 fault c.split c.chunks c.closes
+      let total : ℕ = position.before + length stream in
+      let o = open_in last body is_open in
+      let runs =
+      stream_runs judge stream (reading_with messages o.0)
+      (record { front = front; last = last; split = split; holds = holds; joined = o.2 }) in
+      after_word bytes c.front c.last stream 0 fault c.split c.chunks c.closes
       (λ r e.
-      elim (cut_or judge h.stream h.shown h.cut) [
-        | At o f ↦
-            let same : r ≡ reading_with o.0 o.1 = cc in
-            rw (same, h.is, h.cut.is, ← o.2)
-            (ap (λ x. Stops x) (open_closing at total o.0 o.1 h.cut.body o.3))
-        | Fails gone ↦ absurd (runs_not_gone (stream_after judge unread h.stream) r e gone)
-      ])
+      let reads : r ≡ reading_with messages o.0 = cc in
+      rw (reads, is, same) (ap (λ x. Stops x) (open_closing at total messages o.0 body o.1)))
 
   -- a byte of a chunk
   chunk_over : (at total : ℕ) (r : Reading M) (header got : List ℕ) (left : ℕ)
       (shown : RecordFault) → IsWord header (length got + left) → 0 < length got
       → Over AnyFault (stream_after judge r got) shown
       → Over RefusedSide
-      (side_after judge position (at_length judge position at total r) (header ++ got))
-      (SideRefuses (place_in position shown))
+      (side_after judge side position (at_length judge side position at total r) (header ++ got))
+      (SideRefuses (place shown))
   chunk_over at total r header got left shown word some over =
       over_on _ _ header got refl
       (header_or at total (length got + left) r header word (omega arith)) some
       (λ fits.
       over_inside
-      (in_chunk judge position (at + 4 + (length got + left)) (total + (length got + left))) got
+      (in_chunk judge side position (at + 4 + (length got + left)) (total + (length got + left)))
+      got
       left r refl over)
 
-  shows_over : (bytes : List ℕ) (fault : Fault) → ShowsRecord judge.says position bytes fault
-      → Over RefusedSide (side_taken judge position bytes) (SideRefuses fault)
-  shows_over bytes fault h =
-      over_on _ _ h.front (h.header ++ h.got)
-      (h.split ∙ append_assoc h.front h.header h.got) (front_or h.front h.stream h.chunks)
-      (omega lengths)
-      (λ r.
-      rw h.is (chunk_over (position.start + length h.front) (position.before + length h.stream) r.0
-      h.header h.got h.left h.shown h.word h.some
-      (rw (after-append, r.1) at (stream_over judge (h.stream ++ h.got) h.shown h.shows))))
-
-  pub side_over : (bytes : List ℕ) (fault : Fault) → SideShows judge.says position bytes fault
-      → Over RefusedSide (side_taken judge position bytes) (SideRefuses fault)
-  side_over bytes fault (inl h) =
-      after_word bytes h.front h.last h.stream h.count fault h.split h.chunks h.word
+  pub side_over : (bytes : List ℕ) (fault : Fault) → SideShows judge.says side position bytes fault
+      → Over RefusedSide (side_taken judge side position bytes) (SideRefuses fault)
+  side_over bytes fault (PassesBytes front last stream count split chunks word some passes is) =
+      after_word bytes front last stream count fault split chunks word
       (λ r e.
-      rw h.is (counted_passes (position.start + length h.front) (position.before + length h.stream)
-      h.count r h.some h.passes))
-  side_over bytes fault (inr (inl h)) = cuts_over bytes fault h
-  side_over bytes fault (inr (inr h)) = shows_over bytes fault h
+      rw is (counted_passes (position.start + length front) (position.before + length stream)
+      count r some passes))
+  side_over bytes fault (CutsRecord stream messages shown closed cut is) =
+      cuts_over bytes stream messages shown fault closed cut is
+  side_over bytes fault
+      (ShowsRecord front header got stream left messages shown split chunks word some shows is) =
+      over_on _ _ front (header ++ got) (split ∙ append_assoc front header got)
+      (front_or front stream chunks) (omega lengths)
+      (λ r.
+      let stops = shown_stops judge (stream ++ got) messages shown shows in
+      rw is (chunk_over (position.start + length front) (position.before + length stream) r.0 header
+      got left shown word some (inl (rw (after-append, r.1) at stops))))

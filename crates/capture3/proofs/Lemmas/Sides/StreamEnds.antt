@@ -1,7 +1,7 @@
 -- A whole stream, with its messages or its first fault.
-use Rattle.capture3.proofs.Common.{◌≡◌, inl, inr, ℕ, List, [], ◌∷◌, ◌++◌, refl, sym, ap, ◌∙◌, append_assoc, append-nil, Ok, Ends, Run, Runs, Stops, Stopped, after, landed, last_running, Joining, Between, Header, Bytes, Joined, Whole, TooLong, join_next, AreBytes, RecordTooLong, Judgement, Holds, RecordFault, fault_at, FirstRecordFault, RefusesNext, NextIsTooLong, NextIsCut, record_stops, too_long_stops, Judge, Reading, judged, recorded, stream_next, unread, StreamEnd, Held, Faulty, left_in, end_of, rest_end, stream_end, reading_with, HasJoined, Tells, after-append, after_stopped, nested_last, nested_runs, nested_stops, last_running-append, last_stopped}
+use Rattle.capture3.proofs.Common.{◌≡◌, inl, inr, ℕ, List, [], ◌∷◌, ◌++◌, refl, sym, ap, ◌∙◌, append_assoc, append-nil, Ok, Ends, Run, Runs, Stops, Stopped, after, landed, last_running, Joining, Between, Header, Bytes, Joined, Whole, TooLong, join_next, AreBytes, RecordTooLong, Judgement, Holds, RecordFault, fault_at, FirstRecordFault, RefusesRecord, PassesLimit, CutsOpen, record_stops, too_long_stops, Judge, Reading, judged, recorded, stream_next, unread, StreamEnd, Held, Faulty, left_in, end_of, rest_end, stream_end, reading_with, HasJoined, Tells, after-append, after_stopped, nested_last, nested_runs, nested_stops, last_running-append, last_stopped}
 use Rattle.capture3.proofs.Lemmas.Messages.BodyProgramLemmas.{Judged}
-use Rattle.capture3.proofs.Lemmas.Sides.StreamMachineLemmas.{HasRead, ShowsAsFirst, stream_leads, between_holds, nothing_read, held_runs, stream_runs}
+use Rattle.capture3.proofs.Lemmas.Sides.StreamMachineLemmas.{HasRead, ShowsFault, stream_leads, between_holds, nothing_read, held_runs, stream_runs}
 use Rattle.capture3.proofs.Lemmas.Files.Telling.{tells_bytes}
 
 -- ---- from a record's start on
@@ -69,10 +69,10 @@ EndsStream judge stream (Held messages) = Holds judge stream messages
 EndsStream judge stream (Faulty messages fault) = FirstRecordFault judge stream messages fault
 
 stream_tells : {M : Type 0} (judge : Judged M) (stream : List ℕ) → AreBytes stream
-    → Tells (HasRead judge.says) (ShowsAsFirst judge.says) stream
+    → Tells (HasRead judge.says) (ShowsFault judge.says) stream
     (after (stream_next judge.decide) (Runs unread) stream)
 stream_tells judge =
-    tells_bytes (stream_next judge.decide) (HasRead judge.says) (ShowsAsFirst judge.says)
+    tells_bytes (stream_next judge.decide) (HasRead judge.says) (ShowsFault judge.says)
     (stream_leads judge) unread (nothing_read judge.says)
 
 -- before a record at fault the messages are whole
@@ -89,17 +89,25 @@ last_after judge front last rest messages x fault holds stops ends =
 pub stream_ends : {M : Type 0} (judge : Judged M) (stream : List ℕ) (x : StreamEnd M)
     → EndsStream judge.says stream x → stream_end judge.decide stream ≡ x
 stream_ends judge stream (Held messages) h = rw (held_runs judge stream messages h)
-stream_ends judge stream (Faulty messages fault)
-    (RefusesNext front last rest body stop split holds whole refused is) =
-    rw (split, is) (last_after judge front last rest messages (Whole body)
+stream_ends judge stream (Faulty messages fault) (inl (
+  before,
+  rest,
+  split,
+  RefusesRecord front last body stop within holds whole refused is,
+)) =
+    rw (split, within, is) (last_after judge front last rest messages (Whole body)
     (fault_at messages stop.at stop.reason) holds (record_stops last body whole)
     (ap (judged messages) (judge.refuses messages body stop refused)))
-stream_ends judge stream (Faulty messages fault)
-    (NextIsTooLong front last rest at split holds long is) =
-    rw (split, is) (last_after judge front last rest messages (TooLong at)
+stream_ends judge stream (Faulty messages fault) (inl (
+  before,
+  rest,
+  split,
+  PassesLimit front last at within holds long is,
+)) =
+    rw (split, within, is) (last_after judge front last rest messages (TooLong at)
     (fault_at messages at RecordTooLong) holds (too_long_stops last at long) refl)
 stream_ends {M} judge stream (Faulty messages fault)
-    (NextIsCut front last body split holds is_open is) =
+    (inr (CutsOpen front last body split holds is_open is)) =
     elim is_open [
       | inl o ↦ at_joining (Header body o.0) o.1 ∙ ap (Faulty messages) (sym is)
       | inr o ↦ at_joining (Bytes body o.0 o.1) o.2 ∙ ap (Faulty messages) (sym is)
@@ -116,20 +124,20 @@ left_ends : {M : Type 0} (judge : Judgement M) (stream : List ℕ) (messages : L
     → EndsStream judge stream (left_in messages joining)
 left_ends judge stream messages Between h = between_holds judge stream messages h
 left_ends judge stream messages (Header body part) h =
-    NextIsCut h.front h.last body h.split h.holds (inl (part, h.joined)) refl
+    inr (CutsOpen h.front h.last body h.split h.holds (inl (part, h.joined)) refl)
 left_ends judge stream messages (Bytes body last left) h =
-    NextIsCut h.front h.last body h.split h.holds (inr (last, left, h.joined)) refl
+    inr (CutsOpen h.front h.last body h.split h.holds (inr (last, left, h.joined)) refl)
 
 -- it ends in one way that holds
 ends_somehow : {M : Type 0} (judge : Judged M) (stream : List ℕ) (run : Run (Reading M) RecordFault)
-    → Tells (HasRead judge.says) (ShowsAsFirst judge.says) stream run
+    → Tells (HasRead judge.says) (ShowsFault judge.says) stream run
     → (x : StreamEnd M) × EndsStream judge.says stream x
 ends_somehow judge stream (Runs s) h =
     (left_in s.messages s.joining, left_ends judge.says stream s.messages s.joining h)
 ends_somehow judge stream (Stops fault) h =
-    let f = h.1 [] in (Faulty f.0 fault, rw append-nil at f.1)
+    (Faulty h.0 fault, inl (stream, [], sym (append-nil stream), h.1))
 ends_somehow judge stream (Stopped fault) h =
-    let f = h.ending.1 (h.byte ∷ h.back) in (Faulty f.0 fault, rw h.split f.1)
+    (Faulty h.ending.0 fault, inl (h.front, h.byte ∷ h.back, h.split, h.ending.1))
 
 pub ends_stream : {M : Type 0} (judge : Judged M) (stream : List ℕ) → AreBytes stream
     → EndsStream judge.says stream (stream_end judge.decide stream)

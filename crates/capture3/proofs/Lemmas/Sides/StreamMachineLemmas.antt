@@ -1,5 +1,5 @@
 -- The machine for a stream against records and messages.
-use Rattle.capture3.proofs.Common.{◌≡◌, inl, inr, ℕ, suc, List, [], ◌∷◌, ◌++◌, length, refl, sym, ap, subst, ◌∙◌, append_assoc, append-nil, arith, Result, Ok, Err, Run, Runs, Stops, landed, after, Leads, leads_within, after-append, nested_runs, nested_stops, Joins-snoc, AreBytes, Reason, RecordTooLong, Stop, Reading, judged, recorded, stream_next, unread, joined_body, reading_with, IsRecord, IsUnfinished, Marks, Joining, Between, Header, Bytes, Joined, Whole, TooLong, join_next, HasJoined, EndsRecord, join_leads, record_stops, joining_runs, Judgement, AreMessages, Holds, HoldsSoFar, RecordFault, fault_at, RefusesRecord, StreamShows, FirstRecordFault, RefusesNext, NextIsTooLong}
+use Rattle.capture3.proofs.Common.{◌≡◌, inl, inr, ℕ, List, [], ◌∷◌, ◌++◌, refl, sym, ap, subst, ◌∙◌, append_assoc, append-nil, Result, Ok, Err, Run, Runs, Stops, landed, after, Leads, leads_within, after-append, nested_runs, nested_stops, Joins-snoc, AreBytes, Stop, Reading, judged, recorded, stream_next, unread, joined_body, reading_with, IsRecord, IsUnfinished, Marks, Joining, Between, Header, Bytes, Joined, Whole, TooLong, join_next, HasJoined, EndsRecord, join_leads, record_stops, joining_runs, Judgement, AreMessages, Holds, HoldsSoFar, RecordFault, RefusesRecord, PassesLimit, StreamShows, too_long_stops}
 use Rattle.capture3.proofs.Lemmas.Container.BytesOf.{split_bytes, record_bytes}
 use Rattle.capture3.proofs.Lemmas.Messages.BodyProgramLemmas.{Judged}
 
@@ -12,34 +12,13 @@ pub record HasRead {M : Type 0} (judge : Judgement M) (stream : List ℕ) (s : R
   pub holds : Holds judge front s.messages
   pub joined : HasJoined last s.joining
 
--- the last byte of the stream shows this fault, which is the first whatever comes after it
-abbrev pub ShowsAsFirst : {M : Type 0} → Judgement M → List ℕ → RecordFault → Type 0
-ShowsAsFirst {M} judge stream fault =
-    StreamShows judge stream fault
-    × ((rest : List ℕ)
-    → (messages : List M) × FirstRecordFault judge (stream ++ rest) messages fault)
+-- the last byte of the stream shows this fault, after some messages
+abbrev pub ShowsFault : {M : Type 0} → Judgement M → List ℕ → RecordFault → Type 0
+ShowsFault {M} judge stream fault = (messages : List M) × StreamShows judge stream messages fault
 
 -- the machine from a state on
 abbrev pub stream_after : {M : Type 0} → Judged M → Reading M → List ℕ → Run (Reading M) RecordFault
 stream_after judge s = after (stream_next judge.decide) (Runs s)
-
--- as many messages as bodies
-as_many_messages : {M : Type 0} (judge : Judgement M) (bodies : List (List ℕ))
-    (before messages : List M) → AreMessages judge before bodies messages
-    → length messages ≡ length bodies
-as_many_messages judge [] before messages h = ap length h
-as_many_messages judge (body ∷ bodies) before messages h =
-    let more = as_many_messages judge bodies (before ++ h.0 ∷ []) h.1 h.4 in
-    omega (arith, ap length h.2, more)
-
--- a fault after messages is one after as many bodies
-pub fault_after : {M : Type 0} (judge : Judgement M) (stream : List ℕ) (messages : List M)
-    (byte : ℕ) (reason : Reason) → (holds : Holds judge stream messages)
-    → fault_at messages byte reason
-    ≡ record { number = suc (length holds.0); byte = byte; reason = reason }
-fault_after judge stream messages byte reason holds =
-    ap (λ n. record { number = suc n; byte = byte; reason = reason })
-    (as_many_messages judge holds.0 [] messages holds.2)
 
 AreMessages-snoc : {M : Type 0} (judge : Judgement M) (bodies : List (List ℕ))
     (before messages : List M) (body : List ℕ) (m : M)
@@ -74,7 +53,7 @@ Holds-snoc judge front last messages body m h whole e = (
 judged_leads : {M : Type 0} (judge : Judged M) (stream front last : List ℕ) (messages : List M)
     (body : List ℕ) → AreBytes body → stream ≡ front ++ last → Holds judge.says front messages
     → IsRecord last body → (r : Result M Stop) → judge.decide messages body ≡ r
-    → Leads (HasRead judge.says) (ShowsAsFirst judge.says) stream (judged messages r)
+    → Leads (HasRead judge.says) (ShowsFault judge.says) stream (judged messages r)
 judged_leads judge stream front last messages body are split holds whole (Ok m) e =
     record {
       front = stream;
@@ -85,59 +64,30 @@ judged_leads judge stream front last messages body are split holds whole (Ok m) 
           rw split (Holds-snoc judge.says front last messages body m holds whole
           (judge.accepted messages body m are e));
     }
-judged_leads judge stream front last messages body are split holds whole (Err stop) e =
-    let refused = judge.refused messages body stop are e in (
-      inl (record {
-        front = front;
-        last = last;
-        messages = messages;
-        body = body;
-        stop = stop;
-        split = split;
-        holds = holds;
-        whole = whole;
-        refused = refused;
-        is = refl;
-      }),
-      λ rest. (
-        messages,
-        RefusesNext front last rest body stop (ap (λ (b : List ℕ). b ++ rest) split) holds
-            whole refused refl,
-      ),
-    )
+judged_leads judge stream front last messages body are split holds whole (Err stop) e = (
+  messages,
+  RefusesRecord front last body stop split holds whole (judge.refused messages body stop are e)
+      refl,
+)
 
 recorded_leads : {M : Type 0} (judge : Judged M) (stream front last : List ℕ) (messages : List M)
     → AreBytes last → stream ≡ front ++ last → Holds judge.says front messages → (x : Joined)
     → EndsRecord last x
-    → Leads (HasRead judge.says) (ShowsAsFirst judge.says) stream (recorded judge.decide messages x)
+    → Leads (HasRead judge.says) (ShowsFault judge.says) stream (recorded judge.decide messages x)
 recorded_leads judge stream front last messages are split holds (Whole body) h =
     judged_leads judge stream front last messages body (record_bytes last body h are) split holds h
     (judge.decide messages body) refl
-recorded_leads judge stream front last messages are split holds (TooLong at) h = (
-  inr (record {
-    front = front;
-    last = last;
-    bodies = holds.0;
-    at = at;
-    split = split;
-    marks = holds.1;
-    long = h;
-    is = fault_after judge.says front messages at RecordTooLong holds;
-  }),
-  λ rest. (
-    messages,
-    NextIsTooLong front last rest at (ap (λ (b : List ℕ). b ++ rest) split) holds h refl,
-  ),
-)
+recorded_leads judge stream front last messages are split holds (TooLong at) h =
+    (messages, PassesLimit front last at split holds h refl)
 
 pub stream_leads : {M : Type 0} (judge : Judged M) (stream : List ℕ) (s : Reading M) (byte : ℕ)
     → AreBytes (stream ++ byte ∷ []) → HasRead judge.says stream s
-    → Leads (HasRead judge.says) (ShowsAsFirst judge.says) (stream ++ byte ∷ [])
+    → Leads (HasRead judge.says) (ShowsFault judge.says) (stream ++ byte ∷ [])
     (stream_next judge.decide s byte)
 stream_leads judge stream s byte are h =
     let split : stream ++ byte ∷ [] ≡ h.front ++ (h.last ++ byte ∷ []) =
     ap (λ (b : List ℕ). b ++ byte ∷ []) h.split ∙ append_assoc h.front h.last (byte ∷ []) in
-    leads_within HasJoined EndsRecord (HasRead judge.says) (ShowsAsFirst judge.says)
+    leads_within HasJoined EndsRecord (HasRead judge.says) (ShowsFault judge.says)
     (reading_with s.messages) (recorded judge.decide s.messages)
     (h.last ++ byte ∷ []) (stream ++ byte ∷ [])
     (λ j joined.
@@ -217,15 +167,20 @@ stream_runs judge stream s h =
     (recorded judge.decide s.messages) (λ j byte. refl) h.last Between s.joining
     (joining_runs h.last s.joining h.joined)
 
--- at the last byte of a record that is refused
-pub refusal_stops : {M : Type 0} (judge : Judged M) (stream : List ℕ) (fault : RecordFault)
-    → RefusesRecord judge.says stream fault
+-- at the last byte of a stream that shows a fault
+pub shown_stops : {M : Type 0} (judge : Judged M) (stream : List ℕ) (messages : List M)
+    (fault : RecordFault) → StreamShows judge.says stream messages fault
     → after (stream_next judge.decide) (Runs unread) stream ≡ Stops fault
-refusal_stops judge stream fault h =
-    later judge stream h.front h.last h.messages h.split h.holds
-    ∙ record_closes judge h.messages h.last (Whole h.body) (record_stops h.last h.body h.whole)
-    ∙ ap (λ r. landed (judged h.messages r)) (judge.refuses h.messages h.body h.stop h.refused)
-    ∙ ap (λ f. Stops f) (sym h.is)
+shown_stops judge stream messages fault
+    (RefusesRecord front last body stop split holds whole refused is) =
+    later judge stream front last messages split holds
+    ∙ record_closes judge messages last (Whole body) (record_stops last body whole)
+    ∙ ap (λ r. landed (judged messages r)) (judge.refuses messages body stop refused)
+    ∙ ap (λ f. Stops f) (sym is)
+shown_stops judge stream messages fault (PassesLimit front last at split holds long is) =
+    later judge stream front last messages split holds
+    ∙ record_closes judge messages last (TooLong at) (too_long_stops last at long)
+    ∙ ap (λ f. Stops f) (sym is)
 
 -- ---- what is not whole
 

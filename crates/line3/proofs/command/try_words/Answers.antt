@@ -1,9 +1,7 @@
 use Rattle.line3.proofs.command.try_words.Goals as goal
 
-pub returns-in-Err : goal.returns-in-Err
-returns-in-Err c = record {
-  refused = (
-    c.line_fault_of.ensures.usage,
-    λ taken. c.line_fault_of.ensures.memory (c.in-Err.ensures.passes taken),
-  );
-}
+pub returns-in-Err-clause-refused : goal.returns-in-Err-clause-refused
+returns-in-Err-clause-refused c = (
+  c.line_fault_of.ensures.usage,
+  λ taken. c.line_fault_of.ensures.memory (c.in-Err.ensures.passes taken),
+)

@@ -16,7 +16,7 @@ pub loop-piece-preserved : goal.loop-piece-preserved
 loop-piece-preserved c =
     let so_far = c.loop-piece.invariant in
     let steps = c.in-Some.ensures.steps in
-    let room = c.in_ok-make_room.ensures in
+    let room = c.in_ok-make_room-2.ensures in
     let put = c.put_piece-end.ensures in
     record {
       next = search rules;
@@ -41,7 +41,19 @@ loop-piece-preserved c =
       len = grind (arith, common_steps);
     }
 
-pub returns-in_err-make_room-clause-kept : goal.returns-in_err-make_room-clause-kept
-returns-in_err-make_room-clause-kept c =
+pub returns-in_err-make_room-2-clause-kept : goal.returns-in_err-make_room-2-clause-kept
+returns-in_err-make_room-2-clause-kept c =
     kept_below c.args.at c.loop-piece.end _ _ c.loop-piece.invariant.after
-    c.in_err-make_room.ensures.kept ∙ c.loop-piece.invariant.kept
+    c.in_err-make_room-2.ensures.kept ∙ c.loop-piece.invariant.kept
+
+pub returns-in_err-make_room-3-clause-kept : goal.returns-in_err-make_room-3-clause-kept
+returns-in_err-make_room-3-clause-kept c =
+    kept_below c.args.at c.loop-piece.end _ _ c.loop-piece.invariant.after
+    c.in_err-make_room-3.ensures.kept ∙ c.loop-piece.invariant.kept
+
+pub returns-clause-kept : goal.returns-clause-kept
+returns-clause-kept c =
+    kept_below c.args.at c.loop-piece.end _ _ c.loop-piece.invariant.after
+    (grind (arith, common_steps))
+    ∙ (kept_below c.args.at c.loop-piece.end _ _ c.loop-piece.invariant.after
+    c.in_ok-make_room-3.ensures.kept ∙ c.loop-piece.invariant.kept)

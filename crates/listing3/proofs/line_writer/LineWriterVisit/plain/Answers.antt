@@ -14,5 +14,5 @@ returns g c =
       err =
           on_err_weaker c.plain.result
           (run_kept g.H.Visit.stands c.args.self.now c.plain.new.self
-          (run_items c.args.fields.now c.args.bytes.now)) c.plain.ensures.keeps;
+          (run_items c.args.fields.now c.args.bytes.now)) c.plain.ensures.stays;
     }

@@ -1,25 +1,9 @@
-use Rattle.listing3.proofs.Common.{[], ◌∷◌, on_err_weaker, on_ok_weaker, Fixed}
-use Rattle.listing3.proofs.Lines.ItemsTexts.{adds_text, full_keeps, keeps_still, noted_adds, fixed_size}
+use Rattle.listing3.proofs.Common.{refl, [], ◌∷◌, Fixed}
+use Rattle.listing3.proofs.Lines.ItemsTexts.{adds_text, fixed_size}
 use Rattle.listing3.proofs.line_writer.items_text.ItemsTextVisit.fixed.Goals as goal
-
-pub returns-then-is_full-clause-ok : goal.returns-then-is_full-clause-ok
-returns-then-is_full-clause-ok c =
-    on_ok_weaker c.note.result
-    (noted_adds c.args.self.now c.note.new.self (Fixed c.args.name.now c.args.bytes.now ∷ []) _
-    (fixed_size c.args.name.now c.args.bytes.now))
-    c.note.ensures.ok
-
-pub returns-then-is_full-clause-err : goal.returns-then-is_full-clause-err
-returns-then-is_full-clause-err c =
-    on_err_weaker c.note.result (full_keeps c.args.self.now c.note.new.self) c.note.ensures.err
 
 pub returns-clause-ok : goal.returns-clause-ok
 returns-clause-ok c =
-    on_ok_weaker c.fixed.result
-    (adds_text c.args.self.now c.fixed.new.self (Fixed c.args.name.now c.args.bytes.now ∷ [])
-    (c.is_full.ensures c.if-is_full.false))
-    c.fixed.ensures.ok
-
-pub returns-clause-err : goal.returns-clause-err
-returns-clause-err c =
-    on_err_weaker c.fixed.result (keeps_still c.args.self.now c.fixed.new.self) c.fixed.ensures.err
+    adds_text c.args.self.now c.fixed.new.self _ _
+    (Fixed c.args.name.now c.args.bytes.now ∷ [])
+    (fixed_size c.args.name.now c.args.bytes.now) c.in_ok-fixed.ensures.ok refl

@@ -1,29 +1,10 @@
-use Rattle.listing3.proofs.Common.{[], ◌∷◌, on_err_weaker, on_ok_weaker, Handle, Opaque}
-use Rattle.listing3.proofs.Lines.ItemsTexts.{adds_text, full_keeps, keeps_still, noted_adds, data_size}
+use Rattle.listing3.proofs.Common.{refl, [], ◌∷◌, Handle, Opaque}
+use Rattle.listing3.proofs.Lines.ItemsTexts.{adds_text, data_size}
 use Rattle.listing3.proofs.line_writer.items_text.ItemsTextVisit.handle.Goals as goal
-
-pub returns-then-is_full-clause-ok : goal.returns-then-is_full-clause-ok
-returns-then-is_full-clause-ok c =
-    on_ok_weaker c.note.result
-    (noted_adds c.args.self.now c.note.new.self
-    (Opaque Handle c.args.name.now c.args.bytes.now ∷ []) _
-    (data_size Handle c.args.name.now c.args.bytes.now c.encoded_size.result
-    c.encoded_size.ensures))
-    c.note.ensures.ok
-
-pub returns-then-is_full-clause-err : goal.returns-then-is_full-clause-err
-returns-then-is_full-clause-err c =
-    on_err_weaker c.note.result (full_keeps c.args.self.now c.note.new.self) c.note.ensures.err
 
 pub returns-clause-ok : goal.returns-clause-ok
 returns-clause-ok c =
-    on_ok_weaker c.handle.result
-    (adds_text c.args.self.now c.handle.new.self
+    adds_text c.args.self.now c.handle.new.self _ _
     (Opaque Handle c.args.name.now c.args.bytes.now ∷ [])
-    (c.is_full.ensures c.if-is_full.false))
-    c.handle.ensures.ok
-
-pub returns-clause-err : goal.returns-clause-err
-returns-clause-err c =
-    on_err_weaker c.handle.result (keeps_still c.args.self.now c.handle.new.self)
-    c.handle.ensures.err
+    (data_size Handle c.args.name.now c.args.bytes.now c.encoded_size.result c.encoded_size.ensures)
+    c.in_ok-handle.ensures.ok refl

@@ -1,25 +1,9 @@
-use Rattle.listing3.proofs.Common.{[], ◌∷◌, on_err_weaker, on_ok_weaker, Rest}
-use Rattle.listing3.proofs.Lines.ItemsTexts.{adds_text, full_keeps, keeps_still, noted_adds, rest_size}
+use Rattle.listing3.proofs.Common.{refl, [], ◌∷◌, Rest}
+use Rattle.listing3.proofs.Lines.ItemsTexts.{adds_text, rest_size}
 use Rattle.listing3.proofs.line_writer.items_text.ItemsTextVisit.rest.Goals as goal
-
-pub returns-then-leaves_out-clause-ok : goal.returns-then-leaves_out-clause-ok
-returns-then-leaves_out-clause-ok c =
-    on_ok_weaker c.note.result
-    (noted_adds c.args.self.now c.note.new.self (Rest c.args.name.now c.args.bytes.now ∷ []) _
-    (rest_size c.args.name.now c.args.bytes.now))
-    c.note.ensures.ok
-
-pub returns-then-leaves_out-clause-err : goal.returns-then-leaves_out-clause-err
-returns-then-leaves_out-clause-err c =
-    on_err_weaker c.note.result (full_keeps c.args.self.now c.note.new.self) c.note.ensures.err
 
 pub returns-clause-ok : goal.returns-clause-ok
 returns-clause-ok c =
-    on_ok_weaker c.rest.result
-    (adds_text c.args.self.now c.rest.new.self (Rest c.args.name.now c.args.bytes.now ∷ [])
-    (c.leaves_out.ensures c.if-leaves_out.false))
-    c.rest.ensures.ok
-
-pub returns-clause-err : goal.returns-clause-err
-returns-clause-err c =
-    on_err_weaker c.rest.result (keeps_still c.args.self.now c.rest.new.self) c.rest.ensures.err
+    adds_text c.args.self.now c.rest.new.self _ _
+    (Rest c.args.name.now c.args.bytes.now ∷ [])
+    (rest_size c.args.name.now c.args.bytes.now) c.in_ok-rest.ensures.ok refl

@@ -1,25 +1,16 @@
-use Rattle.listing3.proofs.Common.{[], ◌∷◌, on_err_weaker, on_ok_weaker, Opaque, Var}
-use Rattle.listing3.proofs.Lines.ItemsTexts.{adds_text, full_keeps, keeps_still, noted_adds, data_size}
+use Rattle.listing3.proofs.Common.{refl, [], ◌∷◌, Opaque, Var}
+use Rattle.listing3.proofs.Lines.ItemsTexts.{adds_text, data_size, var_data}
 use Rattle.listing3.proofs.line_writer.items_text.ItemsTextVisit.var.Goals as goal
-
-pub returns-then-leaves_out-clause-ok : goal.returns-then-leaves_out-clause-ok
-returns-then-leaves_out-clause-ok c =
-    on_ok_weaker c.note.result
-    (noted_adds c.args.self.now c.note.new.self (Opaque Var c.args.name.now c.args.bytes.now ∷ []) _
-    (data_size Var c.args.name.now c.args.bytes.now c.encoded_size.result c.encoded_size.ensures))
-    c.note.ensures.ok
-
-pub returns-then-leaves_out-clause-err : goal.returns-then-leaves_out-clause-err
-returns-then-leaves_out-clause-err c =
-    on_err_weaker c.note.result (full_keeps c.args.self.now c.note.new.self) c.note.ensures.err
 
 pub returns-clause-ok : goal.returns-clause-ok
 returns-clause-ok c =
-    on_ok_weaker c.var.result
-    (adds_text c.args.self.now c.var.new.self (Opaque Var c.args.name.now c.args.bytes.now ∷ [])
-    (c.leaves_out.ensures c.if-leaves_out.false))
-    c.var.ensures.ok
+    adds_text c.args.self.now c.var.new.self _ _
+    (Opaque Var c.args.name.now c.args.bytes.now ∷ [])
+    (data_size Var c.args.name.now c.args.bytes.now c.encoded_size-2.result
+    c.encoded_size-2.ensures)
+    c.in_ok-var.ensures.ok refl
 
-pub returns-clause-err : goal.returns-clause-err
-returns-clause-err c =
-    on_err_weaker c.var.result (keeps_still c.args.self.now c.var.new.self) c.var.ensures.err
+pub returns-then-leaves_out-clause-ok : goal.returns-then-leaves_out-clause-ok
+returns-then-leaves_out-clause-ok c =
+    c.leave_out.ensures.ok (Opaque Var c.args.name.now c.args.bytes.now)
+    (var_data c.args.name.now c.args.bytes.now c.encoded_size.result c.encoded_size.ensures)
