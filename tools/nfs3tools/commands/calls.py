@@ -187,9 +187,9 @@ def answer_of(one: Exchange) -> str:
     if one.waited is None:
         return one.answer
     answered = one.kept.position(one.kept.answered_later(one.at))
-    later = (f', answered as {answered}' if answered else f', sent again as {one.later}' if one.later
-             else '')
-    return f'{one.answer} in {one.waited / 1_000_000_000:.3f} s{later}'
+    later = f'answered as {answered}' if answered else one.later and f'sent again as {one.later}'
+    waited = f'{one.answer} in {one.waited / 1_000_000_000:.3f} s'
+    return f'{waited}, {later}' if later else waited
 
 
 class Lines:
