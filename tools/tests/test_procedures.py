@@ -130,7 +130,7 @@ def counts_by_hand(tools: Tools) -> None:
     tools.want('the second', [cells[:5] for cells in tables[titles[1]][1:]], [['NFSPROC3_NULL', *numbers], ['in all', *numbers]])
     sums = [cells[:5] for cells in tables[titles[2]][1:]]
     tools.want('in all', (sums[0], sums[1:-1], sums[-1]),
-               (['NFSPROC3_NULL', '40', '0', '39', '1'], [row.cells()[:5] for row in rows[1:]], ['in all', '48', '1', '47', '1']))
+               (['NFSPROC3_NULL', '40', '1', '39', '1'], [row.cells()[:5] for row in rows[1:]], ['in all', '48', '2', '47', '1']))
     status, tables, _ = procedures(tools, '--total', 'a.pcap')
     tools.want('--total', (status, list(tables)), (0, titles[2:]))
     status, tables, _ = procedures(tools, '--total', 'a.pcap', '-', stdin=pcap(whole()))

@@ -219,6 +219,19 @@ def procedures_fit(tools: Tools) -> None:
     tools.want('a pipe', (len(plain), len(plain[2]) > 120), (5, True))
 
 
+def help_fits(tools: Tools) -> None:
+    """No line of a help is wider than 80 columns, if that is all there is; and calls has --width. A value
+    that looks like an option is refused in one line."""
+    for tool in ('from_pcap', 'where', 'verdicts', 'calls', 'procedures', 'compare', 'explain', 'cut', 'install', 'release'):
+        status, out, _ = tools.tool(tool, '--help')
+        tools.want(tool, (status, [line for line in out.splitlines() if len(line) > 80]), (0, []))
+    tools.write('a.pcap', recording())
+    out = tools.tool('calls', '--program', tools.program, '--width', '60', 'a.pcap')[1]
+    tools.want('--width', [line for line in out.splitlines()[:-2] if len(line) > 60], [])
+    tools.want('--mask', tools.tool('compare', '--mask', '-times', 'a', 'b'), (
+        2, '', 'compare: error: argument --mask: expected one argument, and -times is none, since it begins with `-`\n'))
+
+
 def numbers_have_separators_on_a_terminal_alone(tools: Tools) -> None:
     """1,200 calls are `1,200` on a terminal, and `1200` in a pipe."""
     talk = Talk()
@@ -305,7 +318,7 @@ def comparisons_say_how_far_they_are(tools: Tools) -> None:
 
 
 TESTS = [lines_that_fit_are_as_elsewhere, panels_repeat_the_first_column, a_long_word_is_broken, verdicts_have_colours, no_colours_elsewhere,
-         names_stay_escaped, comparisons_have_colours_as_diff, verdicts_fit, lines_of_follow_fit, calls_fit, procedures_fit,
+         names_stay_escaped, comparisons_have_colours_as_diff, verdicts_fit, lines_of_follow_fit, calls_fit, procedures_fit, help_fits,
          numbers_have_separators_on_a_terminal_alone, shares_are_those_of_the_file, progress_is_said_at_times,
          comparisons_say_how_far_they_are]
 

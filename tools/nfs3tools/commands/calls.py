@@ -163,10 +163,9 @@ def holds_all(conditions: list[Wanted], one: Exchange) -> bool:
 
 def time_of(time: int, begun: int | None) -> str:
     """A time as seconds from the first frame, or as that of the day (UTC)."""
-    if not time:
-        return '-'
-    return (time_text(time) if begun is None
-            else f'{(time - begun) / 1_000_000_000:.6f}')
+    if time and begun is not None:
+        return f'{(time - begun) / 1_000_000_000:.6f}'
+    return time_text(time) if time else '-'
 
 
 def time_text(time: int) -> str:
@@ -177,19 +176,20 @@ def time_text(time: int) -> str:
 
 def cells_of(one: Exchange, begun: int | None) -> tuple[str, ...]:
     """The cells of a line."""
+    answer = one.answer if one.kept.firsts[one.at] else answer_of(one)
     return (time_of(one.time, begun),
             milliseconds(one.latency), str(one.frame or '-'),
-            f'{one.part.number}:{one.record}', call_of(one), answer_of(one))
+            f'{one.part.number}:{one.record}', call_of(one), answer)
 
 
 def answer_of(one: Exchange) -> str:
-    """What is said of an answer: also for how long a call without one waited."""
+    """What is said of a call without a reply: also for how long it waited."""
     if one.waited is None:
         return one.answer
     answered = one.kept.position(one.kept.answered_later(one.at))
-    later = (f', answered as {answered}' if answered
-             else f', sent again as {one.later}' if one.later else '')
-    return f'{one.answer} in {one.waited / 1_000_000_000:.3f} s{later}'
+    later = f'answered as {answered}' if answered else one.later and f'sent again as {one.later}'
+    waited = f'{one.answer} in {one.waited / 1_000_000_000:.3f} s'
+    return f'{waited}, {later}' if later else waited
 
 
 class Lines:

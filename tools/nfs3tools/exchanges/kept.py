@@ -12,7 +12,7 @@ from __future__ import annotations
 import re
 from array import array
 from collections import defaultdict
-from collections.abc import Callable, Iterable, Mapping, Sequence
+from collections.abc import Iterable, Mapping, Sequence
 from functools import cached_property
 from typing import NamedTuple
 
@@ -22,7 +22,7 @@ from ..recordings.taken import Completion, TakenConnection
 from .answering import Answering, error_in
 from .in_words import Asked, answer_in, asked_in, short_name
 from .listing import ITEM, Item, Message, is_call, listed_of, name_of_call
-from .objects import LISTING, MAKING, RENAMING, TEACHING, UNKNOWN, Move, Names, Paths, below
+from .objects import LISTING, MAKING, RENAMING, TEACHING, UNKNOWN, Move, Paths, below
 from .stored import Texts, Values, without_long
 
 UNTIMED = -1 << 63  # stands for no latency
@@ -33,7 +33,7 @@ class Part(NamedTuple):
     """A connection whose exchanges are kept.
 
     number, client, server: as those of what was taken
-    paths: those of its handles
+    paths: those of its handles, at times that are frames, or in a capture numbers of exchanges
     is_refused: whether the program refuses it
     has_all_replies: whether a call of which no reply is listed got none
     """
@@ -43,15 +43,13 @@ class Part(NamedTuple):
     paths: Paths
     is_refused: bool
     has_all_replies: bool
-    names: Callable[[], Names]
 
     def path(self, handle: str | None, entry: str | None, frame: int) -> str | None:
         """Returns the path of an object, or of a name in a folder, at the time of a frame. A folder
         whose path is not known is `?`."""
         if handle is None:
             return entry
-        path = (self.names().path(handle, frame) if self.paths.moves
-                else self.paths.of(handle)) or UNKNOWN
+        path = self.paths.at(handle, frame) or UNKNOWN
         return path if entry is None else below(path, entry)
 
 
@@ -125,12 +123,8 @@ class Exchange:
 
     @property
     def path(self) -> str | None:
-        return self.part.path(self.asked.handle, self.asked.entry, self.turn)
-
-    @property
-    def turn(self) -> int:
-        """When it was asked among all others: by its frame, or in a capture by its number."""
-        return self.frame or self.at + 1
+        asked = self.asked
+        return self.part.path(asked.handle, asked.entry, self.frame or self.at + 1)
 
     @property
     def other_names(self) -> list[str]:
@@ -138,7 +132,7 @@ class Exchange:
         if not self.part.paths.moves:
             return []
         handle = self.asked.handle if self.asked.entry is None else self.made
-        names = self.part.names().all_of(handle) if handle else []
+        names = self.part.paths.all_of(handle) if handle else []
         return [name for name in names if name != self.path]
 
     @property
@@ -153,7 +147,8 @@ class Exchange:
     @property
     def other_path(self) -> str | None:
         """The second path of RENAME and LINK."""
-        return self.part.path(self.asked.other, self.asked.other_entry, self.turn)
+        asked = self.asked
+        return self.part.path(asked.other, asked.other_entry, self.frame or self.at + 1)
 
     @property
     def answers(self) -> list[str]:
@@ -249,7 +244,6 @@ class Kept:
         self.asking, self.answering = Texts(self.spool), Texts(self.spool)
         # By the address of the server, since other servers may have equal handles.
         self.paths: dict[str, Paths] = {}
-        self.times_of_names: dict[str, Names] = {}
         self.names, self.numbers, self.kinds = list[str](), dict[str, int](), array('H')
         self.listed_names = list[str]()  # those of the listing
         self.part_of, self.records, self.xids = array('I'), array('I'), array('I')
@@ -277,23 +271,16 @@ class Kept:
 
         Raises what `listed_of` does.
         """
-        server = connection.server_end.rpartition(':')[0]
-        paths = self.paths.setdefault(server, Paths())
+        paths = self.paths.setdefault(connection.server_end.rpartition(':')[0], Paths())
         has_all = not is_refused and has_all_replies(connection)
         self.starts.append(len(self))
         self.parts.append(Part(connection.number, connection.client_end, connection.server_end,
-                               paths, is_refused, has_all, lambda: self.names_of(server)))
+                               paths, is_refused, has_all))
         reading = Reading(self, paths)
         call, reply = reading.call, reading.reply
         for line, completion in listed_of(program, connection, is_refused):
             (call if is_call(line) else reply)(line, completion)
         self.said.extend(reading.said())
-
-    def names_of(self, server: str) -> Names:
-        """Returns what the objects of a server were called when, once all is taken."""
-        if server not in self.times_of_names:
-            self.times_of_names[server] = Names(self.paths[server])
-        return self.times_of_names[server]
 
     def link(self) -> None:
         """Finds the calls that were sent again on a later connection of the same client and server:

@@ -73,6 +73,7 @@ class Paths:
         # frame.
         self.placed: dict[tuple[str, str], str] = {}
         self.found: list[Found] = []
+        self.names: Names | None = None  # what objects were called when, once that was asked for
 
     def of(self, handle: str) -> str | None:
         """Returns the path of a handle, in hexadecimal, if one is known. A folder that is not known
@@ -97,6 +98,18 @@ class Paths:
         if handle in self.known or origin is None or origin.folder is not None:
             return self.known.get(handle, UNKNOWN)
         return origin.name.rstrip('/') or '/'
+
+    def at(self, handle: str, turn: int) -> str | None:
+        """Returns the path of a handle at the time of a frame, after all was learned."""
+        if not self.moves:
+            return self.of(handle)
+        self.names = self.names or Names(self)
+        return self.names.path(handle, turn)
+
+    def all_of(self, handle: str) -> list[str]:
+        """Returns all paths that an object had, in their order."""
+        self.names = self.names or Names(self)
+        return self.names.all_of(handle)
 
     def learn(self, handle: str | None, origin: Origin, frame: int = 0) -> None:
         known = self.origins.get(handle or '')
@@ -170,7 +183,7 @@ class Names:
 
     def path(self, handle: str, frame: int) -> str | None:
         """Returns the path of a handle at the time of a frame."""
-        if not frame or self.is_still(handle):
+        if self.still.get(handle) or self.is_still(handle):
             return self.paths.of(handle)
         names, at, seen = list[str](), handle, set[str]()
         while (origin := self.origin(at, frame)) is not None and at not in seen:

@@ -67,8 +67,9 @@ def kept_in(program: str, taken: Taken, verdicts: Iterable[Verdict],
 
 def count_unanswered(kept: Kept, verdicts: list[Verdict]) -> None:
     """Gives the verdicts on connections the numbers of their calls without a reply."""
-    unanswered = Counter(kept.parts[kept.part_of[at]].number for at in range(len(kept))
-                         if kept.is_unanswered(at))
+    unanswered = Counter(kept.parts[kept.part_of[at]].number
+                         for at, first in enumerate(kept.firsts)
+                         if not first and kept.is_unanswered(at))
     verdicts[:] = [verdict._replace(unanswered=unanswered[verdict.connection or 0])
                    for verdict in verdicts]
 

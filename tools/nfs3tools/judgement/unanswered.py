@@ -64,5 +64,5 @@ def missing_from(several: array[int], wanted: array[int]) -> Iterator[int]:
     at = 0
     for number in wanted:
         at = bisect_left(several, number, at)
-        if several[at:at + 1] != array('I', [number]):
+        if at == len(several) or several[at] != number:
             yield number

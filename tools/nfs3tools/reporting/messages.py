@@ -178,8 +178,21 @@ class Parser(argparse.ArgumentParser):
         usage = operands.replace(self.prog, f'{self.prog} [OPTION ..]', 1)
         self.exit(REFUSED, f'{usage}\n{self.prog}: error: {printable(message)}\n')
 
+    def format_help(self) -> str:
+        """Returns the help, of which no line is wider than the terminal."""
+        return '\n'.join(map(hanging, super().format_help().split('\n')))
+
     def _print_message(self, message: str, file: typing.IO[str] | None = None) -> None:
         (file or sys.stderr).write(message)
+
+
+def hanging(line: str) -> str:
+    """Returns a line, or if it is too wide several, each below the last column of the first."""
+    width = shutil.get_terminal_size().columns - 2
+    columns = [gap.end() for gap in re.finditer(' {2,}', line) if gap.end() < width // 2]
+    return line if len(line) <= width + 1 else textwrap.fill(
+        line, width, subsequent_indent=' ' * max(columns, default=0), break_long_words=False,
+        break_on_hyphens=False)
 
 
 def parser_of(text: str | None, name: str) -> argparse.ArgumentParser:

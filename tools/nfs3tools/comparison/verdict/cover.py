@@ -101,7 +101,7 @@ class Cover:
         checked, and why."""
         yield from self.refused.values()
         for row in self.rows():
-            if row.word == 'not checked' or row.word == 'in part' and row.connection is not None:
+            if row.word in ('not checked', 'in part') and row.connection is not None:
                 yield f'connection {row.connection} {row.word}: {row.reason}'
 
     def lacking(self, name: str) -> Iterator[str]:
